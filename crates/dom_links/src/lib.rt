@@ -1,0 +1,6 @@
+//! The links of an arena of nodes: edits, walks and checks over slices of nodes.
+#![tactic(auto)]
+
+pub mod iters;
+pub mod laws;
+pub mod ops;

@@ -1,0 +1,196 @@
+//! The kinds of nodes, and a node with its links.
+
+use crate::fault::OutOfMemory;
+use crate::name::{Attr, QualName};
+use crate::node_id::NodeId;
+use crate::text::Text;
+use std::alloc::Global;
+use std::marker::Model;
+
+/// The attributes of an element, in order. A contract sees them as a list.
+#[derive(Drop)]
+pub struct Attrs {
+    items: Vec<Attr>,
+}
+
+impl Model for Attrs {
+    ghost use Rattle.std.specs.Prelude.{List};
+    ghost use Rattle.dom_nodes.specs.declared.name.Attr.{Attr};
+
+    ghost Value = { List Attr };
+
+    ghost view = { λ attrs. attrs.items.items };
+}
+
+impl Attrs {
+    ghost use Rattle.std.specs.Prelude.{◌≡◌, ◌∷◌, ◌++◌, [], OnErr, OnOk};
+
+    /// No attributes.
+    pub fn new(alloc: Global) -> Attrs
+        ensures { result ≡ [] }
+    {
+        Attrs {
+            items: Vec::new(alloc),
+        }
+    }
+
+    pub fn as_slice(&self) -> &[Attr]
+        ensures { result.now ≡ self.now }
+    {
+        self.items.as_slice()
+    }
+
+    /// Adds an attribute at the end.
+    pub fn push(&mut self, attr: Attr) -> Result<(), OutOfMemory>
+        ensures ok { OnOk result (self.new ≡ self.old ++ attr ∷ []) }
+        ensures err { OnErr result (self.new ≡ self.old) }
+    {
+        self.items.push(attr)?;
+        Ok(())
+    }
+}
+
+/// An element's own data.
+#[derive(Drop)]
+pub struct Element {
+    pub name: QualName,
+    pub attrs: Attrs,
+    template_contents: Option<NodeId>,
+    pub mathml_annotation_xml_integration_point: bool,
+}
+
+impl Element {
+    ghost use Rattle.std.specs.Prelude.{◌≡◌};
+    ghost use Rattle.std.specs.Option.{option_copied};
+    ghost use Rattle.dom_nodes.specs.Attrs.{attr_of};
+
+    pub fn new(
+        name: QualName,
+        attrs: Attrs,
+        template_contents: Option<NodeId>,
+        mathml_annotation_xml_integration_point: bool,
+    ) -> Element
+        ensures { result ≡ record {
+            name = name;
+            attrs = attrs;
+            template_contents = template_contents;
+            mathml_annotation_xml_integration_point = mathml_annotation_xml_integration_point;
+        } }
+    {
+        Element {
+            name,
+            attrs,
+            template_contents,
+            mathml_annotation_xml_integration_point,
+        }
+    }
+
+    /// The local name.
+    pub fn node_name(&self) -> &str
+        ensures { result.now ≡ self.now.name.local.0 }
+    {
+        self.name.local.0.as_str()
+    }
+
+    /// The value of the first attribute of that local name.
+    pub fn attr(&self, name: &str) -> Option<&str>
+        ensures { option_copied result ≡ attr_of self.now.attrs name.now }
+    {
+        self.attrs
+            .as_slice()
+            .iter()
+            .find(|attr| attr.name.local.0.as_str() == name)
+            .map(|attr| attr.value.as_str())
+    }
+
+    /// The fragment that holds a template's contents.
+    pub fn template_contents(&self) -> Option<NodeId>
+        ensures { result ≡ self.now.template_contents }
+    {
+        self.template_contents
+    }
+}
+
+/// What a node is.
+#[derive(Drop)]
+pub enum NodeData {
+    Document,
+    Fragment,
+    Doctype {
+        name: Text,
+        public_id: Text,
+        system_id: Text,
+    },
+    Text {
+        contents: Text,
+    },
+    Comment {
+        contents: Text,
+    },
+    Element(Element),
+    ProcessingInstruction {
+        target: Text,
+        contents: Text,
+    },
+}
+
+/// A node of an arena: its number, its links, and what it is.
+#[derive(Drop)]
+pub struct TreeNode {
+    pub id: NodeId,
+    pub parent: Option<NodeId>,
+    pub prev_sibling: Option<NodeId>,
+    pub next_sibling: Option<NodeId>,
+    pub first_child: Option<NodeId>,
+    pub last_child: Option<NodeId>,
+    pub content: NodeData,
+}
+
+impl NodeData {
+    ghost use Rattle.std.specs.Prelude.{◌≡◌};
+    ghost use Rattle.std.specs.Option.{option_copied};
+    ghost use Rattle.dom_nodes.specs.Attrs.{element_of};
+    ghost use Rattle.dom_nodes.specs.Kinds.{contents_named, is_fragment, is_top, may_bear};
+
+    /// The element that the node is.
+    pub fn as_element(&self) -> Option<&Element>
+        ensures { option_copied result ≡ element_of self.now }
+    {
+        match self {
+            NodeData::Element(element) => Some(element),
+            _ => None,
+        }
+    }
+
+    pub fn is_fragment(&self) -> bool
+        ensures { result ≡ is_fragment self.now }
+    {
+        matches!(self, NodeData::Fragment)
+    }
+
+    /// A document or a fragment, which stands alone.
+    pub fn is_top(&self) -> bool
+        ensures { result ≡ is_top self.now }
+    {
+        matches!(self, NodeData::Document | NodeData::Fragment)
+    }
+
+    pub fn may_have_children(&self) -> bool
+        ensures { result ≡ may_bear self.now }
+    {
+        matches!(
+            self,
+            NodeData::Document | NodeData::Fragment | NodeData::Element(_)
+        )
+    }
+
+    /// The fragment that an element holds as its contents.
+    pub fn template_contents(&self) -> Option<NodeId>
+        ensures { result ≡ contents_named self.now }
+    {
+        match self {
+            NodeData::Element(element) => element.template_contents(),
+            _ => None,
+        }
+    }
+}

@@ -1,0 +1,152 @@
+//! A tree made by the public calls: its walk, what the walk reads, and moves.
+
+use crate::node_ref::NodeRef;
+use crate::tree::Tree;
+use dom_nodes::fault::EditFault;
+use dom_nodes::name::{Attr, LocalName, Namespace, QualName};
+use dom_nodes::node_data::{Attrs, Element, NodeData};
+use dom_nodes::node_id::NodeId;
+use dom_nodes::text::Text;
+use std::alloc::Global;
+use std::test::Fail;
+
+fn html_name(alloc: Global, local: &str) -> Result<QualName, Fail> {
+    Ok(QualName {
+        prefix: None,
+        ns: Namespace::Html,
+        local: LocalName(Text::new(alloc, local)?),
+    })
+}
+
+fn element(
+    alloc: Global,
+    local: &str,
+    class: &str,
+    contents: Option<NodeId>,
+) -> Result<NodeData, Fail> {
+    let mut attrs = Attrs::new(alloc);
+    attrs.push(Attr {
+        name: html_name(alloc, "class")?,
+        value: Text::new(alloc, class)?,
+    })?;
+    Ok(NodeData::Element(Element::new(html_name(alloc, local)?, attrs, contents, false)))
+}
+
+fn numbers(alloc: Global, ids: &[NodeId]) -> Result<Vec<usize>, Fail> {
+    let mut values = Vec::new(alloc);
+    for id in ids {
+        values.push(id.value())?;
+    }
+    Ok(values)
+}
+
+/// Root 0 with the children 1 and 4; 1 has 2, which has 3; 4 has 5.
+fn small_tree(alloc: Global) -> Result<Tree, Fail> {
+    let mut tree = Tree::new(alloc, NodeData::Document)?;
+    let one = tree.append_child_data_of(&NodeId::root(), element(alloc, "a", "one", None)?)?;
+    let two = tree.append_child_data_of(&one, element(alloc, "b", "two", None)?)?;
+    tree.append_child_data_of(
+        &two,
+        NodeData::Text {
+            contents: Text::new(alloc, "text")?,
+        },
+    )?;
+    let four = tree.append_child_data_of(&NodeId::root(), element(alloc, "c", "four", None)?)?;
+    tree.append_child_data_of(&four, element(alloc, "d", "five", None)?)?;
+    Ok(tree)
+}
+
+#[test]
+fn walks(rt: HostRuntime) -> Result<(), Fail> {
+    let alloc = rt.alloc();
+    let tree = small_tree(alloc)?;
+    assert_eq!(rt; tree.len(), 6);
+    let ids = tree.descendant_ids_of(&NodeId::root())?;
+    assert_eq!(rt;
+        numbers(alloc, &ids)?.as_slice(),
+        [1, 2, 3, 4, 5].as_slice()
+    );
+    let mut walk = tree.descendant_ids_of_it(&NodeId::root());
+    while walk.next().is_some() {}
+    assert!(rt; walk.reads() <= 11);
+    let kids = tree.child_ids_of(&NodeId::root())?;
+    assert_eq!(rt; numbers(alloc, &kids)?.as_slice(), [1, 4].as_slice());
+    Ok(())
+}
+
+#[test]
+fn moves(rt: HostRuntime) -> Result<(), Fail> {
+    let alloc = rt.alloc();
+    let mut tree = small_tree(alloc)?;
+    let two = NodeId::new(2).ok_or("id")?;
+    let four = NodeId::new(4).ok_or("id")?;
+    tree.append_child_of(&four, &two)?;
+    let ids = tree.descendant_ids_of(&NodeId::root())?;
+    assert_eq!(rt;
+        numbers(alloc, &ids)?.as_slice(),
+        [1, 4, 5, 2, 3].as_slice()
+    );
+    assert!(rt; tree.append_child_of(&two, &four) == Err(EditFault::Cycle));
+    tree.insert_before_of(&four, &two)?;
+    let ids = tree.descendant_ids_of(&NodeId::root())?;
+    assert_eq!(rt;
+        numbers(alloc, &ids)?.as_slice(),
+        [1, 2, 3, 4, 5].as_slice()
+    );
+    tree.remove_from_parent(&two)?;
+    let ids = tree.descendant_ids_of(&NodeId::root())?;
+    assert_eq!(rt; numbers(alloc, &ids)?.as_slice(), [1, 4, 5].as_slice());
+    Ok(())
+}
+
+#[test]
+fn refuses(rt: HostRuntime) -> Result<(), Fail> {
+    let alloc = rt.alloc();
+    let mut tree = small_tree(alloc)?;
+    let three = NodeId::new(3).ok_or("id")?;
+    let nine = NodeId::new(9).ok_or("id")?;
+    let made = tree.append_child_data_of(&three, NodeData::Document);
+    assert!(rt; made == Err(EditFault::NoChildrenHere));
+    let made = tree.append_child_data_of(&nine, NodeData::Document);
+    assert!(rt; made == Err(EditFault::UnknownNode));
+    let made = tree.append_child_data_of(&NodeId::root(), NodeData::Fragment);
+    assert!(rt; made == Err(EditFault::RootOrFragment));
+    let named = element(alloc, "template", "", Some(three))?;
+    let made = tree.append_child_data_of(&NodeId::root(), named);
+    assert!(rt; made == Err(EditFault::BadContents));
+    let named = element(alloc, "template", "", Some(three))?;
+    assert!(rt; matches!(Tree::new(alloc, named), Err(EditFault::BadContents)));
+    assert_eq!(rt; tree.len(), 6);
+    Ok(())
+}
+
+#[test]
+fn reads_nodes(rt: HostRuntime) -> Result<(), Fail> {
+    let alloc = rt.alloc();
+    let tree = small_tree(alloc)?;
+    let two = NodeRef::new(NodeId::new(2).ok_or("id")?, &tree);
+    assert!(rt; two.node_name() == Some("b"));
+    assert!(rt; two.attr("class") == Some("two"));
+    assert!(rt; two.attr("id") == None);
+    assert_eq!(rt; two.attrs().len(), 1);
+    assert!(rt; matches!(two.parent(), Some(parent) if parent.id.value() == 1));
+    assert!(rt; matches!(two.last_child(), Some(kid) if kid.id.value() == 3));
+    assert!(rt; two.next_sibling().is_none());
+    assert_eq!(rt; tree.descendant_ids_of(&two.id)?.len(), 1);
+    Ok(())
+}
+
+#[test]
+fn nests_deeply(rt: HostRuntime) -> Result<(), Fail> {
+    let alloc = rt.alloc();
+    let mut tree = Tree::new(alloc, NodeData::Document)?;
+    let mut at = NodeId::root();
+    for _depth in 0..20000 {
+        at = tree.append_child_data_of(&at, element(alloc, "b", "", None)?)?;
+    }
+    let mut walk = tree.descendant_ids_of_it(&NodeId::root());
+    while walk.next().is_some() {}
+    assert_eq!(rt; tree.descendant_ids_of(&NodeId::root())?.len(), 20000);
+    assert!(rt; walk.reads() <= 40001);
+    Ok(())
+}

@@ -1,0 +1,170 @@
+//! A tree that owns its nodes.
+
+ghost use Rattle.std.specs.Prelude.{◌≡◌, ◌≤◌, ◌∷◌, [], false, length, IfErr, IfOk, MatchOption, None, OnErr, OnOk};
+ghost use Rattle.dom_links.specs.Forest.{forest_of, kids_of};
+ghost use Rattle.dom_links.specs.Growth.{MayAppend, lone, with_child};
+ghost use Rattle.dom_links.specs.Lists.{IsDistinct};
+ghost use Rattle.dom_links.specs.Moves.{before_node, cut, end_of, moved_to};
+ghost use Rattle.dom_links.specs.Sound.{Allowed, IsSoundArena};
+ghost use Rattle.dom_links.specs.Trees.{ancestors, limited, walk_below};
+ghost use Rattle.dom_links.specs.Walk.{IsNodeOf};
+ghost use Rattle.dom_trees.specs.Refusals.{Cause, DataCause, RemovalCause, RootCause};
+
+use crate::checks::{check_before, check_data, check_end_of};
+use dom_links::iters::{AncestorNodes, ChildNodes, DescendantNodes, find_node};
+use dom_links::ops::{create, moves};
+use dom_nodes::fault::{EditFault, OutOfMemory};
+use dom_nodes::node_data::{NodeData, TreeNode};
+use dom_nodes::node_id::NodeId;
+use std::alloc::Global;
+use std::marker::Model;
+
+/// A tree. A contract sees it as a forest.
+#[derive(Drop)]
+pub struct Tree {
+    nodes: Vec<TreeNode>,
+}
+
+impl Model for Tree {
+    ghost use Rattle.dom_links.specs.Forest.{Forest, forest_of};
+    ghost use Rattle.dom_links.specs.Sound.{IsSoundArena};
+
+    ghost Value = { Forest };
+
+    ghost view = { λ tree. forest_of tree.nodes.items };
+
+    ghost invariant = { λ tree. IsSoundArena tree.nodes.items };
+}
+
+impl Tree {
+    /// A tree of one node.
+    pub fn new(alloc: Global, content: NodeData) -> Result<Tree, EditFault>
+        ensures ok { IfOk result (λ tree. tree ≡ lone content) }
+        ensures cause { IfErr result (λ fault. RootCause content fault) }
+    {
+        let None = content.template_contents() else {
+            return Err(EditFault::BadContents);
+        };
+        Ok(Tree {
+            nodes: create::create_root(alloc, content)?,
+        })
+    }
+
+    /// How many nodes there are, cut-out ones too.
+    pub fn len(&self) -> usize
+        ensures { result ≡ length self.now.content }
+    {
+        self.nodes.len()
+    }
+
+    /// The nodes, whose links are those of the tree's forest.
+    pub fn nodes(&self) -> &[TreeNode]
+        ensures value { forest_of result.now ≡ self.now }
+        ensures sound { IsSoundArena result.now }
+    {
+        self.nodes.as_slice()
+    }
+
+    /// Where the tree's memory comes from.
+    pub fn allocator(&self) -> Global {
+        *self.nodes.allocator()
+    }
+
+    /// The node of that number.
+    pub fn get(&self, id: &NodeId) -> Option<&TreeNode>
+        ensures { MatchOption result (length self.now.content ≤ id.now) (λ node. IsNodeOf self.now id.now node.now) }
+    {
+        find_node(self.nodes(), *id)
+    }
+
+    /// The kids of a node, in order.
+    pub fn child_ids_of_it(&self, id: &NodeId) -> ChildNodes<'_>
+        ensures { result ≡ kids_of self.now id.now }
+    {
+        ChildNodes::new(self.nodes(), id, false)
+    }
+
+    /// The kids of a node, in order.
+    pub fn child_ids_of(&self, id: &NodeId) -> Result<Vec<NodeId>, OutOfMemory>
+        ensures { IfOk result (λ ids. ids.items ≡ kids_of self.now id.now) }
+    {
+        Ok(self.child_ids_of_it(id).collect(self.allocator())?)
+    }
+
+    /// The ancestors of a node, from its parent on; at most `max_depth` of them, where that is neither none nor 0.
+    pub fn ancestor_ids_of_it(&self, id: &NodeId, max_depth: Option<usize>) -> AncestorNodes<'_>
+        ensures { result ≡ limited max_depth (ancestors self.now id.now) }
+    {
+        AncestorNodes::new(self.nodes(), id, max_depth)
+    }
+
+    /// The nodes below a node, each before what is below it.
+    pub fn descendant_ids_of_it(&self, id: &NodeId) -> DescendantNodes<'_>
+        ensures all { result.left ≡ walk_below self.now id.now }
+        ensures whole { result.whole ≡ walk_below self.now id.now }
+        ensures once { IsDistinct result.left }
+        ensures few { length result.left ≤ 4294967295 }
+    {
+        DescendantNodes::new(self.nodes(), id)
+    }
+
+    /// The nodes below a node, each before what is below it.
+    pub fn descendant_ids_of(&self, id: &NodeId) -> Result<Vec<NodeId>, OutOfMemory>
+        ensures { IfOk result (λ ids. ids.items ≡ walk_below self.now id.now) }
+    {
+        Ok(self.descendant_ids_of_it(id).collect(self.allocator())?)
+    }
+
+    /// Makes a node as the last child of another. With the contents that it names it counts as moved there.
+    pub fn append_child_data_of(
+        &mut self,
+        id: &NodeId,
+        content: NodeData,
+    ) -> Result<NodeId, EditFault>
+        ensures ok { OnOk result (self.new ≡ with_child id.now content self.old) }
+        ensures number { IfOk result (λ made. made ≡ length self.old.content) }
+        ensures allowed { OnOk result (MayAppend self.old id.now content) }
+        ensures err { OnErr result (self.new ≡ self.old) }
+        ensures cause { IfErr result (λ fault. DataCause self.old id.now content fault) }
+    {
+        check_data(&self.nodes, *id, &content)?;
+        create::append_child_data_of(&mut self.nodes, *id, content)
+    }
+
+    /// Cuts a node out of its list. It is then a run of its own.
+    pub fn remove_from_parent(&mut self, id: &NodeId) -> Result<(), EditFault>
+        ensures ok { OnOk result (self.new ≡ cut (id.now ∷ []) self.old) }
+        ensures err { OnErr result (self.new ≡ self.old) }
+        ensures cause { IfErr result (λ fault. RemovalCause self.old id.now fault) }
+    {
+        if id.value() >= self.nodes.len() {
+            return Err(EditFault::UnknownNode);
+        }
+        moves::remove_from_parent(&mut self.nodes, *id);
+        Ok(())
+    }
+
+    /// Moves a node to the end of the children of another.
+    pub fn append_child_of(&mut self, id: &NodeId, new_child: &NodeId) -> Result<(), EditFault>
+        ensures ok { OnOk result (self.new ≡ moved_to (new_child.now ∷ []) (end_of id.now) self.old) }
+        ensures allowed { OnOk result (Allowed self.old (end_of id.now) new_child.now) }
+        ensures err { OnErr result (self.new ≡ self.old) }
+        ensures cause { IfErr result (λ fault. Cause self.old (end_of id.now) new_child.now fault) }
+    {
+        check_end_of(&self.nodes, *id, *new_child)?;
+        moves::append_child_of(&mut self.nodes, *id, *new_child);
+        Ok(())
+    }
+
+    /// Moves a node to the place right before another.
+    pub fn insert_before_of(&mut self, id: &NodeId, new_sibling: &NodeId) -> Result<(), EditFault>
+        ensures ok { OnOk result (self.new ≡ moved_to (new_sibling.now ∷ []) (before_node id.now) self.old) }
+        ensures allowed { OnOk result (Allowed self.old (before_node id.now) new_sibling.now) }
+        ensures err { OnErr result (self.new ≡ self.old) }
+        ensures cause { IfErr result (λ fault. Cause self.old (before_node id.now) new_sibling.now fault) }
+    {
+        check_before(&self.nodes, *id, *new_sibling)?;
+        moves::insert_before_of(&mut self.nodes, *id, *new_sibling);
+        Ok(())
+    }
+}
