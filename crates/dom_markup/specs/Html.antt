@@ -1,0 +1,108 @@
+-- The text of a tree, by cases on it.
+use Rattle.std.specs.Prelude.{ℕ, ◌&&◌, Bool, true, false, if◌then◌else◌, List, [], ◌∷◌, ◌++◌, Option, None, Some, slice_get, codes}
+use Rattle.std.specs.List.{flat_map}
+use Rattle.std.specs.Option.{option_map_or}
+use Rattle.std.specs.Str.{bytes_eq}
+use Rattle.dom_nodes.specs.declared.name.Attr.{Attr}
+use Rattle.dom_nodes.specs.declared.name.QualName.{QualName}
+use Rattle.dom_nodes.specs.declared.name.Namespace.{Namespace}
+use Rattle.dom_nodes.specs.declared.name.Namespace.TheVariants.{None as NoNamespace, Html, XLink, Xml, XmlNs}
+use Rattle.dom_nodes.specs.declared.node_data.Element.{Element}
+use Rattle.dom_nodes.specs.declared.node_data.NodeData.{NodeData}
+use Rattle.dom_nodes.specs.declared.node_data.NodeData.TheVariants.{Document, Fragment, Doctype, Text, Comment, Element as AnElement, ProcessingInstruction}
+use Rattle.dom_links.specs.Forest.{Forest, kids_of, parent}
+use Rattle.dom_links.specs.Trees.{Trees, NoTrees, Tree, contents_list, trees}
+use Rattle.dom_markup.specs.Names.{is_among, void_names, raw_names}
+use Rattle.dom_markup.specs.Escaping.{escaped_text, escaped_value}
+
+-- ---- names
+
+abbrev pub is_html : Namespace → Bool
+is_html Html = true
+is_html _ = false
+
+-- an element that is written as its start tag alone
+abbrev pub is_void : Element → Bool
+is_void element = is_html element.name.ns && is_among element.name.local.0 void_names
+
+-- an element whose texts are written as they are
+abbrev pub is_raw : Element → Bool
+is_raw element = is_html element.name.ns && is_among element.name.local.0 raw_names
+
+-- what stands before an attribute's local name
+abbrev pub prefix_text : QualName → List ℕ
+prefix_text name = prefix_in name.ns name.local.0
+  where
+    prefix_in : Namespace → List ℕ → List ℕ
+    prefix_in NoNamespace local = []
+    prefix_in Xml local = codes "xml:"
+    prefix_in XLink local = codes "xlink:"
+    prefix_in XmlNs local = if bytes_eq local (codes "xmlns") then [] else codes "xmlns:"
+    prefix_in _ local = codes "unknown_namespace:"
+
+abbrev pub attr_text : Attr → List ℕ
+attr_text attr = codes " " ++ (prefix_text attr.name ++ (attr.name.local.0 ++ (codes "=\"" ++ (escaped_value attr.value ++ codes "\""))))
+
+abbrev pub start_tag : Element → List ℕ
+start_tag element = codes "<" ++ (element.name.local.0 ++ (flat_map attr_text element.attrs ++ codes ">"))
+
+abbrev pub end_tag : List ℕ → List ℕ
+end_tag name = codes "</" ++ (name ++ codes ">")
+
+-- ---- nodes
+
+-- texts right below the node are written as they are
+abbrev pub keeps_texts : NodeData → Bool
+keeps_texts (AnElement element) = is_raw element
+keeps_texts _ = false
+
+-- what a node is written as, before what is below it
+abbrev pub opening : NodeData → Bool → List ℕ
+opening Document raw = []
+opening Fragment raw = []
+opening (Doctype name public_id system_id) raw = codes "<!DOCTYPE " ++ (name ++ codes ">")
+opening (Text contents) raw = if raw then contents else escaped_text contents
+opening (Comment contents) raw = codes "<!--" ++ (contents ++ codes "-->")
+opening (ProcessingInstruction target contents) raw = codes "<?" ++ (target ++ (codes " " ++ (contents ++ codes ">")))
+opening (AnElement element) raw = start_tag element
+
+-- what then follows, of the texts of its template contents and of its kids; below a void element nothing is written
+abbrev pub following : NodeData → List ℕ → List ℕ → List ℕ
+following Document inner below = below
+following Fragment inner below = below
+following (AnElement element) inner below = if is_void element then [] else inner ++ (below ++ end_tag element.name.local.0)
+following _ inner below = []
+
+abbrev pub node_text : NodeData → Bool → List ℕ → List ℕ → List ℕ
+node_text content raw inner below = opening content raw ++ following content inner below
+
+-- the text of trees, one after another; `raw` says that texts at the top are written as they are
+abbrev pub trees_text : Forest → Bool → Trees → List ℕ
+trees_text forest raw NoTrees = []
+trees_text forest raw (Tree n contents kids later) =
+    option_map_or (λ content. node_text content raw (trees_text forest false contents) (trees_text forest (keeps_texts content) kids)) (slice_get forest.content n) []
+    ++ trees_text forest raw later
+
+-- the texts among the kids of a node are written as they are
+abbrev pub keeps_below : Forest → ℕ → Bool
+keeps_below forest n = option_map_or keeps_texts (slice_get forest.content n) false
+
+-- so is a text below such a node, wherever the writing begins
+abbrev pub is_kept : Forest → ℕ → Bool
+is_kept forest n = option_map_or (keeps_below forest) (parent forest n) false
+
+-- the HTML of a node; none for an unknown number
+unfoldable pub html_of : Forest → ℕ → List ℕ
+html_of forest n = trees_text forest (is_kept forest n) (trees forest (n ∷ []))
+
+-- whether nothing is written below the node
+abbrev pub is_bare : Forest → ℕ → Bool
+is_bare forest n = option_map_or bare (slice_get forest.content n) false
+  where
+    bare : NodeData → Bool
+    bare (AnElement element) = is_void element
+    bare _ = false
+
+-- the HTML of the kids of a node
+unfoldable pub inner_html_of : Forest → ℕ → List ℕ
+inner_html_of forest n = if is_bare forest n then [] else trees_text forest (keeps_below forest n) (trees forest (kids_of forest n))

@@ -1,0 +1,10 @@
+pub mod Letters
+pub mod Names
+pub mod ValueTrees
+pub mod Markup
+pub mod Numbered
+pub mod Refusals
+pub mod Writing
+pub mod Escaping
+pub mod Html
+pub mod Scopes

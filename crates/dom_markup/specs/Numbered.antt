@@ -1,0 +1,67 @@
+-- The document that value trees are: their nodes, numbered in order of start.
+use Rattle.std.specs.Prelude.{ℕ, ◌+◌, List, [], ◌∷◌, ◌++◌, map, Option, None, Some, false, if◌then◌else◌}
+use Rattle.dom_nodes.specs.declared.name.Attr.{Attr}
+use Rattle.dom_nodes.specs.declared.name.Namespace.TheVariants.{None as NoNamespace, Html}
+use Rattle.dom_nodes.specs.declared.name.QualName.{QualName}
+use Rattle.dom_nodes.specs.declared.node_data.NodeData.{NodeData}
+use Rattle.dom_nodes.specs.declared.node_data.NodeData.TheVariants.{Document, Text, Element}
+use Rattle.dom_links.specs.Forest.{Forest}
+use Rattle.dom_links.specs.Lists.{map_from, names}
+use Rattle.dom_markup.specs.ValueTrees.{Attribute, ValueTrees}
+use Rattle.dom_markup.specs.ValueTrees.ValueTrees.{no_trees, text_node, element_node}
+
+-- a node: its parent, and what it holds
+pub record Row : Type 0 where
+  pub parent : Option ℕ
+  pub content : NodeData
+
+-- a read attribute has no namespace
+abbrev pub read_attr : Attribute → Attr
+read_attr attribute = record { name = record { prefix = None; ns = NoNamespace; local = record { 0 = attribute.name } }; value = attribute.value }
+
+-- a read element is in the namespace of HTML, and nothing has a prefix
+abbrev pub read_element : List ℕ → List Attribute → NodeData
+read_element name attributes = Element (record {
+  name = record { prefix = None; ns = Html; local = record { 0 = name } };
+  attrs = map read_attr attributes;
+  template_contents = None;
+  mathml_annotation_xml_integration_point = false;
+})
+
+abbrev pub size : ValueTrees → ℕ
+size no_trees = 0
+size (text_node contents later) = 1 + size later
+size (element_node name attributes kids later) = 1 + size kids + size later
+
+-- the nodes of trees below a parent, in order of start, where the first has the number n
+abbrev pub rows_from : ℕ → ℕ → ValueTrees → List Row
+rows_from p n no_trees = []
+rows_from p n (text_node contents later) = record { parent = Some p; content = Text contents } ∷ rows_from p (n + 1) later
+rows_from p n (element_node name attributes kids later) =
+    record { parent = Some p; content = read_element name attributes } ∷ (rows_from n (n + 1) kids ++ rows_from p (n + 1 + size kids) later)
+
+-- the nodes are a document and these trees below it
+abbrev pub rows_of : ValueTrees → List Row
+rows_of trees = record { parent = None; content = Document } ∷ rows_from 0 1 trees
+
+-- the numbers, from i on, of the nodes whose parent is p
+abbrev pub kids_among : ℕ → List Row → ℕ → List ℕ
+kids_among i [] p = []
+kids_among i (row ∷ rows) p = if names row.parent p then i ∷ kids_among (i + 1) rows p else kids_among (i + 1) rows p
+
+-- a node without a parent is a run of its own
+abbrev pub run_among : ℕ → Option ℕ → List ℕ
+run_among n None = n ∷ []
+run_among n (Some p) = []
+
+-- the forest of nodes in order of their numbers, with the kids of each in that order too
+abbrev pub forest_of_rows : List Row → Forest
+forest_of_rows rows = record {
+  content = map (λ row. row.content) rows;
+  kids = map_from 0 (λ p row. kids_among 0 rows p) rows;
+  runs = map_from 0 (λ n row. run_among n row.parent) rows;
+}
+
+-- the document with these trees below its root
+unfoldable pub document_of : ValueTrees → Forest
+document_of trees = forest_of_rows (rows_of trees)

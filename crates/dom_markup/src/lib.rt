@@ -1,0 +1,5 @@
+//! Markup: reading explicit markup into a document, and writing a tree as HTML.
+#![tactic(auto)]
+
+pub mod document;
+pub mod serializing;
