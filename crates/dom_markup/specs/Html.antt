@@ -1,5 +1,5 @@
 -- The text of a tree, by cases on it.
-use Rattle.std.specs.Prelude.{ℕ, ◌&&◌, Bool, true, false, if◌then◌else◌, List, [], ◌∷◌, ◌++◌, Option, None, Some, slice_get, codes}
+use Rattle.std.specs.Prelude.{ℕ, ◌&&◌, Bool, true, false, if◌then◌else◌, List, [], ◌∷◌, ◌++◌, slice_get, codes}
 use Rattle.std.specs.List.{flat_map}
 use Rattle.std.specs.Option.{option_map_or}
 use Rattle.std.specs.Str.{bytes_eq}
@@ -11,7 +11,7 @@ use Rattle.dom_nodes.specs.declared.node_data.Element.{Element}
 use Rattle.dom_nodes.specs.declared.node_data.NodeData.{NodeData}
 use Rattle.dom_nodes.specs.declared.node_data.NodeData.TheVariants.{Document, Fragment, Doctype, Text, Comment, Element as AnElement, ProcessingInstruction}
 use Rattle.dom_links.specs.Forest.{Forest, kids_of, parent}
-use Rattle.dom_links.specs.Trees.{Trees, NoTrees, Tree, contents_list, trees}
+use Rattle.dom_links.specs.Trees.{Trees, NoTrees, Tree, trees}
 use Rattle.dom_markup.specs.Names.{is_among, void_names, raw_names}
 use Rattle.dom_markup.specs.Escaping.{escaped_text, escaped_value}
 
@@ -56,6 +56,11 @@ abbrev pub keeps_texts : NodeData → Bool
 keeps_texts (AnElement element) = is_raw element
 keeps_texts _ = false
 
+-- nothing is written below the node
+abbrev pub is_void_node : NodeData → Bool
+is_void_node (AnElement element) = is_void element
+is_void_node _ = false
+
 -- what a node is written as, before what is below it
 abbrev pub opening : NodeData → Bool → List ℕ
 opening Document raw = []
@@ -65,6 +70,11 @@ opening (Text contents) raw = if raw then contents else escaped_text contents
 opening (Comment contents) raw = codes "<!--" ++ (contents ++ codes "-->")
 opening (ProcessingInstruction target contents) raw = codes "<?" ++ (target ++ (codes " " ++ (contents ++ codes ">")))
 opening (AnElement element) raw = start_tag element
+
+-- what ends it
+abbrev pub closing : NodeData → List ℕ
+closing (AnElement element) = end_tag element.name.local.0
+closing _ = []
 
 -- what then follows, of the texts of its template contents and of its kids; below a void element nothing is written
 abbrev pub following : NodeData → List ℕ → List ℕ → List ℕ
@@ -97,11 +107,7 @@ html_of forest n = trees_text forest (is_kept forest n) (trees forest (n ∷ [])
 
 -- whether nothing is written below the node
 abbrev pub is_bare : Forest → ℕ → Bool
-is_bare forest n = option_map_or bare (slice_get forest.content n) false
-  where
-    bare : NodeData → Bool
-    bare (AnElement element) = is_void element
-    bare _ = false
+is_bare forest n = option_map_or is_void_node (slice_get forest.content n) false
 
 -- the HTML of the kids of a node
 unfoldable pub inner_html_of : Forest → ℕ → List ℕ

@@ -2,9 +2,17 @@ pub mod Letters
 pub mod Names
 pub mod ValueTrees
 pub mod Markup
+pub mod Written
+pub mod Token
+pub mod Tokens
 pub mod Numbered
 pub mod Refusals
+pub mod Frames
+pub mod Limits
+pub mod Reader
 pub mod Writing
 pub mod Escaping
 pub mod Html
 pub mod Scopes
+pub mod Cutting
+pub mod Ops

@@ -2,7 +2,6 @@
 use Rattle.std.specs.Prelude.{ℕ, ◌+◌, List, [], ◌∷◌, ◌++◌, map, Option, None, Some, false, if◌then◌else◌}
 use Rattle.dom_nodes.specs.declared.name.Attr.{Attr}
 use Rattle.dom_nodes.specs.declared.name.Namespace.TheVariants.{None as NoNamespace, Html}
-use Rattle.dom_nodes.specs.declared.name.QualName.{QualName}
 use Rattle.dom_nodes.specs.declared.node_data.NodeData.{NodeData}
 use Rattle.dom_nodes.specs.declared.node_data.NodeData.TheVariants.{Document, Text, Element}
 use Rattle.dom_links.specs.Forest.{Forest}

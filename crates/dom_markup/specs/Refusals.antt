@@ -1,8 +1,10 @@
 -- Why a text is refused.
-use Rattle.std.specs.Prelude.{ℕ, ◌+◌, ◌≤◌, List, [], ◌∷◌}
+use Rattle.std.specs.Prelude.{ℕ, ◌≡◌, ◌≢◌, ◌+◌, ◌≤◌, List, [], ◌∷◌, ◌++◌, length}
 use Rattle.dom_nodes.specs.declared.fault.MarkupFaultKind.{MarkupFaultKind}
 use Rattle.dom_nodes.specs.declared.fault.MarkupFaultKind.TheVariants.{BadTag, Unclosed, MismatchedEnd, StrayEnd, SlashOnOpen, BadComment, BadDeclaration, MisplacedDoctype, Instruction, TooManyNodes, Memory}
-use Rattle.dom_markup.specs.Markup.{Item, SpellsItemsUpTo, SpellsNothing}
+use Rattle.dom_markup.specs.ValueTrees.{ValueTrees}
+use Rattle.dom_markup.specs.Frames.{Frame, opened_items}
+use Rattle.dom_markup.specs.Markup.{Item, Begins, BeginsNothing, SpellsItemsUpTo, SpellsNothing, items_of}
 use Rattle.dom_markup.specs.Markup.Item.{start_tag, end_tag, characters}
 
 -- how many nodes begin with these items
@@ -32,3 +34,75 @@ Refused text MisplacedDoctype = SpellsNothing text
 Refused text Instruction = SpellsNothing text
 Refused text TooManyNodes = BeginsTooManyNodes text
 Refused text Memory = Unit {0}
+
+-- ---- where a fault stands
+
+-- these elements are open behind the items, the innermost first
+pub record LeavesOpen (items : List Item) (frames : List Frame) : Type 0 where
+  pub done : ValueTrees
+  pub are : items ≡ opened_items frames ++ items_of done
+
+abbrev pub LeavesSomeOpen : List Item → Type 0
+LeavesSomeOpen items = (innermost : Frame) × (outer : List Frame) × LeavesOpen items (innermost ∷ outer)
+
+-- the item ends an element, and another is the innermost open one
+abbrev pub EndsAnother : List Item → Item → Type 0
+EndsAnother items (start_tag name attributes) = ⊥
+EndsAnother items (end_tag name) = (innermost : Frame) × (outer : List Frame) × LeavesOpen items (innermost ∷ outer) × (name ≢ innermost.name)
+EndsAnother items (characters contents) = ⊥
+
+-- the item ends an element, and none is open
+abbrev pub EndsNothing : List Item → Item → Type 0
+EndsNothing items (start_tag name attributes) = ⊥
+EndsNothing items (end_tag name) = LeavesOpen items []
+EndsNothing items (characters contents) = ⊥
+
+-- the item begins a node, and no number is left for it
+pub record IsOneTooMany (items : List Item) (item : Item) : Type 0 where
+  pub begins_one : nodes_begun (item ∷ []) ≡ 1
+  pub many : 4294967295 ≤ nodes_begun (items ++ item ∷ [])
+
+-- why the item isn't read behind these items
+abbrev pub Declines : List Item → Item → MarkupFaultKind → Type 0
+Declines items item MismatchedEnd = EndsAnother items item
+Declines items item StrayEnd = EndsNothing items item
+Declines items item TooManyNodes = IsOneTooMany items item
+Declines items item Memory = Unit {0}
+Declines items item _ = ⊥
+
+-- the text is items up to a byte, and the next item isn't read
+pub record StopsBefore (text : List ℕ) (at : ℕ) (kind : MarkupFaultKind) : Type 0 where
+  pub items : List Item
+  pub item : Item
+  pub left : List ℕ
+  pub rest : List ℕ
+  pub spelled : SpellsItemsUpTo text items left
+  pub place : at + length left ≡ length text
+  pub begins : Begins left item rest
+  pub cause : Declines items item kind
+
+-- the text is items up to a byte, and no item begins there
+pub record BeginsNothingAt (text : List ℕ) (at : ℕ) : Type 0 where
+  pub items : List Item
+  pub left : List ℕ
+  pub spelled : SpellsItemsUpTo text items left
+  pub place : at + length left ≡ length text
+  pub some : left ≢ []
+  pub nothing : BeginsNothing left
+
+-- the text is items up to its end, and an element is open there
+pub record EndsOpenAt (text : List ℕ) (at : ℕ) : Type 0 where
+  pub items : List Item
+  pub spelled : SpellsItemsUpTo text items []
+  pub place : at ≡ length text
+  pub not_closed : LeavesSomeOpen items
+
+-- what a fault of this kind tells of a byte of the text
+abbrev pub IsFaultAt : List ℕ → ℕ → MarkupFaultKind → Type 0
+IsFaultAt text at BadTag = BeginsNothingAt text at
+IsFaultAt text at Unclosed = EndsOpenAt text at
+IsFaultAt text at MismatchedEnd = StopsBefore text at MismatchedEnd
+IsFaultAt text at StrayEnd = StopsBefore text at StrayEnd
+IsFaultAt text at TooManyNodes = StopsBefore text at TooManyNodes
+IsFaultAt text at Memory = Unit {0}
+IsFaultAt text at _ = ⊥

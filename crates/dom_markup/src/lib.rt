@@ -2,4 +2,8 @@
 #![tactic(auto)]
 
 pub mod document;
+mod escaping;
+pub mod laws;
+mod names;
 pub mod serializing;
+pub mod writing;

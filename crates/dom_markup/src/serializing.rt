@@ -1,12 +1,19 @@
-//! The text of a tree, written to any writer.
+//! The text of a tree, written to any writer or into a string.
 
-ghost use Rattle.std.specs.Prelude.{◌≡◌, IfOk, string_bytes};
-ghost use Rattle.dom_markup.specs.Html.{html_of};
+ghost use Rattle.std.specs.Prelude.{◌≡◌, IfOk, IfSome, string_bytes};
+ghost use Rattle.dom_markup.specs.Html.{html_of, inner_html_of};
 ghost use Rattle.dom_markup.specs.Writing.{Writes};
 
+use crate::serializing::stack::{put_kids, put_node};
+use crate::writing::{ToText, ToWriter};
 use dom_nodes::fault::OutOfMemory;
 use dom_trees::node_ref::NodeRef;
 use std::io::Write;
+
+mod stack;
+mod tags;
+#[cfg(test)]
+mod tests;
 
 /// Why a text was not written whole.
 #[derive(Clone, Copy, PartialEq, Eq, Debug, Drop, thiserror::Error)]
@@ -17,6 +24,16 @@ pub enum WriteFault {
     /// Memory was refused.
     #[error("out of memory")]
     Memory,
+}
+
+impl From<OutOfMemory> for WriteFault {
+    ghost use Rattle.dom_markup.specs.declared.serializing.WriteFault.TheVariants.{Memory};
+
+    ghost from_gives = { λ _ fault. fault ≡ Memory };
+
+    fn from(_refused: OutOfMemory) -> WriteFault {
+        WriteFault::Memory
+    }
 }
 
 /// Whether a node is written with its own tags, or only what is below it.
@@ -31,18 +48,40 @@ pub trait NodeMarkup {
     ghost use Rattle.dom_links.specs.Forest.{Forest};
     ghost use Rattle.std.specs.Prelude.{ℕ};
 
+    // The forest of the node's tree.
     ghost forest: { Self → Forest };
 
+    // The number of the node.
     ghost number: { Self → ℕ };
 
-    /// Writes the node's HTML; after a fault a beginning of it is written. Nothing for an unknown number.
+    /// Writes the node's HTML, or that of its kids alone; nothing for an unknown number. After a fault a beginning of
+    /// it is written: `Write` where the writer failed, was interrupted or took no byte, `Memory` where memory was
+    /// refused.
     fn write_html<W: Write>(&self, scope: TraversalScope, w: &mut W) -> Result<(), WriteFault>
-        ensures { Writes (W.contents w.old) (W.contents w.new) result (html_in scope (forest self.now) (number self.now)) };
+        ensures { Writes (W.contents w.old) (W.contents w.new) result
+            (html_in scope (forest self.now) (number self.now)) };
 
-    /// The node's HTML.
+    /// The node's HTML; empty for an unknown number.
     fn html(&self) -> Result<String, OutOfMemory>
-        ensures { IfOk result (λ text. string_bytes text ≡ html_of (forest self.now) (number self.now)) };
+        ensures { IfOk result (λ text. string_bytes text
+            ≡ html_of (forest self.now) (number self.now)) };
+
+    /// The HTML of the node's kids; empty for an unknown number.
+    fn inner_html(&self) -> Result<String, OutOfMemory>
+        ensures { IfOk result (λ text. string_bytes text
+            ≡ inner_html_of (forest self.now) (number self.now)) };
+
+    /// The node's HTML. None where memory was refused.
+    fn try_html(&self) -> Option<String>
+        ensures { IfSome result (λ text. string_bytes text
+            ≡ html_of (forest self.now) (number self.now)) };
+
+    /// The HTML of the node's kids. None where memory was refused.
+    fn try_inner_html(&self) -> Option<String>
+        ensures { IfSome result (λ text. string_bytes text
+            ≡ inner_html_of (forest self.now) (number self.now)) };
 }
+
 ghost use Rattle.dom_markup.specs.Scopes.{html_in};
 
 impl<'a> NodeMarkup for NodeRef<'a> {
@@ -51,12 +90,51 @@ impl<'a> NodeMarkup for NodeRef<'a> {
     ghost number = { λ node. node.id };
 
     fn write_html<W: Write>(&self, scope: TraversalScope, w: &mut W) -> Result<(), WriteFault> {
-        let _ = scope;
-        let _ = w;
-        Err(WriteFault::Memory)
+        match scope {
+            TraversalScope::IncludeNode => put_node::<ToWriter, W>(self.tree, self.id, w),
+            TraversalScope::ChildrenOnly => put_kids::<ToWriter, W>(self.tree, self.id, w),
+        }
     }
 
     fn html(&self) -> Result<String, OutOfMemory> {
-        Err(OutOfMemory)
+        let mut text = String::new(self.tree.allocator());
+        put_node::<ToText, String>(self.tree, self.id, &mut text)?;
+        Ok(text)
+    }
+
+    fn inner_html(&self) -> Result<String, OutOfMemory> {
+        let mut text = String::new(self.tree.allocator());
+        put_kids::<ToText, String>(self.tree, self.id, &mut text)?;
+        Ok(text)
+    }
+
+    fn try_html(&self) -> Option<String> {
+        self.html().ok()
+    }
+
+    fn try_inner_html(&self) -> Option<String> {
+        self.inner_html().ok()
+    }
+}
+
+/// A node that can be written.
+#[derive(Clone, Copy)]
+pub struct SerializableNodeRef<'a>(pub NodeRef<'a>);
+
+impl<'a> From<NodeRef<'a>> for SerializableNodeRef<'a> {
+    ghost from_gives = { λ node made. made ≡ record { 0 = node } };
+
+    fn from(node: NodeRef<'a>) -> SerializableNodeRef<'a> {
+        SerializableNodeRef(NodeRef::new(node.id, node.tree))
+    }
+}
+
+impl<'a> SerializableNodeRef<'a> {
+    /// The same as `NodeMarkup::write_html`.
+    pub fn serialize<W: Write>(&self, scope: TraversalScope, w: &mut W) -> Result<(), WriteFault>
+        ensures { Writes (W.contents w.old) (W.contents w.new) result
+            (html_in scope self.now.0.tree.now self.now.0.id) }
+    {
+        self.0.write_html(scope, w)
     }
 }

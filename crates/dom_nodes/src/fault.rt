@@ -34,7 +34,7 @@ pub enum MarkupFaultKind {
     SlashOnOpen,
     BadComment,
     BadDeclaration,
-    /// A doctype stands inside an element or behind one.
+    /// A doctype stands inside an element.
     MisplacedDoctype,
     Instruction,
     /// A number past the last one would be given.

@@ -1,5 +1,8 @@
 //! The kinds of nodes, and a node with its links.
 
+ghost use Rattle.std.specs.Prelude.{◌≡◌};
+ghost use Rattle.dom_nodes.specs.Words.{is_among, words_of};
+
 use crate::fault::OutOfMemory;
 use crate::name::{Attr, QualName};
 use crate::node_id::NodeId;
@@ -60,9 +63,10 @@ pub struct Element {
 }
 
 impl Element {
-    ghost use Rattle.std.specs.Prelude.{◌≡◌};
+    ghost use Rattle.std.specs.Prelude.{◌≡◌, codes};
     ghost use Rattle.std.specs.Option.{option_copied};
     ghost use Rattle.dom_nodes.specs.Attrs.{attr_of};
+    ghost use Rattle.dom_nodes.specs.Words.{class_words, is_among};
 
     pub fn new(
         name: QualName,
@@ -71,10 +75,10 @@ impl Element {
         mathml_annotation_xml_integration_point: bool,
     ) -> Element
         ensures { result ≡ record {
-            name = name;
-            attrs = attrs;
-            template_contents = template_contents;
-            mathml_annotation_xml_integration_point = mathml_annotation_xml_integration_point;
+          name = name;
+          attrs = attrs;
+          template_contents = template_contents;
+          mathml_annotation_xml_integration_point = mathml_annotation_xml_integration_point;
         } }
     {
         Element {
@@ -103,12 +107,48 @@ impl Element {
             .map(|attr| attr.value.as_str())
     }
 
+    /// The value of the first attribute `id`.
+    pub fn id(&self) -> Option<&str>
+        ensures { option_copied result ≡ attr_of self.now.attrs (codes "id") }
+    {
+        self.attr("id")
+    }
+
+    /// The value of the first attribute `class`.
+    pub fn class(&self) -> Option<&str>
+        ensures { option_copied result ≡ attr_of self.now.attrs (codes "class") }
+    {
+        self.attr("class")
+    }
+
+    /// Whether the name is a word of the first attribute `class`. An empty name isn't.
+    pub fn has_class(&self, name: &str) -> bool
+        ensures { result ≡ is_among name.now (class_words self.now.attrs) }
+    {
+        match self.class() {
+            Some(classes) => has_word(classes, name),
+            None => false,
+        }
+    }
+
     /// The fragment that holds a template's contents.
     pub fn template_contents(&self) -> Option<NodeId>
         ensures { result ≡ self.now.template_contents }
     {
         self.template_contents
     }
+}
+
+/// Whether the text has that word, between whitespace.
+fn has_word(text: &str, word: &str) -> bool
+    ensures { result ≡ is_among word.now (words_of text.now) }
+{
+    for found in text.split_ascii_whitespace() {
+        if found == word {
+            return true;
+        }
+    }
+    false
 }
 
 /// What a node is.

@@ -35,3 +35,13 @@ impl Text {
         self.letters.as_str()
     }
 }
+
+impl From<String> for Text {
+    ghost use Rattle.std.specs.Prelude.{string_bytes};
+
+    ghost from_gives = { λ letters made. made ≡ string_bytes letters };
+
+    fn from(letters: String) -> Text {
+        Text { letters }
+    }
+}

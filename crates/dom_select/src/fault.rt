@@ -1,5 +1,7 @@
 //! Why a text is no selector.
 
+use std::alloc::{AllocError, AllocFailed};
+
 /// Why a text is no selector.
 #[derive(Clone, Copy, PartialEq, Eq, Debug, Drop, thiserror::Error)]
 pub enum SelectorFault {
@@ -21,4 +23,26 @@ pub enum SelectorFault {
     /// Memory was refused.
     #[error("out of memory")]
     Memory,
+}
+
+impl From<AllocError> for SelectorFault {
+    ghost use Rattle.std.specs.Prelude.{◌≡◌};
+    ghost use Rattle.dom_select.specs.declared.fault.SelectorFault.TheVariants.{Memory};
+
+    ghost from_gives = { λ _ fault. fault ≡ Memory };
+
+    fn from(_refused: AllocError) -> SelectorFault {
+        SelectorFault::Memory
+    }
+}
+
+impl<T: Drop> From<AllocFailed<T>> for SelectorFault {
+    ghost use Rattle.std.specs.Prelude.{◌≡◌};
+    ghost use Rattle.dom_select.specs.declared.fault.SelectorFault.TheVariants.{Memory};
+
+    ghost from_gives = { λ _ fault. fault ≡ Memory };
+
+    fn from(_refused: AllocFailed<T>) -> SelectorFault {
+        SelectorFault::Memory
+    }
 }

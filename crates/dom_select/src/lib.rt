@@ -2,5 +2,12 @@
 #![tactic(auto)]
 
 pub mod fault;
+pub mod laws;
 pub mod matcher;
+mod names;
+mod parser;
+mod parts;
+pub mod selection;
 pub mod selector;
+#[cfg(test)]
+mod tests;

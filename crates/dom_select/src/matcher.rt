@@ -1,6 +1,8 @@
 //! A selector that nodes are asked for.
 
 use crate::fault::SelectorFault;
+use crate::parser::{letters, parse};
+use crate::parts::all_hold;
 use crate::selector::Part;
 use dom_trees::node_ref::NodeRef;
 use std::alloc::Global;
@@ -26,21 +28,23 @@ impl Matcher {
     ghost use Rattle.dom_select.specs.Grammar.{Refused, StandsFor};
     ghost use Rattle.dom_select.specs.Meaning.{Means};
 
-    /// Reads a selector's text.
+    /// Reads a selector's text. `Syntax` comes exactly where it stands for nothing, `Memory` where memory is refused.
     pub fn new(alloc: Global, text: &str) -> Result<Matcher, SelectorFault>
         ensures ok { IfOk result (λ matcher. StandsFor (chars text.now) matcher) }
         ensures refused { IfErr result (λ fault. Refused (chars text.now) fault) }
     {
-        let _ = alloc;
-        let _ = text;
-        Err(SelectorFault::Memory)
+        let letters = letters(alloc, text)?;
+        let parts = parse(alloc, &letters)?;
+        Ok(Matcher { parts })
     }
 
     /// Whether the selector means the node; false for an unknown number.
     pub fn match_element(&self, node: &NodeRef<'_>) -> bool
         ensures { MatchBool result (Means self.now node.now.tree.now node.now.id) (Means self.now node.now.tree.now node.now.id → ⊥) }
     {
-        let _ = node;
-        false
+        match node.tree.get(&node.id) {
+            Some(found) => all_hold(&self.parts, &found.content),
+            None => false,
+        }
     }
 }

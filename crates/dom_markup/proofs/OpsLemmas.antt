@@ -1,0 +1,189 @@
+-- The stack of what is still to be written.
+use Rattle.std.proofs.Common.{◌≡◌, ℕ, ◌+◌, ◌<◌, ◌≤◌, Bool, false, List, [], ◌∷◌, ◌++◌, length, Option, Some, refl, sym, ◌∙◌, ap, subst, arith, append_assoc, append-nil, slice_get, Result, Ok, Err, OnOk}
+use Rattle.dom_nodes.specs.declared.node_data.Element.{Element}
+use Rattle.dom_nodes.specs.declared.node_data.NodeData.{NodeData}
+use Rattle.dom_nodes.specs.declared.node_data.NodeData.TheVariants.{Element as AnElement}
+use Rattle.dom_nodes.specs.declared.node_data.TreeNode.{TreeNode}
+use Rattle.dom_links.specs.Forest.{Forest, kids_of}
+use Rattle.dom_links.specs.Sound.{IsForest}
+use Rattle.dom_links.specs.Trees.{contents_list, trees}
+use Rattle.dom_links.specs.Walk.{IsNodeOf, IsWithin, row_on}
+use Rattle.dom_links.proofs.Later.{begins, follows, tree_at}
+use Rattle.dom_markup.specs.declared.serializing.stack.SerializeOp.{SerializeOp}
+use Rattle.dom_markup.specs.declared.serializing.stack.SerializeOp.TheVariants.{Open, Close}
+use Rattle.dom_markup.specs.Html.{closing, end_tag, is_void_node, is_void, is_raw, keeps_texts, opening, trees_text}
+use Rattle.dom_markup.specs.Ops.{AreWithin, IsOpWithin, op_text, op_weight, ops_text, row_text, row_weight, text_below, trees_weight, weight, weight_below}
+use Rattle.dom_markup.proofs.RowLemmas.{contents_row}
+
+-- the last entry is written first
+pub ops_text-push : (forest : Forest) (ops : List SerializeOp) (op : SerializeOp) → ops_text forest (ops ++ op ∷ []) ≡ op_text forest op ++ ops_text forest ops
+ops_text-push forest [] op = sym (append-nil (op_text forest op))
+ops_text-push forest (o ∷ ops) op = ap (λ t. t ++ op_text forest o) (ops_text-push forest ops op) ∙ append_assoc (op_text forest op) (ops_text forest ops) (op_text forest o)
+
+AreWithin-push : (forest : Forest) (ops : List SerializeOp) (op : SerializeOp) → AreWithin forest ops → IsOpWithin forest op → AreWithin forest (ops ++ op ∷ [])
+AreWithin-push forest [] op all here = (here, tt)
+AreWithin-push forest (o ∷ ops) op all here = (all.0, AreWithin-push forest ops op all.1 here)
+
+-- the entries before the last, and the last
+AreWithin-pop : (forest : Forest) (ops : List SerializeOp) (op : SerializeOp) → AreWithin forest (ops ++ op ∷ []) → AreWithin forest ops × IsOpWithin forest op
+AreWithin-pop forest [] op all = (tt, all.0)
+AreWithin-pop forest (o ∷ ops) op all = let rest = AreWithin-pop forest ops op all.1 in ((all.0, rest.0), rest.1)
+
+weight-push : (forest : Forest) (ops : List SerializeOp) (op : SerializeOp) → weight forest (ops ++ op ∷ []) ≡ op_weight forest op + weight forest ops
+weight-push forest [] op = refl
+weight-push forest (o ∷ ops) op = omega (arith, weight-push forest ops op)
+
+-- ---- pushing
+
+pub record IsPushed (forest : Forest) (old new : List SerializeOp) (op : SerializeOp) : Type 0 where
+  pub text : ops_text forest new ≡ op_text forest op ++ ops_text forest old
+  pub all_within : AreWithin forest new
+  pub weight : weight forest new ≡ op_weight forest op + weight forest old
+
+pub pushed : (forest : Forest) (old new : List SerializeOp) (op : SerializeOp) → IsOpWithin forest op → AreWithin forest old → new ≡ old ++ op ∷ [] → IsPushed forest old new op
+pushed forest old new op within all same = record {
+  text = ap (ops_text forest) same ∙ ops_text-push forest old op;
+  all_within = subst (AreWithin forest) (sym same) (AreWithin-push forest old op all within);
+  weight = ap (weight forest) same ∙ weight-push forest old op;
+}
+
+-- a row that is not empty was pushed
+pub record IsRowPushed (forest : Forest) (raw : Bool) (first : Option ℕ) (old new : List SerializeOp) : Type 0 where
+  pub text : ops_text forest new ≡ row_text forest raw first ++ ops_text forest old
+  pub all_within : AreWithin forest new
+  pub weight : weight forest new ≡ row_weight forest first + weight forest old
+
+pub row_pushed : (forest : Forest) (raw : Bool) (first : Option ℕ) (id : ℕ) (old new : List SerializeOp) → first ≡ Some id → IsWithin forest first → AreWithin forest old → new ≡ old ++ Open id raw ∷ [] → IsRowPushed forest raw first old new
+row_pushed forest raw first id old new is within all items =
+    let p = pushed forest old new (Open id raw) (subst (IsWithin forest) is within) all items in
+    record {
+      text = p.text ∙ ap (λ at. row_text forest raw at ++ ops_text forest old) (sym is);
+      all_within = p.all_within;
+      weight = p.weight ∙ ap (λ at. row_weight forest at + weight forest old) (sym is);
+    }
+
+-- what was pushed on an empty stack
+pub only : (forest : Forest) (old : List SerializeOp) (new text : List ℕ) → old ≡ [] → new ≡ text ++ ops_text forest old → new ≡ text
+only forest old new text empty is = is ∙ (ap (λ ops. text ++ ops_text forest ops) empty ∙ append-nil text)
+
+-- ---- taking the last entry off
+
+pub record IsPopped (forest : Forest) (ops rest : List SerializeOp) (op : SerializeOp) : Type 0 where
+  pub text : ops_text forest ops ≡ op_text forest op ++ ops_text forest rest
+  pub all_within : AreWithin forest rest
+  pub within : IsOpWithin forest op
+  pub weight : weight forest ops ≡ op_weight forest op + weight forest rest
+
+pub popped : (forest : Forest) (ops rest : List SerializeOp) (op : SerializeOp) → ops ≡ rest ++ op ∷ [] → AreWithin forest ops → IsPopped forest ops rest op
+popped forest ops rest op same all =
+    let pop = AreWithin-pop forest rest op (subst (AreWithin forest) same all) in
+    record {
+      text = ap (ops_text forest) same ∙ ops_text-push forest rest op;
+      all_within = pop.0;
+      within = pop.1;
+      weight = ap (weight forest) same ∙ weight-push forest rest op;
+    }
+
+-- after the last entry was taken off, some of the text was written and the rest pushed
+pub stepped : (forest : Forest) (ops rest new : List SerializeOp) (op : SerializeOp) (front some all : List ℕ) → IsPopped forest ops rest op →
+    some ++ ops_text forest new ≡ op_text forest op ++ ops_text forest rest → front ++ ops_text forest ops ≡ all → (front ++ some) ++ ops_text forest new ≡ all
+stepped forest ops rest new op front some all pop wrote whole =
+    append_assoc front some (ops_text forest new) ∙ (ap (λ t. front ++ t) (wrote ∙ sym pop.text) ∙ whole)
+
+-- after the last entry was taken off, its text and that of the others is left
+pub still_left : (forest : Forest) (ops rest : List SerializeOp) (op : SerializeOp) (front all : List ℕ) → IsPopped forest ops rest op →
+    front ++ ops_text forest ops ≡ all → front ++ (op_text forest op ++ ops_text forest rest) ≡ all
+still_left forest ops rest op front all pop whole = ap (λ t. front ++ t) (sym pop.text) ∙ whole
+
+-- the text of an end tag
+pub tag-text : (forest : Forest) (op : SerializeOp) (n : ℕ) (content : NodeData) → op ≡ Close n → slice_get forest.content n ≡ Some content → op_text forest op ≡ closing content
+tag-text forest op n content is read = rw (is, read) refl
+
+-- ---- opening a node
+
+-- a node's text is its opening, what follows that, and the texts after it
+row-tree : (forest : Forest) → IsForest forest → (raw : Bool) (n : ℕ) (node : TreeNode) → IsNodeOf forest n node → n < length forest.content →
+    row_text forest raw (Some n) ≡ (opening node.content raw ++ text_below forest n node.content) ++ row_text forest raw node.next_sibling
+row-tree forest good raw n node is known =
+    let rest = (follows forest false n node.next_sibling good is.next_is).rest in
+    rw (tree_at forest n good known, is.content_is, rest) refl
+
+row-weight : (forest : Forest) → IsForest forest → (n : ℕ) (node : TreeNode) → IsNodeOf forest n node → n < length forest.content →
+    row_weight forest (Some n) ≡ 2 + weight_below forest n + row_weight forest node.next_sibling
+row-weight forest good n node is known =
+    let rest = (follows forest false n node.next_sibling good is.next_is).rest in
+    rw (tree_at forest n good known, rest) (omega arith)
+
+pub next-within : (forest : Forest) → IsForest forest → (n : ℕ) (node : TreeNode) → IsNodeOf forest n node → IsWithin forest node.next_sibling
+next-within forest good n node is = (follows forest false n node.next_sibling good is.next_is).within
+
+pub opened-text : (forest : Forest) → IsForest forest → (raw : Bool) (n : ℕ) (node : TreeNode) → IsNodeOf forest n node → n < length forest.content → (old one new : List ℕ) →
+    one ≡ row_text forest raw node.next_sibling ++ old → new ≡ text_below forest n node.content ++ one →
+    row_text forest raw (Some n) ++ old ≡ opening node.content raw ++ new
+opened-text forest good raw n node is known old one new first second =
+    let begin = opening node.content raw in
+    let inside = text_below forest n node.content in
+    let after = row_text forest raw node.next_sibling in
+    let joined : new ≡ inside ++ (after ++ old) = second ∙ ap (λ t. inside ++ t) first in
+    ap (λ t. t ++ old) (row-tree forest good raw n node is known) ∙ (append_assoc (begin ++ inside) after old ∙ (append_assoc begin inside (after ++ old) ∙ ap (λ t. begin ++ t) (sym joined)))
+
+pub opened-weight : (forest : Forest) → IsForest forest → (n : ℕ) (node : TreeNode) → IsNodeOf forest n node → n < length forest.content → (old one new : ℕ) →
+    one ≡ row_weight forest node.next_sibling + old → new ≤ 1 + weight_below forest n + one →
+    new < row_weight forest (Some n) + old
+opened-weight forest good n node is known old one new first second = omega (arith, row-weight forest good n node is known, first, second)
+
+-- ---- what follows a node's opening
+
+pub kids-within : (forest : Forest) → IsForest forest → (n : ℕ) (node : TreeNode) → IsNodeOf forest n node → IsWithin forest node.first_child
+kids-within forest good n node is = (begins forest false n node.first_child good is.first_is).within
+
+pub kids-row : (forest : Forest) → IsForest forest → (n : ℕ) (node : TreeNode) → IsNodeOf forest n node → kids_of forest n ≡ row_on forest false node.first_child
+kids-row forest good n node is = (begins forest false n node.first_child good is.first_is).all
+
+-- what follows the opening of a document or a fragment
+pub top-below : (forest : Forest) → IsForest forest → (n : ℕ) (node : TreeNode) → IsNodeOf forest n node → (raw : Bool) → text_below forest n node.content ≡ trees_text forest raw (trees forest (kids_of forest n)) →
+    (old new : List ℕ) → new ≡ row_text forest raw node.first_child ++ old → new ≡ text_below forest n node.content ++ old
+top-below forest good n node is raw follows old new wrote =
+    wrote ∙ ap (λ ns. trees_text forest raw (trees forest ns) ++ old) (sym (kids-row forest good n node is)) ∙ ap (λ t. t ++ old) (sym follows)
+
+-- what follows the opening of an element that isn't void
+pub element-below : (forest : Forest) → IsForest forest → (n : ℕ) (node : TreeNode) (e : Element) → IsNodeOf forest n node → node.content ≡ AnElement e → is_void_node node.content ≡ false → (raw : Bool) → raw ≡ keeps_texts node.content →
+    (rest closed opened all : List ℕ) → closed ≡ op_text forest (Close n) ++ rest → opened ≡ row_text forest raw node.first_child ++ closed → all ≡ row_text forest false e.template_contents ++ opened →
+    all ≡ text_below forest n node.content ++ rest
+element-below forest good n node e is shape void raw keeps rest closed opened all one two three =
+    let read = is.content_is ∙ ap Some shape in
+    let kids_are = kids-row forest good n node is in
+    let contents_are = contents_row forest good n e read in
+    let not_void : is_void e ≡ false = rw shape at void in
+    let kept : raw ≡ is_raw e = rw shape at keeps in
+    let inner = trees_text forest false (trees forest (contents_list forest n)) in
+    let kids = trees_text forest (is_raw e) (trees forest (kids_of forest n)) in
+    let tag = end_tag e.name.local.0 in
+    let ends : op_text forest (Close n) ≡ tag = rw read refl in
+    let follows : text_below forest n node.content ≡ inner ++ (kids ++ tag) = rw (shape, not_void) refl in
+    let second : opened ≡ kids ++ closed = two ∙ rw (kids_are, kept) refl in
+    let third : all ≡ inner ++ opened = three ∙ rw contents_are refl in
+    let joined : all ≡ inner ++ (kids ++ (tag ++ rest)) = third ∙ ap (λ t. inner ++ t) (second ∙ ap (λ t. kids ++ t) (one ∙ ap (λ t. t ++ rest) ends)) in
+    joined ∙ (ap (λ t. inner ++ t) (sym (append_assoc kids tag rest)) ∙ (sym (append_assoc inner (kids ++ tag) rest) ∙ ap (λ t. t ++ rest) (sym follows)))
+
+pub top-weight : (forest : Forest) → IsForest forest → (n : ℕ) (node : TreeNode) → IsNodeOf forest n node → (old new : ℕ) → new ≡ row_weight forest node.first_child + old → new ≤ 1 + weight_below forest n + old
+top-weight forest good n node is old new wrote =
+    let kids = ap (λ ns. trees_weight (trees forest ns)) (kids-row forest good n node is) in
+    omega (arith, wrote, kids)
+
+pub element-weight : (forest : Forest) → IsForest forest → (n : ℕ) (node : TreeNode) (e : Element) → IsNodeOf forest n node → node.content ≡ AnElement e → (old closed opened new : ℕ) →
+    closed ≡ 1 + old → opened ≡ row_weight forest node.first_child + closed → new ≡ row_weight forest e.template_contents + opened → new ≤ 1 + weight_below forest n + old
+element-weight forest good n node e is shape old closed opened new one two three =
+    let kids = ap (λ ns. trees_weight (trees forest ns)) (kids-row forest good n node is) in
+    let contents = ap (λ ns. trees_weight (trees forest ns)) (contents_row forest good n e (is.content_is ∙ ap Some shape)) in
+    omega (arith, one, two, three, kids, contents)
+
+-- ---- results
+
+pub on_ok : {T E P Q : Type 0} (r : Result T E) → (P → Q) → OnOk r P → OnOk r Q
+on_ok (Ok x) f p = f p
+on_ok (Err e) f p = tt
+
+pub on_ok-any : {T E P : Type 0} (r : Result T E) → P → OnOk r P
+on_ok-any (Ok x) p = p
+on_ok-any (Err e) p = tt

@@ -1,0 +1,14 @@
+use Rattle.std.proofs.Common.{[], refl, ◌∙◌, sym, ap, map}
+use Rattle.dom_markup.specs.ValueTrees.ValueTrees.{no_trees}
+use Rattle.dom_markup.specs.Reader.{opened_by}
+use Rattle.dom_markup.proofs.Frames.{document_of-none}
+use Rattle.dom_markup.proofs.document.reader.Reader.new.Goals as goal
+
+pub returns : goal.returns
+returns c = record {
+  frames = [];
+  done = no_trees;
+  items_are = refl;
+  forest_is = c.in-Ok.ensures.ok ∙ sym document_of-none;
+  stack_is = ap (map opened_by) c.new-2.ensures.items;
+}

@@ -1,0 +1,16 @@
+use Rattle.std.proofs.Common.{◌≡◌, ℕ, List, ◌++◌, length}
+use Rattle.std.specs.Io.KnownBytes.{Appends}
+use Rattle.std.specs.Str.{IsUtf8}
+use Rattle.dom_markup.specs.Escaping.{escaped_text}
+use Rattle.dom_markup.proofs.escaping.Escaper.put_text.Given as goal
+
+abbrev pub invariant-loop-named : goal.invariant-loop-named
+invariant-loop-named g l = record {
+  front : List ℕ;
+  whole : front ++ escaped_text l.rest ≡ escaped_text l.fn.text;
+  written : Appends (g.P.PutText.written l.fn.w) (g.P.PutText.written l.w) front;
+  utf8 : IsUtf8 l.rest;
+}
+
+abbrev pub decreases-loop-named : goal.decreases-loop-named
+decreases-loop-named g l = length l.rest

@@ -1,0 +1,50 @@
+use Rattle.std.proofs.Common.{◌++◌, ◌+◌, false, Some, rules, ◌∙◌, ap, subst, sym}
+use Rattle.dom_links.specs.Forest.{forest_of}
+use Rattle.dom_links.specs.Walk.{IsWithin}
+use Rattle.dom_markup.specs.declared.serializing.stack.SerializeOp.TheVariants.{Close}
+use Rattle.dom_markup.specs.Ops.{ops_text, row_text, row_weight, weight}
+use Rattle.dom_markup.proofs.OpsLemmas.{pushed, element-below, element-weight, top-below, top-weight, kids-within, on_ok}
+use Rattle.dom_markup.proofs.RowLemmas.{contents_within, known_node}
+use Rattle.dom_markup.proofs.serializing.stack.push_following.Goals as goal
+
+pub push_open-requires-clause-within : goal.push_open-requires-clause-within
+push_open-requires-clause-within c = kids-within (forest_of c.args.nodes.now) c.requires.sound.forest c.args.id c.args.node.now c.requires.node
+
+pub push_open-requires-clause-all_within : goal.push_open-requires-clause-all_within
+push_open-requires-clause-all_within c =
+    let known = known_node _ c.args.id _ c.requires.node.content_is in
+    (pushed (forest_of c.args.nodes.now) c.args.ops.now.items c.push_op.new.ops.items (Close c.args.id) known c.requires.all_within c.in_ok-push_op-in-Element.ensures.ok).all_within
+
+pub push_open-requires-in-Element-clause-within : goal.push_open-requires-in-Element-clause-within
+push_open-requires-in-Element-clause-within c =
+    let forest = forest_of c.args.nodes.now in
+    let read = c.requires.node.content_is ∙ ap Some c.in-Element.is in
+    subst (IsWithin forest) (sym c.template_contents.ensures) (contents_within forest c.requires.sound.forest c.args.id c.in-Element.element read)
+
+pub push_open-requires-in-Document-clause-within : goal.push_open-requires-in-Document-clause-within
+push_open-requires-in-Document-clause-within c = kids-within (forest_of c.args.nodes.now) c.requires.sound.forest c.args.id c.args.node.now c.requires.node
+
+pub returns-in_ok-push_open-in-Element-clause-text : goal.returns-in_ok-push_open-in-Element-clause-text
+returns-in_ok-push_open-in-Element-clause-text c =
+    let forest = forest_of c.args.nodes.now in
+    let one = (pushed forest c.args.ops.now.items c.push_op.new.ops.items (Close c.args.id) (known_node _ c.args.id _ c.requires.node.content_is) c.requires.all_within c.in_ok-push_op-in-Element.ensures.ok).text in
+    on_ok c.push_open-in-Element.result
+    (λ three. element-below forest c.requires.sound.forest c.args.id c.args.node.now c.in-Element.element c.requires.node c.in-Element.is (sym c.if-not-is_void_node.ensures) c.keeps_texts.result c.keeps_texts.ensures _ _ _ _
+    one c.in_ok-push_open-in-Element.ensures.text (three ∙ ap (λ at. row_text forest false at ++ ops_text forest c.push_open.new.ops.items) c.template_contents.ensures))
+    c.push_open-in-Element.ensures.text
+
+pub returns-in_ok-push_open-in-Element-clause-weight : goal.returns-in_ok-push_open-in-Element-clause-weight
+returns-in_ok-push_open-in-Element-clause-weight c =
+    let forest = forest_of c.args.nodes.now in
+    let one = (pushed forest c.args.ops.now.items c.push_op.new.ops.items (Close c.args.id) (known_node _ c.args.id _ c.requires.node.content_is) c.requires.all_within c.in_ok-push_op-in-Element.ensures.ok).weight in
+    on_ok c.push_open-in-Element.result
+    (λ three. element-weight forest c.requires.sound.forest c.args.id c.args.node.now c.in-Element.element c.requires.node c.in-Element.is _ _ _ _
+    one c.in_ok-push_open-in-Element.ensures.weight (three ∙ ap (λ at. row_weight forest at + weight forest c.push_open.new.ops.items) c.template_contents.ensures))
+    c.push_open-in-Element.ensures.weight
+
+pub returns-in-Document-clause-text : goal.returns-in-Document-clause-text
+returns-in-Document-clause-text c = on_ok c.push_open-in-Document.result (top-below (forest_of c.args.nodes.now) c.requires.sound.forest c.args.id c.args.node.now c.requires.node false (search rules) _ _) c.push_open-in-Document.ensures.text
+
+pub returns-in-Document-clause-weight : goal.returns-in-Document-clause-weight
+returns-in-Document-clause-weight c =
+    on_ok c.push_open-in-Document.result (top-weight (forest_of c.args.nodes.now) c.requires.sound.forest c.args.id c.args.node.now c.requires.node _ _) c.push_open-in-Document.ensures.weight

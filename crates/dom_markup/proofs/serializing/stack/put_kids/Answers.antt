@@ -1,0 +1,30 @@
+use Rattle.std.proofs.Common.{◌≡◌, [], List, ℕ, ◌∙◌, ap, sym, subst}
+use Rattle.dom_links.specs.Forest.{forest_of}
+use Rattle.dom_markup.specs.Html.{inner_html_of}
+use Rattle.dom_markup.specs.Ops.{ops_text, row_text}
+use Rattle.dom_markup.specs.Writing.{Writes}
+use Rattle.dom_markup.proofs.OpsLemmas.{kids-within, only}
+use Rattle.dom_markup.proofs.RowLemmas.{inner-piece, inner-bare, inner-unknown}
+use Rattle.dom_markup.proofs.WritingLemmas.{nothing-written}
+use Rattle.dom_markup.proofs.serializing.stack.put_kids.Goals as goal
+
+pub returns-in_default : goal.returns-in_default
+returns-in_default g c =
+    let none = inner-unknown (forest_of c.nodes-nodes.result.now) c.args.id c.nodes-nodes.ensures.sound.forest c.in_default.ensures in
+    let same : inner_html_of c.args.tree.now c.args.id ≡ [] = ap (λ f. inner_html_of f c.args.id) (sym c.nodes-nodes.ensures.value) ∙ none in
+    rw same (nothing-written _)
+
+pub returns-then-is_void_node : goal.returns-then-is_void_node
+returns-then-is_void_node g c =
+    let none = inner-bare (forest_of c.nodes-nodes.result.now) c.args.id c.in-Some.node.now.content c.in-Some.ensures.content_is (sym c.is_void_node.ensures ∙ c.if-is_void_node.true) in
+    let same : inner_html_of c.args.tree.now c.args.id ≡ [] = ap (λ f. inner_html_of f c.args.id) (sym c.nodes-nodes.ensures.value) ∙ none in
+    rw same (nothing-written _)
+
+pub push_open-requires-clause-within : goal.push_open-requires-clause-within
+push_open-requires-clause-within g c = kids-within (forest_of c.nodes-nodes.result.now) c.nodes-nodes.ensures.sound.forest c.args.id c.in-Some.node.now c.in-Some.ensures
+
+pub returns : goal.returns
+returns g c =
+    let pushed = only (forest_of c.nodes-nodes.result.now) c.new-ops.result.items (ops_text (forest_of c.nodes-nodes.result.now) c.push_open.new.ops.items) (row_text (forest_of c.nodes-nodes.result.now) c.keeps_texts.result c.in-Some.node.now.first_child) c.new-ops.ensures.items c.in_ok-push_open.ensures.text in
+    let all = inner-piece (forest_of c.nodes-nodes.result.now) c.args.tree.now c.nodes-nodes.ensures.sound.forest c.nodes-nodes.ensures.value c.args.id c.in-Some.node.now c.in-Some.ensures (sym c.is_void_node.ensures ∙ c.if-is_void_node.false) c.keeps_texts.result (ops_text (forest_of c.nodes-nodes.result.now) c.push_open.new.ops.items) c.keeps_texts.ensures pushed in
+    subst (λ (text : List ℕ). Writes (g.P.PutText.written c.args.w.now) (g.P.PutText.written c.put_ops.new.w) c.put_ops.result text) all c.put_ops.ensures

@@ -1,0 +1,31 @@
+-- Nodes that can be made but for a limit, and the limits.
+use Rattle.std.specs.Prelude.{◌≡◌, ◌≤◌, false, None, length}
+use Rattle.dom_nodes.specs.Kinds.{contents_named, is_top}
+use Rattle.dom_nodes.specs.declared.fault.EditFault.{EditFault}
+use Rattle.dom_nodes.specs.declared.fault.EditFault.TheVariants as edit_faults
+use Rattle.dom_nodes.specs.declared.fault.MarkupFaultKind.{MarkupFaultKind}
+use Rattle.dom_nodes.specs.declared.fault.MarkupFaultKind.TheVariants.{TooManyNodes, Memory}
+use Rattle.dom_nodes.specs.declared.node_data.NodeData.{NodeData}
+use Rattle.dom_links.specs.Forest.{Forest}
+
+-- neither a document or fragment, nor a template with contents
+pub record IsPlainData (content : NodeData) : Type 0 where
+  pub no_top : is_top content ≡ false
+  pub no_contents : contents_named content ≡ None
+
+-- an edit met a limit
+abbrev pub IsLimit : EditFault → Type 0
+IsLimit edit_faults.TooManyNodes = Unit {0}
+IsLimit edit_faults.Memory = Unit {0}
+IsLimit _ = ⊥
+
+-- what the limit is called in markup
+abbrev pub limit_kind : EditFault → MarkupFaultKind
+limit_kind edit_faults.TooManyNodes = TooManyNodes
+limit_kind _ = Memory
+
+-- no number is left in the forest, or there was no memory
+abbrev pub LacksNumbers : Forest → MarkupFaultKind → Type 0
+LacksNumbers forest TooManyNodes = 4294967295 ≤ length forest.content
+LacksNumbers forest Memory = Unit {0}
+LacksNumbers forest _ = ⊥

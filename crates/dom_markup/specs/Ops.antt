@@ -1,0 +1,62 @@
+-- The stack of what is still to be written, the last entry first.
+use Rattle.std.specs.Prelude.{◌≡◌, ℕ, ◌+◌, ◌<◌, Bool, false, List, [], ◌++◌, ◌∷◌, length, Option, Some, Result, MatchResult, slice_get}
+use Rattle.std.specs.Io.KnownBytes.{Appends}
+use Rattle.std.specs.Option.{option_map_or}
+use Rattle.dom_nodes.specs.declared.node_data.NodeData.{NodeData}
+use Rattle.dom_links.specs.Forest.{Forest, kids_of}
+use Rattle.dom_links.specs.Trees.{Trees, NoTrees, Tree, contents_list, trees}
+use Rattle.dom_links.specs.Walk.{row_on}
+use Rattle.dom_markup.specs.declared.serializing.stack.SerializeOp.{SerializeOp}
+use Rattle.dom_markup.specs.declared.serializing.stack.SerializeOp.TheVariants.{Open, Close}
+use Rattle.dom_markup.specs.Html.{closing, following, keeps_texts, trees_text}
+use Rattle.dom_markup.specs.Writing.{AppendsBeginning}
+
+-- the text of a node and its later siblings
+abbrev pub row_text : Forest → Bool → Option ℕ → List ℕ
+row_text forest raw first = trees_text forest raw (trees forest (row_on forest false first))
+
+abbrev pub op_text : Forest → SerializeOp → List ℕ
+op_text forest (Open id raw) = row_text forest raw (Some id)
+op_text forest (Close id) = option_map_or closing (slice_get forest.content id) []
+
+abbrev pub ops_text : Forest → List SerializeOp → List ℕ
+ops_text forest [] = []
+ops_text forest (op ∷ ops) = ops_text forest ops ++ op_text forest op
+
+-- the nodes named on the stack are in the forest
+abbrev pub IsOpWithin : Forest → SerializeOp → Type 0
+IsOpWithin forest (Open id raw) = id < length forest.content
+IsOpWithin forest (Close id) = id < length forest.content
+
+abbrev pub AreWithin : Forest → List SerializeOp → Type 0
+AreWithin forest [] = Unit {0}
+AreWithin forest (op ∷ ops) = IsOpWithin forest op × AreWithin forest ops
+
+-- how many steps are left: two for each node, one for each end tag
+abbrev pub trees_weight : Trees → ℕ
+trees_weight NoTrees = 0
+trees_weight (Tree n contents kids later) = 2 + trees_weight contents + trees_weight kids + trees_weight later
+
+abbrev pub row_weight : Forest → Option ℕ → ℕ
+row_weight forest first = trees_weight (trees forest (row_on forest false first))
+
+abbrev pub op_weight : Forest → SerializeOp → ℕ
+op_weight forest (Open id raw) = row_weight forest (Some id)
+op_weight forest (Close id) = 1
+
+abbrev pub weight : Forest → List SerializeOp → ℕ
+weight forest [] = 0
+weight forest (op ∷ ops) = op_weight forest op + weight forest ops
+
+-- what follows the opening of node n
+abbrev pub text_below : Forest → ℕ → NodeData → List ℕ
+text_below forest n content =
+    following content (trees_text forest false (trees forest (contents_list forest n))) (trees_text forest (keeps_texts content) (trees forest (kids_of forest n)))
+
+-- the steps that its contents and kids take
+abbrev pub weight_below : Forest → ℕ → ℕ
+weight_below forest n = trees_weight (trees forest (contents_list forest n)) + trees_weight (trees forest (kids_of forest n))
+
+-- some of the text was written and the rest is still to be written, or after a fault a beginning of it was written
+abbrev pub WritesSome : {T E : Type 0} → Option (List ℕ) → Option (List ℕ) → Result T E → (text rest : List ℕ) → Type 0
+WritesSome old new result text rest = MatchResult result (λ _. (front : List ℕ) × (front ++ rest ≡ text) × Appends old new front) (λ _. AppendsBeginning old new text)

@@ -1,0 +1,12 @@
+//! What is true of the definitions, told to the crates above. The functions do nothing.
+
+ghost use Rattle.std.specs.Prelude.{◌≡◌, ℕ, List};
+ghost use Rattle.dom_markup.specs.ValueTrees.{ValueTrees};
+ghost use Rattle.dom_markup.specs.Markup.{Spells};
+
+pub mod escaping;
+
+/// A text spells one list of trees at most.
+pub fn one_reading()
+    ensures { (text : List ℕ) (trees others : ValueTrees) → Spells text trees → Spells text others → trees ≡ others }
+{}

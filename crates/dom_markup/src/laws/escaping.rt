@@ -1,0 +1,15 @@
+//! What escaping alone makes sure of.
+
+ghost use Rattle.std.specs.Prelude.{◌≡◌, true, ℕ, List};
+ghost use Rattle.dom_markup.specs.Escaping.{escaped_text, escaped_value, lacks};
+
+/// An escaped text begins no tag and ends none.
+pub fn text_is_inert()
+    ensures less { (text : List ℕ) → lacks 60 (escaped_text text) ≡ true }
+    ensures greater { (text : List ℕ) → lacks 62 (escaped_text text) ≡ true }
+{}
+
+/// An escaped value doesn't end its quotes.
+pub fn value_is_inert()
+    ensures { (text : List ℕ) → lacks 34 (escaped_value text) ≡ true }
+{}

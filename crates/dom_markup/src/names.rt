@@ -1,0 +1,21 @@
+//! The names of elements that markup treats apart.
+
+/// The elements that are a start tag alone.
+pub(crate) const VOID_NAMES: [&str; 18] = [
+    "area", "base", "basefont", "bgsound", "br", "col", "embed", "frame", "hr", "img", "input",
+    "keygen", "link", "meta", "param", "source", "track", "wbr",
+];
+
+/// The elements whose texts are written as they are.
+pub(crate) const RAW_NAMES: [&str; 7] = [
+    "style",
+    "script",
+    "xmp",
+    "iframe",
+    "noembed",
+    "noframes",
+    "plaintext",
+];
+
+/// The other elements whose contents are read in a way of their own.
+pub(crate) const APART_NAMES: [&str; 3] = ["title", "textarea", "template"];

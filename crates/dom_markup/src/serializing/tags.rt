@@ -1,0 +1,134 @@
+//! What a node is written as, before and after what is below it.
+
+ghost use Rattle.std.specs.Prelude.{◌≡◌};
+ghost use Rattle.std.specs.List.{list_any};
+ghost use Rattle.std.specs.Str.{bytes_eq};
+ghost use Rattle.dom_markup.specs.Html.{attr_text, closing, is_void_node, is_raw, is_void, keeps_texts, opening, prefix_text, start_tag};
+ghost use Rattle.dom_markup.specs.Writing.{Writes};
+
+use crate::escaping::Escaper;
+use crate::names::{RAW_NAMES, VOID_NAMES};
+use crate::writing::{PutText, put_parts};
+use dom_nodes::name::{Attr, Namespace, QualName};
+use dom_nodes::node_data::{Element, NodeData};
+
+/// Puts what stands before what is below a node; a text as it is, where `raw` says so.
+pub(super) fn put_opening<P: PutText<W>, W>(
+    w: &mut W,
+    escaper: &Escaper,
+    content: &NodeData,
+    raw: bool,
+) -> Result<(), P::Fault>
+    ensures { Writes (P.written w.old) (P.written w.new) result (opening content.now raw) }
+{
+    match content {
+        NodeData::Document | NodeData::Fragment => Ok(()),
+        NodeData::Doctype { name, .. } => {
+            put_parts::<P, W>(w, &["<!DOCTYPE ", name.as_str(), ">"])
+        }
+        NodeData::Text { contents } if raw => P::put(w, contents.as_str()),
+        NodeData::Text { contents } => escaper.put_text::<P, W>(w, contents.as_str()),
+        NodeData::Comment { contents } => {
+            put_parts::<P, W>(w, &["<!--", contents.as_str(), "-->"])
+        }
+        NodeData::ProcessingInstruction { target, contents } => {
+            put_parts::<P, W>(w, &["<?", target.as_str(), " ", contents.as_str(), ">"])
+        }
+        NodeData::Element(element) => put_start_tag::<P, W>(w, escaper, element),
+    }
+}
+
+/// Puts the end tag of an element, and nothing for another node.
+pub(super) fn put_end_tag<P: PutText<W>, W>(w: &mut W, content: &NodeData) -> Result<(), P::Fault>
+    ensures { Writes (P.written w.old) (P.written w.new) result (closing content.now) }
+{
+    match content {
+        NodeData::Element(element) => put_parts::<P, W>(w, &["</", element.node_name(), ">"]),
+        _ => Ok(()),
+    }
+}
+
+fn put_start_tag<P: PutText<W>, W>(
+    w: &mut W,
+    escaper: &Escaper,
+    element: &Element,
+) -> Result<(), P::Fault>
+    ensures { Writes (P.written w.old) (P.written w.new) result (start_tag element.now) }
+{
+    put_parts::<P, W>(w, &["<", element.node_name()])?;
+    for attr in element.attrs.as_slice() {
+        put_attr::<P, W>(w, escaper, attr)?;
+    }
+    P::put(w, ">")
+}
+
+fn put_attr<P: PutText<W>, W>(w: &mut W, escaper: &Escaper, attr: &Attr) -> Result<(), P::Fault>
+    ensures { Writes (P.written w.old) (P.written w.new) result (attr_text attr.now) }
+{
+    let local = attr.name.local.0.as_str();
+    put_parts::<P, W>(w, &[" ", prefix(&attr.name), local, "=\""])?;
+    escaper.put_value::<P, W>(w, attr.value.as_str())?;
+    P::put(w, "\"")
+}
+
+/// What stands before the local name of an attribute.
+fn prefix(name: &QualName) -> &str
+    ensures { result.now ≡ prefix_text name.now }
+{
+    match &name.ns {
+        Namespace::None => "",
+        Namespace::Xml => "xml:",
+        Namespace::XLink => "xlink:",
+        Namespace::XmlNs if name.local.0.as_str() == "xmlns" => "",
+        Namespace::XmlNs => "xmlns:",
+        _ => "unknown_namespace:",
+    }
+}
+
+/// Whether the element is written as its start tag alone.
+#[tactic(auto, unfolding(crate::specs::Names::void_names))]
+pub(super) fn is_void(element: &Element) -> bool
+    ensures { result ≡ is_void element.now }
+{
+    match element.name.ns {
+        Namespace::Html => is_one_of(&VOID_NAMES, element.node_name()),
+        _ => false,
+    }
+}
+
+/// Whether nothing is written below the node.
+pub(super) fn is_void_node(content: &NodeData) -> bool
+    ensures { result ≡ is_void_node content.now }
+{
+    match content {
+        NodeData::Element(element) => is_void(element),
+        _ => false,
+    }
+}
+
+/// Whether texts right below the node are written as they are.
+pub(super) fn keeps_texts(content: &NodeData) -> bool
+    ensures { result ≡ keeps_texts content.now }
+{
+    match content {
+        NodeData::Element(element) => is_raw(element),
+        _ => false,
+    }
+}
+
+/// Whether the element's texts are written as they are.
+#[tactic(auto, unfolding(crate::specs::Names::raw_names))]
+fn is_raw(element: &Element) -> bool
+    ensures { result ≡ is_raw element.now }
+{
+    match element.name.ns {
+        Namespace::Html => is_one_of(&RAW_NAMES, element.node_name()),
+        _ => false,
+    }
+}
+
+fn is_one_of(names: &[&str], name: &str) -> bool
+    ensures { result ≡ list_any (λ n. bytes_eq n.now name.now) names.now }
+{
+    names.iter().any(|n| *n == name)
+}

@@ -1,0 +1,73 @@
+//! Where the pieces of a text go: to a writer, or to the end of a string.
+
+ghost use Rattle.std.specs.Prelude.{ℕ, List, Option, Some, string_bytes};
+ghost use Rattle.std.specs.List.{flat_map};
+ghost use Rattle.dom_markup.specs.Writing.{Writes};
+
+use crate::serializing::WriteFault;
+use dom_nodes::fault::OutOfMemory;
+use std::io::Write;
+
+/// A way to put texts into a `W`.
+pub(crate) trait PutText<W> {
+    // The bytes that were put, where they are known.
+    ghost written: { W → Option (List ℕ) };
+
+    /// What can fail besides the memory of the one who puts.
+    type Fault: From<OutOfMemory>;
+
+    /// Puts the text; after a fault a beginning of it is put.
+    fn put(w: &mut W, text: &str) -> Result<(), Self::Fault>
+        ensures { Writes (written w.old) (written w.new) result text.now };
+}
+
+/// Writes to a writer.
+pub(crate) struct ToWriter;
+
+impl<W: Write> PutText<W> for ToWriter {
+    ghost written = { λ w. W.contents w };
+
+    type Fault = WriteFault;
+
+    fn put(w: &mut W, text: &str) -> Result<(), WriteFault> {
+        write_bytes(w, text.as_bytes())
+    }
+}
+
+/// Puts texts at the end of a string.
+pub(crate) struct ToText;
+
+impl PutText<String> for ToText {
+    ghost written = { λ text. Some (string_bytes text) };
+
+    type Fault = OutOfMemory;
+
+    fn put(w: &mut String, text: &str) -> Result<(), OutOfMemory> {
+        Ok(w.push_str(text)?)
+    }
+}
+
+/// Writes the bytes. The writer's own `write_all` doesn't say what a failed call has written.
+pub fn write_bytes<W: Write>(w: &mut W, bytes: &[u8]) -> Result<(), WriteFault>
+    ensures { Writes (W.contents w.old) (W.contents w.new) result bytes.now }
+{
+    let mut rest = bytes;
+    while !rest.is_empty() {
+        match w.write(rest) {
+            Ok(0) => return Err(WriteFault::Write),
+            Ok(taken) => rest = &rest[taken..],
+            Err(_) => return Err(WriteFault::Write),
+        }
+    }
+    Ok(())
+}
+
+/// Puts the parts, one after the other.
+pub(crate) fn put_parts<P: PutText<W>, W>(w: &mut W, parts: &[&str]) -> Result<(), P::Fault>
+    ensures { Writes (P.written w.old) (P.written w.new) result (flat_map (λ part. part.now) parts.now) }
+{
+    for part in parts {
+        P::put(w, part)?;
+    }
+    Ok(())
+}

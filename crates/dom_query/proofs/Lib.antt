@@ -1,0 +1,8 @@
+pub mod Lines
+pub mod Reading
+pub mod Writing
+pub mod Doing
+pub mod Scripts
+pub mod Outputs
+pub mod Telling
+pub mod Driving

@@ -1,0 +1,5 @@
+pub mod Script
+pub mod Out
+pub mod Faults
+pub mod Runs
+pub mod Drive

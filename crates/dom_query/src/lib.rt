@@ -1,0 +1,23 @@
+//! Scripts of lines, run over markup; the names of the crates below are handed on.
+#![tactic(auto)]
+
+mod driver;
+pub mod laws;
+mod runner;
+mod script;
+#[cfg(test)]
+mod tests;
+
+pub use dom_markup::document::{Document, QuirksMode};
+pub use dom_markup::serializing::{NodeMarkup, TraversalScope, WriteFault};
+pub use dom_nodes::fault::{EditFault, MarkupFault, MarkupFaultKind, OutOfMemory};
+pub use dom_nodes::name::{Attr, LocalName, Namespace, QualName};
+pub use dom_nodes::node_data::{Attrs, Element, NodeData, TreeNode};
+pub use dom_nodes::node_id::NodeId;
+pub use dom_nodes::text::Text;
+pub use dom_select::fault::SelectorFault;
+pub use dom_select::matcher::Matcher;
+pub use dom_trees::node_ref::NodeRef;
+pub use dom_trees::tree::Tree;
+pub use driver::drive;
+pub use runner::{RunFault, run};

@@ -1,0 +1,198 @@
+//! A script of lines, run over markup.
+
+ghost use Rattle.std.specs.Prelude.{◌≡◌, ◌∷◌, ◌++◌, [], ℕ, List, IfErr, IfOk, OnErr, OnOk};
+ghost use Rattle.std.specs.Io.KnownBytes.{Appends};
+ghost use Rattle.std.specs.Str.{IsUtf8};
+ghost use Rattle.dom_markup.specs.Html.{html_of};
+ghost use Rattle.dom_markup.specs.Markup.{Spells};
+ghost use Rattle.dom_markup.specs.Numbered.{document_of};
+ghost use Rattle.dom_markup.specs.ValueTrees.{ValueTrees};
+ghost use Rattle.dom_markup.specs.Writing.{AppendsBeginning, Writes};
+ghost use Rattle.dom_query.specs.Faults.{GaveOut, MarkupRefused};
+ghost use Rattle.dom_query.specs.Out.{Does, DoesAll, first_html, line_of};
+ghost use Rattle.dom_query.specs.Out.Ending.{done};
+ghost use Rattle.dom_query.specs.Runs.{Began, Ended, Tells};
+
+use crate::script::{Command, ScriptFault, read_script};
+use dom_markup::document::Document;
+use dom_markup::serializing::{NodeMarkup, TraversalScope, WriteFault};
+use dom_markup::writing::write_bytes;
+use dom_nodes::fault::{EditFault, MarkupFaultKind, OutOfMemory};
+use dom_nodes::node_id::NodeId;
+use dom_select::selection::select_below;
+use dom_trees::node_ref::NodeRef;
+use dom_trees::tree::Tree;
+use std::alloc::Global;
+use std::io::Write;
+
+/// Why a run ended early.
+#[derive(Clone, Copy, PartialEq, Eq, Debug, Drop, thiserror::Error)]
+pub enum RunFault {
+    /// The first bad line, counted from 1; 0 where the script isn't UTF-8.
+    #[error("bad script at line {0}")]
+    BadScript(usize),
+    /// The markup isn't UTF-8, or spells nothing.
+    #[error("bad markup")]
+    BadMarkup,
+    /// An edit was refused, at that line.
+    #[error("edit refused at line {0}: {1}")]
+    Edit(usize, EditFault),
+    /// The markup has more nodes than there are numbers.
+    #[error("too many nodes")]
+    TooManyNodes,
+    /// Memory was refused.
+    #[error("out of memory")]
+    Memory,
+    /// The writer failed, or took no byte.
+    #[error("write failed")]
+    Write,
+}
+
+impl From<OutOfMemory> for RunFault {
+    ghost use Rattle.dom_query.specs.declared.runner.RunFault.TheVariants.{Memory};
+
+    ghost from_gives = { λ _ fault. fault ≡ Memory };
+
+    fn from(_refused: OutOfMemory) -> RunFault {
+        RunFault::Memory
+    }
+}
+
+impl From<WriteFault> for RunFault {
+    ghost use Rattle.dom_query.specs.Faults.{GaveOut};
+
+    ghost from_gives = { λ _ fault. GaveOut fault };
+
+    fn from(fault: WriteFault) -> RunFault {
+        match fault {
+            WriteFault::Write => RunFault::Write,
+            WriteFault::Memory => RunFault::Memory,
+        }
+    }
+}
+
+impl From<ScriptFault> for RunFault {
+    ghost use Rattle.dom_query.specs.Faults.{fault_of};
+
+    ghost from_gives = { λ fault run. run ≡ fault_of fault };
+
+    fn from(fault: ScriptFault) -> RunFault {
+        match fault {
+            ScriptFault::BadLine(line) => RunFault::BadScript(line),
+            ScriptFault::Memory => RunFault::Memory,
+        }
+    }
+}
+
+/// Writes the HTML of a node, and a line feed.
+fn write_node<W: Write>(tree: &Tree, id: NodeId, out: &mut W) -> Result<(), WriteFault>
+    ensures { Writes (W.contents out.old) (W.contents out.new) result (line_of (html_of tree.now id)) }
+{
+    NodeRef::new(id, tree).write_html(TraversalScope::IncludeNode, out)?;
+    write_bytes(out, b"\n")
+}
+
+/// Writes the HTML of the first node, or nothing, and a line feed.
+fn write_first<W: Write>(tree: &Tree, selection: &[NodeId], out: &mut W) -> Result<(), WriteFault>
+    ensures { Writes (W.contents out.old) (W.contents out.new) result (line_of (first_html tree.now selection.now)) }
+{
+    match selection.first() {
+        Some(id) => write_node(tree, *id, out),
+        None => write_bytes(out, b"\n"),
+    }
+}
+
+/// Does what one line asks for, and gives what is selected then.
+fn do_command<W: Write>(
+    tree: &Tree,
+    selection: Vec<NodeId>,
+    command: &Command,
+    out: &mut W,
+) -> Result<Vec<NodeId>, RunFault>
+    ensures ok { IfOk result (λ selected. (text : List ℕ) × Does tree.now selection.items command.now text selected.items × Appends (W.contents out.old) (W.contents out.new) text) }
+    ensures begun { OnErr result ((text selected : List ℕ) → Does tree.now selection.items command.now text selected → AppendsBeginning (W.contents out.old) (W.contents out.new) text) }
+    ensures cause { IfErr result GaveOut }
+{
+    match command {
+        Command::Nothing => Ok(selection),
+        Command::Select(matcher) => Ok(select_below(tree, &NodeId::root(), matcher)?),
+        Command::Html => {
+            write_first(tree, &selection, out)?;
+            Ok(selection)
+        }
+        Command::Document => {
+            write_node(tree, NodeId::root(), out)?;
+            Ok(selection)
+        }
+    }
+}
+
+/// The root alone.
+fn root_alone(alloc: Global) -> Result<Vec<NodeId>, RunFault>
+    ensures ok { IfOk result (λ selection. selection.items ≡ 0 ∷ []) }
+    ensures cause { IfErr result GaveOut }
+{
+    let mut selection = Vec::new(alloc);
+    match selection.push(NodeId::root()) {
+        Ok(()) => Ok(selection),
+        Err(_) => Err(RunFault::Memory),
+    }
+}
+
+/// Does the lines in their order, at first with the root selected.
+fn do_commands<W: Write>(
+    alloc: Global,
+    tree: &Tree,
+    commands: &[Command],
+    out: &mut W,
+) -> Result<(), RunFault>
+    ensures ok { OnOk result ((text : List ℕ) × DoesAll tree.now (0 ∷ []) commands.now text × Appends (W.contents out.old) (W.contents out.new) text) }
+    ensures begun { OnErr result ((text : List ℕ) → DoesAll tree.now (0 ∷ []) commands.now text → AppendsBeginning (W.contents out.old) (W.contents out.new) text) }
+    ensures cause { IfErr result GaveOut }
+{
+    dom_select::laws::one_selection();
+    let mut selection = root_alone(alloc)?;
+    for command in commands {
+        selection = do_command(tree, selection, command, out)?;
+    }
+    Ok(())
+}
+
+/// The document that the bytes spell.
+fn read_markup(alloc: Global, markup: &[u8]) -> Result<Document, RunFault>
+    ensures ok { IfOk result (λ document. (trees : ValueTrees) × IsUtf8 markup.now × Spells markup.now trees × (document.tree ≡ document_of trees)) }
+    ensures refused { IfErr result (MarkupRefused markup.now) }
+{
+    let Ok(text) = str::from_utf8(markup) else {
+        return Err(RunFault::BadMarkup);
+    };
+    match Document::parse(alloc, text) {
+        Ok(document) => Ok(document),
+        Err(fault) => Err(match fault.kind {
+            MarkupFaultKind::Memory => RunFault::Memory,
+            MarkupFaultKind::TooManyNodes => RunFault::TooManyNodes,
+            _ => RunFault::BadMarkup,
+        }),
+    }
+}
+
+/// Reads the script, then the markup, and then does the script's lines in their order.
+pub fn run<W: Write>(
+    alloc: Global,
+    markup: &[u8],
+    script: &[u8],
+    out: &mut W,
+) -> Result<(), RunFault>
+    // All that the run writes was written.
+    ensures done { OnOk result (Ended markup.now script.now (W.contents out.old) (W.contents out.new) done) }
+    // After a fault a beginning of it was written, whatever gave out.
+    ensures begun { OnErr result (Began markup.now script.now (W.contents out.old) (W.contents out.new)) }
+    // When each fault comes.
+    ensures cause { IfErr result (Tells markup.now script.now (W.contents out.old) (W.contents out.new)) }
+{
+    dom_markup::laws::one_reading();
+    dom_select::laws::one_reading();
+    let commands = read_script(alloc, script)?;
+    let document = read_markup(alloc, markup)?;
+    do_commands(alloc, &document.tree, &commands, out)
+}

@@ -1,0 +1,180 @@
+//! What runs write and how they end, with ample memory.
+
+use crate::{RunFault, drive, run};
+use std::alloc::{AllocError, Global};
+use std::io;
+use std::io::{ErrorKind, Read, Write};
+use std::process::Abort;
+use std::test::Fail;
+
+const PAGE: &str = "<div><p class=\"x\">a</p></div>";
+
+/// A writer that takes so many writes, one byte at a time, and then fails.
+#[derive(Drop)]
+struct Failing {
+    left: usize,
+    taken: Vec<u8>,
+}
+
+impl Write for Failing {
+    fn write(&mut self, buf: &[u8]) -> io::Result<usize> {
+        if self.left == 0 {
+            return Err(io::Error::from(ErrorKind::BrokenPipe));
+        }
+        self.left -= 1;
+        match buf.first() {
+            Some(byte) => {
+                self.taken.push(*byte)?;
+                Ok(1)
+            }
+            None => Ok(0),
+        }
+    }
+
+    fn flush(&mut self) -> io::Result<()> {
+        Ok(())
+    }
+}
+
+/// A reader that fails.
+#[derive(Drop)]
+struct NoReader;
+
+impl Read for NoReader {
+    fn read(&mut self, _buf: &mut [u8]) -> io::Result<usize> {
+        Err(io::Error::from(ErrorKind::BrokenPipe))
+    }
+}
+
+fn words(alloc: Global, texts: &[&str]) -> Result<Vec<String>, AllocError> {
+    let mut words = Vec::new(alloc);
+    for text in texts {
+        words.push(String::from_str(alloc, text)?)?;
+    }
+    Ok(words)
+}
+
+#[test]
+fn runs(rt: HostRuntime) -> Result<(), Fail> {
+    let alloc = rt.alloc();
+    for (markup, script, want) in [
+        (PAGE, "select p\nhtml", "<p class=\"x\">a</p>\n"),
+        (PAGE, "\nselect p\n\nhtml\n", "<p class=\"x\">a</p>\n"),
+        (PAGE, "", ""),
+        (
+            "<DIV ID=\"k\">a</DIV>",
+            "select div#k\nhtml",
+            "<div id=\"k\">a</div>\n",
+        ),
+        ("<p>a</p>", "select .x\nhtml", "\n"),
+        ("", "document", "\n"),
+        (
+            "<p>a</p><p>b</p>",
+            "html\nselect p\nhtml\ndocument",
+            "<p>a</p><p>b</p>\n<p>a</p>\n<p>a</p><p>b</p>\n",
+        ),
+    ] {
+        let mut out: Vec<u8> = Vec::new(alloc);
+        assert_eq!(rt;
+            run(alloc, markup.as_bytes(), script.as_bytes(), &mut out),
+            Ok(())
+        );
+        assert_eq!(rt; out.as_slice(), want.as_bytes());
+    }
+    Ok(())
+}
+
+#[test]
+fn refuses(rt: HostRuntime) -> Result<(), Fail> {
+    let alloc = rt.alloc();
+    for (markup, script, want) in [
+        (
+            b"<p>a".as_slice(),
+            b"document".as_slice(),
+            RunFault::BadMarkup,
+        ),
+        (b"\xff", b"document", RunFault::BadMarkup),
+        (b"<p>a</p>", b"document\nselect", RunFault::BadScript(2)),
+        (b"<p>a</p>", b"document ", RunFault::BadScript(1)),
+        (b"<p>a</p>", b"\nhtml x\nselect", RunFault::BadScript(2)),
+        (b"<p>a", b"documents", RunFault::BadScript(1)),
+        (b"\xff", b"document\n\xff", RunFault::BadScript(0)),
+    ] {
+        let mut out: Vec<u8> = Vec::new(alloc);
+        assert_eq!(rt; run(alloc, markup, script, &mut out), Err(want));
+        assert!(rt; out.is_empty());
+    }
+    Ok(())
+}
+
+#[test]
+fn drives(rt: HostRuntime) -> Result<(), Fail> {
+    let alloc = rt.alloc();
+    let usage = "usage: dq SCRIPT | dq --md\n";
+    for (args, markup, status, line) in [
+        (["document"].as_slice(), PAGE, 0, ""),
+        (["x\ndocument"].as_slice(), PAGE, 2, "dq: script: line 1\n"),
+        (["document"].as_slice(), "<p>", 3, "dq: markup: refused\n"),
+        ([].as_slice(), PAGE, 64, usage),
+        (["document", "document"].as_slice(), PAGE, 64, usage),
+        (["--md"].as_slice(), PAGE, 64, usage),
+    ] {
+        let args = words(alloc, args)?;
+        let mut out: Vec<u8> = Vec::new(alloc);
+        let mut err: Vec<u8> = Vec::new(alloc);
+        let mut input = markup.as_bytes();
+        assert_eq!(rt; drive(alloc, &args, &mut input, &mut out, &mut err), status);
+        assert_eq!(rt; err.as_slice(), line.as_bytes());
+        let written = if status == 0 { PAGE.len() + 1 } else { 0 };
+        assert_eq!(rt; out.len(), written);
+        // No status waits on the line.
+        let mut input = markup.as_bytes();
+        let mut deaf = Failing {
+            left: 0,
+            taken: Vec::new(alloc),
+        };
+        assert_eq!(rt;
+            drive(alloc, &args, &mut input, &mut out, &mut deaf),
+            status
+        );
+    }
+    Ok(())
+}
+
+/// The status where the writer takes so many bytes. What it took begins the output.
+fn status_with(rt: &(impl Abort + Alloc<A = Global>), left: usize) -> Result<u8, Fail> {
+    let alloc = rt.alloc();
+    let args = words(alloc, &["html\nselect p\nhtml"])?;
+    let mut out = Failing {
+        left,
+        taken: Vec::new(alloc),
+    };
+    let mut err: Vec<u8> = Vec::new(alloc);
+    let mut input = "<p>a</p>".as_bytes();
+    let status = drive(alloc, &args, &mut input, &mut out, &mut err);
+    let line = if status == 0 {
+        ""
+    } else {
+        "dq: write failed\n"
+    };
+    assert_eq!(rt; err.as_slice(), line.as_bytes());
+    assert!(rt; b"<p>a</p>\n<p>a</p>\n".starts_with(out.taken.as_slice()));
+    assert!(rt; out.taken.len() == left);
+    Ok(status)
+}
+
+#[test]
+fn streams_fail(rt: HostRuntime) -> Result<(), Fail> {
+    let alloc = rt.alloc();
+    let args = words(alloc, &["document"])?;
+    let mut out: Vec<u8> = Vec::new(alloc);
+    let mut err: Vec<u8> = Vec::new(alloc);
+    assert_eq!(rt; drive(alloc, &args, &mut NoReader, &mut out, &mut err), 5);
+    assert_eq!(rt; err.as_slice(), b"dq: read failed\n".as_slice());
+    assert!(rt; out.is_empty());
+    for left in 0..18 {
+        assert_eq!(rt; status_with(&rt, left)?, 5);
+    }
+    assert_eq!(rt; status_with(&rt, 18)?, 0);
+    Ok(())
+}

@@ -1,0 +1,152 @@
+-- What is picked from a list, and the list of what first occurs in another.
+use Rattle.std.proofs.Common.{ℕ, ◌≡◌, true, false, cond, List, [], ◌∷◌, refl, sym, ap, ◌∙◌, subst, inl, inr}
+use Rattle.std.specs.Prelude.{◌==◌, ◌||◌}
+use Rattle.std.specs.List.{flat_map}
+use Rattle.std.proofs.lemmas.List.{append-nil}
+use Rattle.std.proofs.lemmas.Bool.{eqb-true, eq-eqb, or_from, or_right, or_cases, true≢false, cases_Bool}
+use Rattle.dom_links.specs.Forest.{Forest}
+use Rattle.dom_links.specs.Lists.{stands_in, IsDistinct}
+use Rattle.dom_links.specs.Trees.{walk_below}
+use Rattle.dom_select.specs.declared.selector.Part.{Part}
+use Rattle.dom_select.specs.Meaning.{Means}
+use Rattle.dom_select.specs.Selected.{Selected, Picks, first_occurrences, walks_below, element_at}
+use Rattle.dom_select.specs.Selection.{IsSelection}
+
+module _ (P : ℕ → Type 0) where
+  pub picks_once : (ns a b : List ℕ) → Picks P ns a → Picks P ns b → a ≡ b
+  picks_once [] a b h k = h ∙ sym k
+  picks_once (n ∷ ns) a b h k =
+      elim h [
+        | inl x ↦ elim k [
+          | inl y ↦ x.2 ∙ ap (λ ms. n ∷ ms) (picks_once ns x.1 y.1 x.3 y.3) ∙ sym y.2
+          | inr y ↦ absurd (y.0 x.0)
+        ]
+        | inr x ↦ elim k [
+          | inl y ↦ absurd (x.0 y.0)
+          | inr y ↦ picks_once ns a b x.1 y.1
+        ]
+      ]
+
+  pub picks-among : (ns picked : List ℕ) → Picks P ns picked → (n : ℕ) → stands_in n picked ≡ true → (stands_in n ns ≡ true) × P n
+  picks-among [] picked h n s = absurd (true≢false (sym s ∙ ap (stands_in n) h))
+  picks-among (m ∷ ns) picked h n s =
+      elim h [
+        | inl x ↦ elim (or_cases (m == n) (stands_in n x.1) (sym (ap (stands_in n) x.2) ∙ s)) [
+          | inl e ↦ (ap (λ b. b || stands_in n ns) e, subst P (eqb-true m n e) x.0)
+          | inr t ↦ let later = picks-among ns x.1 x.3 n t in (or_right (m == n) (stands_in n ns) later.0, later.1)
+        ]
+        | inr x ↦ let later = picks-among ns picked x.1 n s in (or_right (m == n) (stands_in n ns) later.0, later.1)
+      ]
+
+  pub picks-all : (ns picked : List ℕ) → Picks P ns picked → (n : ℕ) → stands_in n ns ≡ true → P n → stands_in n picked ≡ true
+  picks-all [] picked h n s here = absurd (true≢false (sym s))
+  picks-all (m ∷ ns) picked h n s here =
+      elim h [
+        | inl x ↦ ap (stands_in n) x.2 ∙ (elim (or_cases (m == n) (stands_in n ns) s) [
+          | inl e ↦ ap (λ b. b || stands_in n x.1) e
+          | inr t ↦ or_right (m == n) (stands_in n x.1) (picks-all ns x.1 x.3 n t here)
+        ])
+        | inr x ↦ elim (or_cases (m == n) (stands_in n ns) s) [
+          | inl e ↦ absurd (x.0 (subst P (sym (eqb-true m n e)) here))
+          | inr t ↦ picks-all ns picked x.1 n t here
+        ]
+      ]
+
+  pub picks-distinct : (ns picked : List ℕ) → IsDistinct ns → Picks P ns picked → IsDistinct picked
+  picks-distinct [] picked d h = subst IsDistinct (sym h) tt
+  picks-distinct (m ∷ ns) picked d h =
+      elim h [
+        | inl x ↦ let absent : stands_in m x.1 ≡ false = elim (cases_Bool (stands_in m x.1)) [
+          | inl t ↦ absurd (true≢false (sym (picks-among ns x.1 x.3 m t).0 ∙ d.0))
+          | inr f ↦ f
+        ] in subst IsDistinct (sym x.2) (absent, picks-distinct ns x.1 d.1 x.3)
+        | inr x ↦ picks-distinct ns picked d.1 x.1
+      ]
+
+pub first_occurrences-among : (before ns : List ℕ) (n : ℕ) → stands_in n (first_occurrences before ns) ≡ true → stands_in n ns ≡ true
+first_occurrences-among before [] n s = s
+first_occurrences-among before (m ∷ ns) n s =
+    elim (cases_Bool (stands_in m before)) [
+      | inl t ↦ or_right (m == n) (stands_in n ns) (first_occurrences-among before ns n (sym (ap (λ b. stands_in n (cond b (first_occurrences before ns) (m ∷ first_occurrences (m ∷ before) ns))) t) ∙ s))
+      | inr f ↦ elim (or_cases (m == n) (stands_in n (first_occurrences (m ∷ before) ns)) (sym (ap (λ b. stands_in n (cond b (first_occurrences before ns) (m ∷ first_occurrences (m ∷ before) ns))) f) ∙ s)) [
+        | inl e ↦ ap (λ b. b || stands_in n ns) e
+        | inr u ↦ or_right (m == n) (stands_in n ns) (first_occurrences-among (m ∷ before) ns n u)
+      ]
+    ]
+
+pub first_occurrences-all : (before ns : List ℕ) (n : ℕ) → stands_in n ns ≡ true → stands_in n before ≡ false → stands_in n (first_occurrences before ns) ≡ true
+first_occurrences-all before [] n s new = s
+first_occurrences-all before (m ∷ ns) n s new =
+    elim (cases_Bool (stands_in m before)) [
+      | inl t ↦ ap (λ b. stands_in n (cond b (first_occurrences before ns) (m ∷ first_occurrences (m ∷ before) ns))) t ∙ (elim (or_cases (m == n) (stands_in n ns) s) [
+        | inl e ↦ absurd (true≢false (sym t ∙ ap (λ k. stands_in k before) (eqb-true m n e) ∙ new))
+        | inr u ↦ first_occurrences-all before ns n u new
+      ])
+      | inr f ↦ ap (λ b. stands_in n (cond b (first_occurrences before ns) (m ∷ first_occurrences (m ∷ before) ns))) f ∙ (elim (cases_Bool (m == n)) [
+        | inl e ↦ ap (λ b. b || stands_in n (first_occurrences (m ∷ before) ns)) e
+        | inr d ↦ or_right (m == n) (stands_in n (first_occurrences (m ∷ before) ns)) (first_occurrences-all (m ∷ before) ns n (sym (ap (λ b. b || stands_in n ns) d) ∙ s) (or_from (m == n) (stands_in n before) d new))
+      ])
+    ]
+
+-- what was there before doesn't come again
+pub first_occurrences-new : (before ns : List ℕ) (n : ℕ) → stands_in n before ≡ true → stands_in n (first_occurrences before ns) ≡ false
+first_occurrences-new before [] n old = refl
+first_occurrences-new before (m ∷ ns) n old =
+    elim (cases_Bool (stands_in m before)) [
+      | inl t ↦ ap (λ b. stands_in n (cond b (first_occurrences before ns) (m ∷ first_occurrences (m ∷ before) ns))) t ∙ first_occurrences-new before ns n old
+      | inr f ↦ ap (λ b. stands_in n (cond b (first_occurrences before ns) (m ∷ first_occurrences (m ∷ before) ns))) f ∙ (elim (cases_Bool (m == n)) [
+        | inl e ↦ absurd (true≢false (sym old ∙ ap (λ k. stands_in k before) (sym (eqb-true m n e)) ∙ f))
+        | inr d ↦ or_from (m == n) (stands_in n (first_occurrences (m ∷ before) ns)) d (first_occurrences-new (m ∷ before) ns n (or_right (m == n) (stands_in n before) old))
+      ])
+    ]
+
+same_number : (n : ℕ) → (n == n) ≡ true
+same_number n = eq-eqb n n refl
+
+pub first_occurrences-distinct : (before ns : List ℕ) → IsDistinct (first_occurrences before ns)
+first_occurrences-distinct before [] = tt
+first_occurrences-distinct before (m ∷ ns) =
+    elim (stands_in m before) as (λ b. IsDistinct (cond b (first_occurrences before ns) (m ∷ first_occurrences (m ∷ before) ns))) [
+      | true ↦ first_occurrences-distinct before ns
+      | false ↦ (first_occurrences-new (m ∷ before) ns m (ap (λ b. b || stands_in m before) (same_number m)), first_occurrences-distinct (m ∷ before) ns)
+    ]
+
+-- a list without repetition is the list of what first occurs in it
+pub first_occurrences-same : (before ns : List ℕ) → IsDistinct ns → ((n : ℕ) → stands_in n ns ≡ true → stands_in n before ≡ false) → first_occurrences before ns ≡ ns
+first_occurrences-same before [] once new = refl
+first_occurrences-same before (m ∷ ns) once new =
+    let here = new m (ap (λ b. b || stands_in m ns) (same_number m)) in
+    let later : (n : ℕ) → stands_in n ns ≡ true → stands_in n (m ∷ before) ≡ false = λ n s. elim (cases_Bool (m == n)) [
+      | inl e ↦ absurd (true≢false (sym s ∙ ap (λ k. stands_in k ns) (sym (eqb-true m n e)) ∙ once.0))
+      | inr d ↦ or_from (m == n) (stands_in n before) d (new n (or_right (m == n) (stands_in n ns) s))
+    ] in
+    ap (λ b. cond b (first_occurrences before ns) (m ∷ first_occurrences (m ∷ before) ns)) here ∙ ap (λ ms. m ∷ ms) (first_occurrences-same (m ∷ before) ns once.1 later)
+
+pub selection_of : (forest : Forest) (roots : List ℕ) (selector : List Part) (picked : List ℕ) → Selected forest roots selector picked → IsSelection forest roots selector picked
+unfolding Selected
+selection_of forest roots selector picked h =
+    let P : ℕ → Type 0 = λ n. (element_at forest n ≡ true) × Means selector forest n in
+    let walks = walks_below forest roots in
+    let found = flat_map (walk_below forest) roots in
+    let among : (n : ℕ) → stands_in n picked ≡ true → (stands_in n walks ≡ true) × P n = picks-among P walks picked h in
+    record {
+      below = λ n s. first_occurrences-among [] found n (among n s).0;
+      elements = λ n s. (among n s).1.0;
+      meant = λ n s. (among n s).1.1;
+      all = λ n s element means. picks-all P walks picked h n (first_occurrences-all [] found n s refl) (element, means);
+      once = picks-distinct P walks picked (first_occurrences-distinct [] found) h;
+    }
+
+-- what is picked from one root's walk is what is selected below it
+pub selected_below : (forest : Forest) (root : ℕ) (selector : List Part) (picked : List ℕ) → IsDistinct (walk_below forest root) →
+    Picks (λ n. (element_at forest n ≡ true) × Means selector forest n) (walk_below forest root) picked → Selected forest (root ∷ []) selector picked
+unfolding Selected
+selected_below forest root selector picked once h =
+    let one : flat_map (walk_below forest) (root ∷ []) ≡ walk_below forest root = append-nil (walk_below forest root) in
+    let same : walks_below forest (root ∷ []) ≡ walk_below forest root = ap (first_occurrences []) one ∙ first_occurrences-same [] (walk_below forest root) once (λ n s. refl) in
+    subst (λ ns. Picks (λ n. (element_at forest n ≡ true) × Means selector forest n) ns picked) (sym same) h
+
+pub selected_once : (forest : Forest) (roots : List ℕ) (selector : List Part) (a b : List ℕ) → Selected forest roots selector a → Selected forest roots selector b → a ≡ b
+unfolding Selected
+selected_once forest roots selector a b h k =
+    picks_once (λ n. (element_at forest n ≡ true) × Means selector forest n) (walks_below forest roots) a b h k

@@ -1,0 +1,21 @@
+-- The characters that the grammar tells apart.
+use Rattle.std.specs.Prelude.{ℕ, List, [], ◌∷◌, Bool, false, ◌||◌, nat_eq, nat_le, drop}
+use Rattle.std.specs.Char.{is_ascii_alphabetic, is_ascii_digit, is_ascii_whitespace}
+use Rattle.std.specs.List.{prefix_len}
+
+-- an ASCII letter, `_`, or a character from U+0080 on
+abbrev pub is_name_start : ℕ → Bool
+is_name_start c = is_ascii_alphabetic c || nat_eq c 95 || nat_le 128 c
+
+-- these, a digit or `-`
+abbrev pub is_name_char : ℕ → Bool
+is_name_char c = is_name_start c || is_ascii_digit c || nat_eq c 45
+
+-- the text without the tabs, line feeds, form feeds, carriage returns and spaces at its front
+abbrev pub after_white : List ℕ → List ℕ
+after_white text = drop (prefix_len is_ascii_whitespace text) text
+
+-- the text begins with a character that passes the test
+abbrev pub begins : (ℕ → Bool) → List ℕ → Bool
+begins test [] = false
+begins test (c ∷ cs) = test c

@@ -1,0 +1,99 @@
+//! Which nodes a selector selects.
+
+ghost use Rattle.std.specs.Prelude.{◌≡◌, ◌∷◌, [], ℕ, List, length, IfOk, MatchBool};
+ghost use Rattle.std.specs.Iterator.{at_most};
+ghost use Rattle.dom_links.specs.Trees.{walk_below};
+ghost use Rattle.dom_select.specs.Matches.{GivesMatch, IsMatch, ToCome};
+ghost use Rattle.dom_select.specs.Selected.{Selected, element_at};
+
+use crate::matcher::Matcher;
+use dom_links::iters::DescendantNodes;
+use dom_nodes::fault::OutOfMemory;
+use dom_nodes::node_id::NodeId;
+use dom_trees::node_ref::NodeRef;
+use dom_trees::tree::Tree;
+use std::marker::Model;
+
+/// The elements below a node that a selector means, each before those below it. It takes no memory.
+#[derive(Drop)]
+pub struct DescendantMatches<'a, 'b> {
+    ids: DescendantNodes<'a>,
+    tree: &'a Tree,
+    matcher: &'b Matcher,
+}
+
+impl<'a, 'b> Model for DescendantMatches<'a, 'b> {
+    ghost use Rattle.dom_select.specs.Matches.{Matches};
+
+    ghost Value = { Matches };
+
+    ghost view = { λ it. record { left = it.ids.left; tree = it.tree; selector = it.matcher.now } };
+}
+
+impl<'a, 'b> DescendantMatches<'a, 'b> {
+    /// What is to come is what the selector selects below the node.
+    pub fn new(node: NodeRef<'a>, matcher: &'b Matcher) -> Self
+        ensures all { result.left ≡ walk_below node.entry.tree.now node.entry.id }
+        ensures tree { result.tree ≡ node.entry.tree }
+        ensures selector { result.selector ≡ matcher.now }
+        ensures selected { (ids : List ℕ) → ToCome result ids → Selected node.entry.tree.now (node.entry.id ∷ []) matcher.now ids }
+    {
+        let NodeRef { id, tree } = node;
+        DescendantMatches {
+            ids: tree.descendant_ids_of_it(&id),
+            tree,
+            matcher,
+        }
+    }
+}
+
+impl<'a, 'b> Iterator for DescendantMatches<'a, 'b> {
+    type Item = NodeRef<'a>;
+
+    ghost next_gives = { GivesMatch };
+
+    ghost remaining = { λ walk. at_most (length walk.left) };
+
+    fn next(&mut self) -> Option<NodeRef<'a>> {
+        loop {
+            let id = self.ids.next()?;
+            if is_selected(self.tree, id, self.matcher) {
+                return Some(NodeRef::new(id, self.tree));
+            }
+        }
+    }
+}
+
+/// The elements below the root that the selector means, each before those below it; an unknown number has none.
+pub fn select_below(
+    tree: &Tree,
+    root: &NodeId,
+    matcher: &Matcher,
+) -> Result<Vec<NodeId>, OutOfMemory>
+    ensures { IfOk result (λ ids. Selected tree.now (root.now ∷ []) matcher.now ids.items) }
+{
+    let mut picked = Vec::new(tree.allocator());
+    for node in DescendantMatches::new(NodeRef::new(*root, tree), matcher) {
+        picked.push(node.id)?;
+    }
+    Ok(picked)
+}
+
+/// Whether the node is an element that the selector means.
+fn is_selected(tree: &Tree, id: NodeId, matcher: &Matcher) -> bool
+    ensures { MatchBool result (IsMatch matcher.now tree.now id) (IsMatch matcher.now tree.now id → ⊥) }
+{
+    if !is_element(tree, &id) {
+        return false;
+    }
+    matcher.match_element(&NodeRef::new(id, tree))
+}
+
+fn is_element(tree: &Tree, id: &NodeId) -> bool
+    ensures { result ≡ element_at tree.now id.now }
+{
+    match tree.get(id) {
+        Some(node) => node.content.as_element().is_some(),
+        None => false,
+    }
+}
