@@ -4,3 +4,5 @@
 pub mod iters;
 pub mod laws;
 pub mod ops;
+#[cfg(test)]
+mod tests;

@@ -18,6 +18,26 @@ pub(crate) fn check_end_of(nodes: &[TreeNode], t: NodeId, x: NodeId) -> Result<(
     ensures { MatchResult result (λ _. Allowed (forest_of nodes.now) (end_of t) x)
         (λ fault. Cause (forest_of nodes.now) (end_of t) x fault) }
 {
+    check_child_of(nodes, t, x)
+}
+
+/// Whether x may be moved to the front of the children of t.
+pub(crate) fn check_front_of(nodes: &[TreeNode], t: NodeId, x: NodeId) -> Result<(), EditFault>
+    requires { IsSoundArena nodes.now }
+    ensures { MatchResult result (λ _. Allowed (forest_of nodes.now) (front_of t) x)
+        (λ fault. Cause (forest_of nodes.now) (front_of t) x fault) }
+{
+    check_child_of(nodes, t, x)
+}
+
+/// Whether x may be moved to the children of t.
+fn check_child_of(nodes: &[TreeNode], t: NodeId, x: NodeId) -> Result<(), EditFault>
+    requires { IsSoundArena nodes.now }
+    ensures end { MatchResult result (λ _. Allowed (forest_of nodes.now) (end_of t) x)
+        (λ fault. Cause (forest_of nodes.now) (end_of t) x fault) }
+    ensures front { MatchResult result (λ _. Allowed (forest_of nodes.now) (front_of t) x)
+        (λ fault. Cause (forest_of nodes.now) (front_of t) x fault) }
+{
     if t.value() >= nodes.len() || x.value() >= nodes.len() {
         return Err(EditFault::UnknownNode);
     }
@@ -39,6 +59,26 @@ pub(crate) fn check_before(nodes: &[TreeNode], t: NodeId, x: NodeId) -> Result<(
     requires { IsSoundArena nodes.now }
     ensures { MatchResult result (λ _. Allowed (forest_of nodes.now) (before_node t) x)
         (λ fault. Cause (forest_of nodes.now) (before_node t) x fault) }
+{
+    check_sibling_of(nodes, t, x)
+}
+
+/// Whether x may be moved to the place right after t.
+pub(crate) fn check_after(nodes: &[TreeNode], t: NodeId, x: NodeId) -> Result<(), EditFault>
+    requires { IsSoundArena nodes.now }
+    ensures { MatchResult result (λ _. Allowed (forest_of nodes.now) (after_node t) x)
+        (λ fault. Cause (forest_of nodes.now) (after_node t) x fault) }
+{
+    check_sibling_of(nodes, t, x)
+}
+
+/// Whether x may be moved to a place beside t.
+fn check_sibling_of(nodes: &[TreeNode], t: NodeId, x: NodeId) -> Result<(), EditFault>
+    requires { IsSoundArena nodes.now }
+    ensures before { MatchResult result (λ _. Allowed (forest_of nodes.now) (before_node t) x)
+        (λ fault. Cause (forest_of nodes.now) (before_node t) x fault) }
+    ensures after { MatchResult result (λ _. Allowed (forest_of nodes.now) (after_node t) x)
+        (λ fault. Cause (forest_of nodes.now) (after_node t) x fault) }
 {
     if t.value() >= nodes.len() || x.value() >= nodes.len() {
         return Err(EditFault::UnknownNode);

@@ -68,9 +68,21 @@ fn walks(rt: HostRuntime) -> Result<(), Fail> {
     );
     let mut walk = tree.descendant_ids_of_it(&NodeId::root());
     while walk.next().is_some() {}
-    assert!(rt; walk.reads() <= 11);
+    assert_eq!(rt; walk.reads(), 9);
     let kids = tree.child_ids_of(&NodeId::root())?;
     assert_eq!(rt; numbers(alloc, &kids)?.as_slice(), [1, 4].as_slice());
+    assert!(rt;
+        matches!(tree.child_ids_of_it(&tree.root_id()).next(), Some(kid) if kid.value() == 1)
+    );
+    let three = NodeId::new(3).ok_or("id")?;
+    let above = tree.ancestor_ids_of(&three, None)?;
+    assert_eq!(rt; numbers(alloc, &above)?.as_slice(), [2, 1, 0].as_slice());
+    let above = tree.ancestor_ids_of(&three, Some(2))?;
+    assert_eq!(rt; numbers(alloc, &above)?.as_slice(), [2, 1].as_slice());
+    assert_eq!(rt; tree.nodes().len(), 6);
+    assert!(rt; tree.get(&three).is_some());
+    assert!(rt; tree.get(&NodeId::new(6).ok_or("id")?).is_none());
+    Vec::with_capacity(tree.allocator(), 1)?.push(three)?;
     Ok(())
 }
 
@@ -93,9 +105,16 @@ fn moves(rt: HostRuntime) -> Result<(), Fail> {
         numbers(alloc, &ids)?.as_slice(),
         [1, 2, 3, 4, 5].as_slice()
     );
+    tree.prepend_child_of(&four, &two)?;
+    tree.insert_after_of(&four, &NodeId::new(1).ok_or("id")?)?;
+    let ids = tree.descendant_ids_of(&NodeId::root())?;
+    assert_eq!(rt;
+        numbers(alloc, &ids)?.as_slice(),
+        [4, 2, 3, 5, 1].as_slice()
+    );
     tree.remove_from_parent(&two)?;
     let ids = tree.descendant_ids_of(&NodeId::root())?;
-    assert_eq!(rt; numbers(alloc, &ids)?.as_slice(), [1, 4, 5].as_slice());
+    assert_eq!(rt; numbers(alloc, &ids)?.as_slice(), [4, 5, 1].as_slice());
     Ok(())
 }
 
@@ -131,8 +150,19 @@ fn reads_nodes(rt: HostRuntime) -> Result<(), Fail> {
     assert_eq!(rt; two.attrs().len(), 1);
     assert!(rt; matches!(two.parent(), Some(parent) if parent.id.value() == 1));
     assert!(rt; matches!(two.last_child(), Some(kid) if kid.id.value() == 3));
+    assert!(rt; matches!(two.first_child(), Some(kid) if kid.id.value() == 3));
     assert!(rt; two.next_sibling().is_none());
-    assert_eq!(rt; tree.descendant_ids_of(&two.id)?.len(), 1);
+    assert!(rt; two.prev_sibling().is_none());
+    Ok(())
+}
+
+#[test]
+fn lists_references(rt: HostRuntime) -> Result<(), Fail> {
+    let tree = small_tree(rt.alloc())?;
+    let root = tree.root();
+    assert!(rt; matches!(root.children_it(true).next(), Some(kid) if kid.id.value() == 4));
+    assert!(rt; matches!(root.descendants_it().next(), Some(below) if below.id.value() == 1));
+    assert!(rt; root.ancestors_it(None).next().is_none());
     Ok(())
 }
 
@@ -147,6 +177,6 @@ fn nests_deeply(rt: HostRuntime) -> Result<(), Fail> {
     let mut walk = tree.descendant_ids_of_it(&NodeId::root());
     while walk.next().is_some() {}
     assert_eq!(rt; tree.descendant_ids_of(&NodeId::root())?.len(), 20000);
-    assert!(rt; walk.reads() <= 40001);
+    assert_eq!(rt; walk.reads(), 40000);
     Ok(())
 }

@@ -4,13 +4,14 @@ ghost use Rattle.std.specs.Prelude.{◌≡◌, ◌≤◌, ◌∷◌, [], false, 
 ghost use Rattle.dom_links.specs.Forest.{forest_of, kids_of};
 ghost use Rattle.dom_links.specs.Growth.{MayAppend, lone, with_child};
 ghost use Rattle.dom_links.specs.Lists.{IsDistinct};
-ghost use Rattle.dom_links.specs.Moves.{before_node, cut, end_of, moved_to};
+ghost use Rattle.dom_links.specs.Moves.{after_node, before_node, cut, end_of, front_of, moved_to};
 ghost use Rattle.dom_links.specs.Sound.{Allowed, IsSoundArena};
 ghost use Rattle.dom_links.specs.Trees.{ancestors, limited, walk_below};
-ghost use Rattle.dom_links.specs.Walk.{IsNodeOf};
+ghost use Rattle.dom_links.specs.Walk.{IsNodeOf, leaves_among};
 ghost use Rattle.dom_trees.specs.Refusals.{Cause, DataCause, RemovalCause, RootCause};
 
-use crate::checks::{check_before, check_data, check_end_of};
+use crate::checks::{check_after, check_before, check_data, check_end_of, check_front_of};
+use crate::node_ref::NodeRef;
 use dom_links::iters::{AncestorNodes, ChildNodes, DescendantNodes, find_node};
 use dom_links::ops::{create, moves};
 use dom_nodes::fault::{EditFault, OutOfMemory};
@@ -50,6 +51,20 @@ impl Tree {
         })
     }
 
+    /// The number of the root.
+    pub fn root_id(&self) -> NodeId
+        ensures { result ≡ 0 }
+    {
+        NodeId::root()
+    }
+
+    /// The root.
+    pub fn root(&self) -> NodeRef<'_>
+        ensures { result ≡ record { id = 0; tree = self.entry } }
+    {
+        NodeRef::new(NodeId::root(), self)
+    }
+
     /// How many nodes there are, cut-out ones too.
     pub fn len(&self) -> usize
         ensures { result ≡ length self.now.content }
@@ -65,7 +80,8 @@ impl Tree {
         self.nodes.as_slice()
     }
 
-    /// Where the tree's memory comes from.
+    /// Where the tree's memory comes from. No clause: a contract sees the tree as its forest, and this tells nothing
+    /// of it.
     pub fn allocator(&self) -> Global {
         *self.nodes.allocator()
     }
@@ -98,10 +114,25 @@ impl Tree {
         AncestorNodes::new(self.nodes(), id, max_depth)
     }
 
+    /// The ancestors of a node, from its parent on; at most `max_depth` of them, where that is neither none nor 0.
+    pub fn ancestor_ids_of(
+        &self,
+        id: &NodeId,
+        max_depth: Option<usize>,
+    ) -> Result<Vec<NodeId>, OutOfMemory>
+        ensures { IfOk result (λ ids. ids.items ≡ limited max_depth (ancestors self.now id.now)) }
+    {
+        Ok(
+            self.ancestor_ids_of_it(id, max_depth)
+                .collect(self.allocator())?,
+        )
+    }
+
     /// The nodes below a node, each before what is below it.
     pub fn descendant_ids_of_it(&self, id: &NodeId) -> DescendantNodes<'_>
         ensures all { result.left ≡ walk_below self.now id.now }
         ensures whole { result.whole ≡ walk_below self.now id.now }
+        ensures leaves { result.leaves ≡ leaves_among self.now (walk_below self.now id.now) }
         ensures once { IsDistinct result.left }
         ensures few { length result.left ≤ 4294967295 }
     {
@@ -156,6 +187,18 @@ impl Tree {
         Ok(())
     }
 
+    /// Moves a node to the front of the children of another.
+    pub fn prepend_child_of(&mut self, id: &NodeId, new_child: &NodeId) -> Result<(), EditFault>
+        ensures ok { OnOk result (self.new ≡ moved_to (new_child.now ∷ []) (front_of id.now) self.old) }
+        ensures allowed { OnOk result (Allowed self.old (front_of id.now) new_child.now) }
+        ensures err { OnErr result (self.new ≡ self.old) }
+        ensures cause { IfErr result (λ fault. Cause self.old (front_of id.now) new_child.now fault) }
+    {
+        check_front_of(&self.nodes, *id, *new_child)?;
+        moves::prepend_child_of(&mut self.nodes, *id, *new_child);
+        Ok(())
+    }
+
     /// Moves a node to the place right before another.
     pub fn insert_before_of(&mut self, id: &NodeId, new_sibling: &NodeId) -> Result<(), EditFault>
         ensures ok { OnOk result (self.new ≡ moved_to (new_sibling.now ∷ []) (before_node id.now) self.old) }
@@ -165,6 +208,17 @@ impl Tree {
     {
         check_before(&self.nodes, *id, *new_sibling)?;
         moves::insert_before_of(&mut self.nodes, *id, *new_sibling);
+        Ok(())
+    }
+    /// Moves a node to the place right after another.
+    pub fn insert_after_of(&mut self, id: &NodeId, new_sibling: &NodeId) -> Result<(), EditFault>
+        ensures ok { OnOk result (self.new ≡ moved_to (new_sibling.now ∷ []) (after_node id.now) self.old) }
+        ensures allowed { OnOk result (Allowed self.old (after_node id.now) new_sibling.now) }
+        ensures err { OnErr result (self.new ≡ self.old) }
+        ensures cause { IfErr result (λ fault. Cause self.old (after_node id.now) new_sibling.now fault) }
+    {
+        check_after(&self.nodes, *id, *new_sibling)?;
+        moves::insert_after_of(&mut self.nodes, *id, *new_sibling);
         Ok(())
     }
 }

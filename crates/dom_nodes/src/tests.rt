@@ -1,0 +1,96 @@
+//! Worked values, and that calls succeed where there is memory.
+
+use crate::fault::{EditFault, MarkupFault, MarkupFaultKind, OutOfMemory};
+use crate::name::{Attr, LocalName, Namespace, QualName};
+use crate::node_data::{Attrs, Element, NodeData};
+use crate::node_id::NodeId;
+use crate::text::Text;
+use std::alloc::{AllocError, Global};
+use std::test::Fail;
+
+fn html_name(alloc: Global, local: &str) -> Result<QualName, Fail> {
+    Ok(QualName {
+        prefix: None,
+        ns: Namespace::Html,
+        local: LocalName(Text::new(alloc, local)?),
+    })
+}
+
+/// A template that holds number 3 and has two attributes of one name.
+fn template(alloc: Global) -> Result<Element, Fail> {
+    let mut attrs = Attrs::new(alloc);
+    for value in ["first", "second"] {
+        attrs.push(Attr {
+            name: html_name(alloc, "class")?,
+            value: Text::new(alloc, value)?,
+        })?;
+    }
+    Ok(Element::new(html_name(alloc, "template")?, attrs, NodeId::new(3), false))
+}
+
+#[test]
+fn numbers_end_below_the_last_u32(rt: HostRuntime) -> Result<(), Fail> {
+    let last = NodeId::new(4294967294).ok_or("a number")?;
+    assert_eq!(rt; last.value(), 4294967294);
+    assert!(rt; NodeId::new(4294967295).is_none());
+    assert_eq!(rt; NodeId::root().value(), 0);
+    assert!(rt; NodeId::root() < last);
+    let seven = NodeId::new(7).ok_or("a number")?;
+    let shown = format!(in rt.alloc(); "{seven:?}")?;
+    assert_eq!(rt; shown.as_str(), "NodeId { value: 7 }");
+    Ok(())
+}
+
+#[test]
+fn faults_have_messages(rt: HostRuntime) -> Result<(), Fail> {
+    let alloc = rt.alloc();
+    assert_eq!(rt;
+        OutOfMemory::from(AllocError).to_string(alloc)?.as_str(),
+        "out of memory"
+    );
+    let bad = MarkupFault {
+        kind: MarkupFaultKind::BadTag,
+        at: 12,
+    };
+    assert_eq!(rt; bad.to_string(alloc)?.as_str(), "bad markup at byte 12");
+    for (fault, message) in [
+        (EditFault::UnknownNode, "unknown node"),
+        (EditFault::NoChildrenHere, "no children here"),
+        (EditFault::RootOrFragment, "root or fragment"),
+        (EditFault::Cycle, "cycle"),
+        (EditFault::TooManyNodes, "too many nodes"),
+        (EditFault::Memory, "out of memory"),
+        (EditFault::BadContents, "bad template contents"),
+        (EditFault::Markup(bad), "bad markup"),
+    ] {
+        assert_eq!(rt; fault.to_string(alloc)?.as_str(), message);
+    }
+    Ok(())
+}
+
+#[test]
+fn elements_tell_their_data(rt: HostRuntime) -> Result<(), Fail> {
+    let template = template(rt.alloc())?;
+    assert!(rt; template.node_name() == "template");
+    assert_eq!(rt; template.attrs.as_slice().len(), 2);
+    assert!(rt; template.attr("class") == Some("first"));
+    assert!(rt; template.attr("id") == None);
+    assert!(rt; template.template_contents() == NodeId::new(3));
+    Ok(())
+}
+
+#[test]
+fn kinds_are_told_apart(rt: HostRuntime) -> Result<(), Fail> {
+    let alloc = rt.alloc();
+    let element = NodeData::Element(template(alloc)?);
+    let comment = NodeData::Comment {
+        contents: Text::new(alloc, "said")?,
+    };
+    assert!(rt; element.as_element().is_some() && comment.as_element().is_none());
+    assert!(rt; NodeData::Fragment.is_fragment() && !NodeData::Document.is_fragment());
+    assert!(rt; NodeData::Fragment.is_top() && NodeData::Document.is_top() && !element.is_top());
+    assert!(rt; element.may_have_children() && !comment.may_have_children());
+    assert!(rt; element.template_contents() == NodeId::new(3));
+    assert!(rt; comment.template_contents().is_none());
+    Ok(())
+}
