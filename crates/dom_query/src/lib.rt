@@ -8,8 +8,8 @@ mod script;
 #[cfg(test)]
 mod tests;
 
-pub use dom_markup::document::{Document, QuirksMode};
-pub use dom_markup::serializing::{NodeMarkup, TraversalScope, WriteFault};
+pub use dom_markup::document::{Document, QuirksMode, Token, TokenKind, Tokens};
+pub use dom_markup::serializing::{NodeMarkup, SerializableNodeRef, TraversalScope, WriteFault};
 pub use dom_nodes::fault::{EditFault, MarkupFault, MarkupFaultKind, OutOfMemory};
 pub use dom_nodes::name::{Attr, LocalName, Namespace, QualName};
 pub use dom_nodes::node_data::{Attrs, Element, NodeData, TreeNode};
@@ -17,7 +17,8 @@ pub use dom_nodes::node_id::NodeId;
 pub use dom_nodes::text::Text;
 pub use dom_select::fault::SelectorFault;
 pub use dom_select::matcher::Matcher;
-pub use dom_trees::node_ref::NodeRef;
+pub use dom_select::selection::DescendantMatches;
+pub use dom_trees::node_ref::{AncestorRefs, ChildRefs, DescendantRefs, NodeRef};
 pub use dom_trees::tree::Tree;
 pub use driver::drive;
 pub use runner::{RunFault, run};
