@@ -1,6 +1,6 @@
 //! A tree that owns its nodes.
 
-ghost use Rattle.std.specs.Prelude.{◌≡◌, ◌≤◌, ◌∷◌, [], false, length, IfErr, IfOk, MatchOption, None, OnErr, OnOk};
+ghost use Rattle.std.specs.Prelude.{◌≡◌, ◌≤◌, ◌∷◌, [], false, length, IfErr, IfOk, IsErrAnd, MatchOption, None, OnErr, OnOk};
 ghost use Rattle.dom_links.specs.Forest.{forest_of, kids_of};
 ghost use Rattle.dom_links.specs.Growth.{MayAppend, lone, with_child};
 ghost use Rattle.dom_links.specs.Lists.{IsDistinct};
@@ -8,12 +8,15 @@ ghost use Rattle.dom_links.specs.Moves.{after_node, before_node, cut, end_of, fr
 ghost use Rattle.dom_links.specs.Sound.{Allowed, IsSoundArena};
 ghost use Rattle.dom_links.specs.Trees.{ancestors, limited, walk_below};
 ghost use Rattle.dom_links.specs.Walk.{IsNodeOf, leaves_among};
+ghost use Rattle.dom_links.specs.Validation.{IsRefused, Tells};
+ghost use Rattle.dom_links.specs.declared.validation.ValidateFault.TheVariants.{Memory, NoRoot};
 ghost use Rattle.dom_trees.specs.Refusals.{Cause, DataCause, RemovalCause, RootCause};
 
 use crate::checks::{check_after, check_before, check_data, check_end_of, check_front_of};
 use crate::node_ref::NodeRef;
 use dom_links::iters::{AncestorNodes, ChildNodes, DescendantNodes, find_node};
 use dom_links::ops::{create, moves};
+use dom_links::validation::{ValidateFault, validate};
 use dom_nodes::fault::{EditFault, OutOfMemory};
 use dom_nodes::node_data::{NodeData, TreeNode};
 use dom_nodes::node_id::NodeId;
@@ -63,6 +66,27 @@ impl Tree {
         ensures { result ≡ record { id = 0; tree = self.entry } }
     {
         NodeRef::new(NodeId::root(), self)
+    }
+
+    /// The tree of raw nodes. Where they are no forest's, or memory is refused, they come back as they were given.
+    pub fn from_nodes(nodes: Vec<TreeNode>) -> Result<Tree, (Vec<TreeNode>, ValidateFault)>
+        ensures ok { IfOk result (λ tree. IsSoundArena nodes.items × (tree ≡ forest_of nodes.items)) }
+        ensures back { IfErr result (λ refused. refused.0 ≡ nodes) }
+        ensures err { IfErr result (λ refused. IsRefused nodes.items refused.1) }
+        ensures cause { IfErr result (λ refused. Tells nodes.items refused.1) }
+        ensures empty { nodes.items ≡ [] → IsErrAnd result (λ refused. refused.1 ≡ NoRoot) }
+    {
+        match validate(*nodes.allocator(), &nodes) {
+            Ok(()) => Ok(Tree { nodes }),
+            Err(fault) => Err((nodes, fault)),
+        }
+    }
+
+    /// Checks the links again. A tree passes, if there is memory for the check.
+    pub fn validate(&self) -> Result<(), ValidateFault>
+        ensures { IfErr result (λ fault. fault ≡ Memory) }
+    {
+        validate(self.allocator(), self.nodes())
     }
 
     /// How many nodes there are, cut-out ones too.

@@ -1,0 +1,152 @@
+-- What the check of raw nodes looks at, and what its faults tell.
+use Rattle.std.specs.Prelude.{ℕ, ◌≡◌, ◌≢◌, ◌<◌, ◌≤◌, ◌⊎◌, ◌==◌, ◌||◌, true, false, List, [], Option, Some, None, length, slice_get, slice_index_or, option_and_then, IfSome, EachIndex, SomeIndex}
+use Rattle.std.specs.Option.{option_map_or, option_or}
+use Rattle.dom_nodes.specs.declared.node_data.TreeNode.{TreeNode}
+use Rattle.dom_nodes.specs.Kinds.{contents_named, is_fragment, is_top, may_bear}
+use Rattle.dom_links.specs.declared.validation.ValidateFault.{ValidateFault}
+use Rattle.dom_links.specs.declared.validation.ValidateFault.TheVariants.{NoRoot, RootPlaced, BadId, UnknownLink, BadLink, Cycle, NotLinked, SiblingCycle, NoChildrenHere, PlacedFragment, BadContents, TooManyNodes, Memory}
+use Rattle.dom_links.specs.Forest.{parent_link, prev_link, next_link, first_link, last_link, contents_of, ids_of}
+use Rattle.dom_links.specs.Sound.{IsSoundArena}
+
+-- one or more links lead from a number to another
+pub data Way (link : ℕ → Option ℕ) : ℕ → ℕ → Type 0 where
+  one_link : (m n : ℕ) → link m ≡ Some n → Way link m n
+  then_link : (m k n : ℕ) → Way link m k → link k ≡ Some n → Way link m n
+
+-- the links from a number on come to an end
+pub data Ends (link : ℕ → Option ℕ) : ℕ → Type 0 where
+  last_one : (n : ℕ) → link n ≡ None → Ends link n
+  leads_on : (m n : ℕ) → link m ≡ Some n → Ends link n → Ends link m
+
+-- some number leads back to itself
+abbrev pub HasRing : (ℕ → Option ℕ) → Type 0
+HasRing link = (n : ℕ) × Way link n n
+
+-- the link that a list of links has for n
+abbrev pub link_at : List (Option ℕ) → ℕ → Option ℕ
+link_at links n = slice_index_or links n None
+
+-- so many links, which a function tells
+pub record AreLinksBy (links : List (Option ℕ)) (count : ℕ) (link : ℕ → Option ℕ) : Type 0 where
+  pub long : length links ≡ count
+  pub each : (n : ℕ) → n < count → link_at links n ≡ link n
+
+-- The first `count` numbers are marked, no mark is larger, and the links from each marked one come to an end
+pub record AreMarks (links : List (Option ℕ)) (marks : List ℕ) (count : ℕ) : Type 0 where
+  pub long : length marks ≡ length links
+  pub met : (n : ℕ) → n < count → 0 < slice_index_or marks n 0
+  pub small : (n : ℕ) → slice_index_or marks n 0 ≤ count
+  pub ended : (n : ℕ) → 0 < slice_index_or marks n 0 → Ends (link_at links) n
+
+-- n links to k
+abbrev pub LinksTo : List TreeNode → ℕ → ℕ → Type 0
+LinksTo nodes n k = (parent_link nodes n ≡ Some k) ⊎ ((prev_link nodes n ≡ Some k) ⊎ ((next_link nodes n ≡ Some k)
+    ⊎ ((first_link nodes n ≡ Some k) ⊎ (last_link nodes n ≡ Some k))))
+
+-- n links to no node
+abbrev pub LinksAstray : List TreeNode → ℕ → Type 0
+LinksAstray nodes n = (k : ℕ) × LinksTo nodes n k × (length nodes ≤ k)
+
+abbrev pub IsKnown : List TreeNode → Option ℕ → Type 0
+IsKnown nodes link = IfSome link (λ k. k < length nodes)
+
+-- the links of n name nodes
+pub record LinksKnown (nodes : List TreeNode) (n : ℕ) : Type 0 where
+  pub parent_known : IsKnown nodes (parent_link nodes n)
+  pub prev_known : IsKnown nodes (prev_link nodes n)
+  pub next_known : IsKnown nodes (next_link nodes n)
+  pub first_known : IsKnown nodes (first_link nodes n)
+  pub last_known : IsKnown nodes (last_link nodes n)
+
+-- the neighbours of n name it as theirs
+pub record Agrees (nodes : List TreeNode) (n : ℕ) : Type 0 where
+  pub with_prev : IfSome (prev_link nodes n) (λ m. next_link nodes m ≡ Some n)
+  pub with_next : IfSome (next_link nodes n) (λ m. prev_link nodes m ≡ Some n)
+
+-- who stands before n has the same parent, the children that n names have it as their parent, and where n is at an
+-- end of its list, its parent names it there
+pub record IsLinked (nodes : List TreeNode) (n : ℕ) : Type 0 where
+  pub beside : IfSome (prev_link nodes n) (λ m. parent_link nodes m ≡ parent_link nodes n)
+  pub first_here : IfSome (first_link nodes n) (λ c. parent_link nodes c ≡ Some n)
+  pub last_here : IfSome (last_link nodes n) (λ c. parent_link nodes c ≡ Some n)
+  pub at_front : IfSome (parent_link nodes n) (λ p. prev_link nodes n ≡ None → first_link nodes p ≡ Some n)
+  pub at_back : IfSome (parent_link nodes n) (λ p. next_link nodes n ≡ None → last_link nodes p ≡ Some n)
+
+-- the parent of n may have children
+abbrev pub IsBorne : List TreeNode → ℕ → Type 0
+IsBorne nodes n = IfSome (parent_link nodes n) (λ p. option_map_or may_bear (slice_get (contents_of nodes) p) false ≡ true)
+
+-- if n is the root, a document or a fragment, it has no parent and no neighbours
+abbrev pub IsAlone : List TreeNode → ℕ → Type 0
+IsAlone nodes n = ((n == 0) || option_map_or is_top (slice_get (contents_of nodes) n) false) ≡ true →
+    (parent_link nodes n ≡ None) × (prev_link nodes n ≡ None) × (next_link nodes n ≡ None)
+
+-- what n names as its contents
+abbrev pub contents_link : List TreeNode → ℕ → Option ℕ
+contents_link nodes n = option_and_then contents_named (slice_get (contents_of nodes) n)
+
+-- for each node one that names it as its contents, where there is one
+pub record AreHolders (nodes : List TreeNode) (holders : List (Option ℕ)) : Type 0 where
+  pub long : length holders ≡ length nodes
+  pub truly : (c m : ℕ) → link_at holders c ≡ Some m → contents_link nodes m ≡ Some c
+  pub told : (m c : ℕ) → contents_link nodes m ≡ Some c → c < length nodes → (k : ℕ) × (link_at holders c ≡ Some k)
+
+-- the parent of n, or its holder where it has no parent
+abbrev pub step_up : List TreeNode → List (Option ℕ) → ℕ → Option ℕ
+step_up nodes holders n = option_or (parent_link nodes n) (link_at holders n)
+
+-- what n names as its contents is a fragment other than the root, held by it
+abbrev pub HoldsContents : List TreeNode → List (Option ℕ) → ℕ → Type 0
+HoldsContents nodes holders n = IfSome (contents_link nodes n) (λ c.
+    (c ≢ 0) × (option_map_or is_fragment (slice_get (contents_of nodes) c) false ≡ true) × (link_at holders c ≡ Some n))
+
+-- what the checks of numbers and links tell
+pub record LinksHold (nodes : List TreeNode) : Type 0 where
+  pub rooted : 0 < length nodes
+  pub unplaced : parent_link nodes 0 ≡ None
+  pub ids : EachIndex nodes (λ n. slice_get (ids_of nodes) n ≡ Some n)
+  pub known : EachIndex nodes (λ n. LinksKnown nodes n)
+  pub agree : EachIndex nodes (λ n. Agrees nodes n)
+
+-- what the checks of the nodes' kinds tell
+pub record ContentsHold (nodes : List TreeNode) (holders : List (Option ℕ)) : Type 0 where
+  pub borne : EachIndex nodes (λ n. IsBorne nodes n)
+  pub alone : EachIndex nodes (λ n. IsAlone nodes n)
+  pub held : EachIndex nodes (λ n. HoldsContents nodes holders n)
+  pub numbered : length nodes ≤ 4294967295
+
+-- the nodes are no forest's; of refused memory nothing is told
+abbrev pub IsRefused : List TreeNode → ValidateFault → Type 0
+IsRefused nodes Memory = Unit {0}
+IsRefused nodes _ = IsSoundArena nodes → ⊥
+
+-- m is the parent of n, or names it as its contents
+abbrev pub IsAbove : List TreeNode → ℕ → ℕ → Type 0
+IsAbove nodes m n = (parent_link nodes n ≡ Some m) ⊎ (contents_link nodes m ≡ Some n)
+
+-- one or more steps up lead from a node to another
+pub data Climbs (nodes : List TreeNode) : ℕ → ℕ → Type 0 where
+  one_up : (n m : ℕ) → IsAbove nodes m n → Climbs nodes n m
+  then_up : (n k m : ℕ) → Climbs nodes n k → IsAbove nodes m k → Climbs nodes n m
+
+-- what n names as its contents is a fragment other than the root, and no other node names it
+abbrev pub HoldsAlone : List TreeNode → ℕ → Type 0
+HoldsAlone nodes n = IfSome (contents_link nodes n) (λ c. (c ≢ 0)
+    × (option_map_or is_fragment (slice_get (contents_of nodes) c) false ≡ true)
+    × ((m : ℕ) → contents_link nodes m ≡ Some c → m ≡ n))
+
+-- the cause that a fault tells
+abbrev pub Tells : List TreeNode → ValidateFault → Type 0
+Tells nodes NoRoot = nodes ≡ []
+Tells nodes RootPlaced = (p : ℕ) × (parent_link nodes 0 ≡ Some p)
+Tells nodes BadId = SomeIndex nodes (λ n. slice_get (ids_of nodes) n ≢ Some n)
+Tells nodes UnknownLink = SomeIndex nodes (λ n. LinksAstray nodes n)
+Tells nodes BadLink = SomeIndex nodes (λ n. Agrees nodes n → ⊥)
+Tells nodes Cycle = (n : ℕ) × Climbs nodes n n
+Tells nodes NotLinked = SomeIndex nodes (λ n. IsLinked nodes n → ⊥)
+Tells nodes SiblingCycle = HasRing (prev_link nodes)
+Tells nodes NoChildrenHere = SomeIndex nodes (λ n. IsBorne nodes n → ⊥)
+Tells nodes PlacedFragment = SomeIndex nodes (λ n. IsAlone nodes n → ⊥)
+Tells nodes BadContents = SomeIndex nodes (λ n. HoldsAlone nodes n → ⊥)
+Tells nodes TooManyNodes = 4294967295 < length nodes
+Tells nodes Memory = Unit {0}

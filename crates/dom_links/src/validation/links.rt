@@ -1,0 +1,213 @@
+//! The checks of each node's number and links.
+
+ghost use Rattle.std.specs.Prelude.{◌≡◌, ◌<◌, ◌≤◌, [], EachIndex, Err, IfErr, IfSome, IsSomeAnd, MatchBool, MatchResult, None, Some, SomeIndex, length, slice_get};
+ghost use Rattle.dom_links.specs.Forest.{ids_of, first_link, last_link, next_link, parent_link, prev_link};
+ghost use Rattle.dom_links.specs.Lists.{names};
+ghost use Rattle.dom_links.specs.Validation.{Agrees, IsKnown, IsLinked, IsRefused, LinksAstray, LinksHold, LinksKnown, Tells};
+ghost use Rattle.dom_links.specs.declared.validation.ValidateFault.TheVariants.{NoRoot};
+
+use crate::validation::ValidateFault;
+use dom_nodes::node_data::TreeNode;
+use dom_nodes::node_id::NodeId;
+
+/// The checks that come before that for cycles.
+pub(crate) fn check_links(nodes: &[TreeNode]) -> Result<(), ValidateFault>
+    ensures sound { MatchResult result (λ _. LinksHold nodes.now) (λ fault. IsRefused nodes.now fault) }
+    ensures cause { IfErr result (λ fault. Tells nodes.now fault) }
+    ensures empty { nodes.now ≡ [] → result ≡ Err NoRoot }
+{
+    let Some(root) = nodes.first() else {
+        return Err(ValidateFault::NoRoot);
+    };
+    if root.parent.is_some() {
+        return Err(ValidateFault::RootPlaced);
+    }
+    if !ids_are_places(nodes) {
+        return Err(ValidateFault::BadId);
+    }
+    if !are_known(nodes) {
+        return Err(ValidateFault::UnknownLink);
+    }
+    if !agree(nodes) {
+        return Err(ValidateFault::BadLink);
+    }
+    Ok(())
+}
+
+/// Whether each node's number is its place.
+pub(crate) fn ids_are_places(nodes: &[TreeNode]) -> bool
+    ensures { MatchBool result (EachIndex nodes.now (λ n. slice_get (ids_of nodes.now) n ≡ Some n))
+        (SomeIndex nodes.now (λ n. slice_get (ids_of nodes.now) n ≡ Some n → ⊥)) }
+{
+    for n in 0..nodes.len() {
+        if nodes[n].id.value() != n {
+            return false;
+        }
+    }
+    true
+}
+
+/// Whether the link, if there is one, names a node.
+fn is_known(nodes: &[TreeNode], link: Option<NodeId>) -> bool
+    ensures { MatchBool result (IsKnown nodes.now link) (IsSomeAnd link (λ k. length nodes.now ≤ k)) }
+{
+    if let Some(id) = link {
+        if id.value() >= nodes.len() {
+            return false;
+        }
+    }
+    true
+}
+
+/// Whether the links of a node name nodes.
+fn knows(nodes: &[TreeNode], n: usize) -> bool
+    requires { n < length nodes.now }
+    ensures { MatchBool result (LinksKnown nodes.now n) (LinksAstray nodes.now n) }
+{
+    let node = &nodes[n];
+    if !is_known(nodes, node.parent) {
+        return false;
+    }
+    if !is_known(nodes, node.prev_sibling) {
+        return false;
+    }
+    if !is_known(nodes, node.next_sibling) {
+        return false;
+    }
+    if !is_known(nodes, node.first_child) {
+        return false;
+    }
+    is_known(nodes, node.last_child)
+}
+
+/// Whether each link names a node.
+pub(crate) fn are_known(nodes: &[TreeNode]) -> bool
+    ensures { MatchBool result (EachIndex nodes.now (λ n. LinksKnown nodes.now n)) (SomeIndex nodes.now (λ n. LinksAstray nodes.now n)) }
+{
+    for n in 0..nodes.len() {
+        if !knows(nodes, n) {
+            return false;
+        }
+    }
+    true
+}
+
+/// Whether the link leads to n.
+pub(crate) fn leads_to(link: Option<NodeId>, n: usize) -> bool
+    ensures { result ≡ names link n }
+{
+    match link {
+        Some(id) => id.value() == n,
+        None => false,
+    }
+}
+
+/// Whether the neighbours of a node name it as theirs.
+fn agrees(nodes: &[TreeNode], n: usize) -> bool
+    requires known { EachIndex nodes.now (λ n. LinksKnown nodes.now n) }
+    requires here { n < length nodes.now }
+    ensures { MatchBool result (Agrees nodes.now n) (Agrees nodes.now n → ⊥) }
+{
+    let node = &nodes[n];
+    if let Some(prev) = node.prev_sibling {
+        if !leads_to(nodes[prev.value()].next_sibling, n) {
+            return false;
+        }
+    }
+    if let Some(next) = node.next_sibling {
+        if !leads_to(nodes[next.value()].prev_sibling, n) {
+            return false;
+        }
+    }
+    true
+}
+
+/// Whether neighbours name each other.
+pub(crate) fn agree(nodes: &[TreeNode]) -> bool
+    requires { EachIndex nodes.now (λ n. LinksKnown nodes.now n) }
+    ensures { MatchBool result (EachIndex nodes.now (λ n. Agrees nodes.now n)) (SomeIndex nodes.now (λ n. Agrees nodes.now n → ⊥)) }
+{
+    for n in 0..nodes.len() {
+        if !agrees(nodes, n) {
+            return false;
+        }
+    }
+    true
+}
+
+/// Whether who stands before a node has the same parent.
+fn shares_parent(nodes: &[TreeNode], n: usize) -> bool
+    requires known { EachIndex nodes.now (λ n. LinksKnown nodes.now n) }
+    requires here { n < length nodes.now }
+    ensures { MatchBool result (IfSome (prev_link nodes.now n) (λ m. parent_link nodes.now m ≡ parent_link nodes.now n))
+        (IfSome (prev_link nodes.now n) (λ m. parent_link nodes.now m ≡ parent_link nodes.now n) → ⊥) }
+{
+    let node = &nodes[n];
+    let Some(prev) = node.prev_sibling else {
+        return true;
+    };
+    nodes[prev.value()].parent == node.parent
+}
+
+/// Whether a link, if there is one, names a node whose parent is n.
+fn is_kid(nodes: &[TreeNode], link: Option<NodeId>, n: usize) -> bool
+    requires { IsKnown nodes.now link }
+    ensures { MatchBool result (IfSome link (λ c. parent_link nodes.now c ≡ Some n)) (IfSome link (λ c. parent_link nodes.now c ≡ Some n) → ⊥) }
+{
+    let Some(kid) = link else {
+        return true;
+    };
+    leads_to(nodes[kid.value()].parent, n)
+}
+
+/// Whether a node that is first or last in its list is so named by its parent.
+fn is_named(nodes: &[TreeNode], n: usize) -> bool
+    requires known { EachIndex nodes.now (λ n. LinksKnown nodes.now n) }
+    requires here { n < length nodes.now }
+    ensures { MatchBool result (IfSome (parent_link nodes.now n) (λ p. (prev_link nodes.now n ≡ None → first_link nodes.now p ≡ Some n) × (next_link nodes.now n ≡ None → last_link nodes.now p ≡ Some n)))
+        (IfSome (parent_link nodes.now n) (λ p. (prev_link nodes.now n ≡ None → first_link nodes.now p ≡ Some n) × (next_link nodes.now n ≡ None → last_link nodes.now p ≡ Some n)) → ⊥) }
+{
+    let node = &nodes[n];
+    let Some(parent) = node.parent else {
+        return true;
+    };
+    let above = &nodes[parent.value()];
+    if node.prev_sibling.is_none() && !leads_to(above.first_child, n) {
+        return false;
+    }
+    if node.next_sibling.is_none() && !leads_to(above.last_child, n) {
+        return false;
+    }
+    true
+}
+
+/// Whether a node and its parent name each other.
+fn is_linked(nodes: &[TreeNode], n: usize) -> bool
+    requires known { EachIndex nodes.now (λ n. LinksKnown nodes.now n) }
+    requires here { n < length nodes.now }
+    ensures { MatchBool result (IsLinked nodes.now n) (IsLinked nodes.now n → ⊥) }
+{
+    if !shares_parent(nodes, n) {
+        return false;
+    }
+    if !is_kid(nodes, nodes[n].first_child, n) {
+        return false;
+    }
+    if !is_kid(nodes, nodes[n].last_child, n) {
+        return false;
+    }
+    is_named(nodes, n)
+}
+
+/// Whether nodes and their parents name each other.
+pub(crate) fn are_linked(nodes: &[TreeNode]) -> bool
+    requires { EachIndex nodes.now (λ n. LinksKnown nodes.now n) }
+    ensures { MatchBool result (EachIndex nodes.now (λ n. IsLinked nodes.now n)) (SomeIndex nodes.now (λ n. IsLinked nodes.now n → ⊥)) }
+{
+    for n in 0..nodes.len() {
+        if !is_linked(nodes, n) {
+            return false;
+        }
+    }
+    true
+}
