@@ -1,1 +1,5 @@
 pub mod WordLemmas
+pub mod AttrLemmas
+pub mod ClassLemmas
+pub mod UpdateLemmas
+pub mod LawLemmas

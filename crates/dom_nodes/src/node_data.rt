@@ -3,10 +3,19 @@
 ghost use Rattle.std.specs.Prelude.{◌≡◌};
 ghost use Rattle.dom_nodes.specs.Words.{is_among, words_of};
 
+mod any_node;
+mod attributes;
+mod classes;
+mod lending;
+mod node_edit;
+#[cfg(test)]
+mod tests;
+
 use crate::fault::OutOfMemory;
 use crate::name::{Attr, QualName};
 use crate::node_id::NodeId;
 use crate::text::Text;
+pub use node_edit::NodeEdit;
 use std::alloc::Global;
 use std::marker::Model;
 

@@ -34,6 +34,18 @@ impl Text {
     {
         self.letters.as_str()
     }
+
+    /// A text of the same bytes in memory of its own.
+    pub fn try_clone(&self) -> Result<Text, OutOfMemory>
+        ensures { IfOk result (λ made. made ≡ self.now) }
+    {
+        Text::new(self.allocator(), self.as_str())
+    }
+
+    /// The allocator of the text.
+    pub(crate) fn allocator(&self) -> Global {
+        *self.letters.allocator()
+    }
 }
 
 impl From<String> for Text {

@@ -1,0 +1,75 @@
+-- What changes leave of names and attributes.
+use Rattle.std.specs.Prelude.{ℕ, Bool, not, List, [], ◌∷◌, ◌++◌, None, is_some, codes, filter, if◌then◌else◌, ◌&&◌, ◌||◌}
+use Rattle.std.specs.List.{list_any}
+use Rattle.std.specs.Str.{bytes_eq}
+use Rattle.dom_nodes.specs.declared.name.Attr.{Attr}
+use Rattle.dom_nodes.specs.declared.name.QualName.{QualName}
+use Rattle.dom_nodes.specs.declared.name.Namespace.TheVariants.{None as Nowhere}
+use Rattle.dom_nodes.specs.declared.node_data.Element.{Element}
+use Rattle.dom_nodes.specs.declared.node_data.NodeData.{NodeData}
+use Rattle.dom_nodes.specs.declared.node_data.NodeData.TheVariants.{Element as AnElement}
+use Rattle.dom_nodes.specs.Attrs.{attr_of}
+
+-- the attribute has that local name
+abbrev pub is_named : List ℕ → Attr → Bool
+is_named name attr = bytes_eq attr.name.local.0 name
+
+-- the text is one of the names
+abbrev pub is_one_of : List (List ℕ) → List ℕ → Bool
+is_one_of names text = list_any (λ name. bytes_eq text name) names
+
+-- the attribute's local name is one of the names
+abbrev pub is_named_in : List (List ℕ) → Attr → Bool
+is_named_in names attr = is_one_of names attr.name.local.0
+
+-- a local name without prefix and namespace
+abbrev pub plain_name : List ℕ → QualName
+plain_name name = record { prefix = None; ns = Nowhere; local = record { 0 = name } }
+
+-- an attribute without prefix and namespace
+abbrev pub plain_attr : List ℕ → List ℕ → Attr
+plain_attr name value = record { name = plain_name name; value = value }
+
+-- the first attribute of that local name has the value; none is added
+abbrev pub with_value : List ℕ → List ℕ → List Attr → List Attr
+with_value name value [] = []
+with_value name value (attr ∷ attrs) =
+    if is_named name attr then record attr { value = value } ∷ attrs else attr ∷ with_value name value attrs
+
+-- the first attribute of that local name has the value; where there is none, one is added at the end
+abbrev pub with_attr : List ℕ → List ℕ → List Attr → List Attr
+with_attr name value attrs =
+    if is_some (attr_of attrs name) then with_value name value attrs else attrs ++ plain_attr name value ∷ []
+
+-- the attributes of other local names
+abbrev pub without_name : List ℕ → List Attr → List Attr
+without_name name attrs = filter (λ attr. not (is_named name attr)) attrs
+
+abbrev pub without_names : List (List ℕ) → List Attr → List Attr
+without_names names attrs = filter (λ attr. not (is_named_in names attr)) attrs
+
+-- the attributes of those local names
+abbrev pub only_names : List (List ℕ) → List Attr → List Attr
+only_names names attrs = filter (is_named_in names) attrs
+
+-- the element with that local name
+abbrev pub renamed : List ℕ → Element → Element
+renamed name element = record element { name = record element.name { local = record { 0 = name } } }
+
+-- a name that links have
+abbrev pub is_link_name : List ℕ → Bool
+is_link_name name = bytes_eq name (codes "a") || (bytes_eq name (codes "area") || bytes_eq name (codes "link"))
+
+-- a link: an element of such a name with an attribute of local name `href`
+abbrev pub is_link : Element → Bool
+is_link element = is_link_name element.name.local.0 && is_some (attr_of element.attrs (codes "href"))
+
+-- the node with its element changed; a node that is no element stays
+abbrev pub on_element : (Element → Element) → NodeData → NodeData
+on_element change (AnElement element) = AnElement (change element)
+on_element change node = node
+
+-- the node with its attributes changed; a node that is no element stays
+abbrev pub with_attrs : (List Attr → List Attr) → NodeData → NodeData
+with_attrs change (AnElement element) = AnElement (record element { attrs = change element.attrs })
+with_attrs change node = node

@@ -1,0 +1,19 @@
+-- What a node is once an element lent out of it is given back.
+use Rattle.std.specs.Prelude.{Option}
+use Rattle.std.specs.Borrow.{LendsIf, MutBor, Fml}
+use Rattle.dom_nodes.specs.declared.node_data.Element.{Element}
+use Rattle.dom_nodes.specs.declared.node_data.NodeData.{NodeData}
+use Rattle.dom_nodes.specs.declared.node_data.NodeData.TheVariants.{Element as AnElement}
+use Rattle.dom_nodes.specs.declared.node_data.TreeNode.{TreeNode}
+use Rattle.dom_nodes.specs.contracts.node_data.Element.{the_row as element_row}
+use Rattle.dom_nodes.specs.contracts.node_data.NodeData.{the_row as data_row}
+use Rattle.dom_nodes.specs.contracts.node_data.TreeNode.{the_row as node_row}
+
+-- the data ends as the element that was left there, or as it was if none was lent
+abbrev pub LendsElement : MutBor NodeData → Option (MutBor Element) → Fml
+LendsElement node lent = LendsIf data_row element_row node lent (λ element. AnElement element) node.now
+
+-- the node ends with that element as its data, or as it was if none was lent
+abbrev pub LendsElementOf : MutBor TreeNode → Option (MutBor Element) → Fml
+LendsElementOf node lent =
+    LendsIf node_row element_row node lent (λ element. record node.now { content = AnElement element }) node.now

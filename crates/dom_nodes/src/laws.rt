@@ -1,0 +1,43 @@
+//! What is true of numbers, attributes and classes, told to the crates above. The functions do
+//! nothing.
+
+ghost use Rattle.std.specs.Prelude.{◌≡◌, ◌==◌, ℕ, List, false, None, Some};
+ghost use Rattle.std.specs.Hash.{u32 as hashed_u32};
+ghost use Rattle.std.specs.Ordering.{nat_cmp};
+ghost use Rattle.std.specs.Str.{bytes_eq};
+ghost use Rattle.dom_nodes.specs.declared.name.Attr.{Attr};
+ghost use Rattle.dom_nodes.specs.Attrs.{attr_of};
+ghost use Rattle.dom_nodes.specs.Changes.{with_attr, without_name};
+ghost use Rattle.dom_nodes.specs.Classes.{is_blank, with_classes, without_classes, words_with, words_without};
+ghost use Rattle.dom_nodes.specs.Words.{class_words, words_of};
+
+use crate::node_id::NodeId;
+use std::hash::Hash;
+
+/// `==`, the orders and the hash of node numbers are those of the numbers.
+pub fn comparisons_of_numbers(id: NodeId, other: NodeId)
+    ensures eq { ⟦<NodeId as PartialEq>⟧.eq id other ≡ (id == other) }
+    ensures cmp { ⟦<NodeId as Ord>⟧.cmp id other ≡ nat_cmp id other }
+    ensures partial_cmp { ⟦<NodeId as PartialOrd>⟧.partial_cmp id other ≡ Some (nat_cmp id other) }
+    ensures hash { ⟦<NodeId as Hash>⟧.hash_input id ≡ hashed_u32 id }
+{}
+
+/// An attribute that is set has the value, one of another name keeps its own, and one that is
+/// removed is gone.
+pub fn values_after_changes()
+    ensures set { (name value : List ℕ) (attrs : List Attr)
+        → attr_of (with_attr name value attrs) name ≡ Some value }
+    ensures kept { (name other value : List ℕ) (attrs : List Attr) → bytes_eq name other ≡ false
+        → attr_of (with_attr name value attrs) other ≡ attr_of attrs other }
+    ensures removed { (name : List ℕ) (attrs : List Attr)
+        → attr_of (without_name name attrs) name ≡ None }
+{}
+
+/// The classes after words are added or removed, where the text of the words isn't blank.
+pub fn classes_after_changes()
+    ensures added { (text : List ℕ) (attrs : List Attr) → is_blank text ≡ false
+        → class_words (with_classes text attrs) ≡ words_with (class_words attrs) (words_of text) }
+    ensures removed { (text : List ℕ) (attrs : List Attr) → is_blank text ≡ false
+        → class_words (without_classes text attrs)
+        ≡ words_without (class_words attrs) (words_of text) }
+{}

@@ -1,0 +1,133 @@
+//! An element's classes: the words of its attribute `class`.
+
+ghost use Rattle.std.specs.Prelude.{◌≡◌, string_bytes, codes, true, IsOk, None, OnErr, OnOk, IfOk};
+ghost use Rattle.dom_nodes.specs.Words.{class_words, words_of};
+ghost use Rattle.dom_nodes.specs.Classes.{is_among_by, is_blank, with_word, words_joined, words_with, words_without};
+
+use super::{Element, has_word};
+use crate::case_sensitivity::CaseSensitivity;
+use crate::fault::OutOfMemory;
+use crate::text::Text;
+use std::alloc::Global;
+
+impl Element {
+    ghost use Rattle.dom_nodes.specs.Attrs.{attr_of};
+    ghost use Rattle.dom_nodes.specs.Classes.{with_classes, without_classes};
+
+    /// Whether the name is a word of the first attribute `class`. An empty name isn't.
+    pub fn has_class_bytes(&self, name: &[u8], case_sensitivity: CaseSensitivity) -> bool
+        ensures { result ≡ is_among_by case_sensitivity name.now (class_words self.now.attrs) }
+    {
+        has_word_by(self.class_text(), name, case_sensitivity)
+    }
+
+    /// Adds the words of the text that aren't classes yet at the end of the first attribute
+    /// `class`, or of one at the end; the words are then joined by one space. A text that is empty
+    /// or white changes nothing, nor does a refusal.
+    pub fn add_class(&mut self, classes: &str) -> Result<(), OutOfMemory>
+        ensures ok { OnOk result (self.new ≡ record self.old {
+          attrs = with_classes classes.now self.old.attrs;
+        }) }
+        ensures err { OnErr result (self.new ≡ self.old) }
+        ensures blank { is_blank classes.now ≡ true → IsOk result }
+    {
+        if is_blank(classes) {
+            return Ok(());
+        }
+        let value = words_with(self.attrs.allocator(), self.class_text(), classes)?;
+        self.attrs.set("class", Text::from(value))
+    }
+
+    /// Takes the words of the text out of the first attribute `class`; the words that stay are
+    /// then joined by one space. A text that is empty or white changes nothing, nor does a refusal.
+    pub fn remove_class(&mut self, classes: &str) -> Result<(), OutOfMemory>
+        ensures ok { OnOk result (self.new ≡ record self.old {
+          attrs = without_classes classes.now self.old.attrs;
+        }) }
+        ensures err { OnErr result (self.new ≡ self.old) }
+        ensures blank { is_blank classes.now ≡ true → IsOk result }
+        ensures no_class { attr_of self.old.attrs (codes "class") ≡ None → IsOk result }
+    {
+        if is_blank(classes) {
+            return Ok(());
+        }
+        if !self.has_attr("class") {
+            return Ok(());
+        }
+        let value = words_without(self.attrs.allocator(), self.class_text(), classes)?;
+        self.attrs.set("class", Text::from(value))
+    }
+
+    /// The value of the first attribute `class`, empty where there is none.
+    fn class_text(&self) -> &str
+        ensures { words_of result.now ≡ class_words self.now.attrs }
+    {
+        match self.class() {
+            Some(classes) => classes,
+            None => "",
+        }
+    }
+}
+
+fn is_blank(text: &str) -> bool
+    ensures { result ≡ is_blank text.now }
+{
+    text.chars().all(|c| c.is_whitespace())
+}
+
+/// Whether one of the text's words is the name.
+fn has_word_by(text: &str, name: &[u8], case_sensitivity: CaseSensitivity) -> bool
+    ensures { result ≡ is_among_by case_sensitivity name.now (words_of text.now) }
+{
+    for word in text.split_ascii_whitespace() {
+        if case_sensitivity.is_same(word.as_bytes(), name) {
+            return true;
+        }
+    }
+    false
+}
+
+/// The text's words that aren't among the others.
+fn words_without(alloc: Global, text: &str, others: &str) -> Result<String, OutOfMemory>
+    ensures joined { IfOk result (λ made.
+        string_bytes made ≡ words_joined (words_without (words_of text.now) (words_of others.now))) }
+    ensures words { IfOk result (λ made.
+        words_of (string_bytes made) ≡ words_without (words_of text.now) (words_of others.now)) }
+{
+    let mut made = String::new(alloc);
+    for word in text.split_ascii_whitespace() {
+        if has_word(others, word) {
+            continue;
+        }
+        push_word(&mut made, word)?;
+    }
+    Ok(made)
+}
+
+/// The text's words, and the added ones that aren't among them, each once.
+fn words_with(alloc: Global, text: &str, added: &str) -> Result<String, OutOfMemory>
+    ensures joined { IfOk result (λ made.
+        string_bytes made ≡ words_joined (words_with (words_of text.now) (words_of added.now))) }
+    ensures words { IfOk result (λ made.
+        words_of (string_bytes made) ≡ words_with (words_of text.now) (words_of added.now)) }
+{
+    let mut made = words_without(alloc, text, "")?;
+    for word in added.split_ascii_whitespace() {
+        if has_word(made.as_str(), word) {
+            continue;
+        }
+        push_word(&mut made, word)?;
+    }
+    Ok(made)
+}
+
+/// One more word at the end, after a space if it isn't the first.
+fn push_word(text: &mut String, word: &str) -> Result<(), OutOfMemory>
+    ensures { OnOk result (string_bytes text.new ≡ with_word (string_bytes text.old) word.now) }
+{
+    if !text.is_empty() {
+        text.push(' ')?;
+    }
+    text.push_str(word)?;
+    Ok(())
+}
