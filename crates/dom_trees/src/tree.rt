@@ -1,6 +1,6 @@
 //! A tree that owns its nodes.
 
-ghost use Rattle.std.specs.Prelude.{◌≡◌, ◌≤◌, ◌∷◌, [], false, length, IfErr, IfOk, IsErrAnd, MatchOption, None, OnErr, OnOk};
+ghost use Rattle.std.specs.Prelude.{◌≡◌, ◌<◌, ◌≤◌, ◌∷◌, [], false, length, IfErr, IfOk, IsErrAnd, MatchOption, None, OnErr, OnOk};
 ghost use Rattle.dom_links.specs.Forest.{forest_of, kids_of};
 ghost use Rattle.dom_links.specs.Growth.{MayAppend, lone, with_child};
 ghost use Rattle.dom_links.specs.Lists.{IsDistinct};
@@ -22,6 +22,8 @@ use dom_nodes::node_data::{NodeData, TreeNode};
 use dom_nodes::node_id::NodeId;
 use std::alloc::Global;
 use std::marker::Model;
+
+mod lists;
 
 /// A tree. A contract sees it as a forest.
 #[derive(Drop)]
@@ -189,6 +191,7 @@ impl Tree {
     /// Cuts a node out of its list. It is then a run of its own.
     pub fn remove_from_parent(&mut self, id: &NodeId) -> Result<(), EditFault>
         ensures ok { OnOk result (self.new ≡ cut (id.now ∷ []) self.old) }
+        ensures known { OnOk result (id.now < length self.old.content) }
         ensures err { OnErr result (self.new ≡ self.old) }
         ensures cause { IfErr result (λ fault. RemovalCause self.old id.now fault) }
     {

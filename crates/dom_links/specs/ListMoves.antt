@@ -1,0 +1,118 @@
+-- Moves of lists of nodes, and moves in two steps.
+use Rattle.std.specs.Prelude.{ℕ, ◌≡◌, ◌<◌, ◌⊎◌, Bool, true, false, List, [], ◌∷◌, Option, Some, None, length, slice_get, option_and_then, if◌then◌else◌}
+use Rattle.std.specs.Option.{option_map_or}
+use Rattle.dom_nodes.specs.declared.node_data.NodeData.{NodeData}
+use Rattle.dom_nodes.specs.declared.node_data.NodeData.TheVariants.{Element}
+use Rattle.dom_nodes.specs.declared.node_data.TreeNode.{TreeNode}
+use Rattle.dom_links.specs.Lists.{stands_in}
+use Rattle.dom_links.specs.Forest.{Forest, IsArenaOf, forest_of, kids_of, parent, run_of}
+use Rattle.dom_links.specs.Moves.{Gap, end_of, before_node, cut, moved_to}
+use Rattle.dom_links.specs.Sound.{Allowed, AtOrBelow, IsForest, MayPlace, bears, is_open, stays, target}
+use Rattle.dom_links.specs.Walk.{later}
+
+-- a node and its later siblings
+abbrev pub with_later : Forest → ℕ → List ℕ
+with_later forest x = x ∷ later forest false x
+
+-- it holds of each node of the list
+abbrev pub EachOf : List ℕ → (ℕ → Type 0) → Type 0
+EachOf ns P = (n : ℕ) → stands_in n ns ≡ true → P n
+
+-- it holds of some node of the list
+abbrev pub SomeOf : List ℕ → (ℕ → Type 0) → Type 0
+SomeOf ns P = (n : ℕ) × (stands_in n ns ≡ true) × P n
+
+-- why x and its later siblings may not be moved to a gap at t: x stays where it is, or one of them is t or reaches it
+abbrev pub BlockedRun : Forest → ℕ → ℕ → Type 0
+BlockedRun forest t x = (stays forest x ≡ true) ⊎ SomeOf (with_later forest x) (λ n. AtOrBelow forest n t)
+
+-- the move of some nodes to a gap is allowed
+pub record AllowedList (forest : Forest) (gap : Gap) (moved : List ℕ) : Type 0 where
+  pub target_known : target gap < length forest.content
+  pub open_here : is_open gap forest ≡ true
+  pub may : EachOf moved (MayPlace forest (target gap))
+
+-- nodes were moved: the forest after is the forest before with them cut out and put at the gap in their order, the
+-- links are that forest's, and it stays a forest where the move is allowed
+pub record MovedList (old new : List TreeNode) (gap : Gap) (moved : List ℕ) : Type 0 where
+  pub made : forest_of new ≡ moved_to moved gap (forest_of old)
+  pub linked : IsArenaOf (forest_of new) new
+  pub kept : IsForest (forest_of old) → AllowedList (forest_of old) gap moved → IsForest (forest_of new)
+
+-- the kids of a node were cut out, and are a run of their own
+pub record KidsRemoved (old new : List TreeNode) (x : ℕ) : Type 0 where
+  pub made : forest_of new ≡ cut (kids_of (forest_of old) x) (forest_of old)
+  pub linked : IsArenaOf (forest_of new) new
+  pub kept : IsForest (forest_of old) → IsForest (forest_of new)
+
+-- the kids of x go to the end of the kids of p, or are a run of their own
+abbrev pub reparented : ℕ → Option ℕ → Forest → Forest
+reparented x None forest = cut (kids_of forest x) forest
+reparented x (Some p) forest = moved_to (kids_of forest x) (end_of p) forest
+
+abbrev pub MayReparent : Forest → ℕ → Option ℕ → Type 0
+MayReparent forest x None = Unit {0}
+MayReparent forest x (Some p) = AllowedList forest (end_of p) (kids_of forest x)
+
+pub record Reparents (old new : List TreeNode) (x : ℕ) (p : Option ℕ) : Type 0 where
+  pub made : forest_of new ≡ reparented x p (forest_of old)
+  pub linked : IsArenaOf (forest_of new) new
+  pub kept : IsForest (forest_of old) → MayReparent (forest_of old) x p → IsForest (forest_of new)
+
+-- x is put right before t, and then t is cut out
+abbrev pub replaced : ℕ → ℕ → Forest → Forest
+replaced t x forest = cut (t ∷ []) (moved_to (x ∷ []) (before_node t) forest)
+
+pub record Replaced (old new : List TreeNode) (t x : ℕ) : Type 0 where
+  pub made : forest_of new ≡ replaced t x (forest_of old)
+  pub linked : IsArenaOf (forest_of new) new
+  pub kept : IsForest (forest_of old) → Allowed (forest_of old) (before_node t) x → IsForest (forest_of new)
+
+-- w is put right before x, and then x to the end of the kids of w
+abbrev pub wrapped : ℕ → ℕ → Forest → Forest
+wrapped x w forest = moved_to (x ∷ []) (end_of w) (moved_to (w ∷ []) (before_node x) forest)
+
+-- both steps are allowed
+pub record MayWrap (forest : Forest) (x w : ℕ) : Type 0 where
+  pub beside : Allowed forest (before_node x) w
+  pub bearing : bears forest w ≡ true
+
+pub record Wrapped (old new : List TreeNode) (x w : ℕ) : Type 0 where
+  pub made : forest_of new ≡ wrapped x w (forest_of old)
+  pub linked : IsArenaOf (forest_of new) new
+  pub kept : IsForest (forest_of old) → MayWrap (forest_of old) x w → IsForest (forest_of new)
+
+abbrev pub is_element : NodeData → Bool
+is_element (Element element) = true
+is_element _ = false
+
+abbrev pub element_at : Forest → ℕ → Bool
+element_at forest n = option_map_or is_element (slice_get forest.content n) false
+
+-- the parent, if it is an element
+abbrev pub element_above : Forest → ℕ → Option ℕ
+element_above forest n = option_and_then (λ p. if element_at forest p then Some p else None) (parent forest n)
+
+-- the parent of x, if it and its parent are elements
+abbrev pub wrapper : Forest → ℕ → Option ℕ
+wrapper forest x = option_and_then (λ p. option_and_then (λ above. Some p) (element_above forest p)) (element_above forest x)
+
+-- the kids of a wrapper are put right before it, and then it is cut out
+abbrev pub without_wrapper : Option ℕ → Forest → Forest
+without_wrapper None forest = forest
+without_wrapper (Some p) forest = cut (p ∷ []) (moved_to (kids_of forest p) (before_node p) forest)
+
+abbrev pub unwrapped : ℕ → Forest → Forest
+unwrapped x forest = without_wrapper (wrapper forest x) forest
+
+pub record Unwrapped (old new : List TreeNode) (x : ℕ) : Type 0 where
+  pub made : forest_of new ≡ unwrapped x (forest_of old)
+  pub linked : IsArenaOf (forest_of new) new
+  pub kept : IsForest (forest_of old) → IsForest (forest_of new)
+
+-- an element without parent, siblings and kids
+pub record IsBare (forest : Forest) (w : ℕ) : Type 0 where
+  pub element : element_at forest w ≡ true
+  pub no_parent : parent forest w ≡ None
+  pub alone : run_of forest w ≡ w ∷ []
+  pub no_kids : kids_of forest w ≡ []

@@ -1,0 +1,54 @@
+//! The writing steps that the moves of lists are made of.
+
+ghost use Rattle.std.specs.Prelude.{◌≡◌, ◌<◌, length, IfSome, Some};
+ghost use Rattle.dom_links.specs.Lists.{last};
+ghost use Rattle.dom_links.specs.ListWrites.{NextsKnown, ParentsSet, RunAttached, following};
+
+use crate::ops::writes::join;
+use dom_nodes::node_data::TreeNode;
+use dom_nodes::node_id::NodeId;
+
+/// Gives a parent to a node and to all that follow it by next links, and answers the last of them.
+pub(crate) fn set_parents(nodes: &mut [TreeNode], x: NodeId, owner: Option<NodeId>) -> NodeId
+    requires known { x < length nodes.old }
+    requires nexts_known { NextsKnown nodes.old }
+    ensures set { ParentsSet nodes.old nodes.new (following nodes.old x) owner }
+    ensures end { last (following nodes.old x) ≡ Some result }
+    ensures end_known { result < length nodes.old }
+{
+    let owner = &owner;
+    let mut end = x;
+    let mut next = Some(x);
+    for _step in 0..nodes.len() {
+        let Some(at) = next else {
+            return end;
+        };
+        let node = &mut nodes[at.value()];
+        node.parent = *owner;
+        next = node.next_sibling;
+        end = at;
+    }
+    end
+}
+
+/// Puts a node and all that follow it between two neighbours below an owner.
+pub(crate) fn attach_run(
+    nodes: &mut [TreeNode],
+    x: NodeId,
+    owner: Option<NodeId>,
+    left: Option<NodeId>,
+    right: Option<NodeId>,
+)
+    requires known { x < length nodes.old }
+    requires nexts_known { NextsKnown nodes.old }
+    requires owner_known { IfSome owner (λ n. n < length nodes.old) }
+    requires left_known { IfSome left (λ n. n < length nodes.old) }
+    requires right_known { IfSome right (λ n. n < length nodes.old) }
+    ensures { RunAttached nodes.old nodes.new x owner left right }
+{
+    let above = owner;
+    let end = set_parents(nodes, x, above);
+    let above = owner;
+    join(nodes, above, left, Some(x));
+    join(nodes, owner, Some(end), right);
+}
