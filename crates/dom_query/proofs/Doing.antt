@@ -4,7 +4,7 @@ use Rattle.std.proofs.lemmas.List.{at_drop_more, drop_all}
 use Rattle.std.specs.Io.KnownBytes.{Appends}
 use Rattle.dom_links.specs.Forest.{Forest}
 use Rattle.dom_markup.specs.Writing.{AppendsBeginning}
-use Rattle.dom_select.specs.declared.selector.Part.{Part}
+use Rattle.dom_select.specs.Syntax.{SelectorList}
 use Rattle.dom_select.specs.Selected.{Selected}
 use Rattle.dom_query.specs.declared.script.Command.{Command}
 use Rattle.dom_query.specs.declared.script.Command.TheVariants.{Nothing, Select, Html, Document}
@@ -13,7 +13,7 @@ use Rattle.dom_query.proofs.Writing.{beginning-then, beginning-more}
 
 -- a selector selects one list of nodes at most
 abbrev pub OneSelection : Type 0
-OneSelection = (forest : Forest) (roots : List ℕ) (selector : List Part) (a b : List ℕ) → Selected forest roots selector a → Selected forest roots selector b → a ≡ b
+OneSelection = (forest : Forest) (roots : List ℕ) (selector : SelectorList) (a b : List ℕ) → Selected forest roots selector a → Selected forest roots selector b → a ≡ b
 
 -- a command writes one text and leaves one selection at most
 pub does-once : OneSelection → (forest : Forest) (selection : List ℕ) (command : Command) (text other selected others : List ℕ)

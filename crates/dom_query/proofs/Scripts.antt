@@ -1,7 +1,7 @@
 -- A script has one reading at most.
 use Rattle.std.proofs.Common.{◌≡◌, ◌+◌, ◌<◌, lit<, ℕ, zero, suc, List, [], ◌∷◌, ◌++◌, inl, inr, refl, sym, ◌∙◌, ap, codes, length, arith, subst}
 use Rattle.std.specs.Str.{chars}
-use Rattle.dom_select.specs.declared.selector.Part.{Part}
+use Rattle.dom_select.specs.Syntax.{SelectorList}
 use Rattle.dom_select.specs.Grammar.{StandsFor}
 use Rattle.dom_query.specs.declared.script.Command.{Command}
 use Rattle.dom_query.specs.declared.script.Command.TheVariants.{Nothing, Select, Html, Document}
@@ -10,7 +10,7 @@ use Rattle.dom_query.proofs.Lines.{argument-once}
 
 -- a text stands for one selector at most
 abbrev pub OneSelector : Type 0
-OneSelector = (text : List ℕ) (a b : List Part) → StandsFor text a → StandsFor text b → a ≡ b
+OneSelector = (text : List ℕ) (a b : SelectorList) → StandsFor text a → StandsFor text b → a ≡ b
 
 -- how a line with `select` begins
 selects : (line argument : List ℕ) → HasArgument line (codes "select") argument → (rest : List ℕ) × (line ≡ 115 ∷ rest)

@@ -3,7 +3,7 @@ use Rattle.std.specs.Prelude.{◌≡◌, ◌⊎◌, ◌+◌, ◌==◌, ℕ, zero
 use Rattle.std.specs.List.{slice_split}
 use Rattle.std.specs.Str.{IsUtf8, chars}
 use Rattle.dom_select.specs.Grammar.{StandsFor}
-use Rattle.dom_select.specs.declared.selector.Part.{Part}
+use Rattle.dom_select.specs.Syntax.{SelectorList}
 use Rattle.dom_query.specs.declared.script.Command.{Command}
 use Rattle.dom_query.specs.declared.script.Command.TheVariants.{Nothing, Select, Html, Document}
 
@@ -13,7 +13,7 @@ HasArgument line word argument = (line ≡ word ++ 32 ∷ argument) ⊎ ((line �
 
 -- the text stands for no selector
 abbrev pub StandsForNothing : List ℕ → Type 0
-StandsForNothing text = (selector : List Part) → StandsFor text selector → ⊥
+StandsForNothing text = (selector : SelectorList) → StandsFor text selector → ⊥
 
 -- the line asks for this command
 abbrev pub IsCommand : List ℕ → Command → Type 0

@@ -7,9 +7,10 @@ use Rattle.std.proofs.lemmas.Bool.{eqb-true, eq-eqb, or_from, or_right, or_cases
 use Rattle.dom_links.specs.Forest.{Forest}
 use Rattle.dom_links.specs.Lists.{stands_in, IsDistinct}
 use Rattle.dom_links.specs.Trees.{walk_below}
-use Rattle.dom_select.specs.declared.selector.Part.{Part}
+use Rattle.dom_select.specs.Syntax.{SelectorList}
 use Rattle.dom_select.specs.Meaning.{Means}
-use Rattle.dom_select.specs.Selected.{Selected, Picks, first_occurrences, walks_below, element_at}
+use Rattle.dom_select.specs.Selected.{Selected, Picks, first_occurrences, walks_below}
+use Rattle.dom_select.specs.Lines.{element_at}
 use Rattle.dom_select.specs.Selection.{IsSelection}
 
 module _ (P : ℕ → Type 0) where
@@ -122,7 +123,7 @@ first_occurrences-same before (m ∷ ns) once new =
     ] in
     ap (λ b. cond b (first_occurrences before ns) (m ∷ first_occurrences (m ∷ before) ns)) here ∙ ap (λ ms. m ∷ ms) (first_occurrences-same (m ∷ before) ns once.1 later)
 
-pub selection_of : (forest : Forest) (roots : List ℕ) (selector : List Part) (picked : List ℕ) → Selected forest roots selector picked → IsSelection forest roots selector picked
+pub selection_of : (forest : Forest) (roots : List ℕ) (selector : SelectorList) (picked : List ℕ) → Selected forest roots selector picked → IsSelection forest roots selector picked
 unfolding Selected
 selection_of forest roots selector picked h =
     let P : ℕ → Type 0 = λ n. (element_at forest n ≡ true) × Means selector forest n in
@@ -138,7 +139,7 @@ selection_of forest roots selector picked h =
     }
 
 -- what is picked from one root's walk is what is selected below it
-pub selected_below : (forest : Forest) (root : ℕ) (selector : List Part) (picked : List ℕ) → IsDistinct (walk_below forest root) →
+pub selected_below : (forest : Forest) (root : ℕ) (selector : SelectorList) (picked : List ℕ) → IsDistinct (walk_below forest root) →
     Picks (λ n. (element_at forest n ≡ true) × Means selector forest n) (walk_below forest root) picked → Selected forest (root ∷ []) selector picked
 unfolding Selected
 selected_below forest root selector picked once h =
@@ -146,7 +147,7 @@ selected_below forest root selector picked once h =
     let same : walks_below forest (root ∷ []) ≡ walk_below forest root = ap (first_occurrences []) one ∙ first_occurrences-same [] (walk_below forest root) once (λ n s. refl) in
     subst (λ ns. Picks (λ n. (element_at forest n ≡ true) × Means selector forest n) ns picked) (sym same) h
 
-pub selected_once : (forest : Forest) (roots : List ℕ) (selector : List Part) (a b : List ℕ) → Selected forest roots selector a → Selected forest roots selector b → a ≡ b
+pub selected_once : (forest : Forest) (roots : List ℕ) (selector : SelectorList) (a b : List ℕ) → Selected forest roots selector a → Selected forest roots selector b → a ≡ b
 unfolding Selected
 selected_once forest roots selector a b h k =
     picks_once (λ n. (element_at forest n ≡ true) × Means selector forest n) (walks_below forest roots) a b h k

@@ -1,7 +1,11 @@
 -- The characters that the grammar tells apart.
-use Rattle.std.specs.Prelude.{ℕ, List, [], ◌∷◌, Bool, false, ◌||◌, nat_eq, nat_le, drop}
+use Rattle.std.specs.Prelude.{ℕ, ◌+◌, List, [], ◌∷◌, Bool, false, ◌||◌, nat_eq, nat_le, cond, drop}
 use Rattle.std.specs.Char.{is_ascii_alphabetic, is_ascii_digit, is_ascii_whitespace}
 use Rattle.std.specs.List.{prefix_len}
+
+-- line feed, form feed, carriage return
+abbrev pub is_line_end : ℕ → Bool
+is_line_end c = nat_eq c 10 || nat_eq c 12 || nat_eq c 13
 
 -- an ASCII letter, `_`, or a character from U+0080 on
 abbrev pub is_name_start : ℕ → Bool
@@ -19,3 +23,8 @@ after_white text = drop (prefix_len is_ascii_whitespace text) text
 abbrev pub begins : (ℕ → Bool) → List ℕ → Bool
 begins test [] = false
 begins test (c ∷ cs) = test c
+
+-- how often a character stands in the text
+abbrev pub how_many : ℕ → List ℕ → ℕ
+how_many c [] = 0
+how_many c (d ∷ text) = cond (nat_eq d c) 1 0 + how_many c text

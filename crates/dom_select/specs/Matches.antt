@@ -3,19 +3,20 @@ use Rattle.std.specs.Prelude.{ℕ, ◌≡◌, true, List, [], ◌∷◌, Option,
 use Rattle.std.specs.Borrow.{Bor}
 use Rattle.dom_links.specs.Forest.{Forest}
 use Rattle.dom_trees.specs.declared.node_ref.NodeRef.{NodeRef}
-use Rattle.dom_select.specs.declared.selector.Part.{Part}
+use Rattle.dom_select.specs.Syntax.{SelectorList}
 use Rattle.dom_select.specs.Meaning.{Means}
-use Rattle.dom_select.specs.Selected.{Picks, element_at}
+use Rattle.dom_select.specs.Lines.{element_at}
+use Rattle.dom_select.specs.Selected.{Picks}
 
 -- the node is an element that the selector means
-abbrev pub IsMatch : List Part → Forest → ℕ → Type 0
+abbrev pub IsMatch : SelectorList → Forest → ℕ → Type 0
 IsMatch selector forest n = (element_at forest n ≡ true) × Means selector forest n
 
 -- the nodes that are still walked through, their tree, and what is asked of them
 pub record Matches : Type 0 where
   pub left : List ℕ
   pub tree : Bor Forest
-  pub selector : List Part
+  pub selector : SelectorList
 
 -- these are still to come: the elements among the nodes left that the selector means
 abbrev pub ToCome : Matches → List ℕ → Type 0

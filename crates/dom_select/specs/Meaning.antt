@@ -1,42 +1,69 @@
 -- What a selector means: of which nodes it holds.
-use Rattle.std.specs.Prelude.{◌≡◌, ℕ, Bool, true, false, ◌&&◌, List, Some, slice_get, codes}
-use Rattle.std.specs.List.{list_all, list_any}
-use Rattle.std.specs.Str.{bytes_eq, str_to_ascii_lowercase}
-use Rattle.dom_nodes.specs.declared.name.Attr.{Attr}
-use Rattle.dom_nodes.specs.declared.name.Namespace.{Namespace}
-use Rattle.dom_nodes.specs.declared.name.Namespace.TheVariants.{Html}
-use Rattle.dom_nodes.specs.declared.node_data.Element.{Element}
+use Rattle.std.specs.Prelude.{◌≡◌, ℕ, List, [], ◌∷◌, Some, true, ◌⊎◌, slice_get}
 use Rattle.dom_nodes.specs.declared.node_data.NodeData.{NodeData}
-use Rattle.dom_nodes.specs.declared.node_data.NodeData.TheVariants.{Element as AnElement}
-use Rattle.dom_nodes.specs.Words.{class_words, is_among}
-use Rattle.dom_links.specs.Forest.{Forest}
+use Rattle.dom_links.specs.Forest.{Forest, parent}
+use Rattle.dom_links.specs.Lists.{stands_in}
+use Rattle.dom_links.specs.Trees.{ancestors}
+use Rattle.dom_select.specs.declared.selector.Combinator.{Combinator}
+use Rattle.dom_select.specs.declared.selector.Combinator.TheVariants.{Descendant, Child, NextSibling, LaterSibling}
 use Rattle.dom_select.specs.declared.selector.Part.{Part}
-use Rattle.dom_select.specs.declared.selector.Part.TheVariants.{Universal, Id, Class}
-
--- a name of a selector as the elements of a namespace bear it: with A to Z folded in HTML, as written in others
-abbrev pub name_within : Namespace → List ℕ → List ℕ
-name_within Html name = str_to_ascii_lowercase name
-name_within _ name = name
-
-abbrev pub is_attr : List ℕ → List ℕ → Attr → Bool
-is_attr name value attr = bytes_eq attr.name.local.0 name && bytes_eq attr.value value
-
--- the part holds of the element: by its name, by any attribute `id`, by a word of its first attribute `class`
-abbrev pub element_passes : Part → Element → Bool
-element_passes Universal element = true
-element_passes (Part.«Type» name) element = bytes_eq element.name.local.0 (name_within element.name.ns name)
-element_passes (Id value) element = list_any (is_attr (codes "id") value) element.attrs
-element_passes (Class word) element = is_among word (class_words element.attrs)
-
--- `*` holds of every node, any other part of elements alone
-abbrev pub part_holds : Part → NodeData → Bool
-part_holds Universal node = true
-part_holds part (AnElement element) = element_passes part element
-part_holds part _ = false
-
-abbrev pub all_hold : List Part → NodeData → Bool
-all_hold parts node = list_all (λ part. part_holds part node) parts
+use Rattle.dom_select.specs.Lines.{element_at, earlier}
+use Rattle.dom_select.specs.Parts.{all_hold}
+use Rattle.dom_select.specs.Syntax.{CompoundSelector, compound, NestedLists, no_lists, nested, NestedList, is_some, is_none, SelectorList, no_selectors, alternative, Steps, no_steps, step}
 
 -- n is a node of the forest of which each part holds
-unfoldable pub Means : List Part → Forest → ℕ → Type 0
-Means parts forest n = (node : NodeData) × (slice_get forest.content n ≡ Some node) × (all_hold parts node ≡ true)
+unfoldable pub PartsHold : List Part → Forest → ℕ → Type 0
+PartsHold parts forest n = (node : NodeData) × (slice_get forest.content n ≡ Some node) × (all_hold parts node ≡ true)
+
+-- w comes in the list, and no element before it
+abbrev pub ComesFirst : Forest → ℕ → List ℕ → Type 0
+ComesFirst forest w [] = ⊥
+ComesFirst forest w (v ∷ vs) = (w ≡ v) ⊎ ((element_at forest v ≡ true → ⊥) × ComesFirst forest w vs)
+
+-- w stands to n as the combinator between them says: above it, as its parent, before it in the same list with no element
+-- between, or before it in the same list
+unfoldable pub Stands : Forest → Combinator → ℕ → ℕ → Type 0
+Stands forest Descendant w n = stands_in w (ancestors forest n) ≡ true
+Stands forest Child w n = parent forest n ≡ Some w
+Stands forest NextSibling w n = ComesFirst forest w (earlier forest n)
+Stands forest LaterSibling w n = stands_in w (earlier forest n) ≡ true
+
+-- a node beside `+` or `~` is an element, unless it is the one that is spared
+abbrev pub MayBeside : Forest → ℕ → Combinator → ℕ → Type 0
+MayBeside forest spared Descendant n = Unit {0}
+MayBeside forest spared Child n = Unit {0}
+MayBeside forest spared NextSibling n = (n ≡ spared) ⊎ (element_at forest n ≡ true)
+MayBeside forest spared LaterSibling n = (n ≡ spared) ⊎ (element_at forest n ≡ true)
+
+abbrev pub IsJoined : Forest → ℕ → Combinator → ℕ → ℕ → Type 0
+IsJoined forest spared k w n = Stands forest k w n × MayBeside forest spared k w × MayBeside forest spared k n
+
+abbrev mutual
+  -- n is a node of which each part of the compound and each of its lists holds
+  pub Holds : CompoundSelector → Forest → ℕ → Type 0
+  Holds (compound parts lists) forest n = PartsHold parts forest n × ListsHold lists forest n
+
+  pub ListsHold : NestedLists → Forest → ℕ → Type 0
+  ListsHold no_lists forest n = Unit {0}
+  ListsHold (nested list more) forest n = ListHolds list forest n × ListsHold more forest n
+
+  pub ListHolds : NestedList → Forest → ℕ → Type 0
+  ListHolds (is_some list) forest n = Means list forest n
+  ListHolds (is_none list) forest n = Means list forest n → ⊥
+
+  -- One of the selectors means n: there are nodes for its compounds, from the left to n itself, each of which
+  -- holds its compound and stands to the next as the combinator says.
+  pub Means : SelectorList → Forest → ℕ → Type 0
+  Means no_selectors forest n = ⊥
+  Means (alternative first rest more) forest n =
+      ((w : ℕ) × Holds first forest w × Leads rest forest n w n) ⊎ Means more forest n
+
+  -- there are nodes for the compounds of the steps, from w on, the last of them n
+  pub Leads : Steps → Forest → ℕ → ℕ → ℕ → Type 0
+  Leads no_steps forest spared w n = w ≡ n
+  Leads (step k c more) forest spared w n =
+      (v : ℕ) × IsJoined forest spared k w v × Holds c forest v × Leads more forest spared v n
+
+-- there are nodes for the first compound and for those of the steps, the last of them n
+abbrev pub Reaches : CompoundSelector → Steps → Forest → ℕ → ℕ → Type 0
+Reaches first steps forest spared n = (w : ℕ) × Holds first forest w × Leads steps forest spared w n

@@ -4,12 +4,12 @@ use Rattle.std.specs.List.{flat_map}
 use Rattle.dom_links.specs.Forest.{Forest}
 use Rattle.dom_links.specs.Lists.{stands_in, IsDistinct}
 use Rattle.dom_links.specs.Trees.{walk_below}
-use Rattle.dom_select.specs.declared.selector.Part.{Part}
+use Rattle.dom_select.specs.Syntax.{SelectorList}
 use Rattle.dom_select.specs.Meaning.{Means}
-use Rattle.dom_select.specs.Selected.{element_at}
+use Rattle.dom_select.specs.Lines.{element_at}
 
 -- the nodes picked below the roots are the elements there that the selector means, each once
-pub record IsSelection (forest : Forest) (roots : List ℕ) (selector : List Part) (picked : List ℕ) : Type 0 where
+pub record IsSelection (forest : Forest) (roots : List ℕ) (selector : SelectorList) (picked : List ℕ) : Type 0 where
   pub below : (n : ℕ) → stands_in n picked ≡ true → stands_in n (flat_map (walk_below forest) roots) ≡ true
   pub elements : (n : ℕ) → stands_in n picked ≡ true → element_at forest n ≡ true
   pub meant : (n : ℕ) → stands_in n picked ≡ true → Means selector forest n

@@ -18,11 +18,16 @@ pub record Run {A : Type 0} (Spells : A → List ℕ → List ℕ → Type 0) (g
 abbrev pub SpellsNone : {A : Type 0} → (A → List ℕ → List ℕ → Type 0) → List ℕ → Type 0
 SpellsNone {A} Spells text = (v : A) (rest : List ℕ) → Spells v text rest → ⊥
 
--- what a fault tells where a text may be outside the grammar: that it is
+-- What a fault tells where a text may be outside the grammar: that it is. An unknown pseudo-class comes only where there is a
+-- colon, and too many parentheses where the text is deep
+abbrev pub Refuses : SelectorFault → Type 0 → Type 0 → Type 0 → Type 0
+Refuses Syntax colon deep outside = outside
+Refuses UnknownPseudoClass colon deep outside = colon × outside
+Refuses Number colon deep outside = ⊥
+Refuses NestedHas colon deep outside = ⊥
+Refuses TooDeep colon deep outside = deep × outside
+Refuses Memory colon deep outside = Unit {0}
+
+-- the same where no colon is read and no parenthesis
 abbrev pub Tells : SelectorFault → Type 0 → Type 0
-Tells Syntax outside = outside
-Tells UnknownPseudoClass outside = ⊥
-Tells Number outside = ⊥
-Tells NestedHas outside = ⊥
-Tells TooDeep outside = ⊥
-Tells Memory outside = Unit {0}
+Tells fault outside = Refuses fault ⊥ ⊥ outside

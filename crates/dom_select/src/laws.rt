@@ -1,23 +1,30 @@
 //! What is true of every selector. The functions do nothing.
 
-ghost use Rattle.std.specs.Prelude.{◌≡◌, ℕ, List};
+ghost use Rattle.std.specs.Prelude.{◌≡◌, ◌++◌, ℕ, List, map, encode_utf8_all};
 ghost use Rattle.dom_links.specs.Forest.{Forest};
-ghost use Rattle.dom_select.specs.declared.selector.Part.{Part};
+ghost use Rattle.dom_select.specs.Strings.{SpellsString};
+ghost use Rattle.dom_select.specs.Syntax.{SelectorList};
+ghost use Rattle.dom_select.specs.Css.{css_string, shown};
 ghost use Rattle.dom_select.specs.Grammar.{StandsFor};
 ghost use Rattle.dom_select.specs.Selected.{Selected};
 ghost use Rattle.dom_select.specs.Selection.{IsSelection};
 
 /// A text stands for one list of parts at most.
 pub fn one_reading()
-    ensures { (text : List ℕ) (a b : List Part) → StandsFor text a → StandsFor text b → a ≡ b }
+    ensures { (text : List ℕ) (a b : SelectorList) → StandsFor text a → StandsFor text b → a ≡ b }
 {}
 
 /// A selector selects one list of nodes at most.
 pub fn one_selection()
-    ensures { (forest : Forest) (roots : List ℕ) (selector : List Part) (a b : List ℕ) → Selected forest roots selector a → Selected forest roots selector b → a ≡ b }
+    ensures { (forest : Forest) (roots : List ℕ) (selector : SelectorList) (a b : List ℕ) → Selected forest roots selector a → Selected forest roots selector b → a ≡ b }
 {}
 
 /// What a selector selects are the elements below the roots that it means, each once.
 pub fn selected_exactly()
-    ensures { (forest : Forest) (roots : List ℕ) (selector : List Part) (picked : List ℕ) → Selected forest roots selector picked → IsSelection forest roots selector picked }
+    ensures { (forest : Forest) (roots : List ℕ) (selector : SelectorList) (picked : List ℕ) → Selected forest roots selector picked → IsSelection forest roots selector picked }
+{}
+
+/// A text written as a string is read as that text, whatever follows it, with U+FFFD for U+0000.
+pub fn printed_string()
+    ensures { (text rest : List ℕ) → SpellsString (encode_utf8_all (map shown text)) (css_string text ++ rest) rest }
 {}

@@ -1,26 +1,32 @@
-//! A selector that nodes are asked for.
+//! A list of selectors that nodes are asked for.
 
 use crate::fault::SelectorFault;
+use crate::matching::means;
 use crate::parser::{letters, parse};
-use crate::parts::all_hold;
-use crate::selector::Part;
+use crate::selector::Selector;
 use dom_trees::node_ref::NodeRef;
 use std::alloc::Global;
 use std::marker::Model;
 
-/// What a selector's text stands for: one compound. A contract sees it as the list of its parts.
+/// What a selector's text stands for. A contract sees it as the list of its selectors.
 #[derive(Drop)]
 pub struct Matcher {
-    parts: Vec<Part>,
+    selectors: Vec<Selector>,
 }
 
 impl Model for Matcher {
     ghost use Rattle.std.specs.Prelude.{List};
-    ghost use Rattle.dom_select.specs.declared.selector.Part.{Part};
+    ghost use Rattle.std.specs.Coded.{code_by, codes};
+    ghost use Rattle.dom_select.specs.Syntax.{SelectorList};
+    ghost use Rattle.dom_select.specs.Tokens.{Token, list_of, read_back, tokens_of};
 
-    ghost Value = { List Part };
+    ghost Value = { SelectorList };
 
-    ghost view = { λ matcher. matcher.parts.items };
+    ghost coded = { code_by (List Token) (Prim.hlevel codes) tokens_of list_of read_back };
+
+    ghost use Rattle.dom_select.specs.Reading.{read_list};
+
+    ghost view = { λ matcher. read_list matcher.selectors.items };
 }
 
 impl Matcher {
@@ -28,23 +34,21 @@ impl Matcher {
     ghost use Rattle.dom_select.specs.Grammar.{Refused, StandsFor};
     ghost use Rattle.dom_select.specs.Meaning.{Means};
 
-    /// Reads a selector's text. `Syntax` comes exactly where it stands for nothing, `Memory` where memory is refused.
+    /// Reads a selector's text. `UnknownPseudoClass` comes only where the text stands for nothing and has a `:`, `TooDeep` only
+    /// where it stands for nothing and has 65 `(`, `Memory` where memory is refused, and `Syntax` where it stands for nothing.
     pub fn new(alloc: Global, text: &str) -> Result<Matcher, SelectorFault>
         ensures ok { IfOk result (λ matcher. StandsFor (chars text.now) matcher) }
         ensures refused { IfErr result (λ fault. Refused (chars text.now) fault) }
     {
         let letters = letters(alloc, text)?;
-        let parts = parse(alloc, &letters)?;
-        Ok(Matcher { parts })
+        let selectors = parse(alloc, &letters)?;
+        Ok(Matcher { selectors })
     }
 
-    /// Whether the selector means the node; false for an unknown number.
+    /// Whether one of the selectors means the node; false for an unknown number. It takes no memory.
     pub fn match_element(&self, node: &NodeRef<'_>) -> bool
         ensures { MatchBool result (Means self.now node.now.tree.now node.now.id) (Means self.now node.now.tree.now node.now.id → ⊥) }
     {
-        match node.tree.get(&node.id) {
-            Some(found) => all_hold(&self.parts, &found.content),
-            None => false,
-        }
+        means(&self.selectors, node.tree, node.id)
     }
 }

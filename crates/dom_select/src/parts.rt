@@ -1,15 +1,39 @@
 //! Whether a part of a compound holds of a node.
 
-ghost use Rattle.std.specs.Prelude.{◌≡◌};
+ghost use Rattle.std.specs.Prelude.{◌≡◌, ◌||◌, codes, MatchBool};
 ghost use Rattle.std.specs.List.{list_any};
 ghost use Rattle.std.specs.Str.{bytes_eq, str_to_ascii_lowercase};
-ghost use Rattle.dom_select.specs.Meaning.{all_hold, element_passes, is_attr, name_within, part_holds};
+ghost use Rattle.dom_select.specs.Lines.{element_at};
+ghost use Rattle.dom_select.specs.Meaning.{PartsHold};
+ghost use Rattle.dom_select.specs.Parts.{all_hold, attr_passes, element_passes, is_attr, is_link, is_without, name_within, part_holds, asked_passes};
 
-use crate::selector::Part;
+use crate::comparisons::passes;
+use crate::selector::{Attribute, Comparison, Part};
 use dom_nodes::name::{Attr, Namespace};
 use dom_nodes::node_data::{Element, NodeData};
+use dom_nodes::node_id::NodeId;
+use dom_trees::tree::Tree;
 
-pub(crate) fn all_hold(parts: &[Part], node: &NodeData) -> bool
+/// Whether the number is a node's of which each part holds.
+pub(crate) fn parts_hold(parts: &[Part], tree: &Tree, id: &NodeId) -> bool
+    ensures { MatchBool result (PartsHold parts.now tree.now id.now) (PartsHold parts.now tree.now id.now → ⊥) }
+{
+    match tree.get(id) {
+        Some(found) => all_hold(parts, &found.content),
+        None => false,
+    }
+}
+
+pub(crate) fn is_element(tree: &Tree, id: &NodeId) -> bool
+    ensures { result ≡ element_at tree.now id.now }
+{
+    let Some(node) = tree.get(id) else {
+        return false;
+    };
+    node.content.as_element().is_some()
+}
+
+fn all_hold(parts: &[Part], node: &NodeData) -> bool
     ensures { result ≡ all_hold parts.now node.now }
 {
     parts.iter().all(|part| part_holds(part, node))
@@ -20,6 +44,7 @@ fn part_holds(part: &Part, node: &NodeData) -> bool
 {
     match part {
         Part::Universal => true,
+        Part::Root => matches!(node, NodeData::Document),
         _ => match node {
             NodeData::Element(element) => element_passes(part, element),
             _ => false,
@@ -32,19 +57,23 @@ fn element_passes(part: &Part, element: &Element) -> bool
 {
     match part {
         Part::Universal => true,
-        Part::Type(name) => is_named(element, name.as_str()),
+        Part::Type(name) => is_named(&element.name.ns, element.node_name(), name.as_str()),
         Part::Id(value) => has_attr(element.attrs.as_slice(), "id", value.as_str()),
         Part::Class(word) => element.has_class(word.as_str()),
+        Part::Attribute(asked) => attrs_pass(asked, element),
+        Part::Root => false,
+        Part::Link => is_link(element),
+        Part::Never => false,
     }
 }
 
-/// Whether the element bears a selector's name: with A to Z folded in HTML, as written elsewhere.
-fn is_named(element: &Element, name: &str) -> bool
-    ensures { result ≡ bytes_eq element.now.name.local.0 (name_within element.now.name.ns name.now) }
+/// Whether a local name is a selector's name: with A to Z folded in HTML, as written elsewhere.
+fn is_named(ns: &Namespace, local: &str, name: &str) -> bool
+    ensures { result ≡ bytes_eq local.now (name_within ns.now name.now) }
 {
-    match element.name.ns {
-        Namespace::Html => is_folded(element.node_name().as_bytes(), name.as_bytes()),
-        _ => element.node_name() == name,
+    match ns {
+        Namespace::Html => is_folded(local.as_bytes(), name.as_bytes()),
+        _ => local == name,
     }
 }
 
@@ -75,4 +104,56 @@ fn is_attr(attr: &Attr, name: &str, value: &str) -> bool
     ensures { result ≡ is_attr name.now value.now attr.now }
 {
     attr.name.local.0.as_str() == name && attr.value.as_str() == value
+}
+
+/// Whether one of the element's attributes is as the part asks.
+fn attrs_pass(asked: &Attribute, element: &Element) -> bool
+    ensures { result ≡ list_any (attr_passes element.now.name.ns asked.now) element.now.attrs }
+{
+    let ns = &element.name.ns;
+    element
+        .attrs
+        .as_slice()
+        .iter()
+        .any(|attr| attr_passes(ns, asked, attr))
+}
+
+fn attr_passes(ns: &Namespace, asked: &Attribute, attr: &Attr) -> bool
+    ensures { result ≡ attr_passes ns.now asked.now attr.now }
+{
+    if !is_without(&attr.name.ns) {
+        return false;
+    }
+    if !is_named(ns, attr.name.local.0.as_str(), asked.name.as_str()) {
+        return false;
+    }
+    asked_passes(&asked.comparison, attr.value.as_str())
+}
+
+fn is_without(ns: &Namespace) -> bool
+    ensures { result ≡ is_without ns.now }
+{
+    matches!(ns, Namespace::None)
+}
+
+fn asked_passes(comparison: &Option<Comparison>, value: &str) -> bool
+    ensures { result ≡ asked_passes comparison.now value.now }
+{
+    match comparison {
+        Some(comparison) => passes(comparison, value),
+        None => true,
+    }
+}
+
+/// Whether the element may link elsewhere, and does.
+fn is_link(element: &Element) -> bool
+    ensures { result ≡ is_link element.now }
+{
+    is_linking(element.node_name()) && element.attr("href").is_some()
+}
+
+fn is_linking(local: &str) -> bool
+    ensures { result ≡ (bytes_eq local.now (codes "a") || bytes_eq local.now (codes "area") || bytes_eq local.now (codes "link")) }
+{
+    local == "a" || local == "area" || local == "link"
 }

@@ -4,9 +4,10 @@ ghost use Rattle.std.specs.Prelude.{◌≡◌, ◌∷◌, [], ℕ, List, length,
 ghost use Rattle.std.specs.Iterator.{at_most};
 ghost use Rattle.dom_links.specs.Trees.{walk_below};
 ghost use Rattle.dom_select.specs.Matches.{GivesMatch, IsMatch, ToCome};
-ghost use Rattle.dom_select.specs.Selected.{Selected, element_at};
+ghost use Rattle.dom_select.specs.Selected.{Selected};
 
 use crate::matcher::Matcher;
+use crate::parts::is_element;
 use dom_links::iters::DescendantNodes;
 use dom_nodes::fault::OutOfMemory;
 use dom_nodes::node_id::NodeId;
@@ -23,9 +24,14 @@ pub struct DescendantMatches<'a, 'b> {
 }
 
 impl<'a, 'b> Model for DescendantMatches<'a, 'b> {
+    ghost use Rattle.std.specs.Prelude.{List};
+    ghost use Rattle.std.specs.Coded.{code_by, codes};
     ghost use Rattle.dom_select.specs.Matches.{Matches};
+    ghost use Rattle.dom_select.specs.Tokens.{Token, list_of, read_back, tokens_of};
 
     ghost Value = { Matches };
+
+    ghost coded = { Prim.hlevel (codes, code_by (List Token) (Prim.hlevel codes) tokens_of list_of read_back) };
 
     ghost view = { λ it. record { left = it.ids.left; tree = it.tree; selector = it.matcher.now } };
 }
@@ -80,20 +86,11 @@ pub fn select_below(
 }
 
 /// Whether the node is an element that the selector means.
-fn is_selected(tree: &Tree, id: NodeId, matcher: &Matcher) -> bool
+pub(crate) fn is_selected(tree: &Tree, id: NodeId, matcher: &Matcher) -> bool
     ensures { MatchBool result (IsMatch matcher.now tree.now id) (IsMatch matcher.now tree.now id → ⊥) }
 {
     if !is_element(tree, &id) {
         return false;
     }
     matcher.match_element(&NodeRef::new(id, tree))
-}
-
-fn is_element(tree: &Tree, id: &NodeId) -> bool
-    ensures { result ≡ element_at tree.now id.now }
-{
-    match tree.get(id) {
-        Some(node) => node.content.as_element().is_some(),
-        None => false,
-    }
 }

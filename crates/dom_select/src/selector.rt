@@ -2,7 +2,59 @@
 
 use dom_nodes::text::Text;
 
-/// What is asked of one node.
+/// How an attribute's value is compared.
+#[derive(Clone, Copy, PartialEq, Eq, Debug, Drop)]
+pub enum Operator {
+    /// `=`: it is the value.
+    Equal,
+    /// `~=`: the value is one of its words.
+    Includes,
+    /// `|=`: it is the value, or begins with the value and `-`.
+    DashMatch,
+    /// `^=`: it begins with the value.
+    Prefix,
+    /// `$=`: it ends with the value.
+    Suffix,
+    /// `*=`: it contains the value.
+    Substring,
+}
+
+/// Whether ASCII letters are compared with their case.
+#[derive(Clone, Copy, PartialEq, Eq, Debug, Drop)]
+pub enum CaseSensitivity {
+    CaseSensitive,
+    AsciiCaseInsensitive,
+}
+
+/// What an attribute's value is asked for.
+#[derive(Drop)]
+pub struct Comparison {
+    pub operator: Operator,
+    pub value: Text,
+    pub case_sensitivity: CaseSensitivity,
+}
+
+/// An attribute, and what its value is asked for, if anything.
+#[derive(Drop)]
+pub struct Attribute {
+    pub name: Text,
+    pub comparison: Option<Comparison>,
+}
+
+/// How the node on the left stands to the node on the right.
+#[derive(Clone, Copy, PartialEq, Eq, Debug, Drop)]
+pub enum Combinator {
+    /// Whitespace: it is an ancestor.
+    Descendant,
+    /// `>`: it is the parent.
+    Child,
+    /// `+`: it is a sibling before, with no element between.
+    NextSibling,
+    /// `~`: it is a sibling before.
+    LaterSibling,
+}
+
+/// A part of a compound that has no selectors in it.
 #[derive(Drop)]
 pub enum Part {
     /// `*`: it holds of every node.
@@ -13,4 +65,63 @@ pub enum Part {
     Id(Text),
     /// `.` and a word of the attribute `class`.
     Class(Text),
+    /// An attribute in brackets.
+    Attribute(Attribute),
+    /// `:root` and `:scope`: a document.
+    Root,
+    /// `:link` and `:any-link`: an element that links elsewhere.
+    Link,
+    /// `:hover` and other states that no node of a tree is in.
+    Never,
+}
+
+/// A list of selectors in a compound.
+#[cycle(selectors)]
+#[derive(Drop)]
+pub enum Nested {
+    /// `:is` and `:where`: one of them means the node.
+    Is(Vec<Selector>),
+    /// `:not`: none of them does.
+    Not(Vec<Selector>),
+}
+
+/// What is asked of one node: each part, and each nested list.
+#[cycle(selectors)]
+#[derive(Drop)]
+pub struct Compound {
+    pub parts: Vec<Part>,
+    pub nested: Vec<Nested>,
+}
+
+/// A compound and how the node before it stands to its node.
+#[cycle(selectors)]
+#[derive(Drop)]
+pub struct Step {
+    pub combinator: Combinator,
+    pub compound: Compound,
+}
+
+/// Compounds with a combinator between each two.
+#[cycle(selectors)]
+#[derive(Drop)]
+pub struct Selector {
+    pub first: Compound,
+    pub rest: Vec<Step>,
+}
+
+/// What can stand in a compound behind its type.
+#[derive(Drop)]
+pub(crate) enum Item {
+    Simple(Part),
+    Listed(Nested),
+}
+
+/// What a pseudo-class is, and so what follows its name.
+#[derive(Clone, Copy, PartialEq, Eq, Debug, Drop)]
+pub(crate) enum Pseudo {
+    Root,
+    Link,
+    Never,
+    SomeOf,
+    NoneOf,
 }

@@ -8,10 +8,10 @@ use Rattle.dom_query.proofs.script.selector_of.Goals as goal
 -- a fault other than memory tells that the text stands for nothing
 told : (text : List ℕ) (fault : SelectorFault) → Refused text fault → fault ≢ Memory → StandsForNothing text
 told text Syntax refused other = refused
-told text UnknownPseudoClass refused other = absurd refused
+told text UnknownPseudoClass refused other = refused.1
 told text Number refused other = absurd refused
 told text NestedHas refused other = absurd refused
-told text TooDeep refused other = absurd refused
+told text TooDeep refused other = refused.1
 told text Memory refused other = absurd (other refl)
 
 pub returns-else-is_memory : goal.returns-else-is_memory

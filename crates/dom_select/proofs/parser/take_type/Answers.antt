@@ -1,6 +1,7 @@
 use Rattle.std.proofs.Common.{sym, ◌∙◌}
 use Rattle.std.proofs.lemmas.Result.{err_from_is_err_and}
-use Rattle.dom_select.proofs.GrammarLemmas.{passed_on, tells_more, type_no_name}
+use Rattle.dom_select.proofs.FaultLemmas.{passed_on, tells_more}
+use Rattle.dom_select.proofs.RefusalLemmas.{type_no_name}
 use Rattle.dom_select.proofs.parser.take_type.Goals as goal
 
 pub returns-in_err-name : goal.returns-in_err-name

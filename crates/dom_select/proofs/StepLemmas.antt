@@ -1,0 +1,34 @@
+-- The steps of a selector, cut before the last.
+use Rattle.std.proofs.Common.{◌≡◌, ℕ, ◌+◌, List, [], ◌∷◌, ◌++◌, map, ap, ◌∙◌, arith, ◌↔◌}
+use Rattle.dom_select.specs.declared.selector.Combinator.{Combinator}
+use Rattle.dom_select.specs.declared.selector.Step.{Step}
+use Rattle.dom_select.specs.Syntax.{CompoundSelector}
+use Rattle.dom_select.specs.Items.{steps_of}
+use Rattle.dom_select.specs.Reading.{read_step, read_compound}
+use Rattle.dom_select.proofs.Layers.{read_step_is}
+use Rattle.dom_links.specs.Forest.{Forest}
+use Rattle.dom_select.specs.Meaning.{Reaches}
+use Rattle.dom_select.proofs.ReachLemmas.{LastStep, reaches_by_last}
+use Rattle.dom_select.proofs.Weights.{compound_weight, steps_weight}
+
+read_last : (front : List Step) (last : Step) → map read_step (front ++ last ∷ []) ≡ map read_step front ++ (last.combinator, read_compound last.compound) ∷ []
+read_last [] last = ap (λ s. s ∷ []) (read_step_is last)
+read_last (s ∷ front) last = ap (λ ss. read_step s ∷ ss) (read_last front last)
+
+pub read_front_and_last : (steps front : List Step) (last : Step) → steps ≡ front ++ last ∷ [] → map read_step steps ≡ map read_step front ++ (last.combinator, read_compound last.compound) ∷ []
+read_front_and_last steps front last e = ap (map read_step) e ∙ read_last front last
+
+weight_last : (ss : List (Combinator × CompoundSelector)) (s : Combinator × CompoundSelector) → steps_weight (steps_of (ss ++ s ∷ [])) ≡ steps_weight (steps_of ss) + 2 + compound_weight s.1
+weight_last [] s = omega arith
+weight_last (t ∷ ss) s = omega (arith, weight_last ss s)
+
+pub weight_front_and_last : (steps front : List Step) (last : Step) → steps ≡ front ++ last ∷ [] →
+    steps_weight (steps_of (map read_step steps)) ≡ steps_weight (steps_of (map read_step front)) + 2 + compound_weight (read_compound last.compound)
+weight_front_and_last steps front last e = ap (λ ss. steps_weight (steps_of ss)) (read_front_and_last steps front last e) ∙ weight_last _ _
+
+-- what the steps ask of their last node, and of some node on the left of it
+pub reaches_by_last_step : (forest : Forest) (spared : ℕ) (first : CompoundSelector) (steps front : List Step) (last : Step) (x : ℕ) → steps ≡ front ++ last ∷ [] →
+    Reaches first (steps_of (map read_step steps)) forest spared x
+    ↔ LastStep forest spared first (map read_step front) (last.combinator, read_compound last.compound) x
+reaches_by_last_step forest spared first steps front last x e =
+    reaches_by_last forest spared first (map read_step steps) (map read_step front) (last.combinator, read_compound last.compound) x (read_front_and_last steps front last e)

@@ -1,0 +1,57 @@
+-- What stands between the brackets of an attribute part.
+use Rattle.std.specs.Prelude.{◌≡◌, ℕ, List, [], ◌∷◌, ◌||◌, nat_eq, cond, Option, Some, None, MatchBool}
+use Rattle.dom_select.specs.declared.selector.Operator.{Operator}
+use Rattle.dom_select.specs.declared.selector.Operator.TheVariants.{Equal, Includes, DashMatch, Prefix, Suffix, Substring}
+use Rattle.dom_select.specs.declared.selector.CaseSensitivity.{CaseSensitivity}
+use Rattle.dom_select.specs.declared.selector.CaseSensitivity.TheVariants.{CaseSensitive, AsciiCaseInsensitive}
+use Rattle.dom_select.specs.declared.selector.Comparison.{Comparison}
+use Rattle.dom_select.specs.declared.selector.Attribute.{Attribute}
+use Rattle.dom_select.specs.Letters.{after_white, begins}
+use Rattle.dom_select.specs.Names.{SpellsName}
+use Rattle.dom_select.specs.Strings.{SpellsString, is_quote}
+
+-- the operator that a character and `=` write
+abbrev pub operator_of : ℕ → Option Operator
+operator_of c = cond (nat_eq c 126) (Some Includes) (cond (nat_eq c 124) (Some DashMatch) (cond (nat_eq c 94) (Some Prefix) (cond (nat_eq c 36) (Some Suffix) (cond (nat_eq c 42) (Some Substring) None))))
+
+abbrev pub SpellsOperator : Operator → List ℕ → List ℕ → Type 0
+SpellsOperator v [] rest = ⊥
+SpellsOperator v (c ∷ more) rest = MatchBool (nat_eq c 61) ((v ≡ Equal) × (rest ≡ more)) ((operator_of c ≡ Some v) × (more ≡ 61 ∷ rest))
+
+-- an identifier or a string
+abbrev pub SpellsValue : List ℕ → List ℕ → List ℕ → Type 0
+SpellsValue v text rest = MatchBool (begins is_quote text) (SpellsString v text rest) (SpellsName v text rest)
+
+-- `i` and `s`, in any case
+abbrev pub flag_of : List ℕ → Option CaseSensitivity
+flag_of [] = None
+flag_of (c ∷ []) = cond (nat_eq c 105 || nat_eq c 73) (Some AsciiCaseInsensitive) (cond (nat_eq c 115 || nat_eq c 83) (Some CaseSensitive) None)
+flag_of (c ∷ d ∷ name) = None
+
+pub record SpellsFlag (v : CaseSensitivity) (text rest : List ℕ) : Type 0 where
+  pub name : List ℕ
+  pub after : List ℕ
+  pub named : SpellsName name text after
+  pub flag : flag_of name ≡ Some v
+  pub closes : after_white after ≡ 93 ∷ rest
+
+-- a flag or none, and the bracket that closes
+abbrev pub SpellsCase : CaseSensitivity → List ℕ → List ℕ → Type 0
+SpellsCase v text rest = MatchBool (begins (λ c. nat_eq c 93) text) ((v ≡ CaseSensitive) × (text ≡ 93 ∷ rest)) (SpellsFlag v text rest)
+
+pub record SpellsComparison (v : Comparison) (text rest : List ℕ) : Type 0 where
+  pub after_operator : List ℕ
+  pub operator : SpellsOperator v.operator text after_operator
+  pub after_value : List ℕ
+  pub value : SpellsValue v.value (after_white after_operator) after_value
+  pub case_sensitivity : SpellsCase v.case_sensitivity (after_white after_value) rest
+
+-- a comparison or none, and the bracket that closes
+abbrev pub SpellsAsked : Option Comparison → List ℕ → List ℕ → Type 0
+SpellsAsked v text rest = MatchBool (begins (λ c. nat_eq c 93) text) ((v ≡ None) × (text ≡ 93 ∷ rest)) ((w : Comparison) × SpellsComparison w text rest × (v ≡ Some w))
+
+-- what follows the bracket that opens
+pub record SpellsAttribute (v : Attribute) (text rest : List ℕ) : Type 0 where
+  pub after_name : List ℕ
+  pub name : SpellsName v.name (after_white text) after_name
+  pub asked : SpellsAsked v.comparison (after_white after_name) rest
