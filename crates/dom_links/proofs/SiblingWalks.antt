@@ -53,9 +53,6 @@ at_end forest rev x at link once here is none =
     let named : names (last row) at ≡ true = last_names row at (ordered_once rev (siblings forest at) (siblings_once forest at once)) ∙ rw (stands, sym is ∙ none) refl in
     ap (λ ns. last (in_order rev ns)) (sym here.same_siblings) ∙ names-true (last row) at named
 
-pub is_last : (forest : Forest) (x at : ℕ) (link : Option ℕ) → StandsOnce forest → Beside forest x at → link ≡ after (siblings forest at) at → link ≡ None → last (siblings forest x) ≡ Some at
-is_last forest x at link once here is none = at_end forest false x at link once here is none
-
 pub is_first : (forest : Forest) (x at : ℕ) (link : Option ℕ) → StandsOnce forest → Beside forest x at → link ≡ after (reverse (siblings forest at)) at → link ≡ None → first (siblings forest x) ≡ Some at
 is_first forest x at link once here is none = sym (last-reverse (siblings forest x)) ∙ at_end forest true x at link once here is none
 
@@ -173,10 +170,6 @@ goes_forth forest nodes x at i next d arena here e some =
 pub comes_first : (forest : Forest) (nodes : List TreeNode) (x at i : ℕ) (d : TreeNode) → IsArenaOf forest nodes → Beside forest x at → i ≡ at → (get_or nodes i d).prev_sibling ≡ None → first (siblings forest x) ≡ Some at
 comes_first forest nodes x at i d arena here e none =
     is_first forest x at (get_or nodes i d).prev_sibling arena.once here (read_prev forest nodes i at d arena (inside_nodes forest nodes x at arena here) e) none
-
-pub comes_last : (forest : Forest) (nodes : List TreeNode) (x at i : ℕ) (d : TreeNode) → IsArenaOf forest nodes → Beside forest x at → i ≡ at → (get_or nodes i d).next_sibling ≡ None → last (siblings forest x) ≡ Some at
-comes_last forest nodes x at i d arena here e none =
-    is_last forest x at (get_or nodes i d).next_sibling arena.once here (read_next forest nodes i at d arena (inside_nodes forest nodes x at arena here) e) none
 
 pub seeks_forth : (forest : Forest) (nodes : List TreeNode) (x n at i next : ℕ) (d : TreeNode) → IsArenaOf forest nodes → Seeking forest x n at → (at ≡ n → ⊥) → i ≡ at → (get_or nodes i d).next_sibling ≡ Some next → Seeking forest x n next
 seeks_forth forest nodes x n at i next d arena seeking other e some =

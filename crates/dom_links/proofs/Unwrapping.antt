@@ -8,7 +8,8 @@ use Rattle.dom_links.specs.Lists.{stands_in, IsDistinct, without, put_before}
 use Rattle.dom_links.specs.Forest.{Forest, kids_of, run_of, parent, siblings}
 use Rattle.dom_links.specs.Moves.{Gap, end_of, before_node, kids_with, run_with, cut, moved_to}
 use Rattle.dom_links.specs.Sound.{IsForest}
-use Rattle.dom_links.specs.ListMoves.{IsBare, element_at, is_element, wrapper, wrapped, unwrapped, without_wrapper}
+use Rattle.dom_nodes.specs.Kinds.{is_element}
+use Rattle.dom_links.specs.ListMoves.{IsBare, element_at, wrapper, wrapped, unwrapped, without_wrapper}
 use Rattle.dom_links.proofs.Neighbours.{around, stands_in-append, without-append, without_one-none}
 use Rattle.dom_links.proofs.Places.{siblings_once, get_or-map_all, get_or-map_past, length-map_from}
 use Rattle.dom_links.proofs.Cuts.{kids-cut, parent-cut, run-cut, one-stands, once-cut}

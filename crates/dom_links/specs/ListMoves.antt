@@ -1,9 +1,8 @@
 -- Moves of lists of nodes, and moves in two steps.
 use Rattle.std.specs.Prelude.{ℕ, ◌≡◌, ◌<◌, ◌⊎◌, Bool, true, false, List, [], ◌∷◌, Option, Some, None, length, slice_get, option_and_then, if◌then◌else◌}
 use Rattle.std.specs.Option.{option_map_or}
-use Rattle.dom_nodes.specs.declared.node_data.NodeData.{NodeData}
-use Rattle.dom_nodes.specs.declared.node_data.NodeData.TheVariants.{Element}
 use Rattle.dom_nodes.specs.declared.node_data.TreeNode.{TreeNode}
+use Rattle.dom_nodes.specs.Kinds.{is_element}
 use Rattle.dom_links.specs.Lists.{stands_in}
 use Rattle.dom_links.specs.Forest.{Forest, IsArenaOf, forest_of, kids_of, parent, run_of}
 use Rattle.dom_links.specs.Moves.{Gap, end_of, before_node, cut, moved_to}
@@ -81,10 +80,6 @@ pub record Wrapped (old new : List TreeNode) (x w : ℕ) : Type 0 where
   pub made : forest_of new ≡ wrapped x w (forest_of old)
   pub linked : IsArenaOf (forest_of new) new
   pub kept : IsForest (forest_of old) → MayWrap (forest_of old) x w → IsForest (forest_of new)
-
-abbrev pub is_element : NodeData → Bool
-is_element (Element element) = true
-is_element _ = false
 
 abbrev pub element_at : Forest → ℕ → Bool
 element_at forest n = option_map_or is_element (slice_get forest.content n) false

@@ -1,6 +1,8 @@
 //! The links of an arena of nodes: edits, walks and checks over slices of nodes.
 #![tactic(auto)]
 
+#[cfg(test)]
+mod change_tests;
 pub mod iters;
 pub mod laws;
 pub mod ops;

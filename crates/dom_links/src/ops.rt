@@ -1,9 +1,17 @@
 //! Edits of an arena of nodes, and the tests that tell whether an edit is allowed.
 
+pub mod changes;
 pub mod create;
 mod list_writes;
 pub mod lists;
 pub mod moves;
 pub mod placing;
+pub mod rows;
 pub mod siblings;
+pub mod templates;
+pub mod texts;
 mod writes;
+
+/// The edits of an arena of nodes, what is looked up in it, and the tests that tell whether an edit is allowed. The
+/// conditions that a call requires are told by the tests, and a sound arena by `validate`.
+pub struct TreeNodeOps {}

@@ -2,6 +2,7 @@
 
 use crate::iters::{AncestorNodes, ChildNodes, find_node, parent_id};
 use crate::laws;
+use crate::ops::TreeNodeOps;
 use crate::ops::create::create_root;
 use crate::ops::placing::is_free;
 use dom_nodes::node_data::NodeData;
@@ -21,5 +22,10 @@ fn a_root_stands_alone(rt: HostRuntime) -> Result<(), Fail> {
     assert!(rt; AncestorNodes::new(&nodes, &root, Some(2)).next().is_none());
     assert!(rt; !is_free(&nodes, root));
     assert!(rt; find_node(&nodes, root).is_some());
+    assert!(rt; TreeNodeOps::is_valid_node_id(&nodes, &root));
+    assert!(rt; TreeNodeOps::last_sibling_of(&nodes, &root).is_none());
+    assert!(rt; TreeNodeOps::next_element_sibling_of(&nodes, &root).is_none());
+    assert!(rt; TreeNodeOps::prev_element_sibling_of(&nodes, &root).is_none());
+    assert!(rt; TreeNodeOps::first_element_child_of(&nodes, &root).is_none());
     Ok(())
 }

@@ -9,6 +9,7 @@ mod contents;
 mod links;
 mod rings;
 
+use crate::ops::TreeNodeOps;
 use dom_nodes::node_data::TreeNode;
 use std::alloc::{AllocError, Global};
 
@@ -67,23 +68,25 @@ impl From<AllocError> for ValidateFault {
     }
 }
 
-/// Checks that raw nodes are a forest's, each at the place that its number tells. It takes memory for a few numbers
-/// a node, and time in proportion to the nodes. The first fault found is told, in the order of `ValidateFault`.
-pub fn validate(alloc: Global, nodes: &[TreeNode]) -> Result<(), ValidateFault>
-    ensures sound { MatchResult result (λ _. IsSoundArena nodes.now) (λ fault. IsRefused nodes.now fault) }
-    ensures cause { IfErr result (λ fault. Tells nodes.now fault) }
-    ensures empty { nodes.now ≡ [] → result ≡ Err NoRoot }
-{
-    links::check_links(nodes)?;
-    let holders = contents::holders_of(alloc, nodes)?;
-    if rings::has_step_ring(alloc, nodes, &holders)? {
-        return Err(ValidateFault::Cycle);
+impl TreeNodeOps {
+    /// Checks that raw nodes are a forest's, each at the place that its number tells. It takes memory for a few numbers
+    /// a node, and time in proportion to the nodes. The first fault found is told, in the order of `ValidateFault`.
+    pub fn validate(alloc: Global, nodes: &[TreeNode]) -> Result<(), ValidateFault>
+        ensures sound { MatchResult result (λ _. IsSoundArena nodes.now) (λ fault. IsRefused nodes.now fault) }
+        ensures cause { IfErr result (λ fault. Tells nodes.now fault) }
+        ensures empty { nodes.now ≡ [] → result ≡ Err NoRoot }
+    {
+        links::check_links(nodes)?;
+        let holders = contents::holders_of(alloc, nodes)?;
+        if rings::has_step_ring(alloc, nodes, &holders)? {
+            return Err(ValidateFault::Cycle);
+        }
+        if !links::are_linked(nodes) {
+            return Err(ValidateFault::NotLinked);
+        }
+        if rings::has_sibling_ring(alloc, nodes)? {
+            return Err(ValidateFault::SiblingCycle);
+        }
+        contents::check_contents(nodes, &holders)
     }
-    if !links::are_linked(nodes) {
-        return Err(ValidateFault::NotLinked);
-    }
-    if rings::has_sibling_ring(alloc, nodes)? {
-        return Err(ValidateFault::SiblingCycle);
-    }
-    contents::check_contents(nodes, &holders)
 }

@@ -8,10 +8,9 @@ ghost use Rattle.dom_links.specs.Sound.{IsSoundArena, MayPlace};
 ghost use Rattle.dom_trees.specs.ListRefusals.{ListCause, ReparentCause, RunCause, WrapCause};
 
 use crate::checks::check_before;
-use dom_links::ops::placing::{may_have_children, stays_put};
-use dom_links::ops::siblings::{
-    first_child_of, first_sibling_of, may_have_siblings, may_place_run,
-};
+use dom_links::ops::TreeNodeOps;
+use dom_links::ops::placing::stays_put;
+use dom_links::ops::siblings::{first_child_of, first_sibling_of};
 use dom_nodes::fault::EditFault;
 use dom_nodes::node_data::TreeNode;
 use dom_nodes::node_id::NodeId;
@@ -27,7 +26,7 @@ fn check_run(nodes: &[TreeNode], t: NodeId, x: NodeId) -> Result<(), EditFault>
     if stays_put(nodes, x) {
         return Err(EditFault::RootOrFragment);
     }
-    if may_place_run(nodes, t, x) {
+    if TreeNodeOps::may_place_run(nodes, t, x) {
         Ok(())
     } else {
         Err(EditFault::Cycle)
@@ -43,7 +42,7 @@ pub(crate) fn check_run_end_of(nodes: &[TreeNode], t: NodeId, x: NodeId) -> Resu
     if t.value() >= nodes.len() || x.value() >= nodes.len() {
         return Err(EditFault::UnknownNode);
     }
-    if !may_have_children(nodes, t) {
+    if !TreeNodeOps::may_have_children(nodes, t) {
         return Err(EditFault::NoChildrenHere);
     }
     check_run(nodes, t, x)
@@ -58,7 +57,7 @@ pub(crate) fn check_list_front_of(nodes: &[TreeNode], t: NodeId, x: NodeId) -> R
     if t.value() >= nodes.len() || x.value() >= nodes.len() {
         return Err(EditFault::UnknownNode);
     }
-    if !may_have_children(nodes, t) {
+    if !TreeNodeOps::may_have_children(nodes, t) {
         return Err(EditFault::NoChildrenHere);
     }
     let start = first_sibling_of(nodes, x);
@@ -74,7 +73,7 @@ pub(crate) fn check_run_before(nodes: &[TreeNode], t: NodeId, x: NodeId) -> Resu
     if t.value() >= nodes.len() || x.value() >= nodes.len() {
         return Err(EditFault::UnknownNode);
     }
-    if !may_have_siblings(nodes, t) {
+    if !TreeNodeOps::may_have_siblings(nodes, t) {
         return Err(EditFault::RootOrFragment);
     }
     check_run(nodes, t, x)
@@ -89,7 +88,7 @@ pub(crate) fn check_run_after(nodes: &[TreeNode], t: NodeId, x: NodeId) -> Resul
     if t.value() >= nodes.len() || x.value() >= nodes.len() {
         return Err(EditFault::UnknownNode);
     }
-    if !may_have_siblings(nodes, t) {
+    if !TreeNodeOps::may_have_siblings(nodes, t) {
         return Err(EditFault::RootOrFragment);
     }
     check_run(nodes, t, x)
@@ -114,7 +113,7 @@ pub(crate) fn check_reparent(
     if t.value() >= nodes.len() {
         return Err(EditFault::UnknownNode);
     }
-    if !may_have_children(nodes, t) {
+    if !TreeNodeOps::may_have_children(nodes, t) {
         return Err(EditFault::NoChildrenHere);
     }
     let Some(first) = first_child_of(nodes, x) else {
@@ -129,7 +128,7 @@ pub(crate) fn check_wrap(nodes: &[TreeNode], x: NodeId, w: NodeId) -> Result<(),
     ensures { MatchResult result (λ _. MayWrap (forest_of nodes.now) x w) (λ fault. WrapCause (forest_of nodes.now) x w fault) }
 {
     check_before(nodes, x, w)?;
-    if !may_have_children(nodes, w) {
+    if !TreeNodeOps::may_have_children(nodes, w) {
         return Err(EditFault::NoChildrenHere);
     }
     Ok(())

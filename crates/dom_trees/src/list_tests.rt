@@ -2,7 +2,6 @@
 
 use crate::node_ref::NodeRef;
 use crate::tree::Tree;
-use dom_links::ops::siblings::last_sibling_of;
 use dom_nodes::fault::EditFault;
 use dom_nodes::name::{LocalName, Namespace, QualName};
 use dom_nodes::node_data::{Attrs, Element, NodeData};
@@ -11,11 +10,11 @@ use dom_nodes::text::Text;
 use std::alloc::Global;
 use std::test::Fail;
 
-fn node(number: usize) -> NodeId {
+pub(crate) fn node(number: usize) -> NodeId {
     NodeId::new(number).unwrap_or(NodeId::root())
 }
 
-fn add_element(tree: &mut Tree, parent: usize, local: &str) -> Result<NodeId, Fail> {
+pub(crate) fn add_element(tree: &mut Tree, parent: usize, local: &str) -> Result<NodeId, Fail> {
     let alloc = tree.allocator();
     let name = QualName {
         prefix: None,
@@ -26,13 +25,13 @@ fn add_element(tree: &mut Tree, parent: usize, local: &str) -> Result<NodeId, Fa
     Ok(tree.append_child_data_of(&node(parent), content)?)
 }
 
-fn add_comment(tree: &mut Tree, parent: usize) -> Result<NodeId, Fail> {
+pub(crate) fn add_comment(tree: &mut Tree, parent: usize) -> Result<NodeId, Fail> {
     let contents = Text::new(tree.allocator(), "")?;
     Ok(tree.append_child_data_of(&node(parent), NodeData::Comment { contents })?)
 }
 
 /// Root 0 has the child 1, which has 2, 3 and 4; 5, an element, and 6, a comment, stand alone.
-fn start(alloc: Global) -> Result<Tree, Fail> {
+pub(crate) fn start(alloc: Global) -> Result<Tree, Fail> {
     let mut tree = Tree::new(alloc, NodeData::Document)?;
     add_element(&mut tree, 0, "div")?;
     add_element(&mut tree, 1, "i")?;
@@ -46,8 +45,8 @@ fn start(alloc: Global) -> Result<Tree, Fail> {
 }
 
 /// Whether the children of a node are these.
-fn has_kids(tree: &Tree, parent: usize, kids: &[usize]) -> bool {
-    let mut ids = tree.child_ids_of_it(&node(parent));
+pub(crate) fn has_kids(tree: &Tree, parent: usize, kids: &[usize]) -> bool {
+    let mut ids = tree.child_ids_of_it(&node(parent), false);
     for kid in kids {
         let Some(id) = ids.next() else {
             return false;
@@ -60,7 +59,7 @@ fn has_kids(tree: &Tree, parent: usize, kids: &[usize]) -> bool {
 }
 
 /// Whether a node has no parent, is the first of its list, and is followed by these.
-fn is_run(tree: &Tree, first: usize, others: &[usize]) -> bool {
+pub(crate) fn is_run(tree: &Tree, first: usize, others: &[usize]) -> bool {
     let mut at = NodeRef::new(node(first), tree);
     if at.prev_sibling().is_some() {
         return false;
@@ -75,16 +74,6 @@ fn is_run(tree: &Tree, first: usize, others: &[usize]) -> bool {
         at = next;
     }
     at.next_sibling().is_none() && at.parent().is_none()
-}
-
-/// The last node of the list of a node.
-fn last_in_list(tree: &Tree, number: usize) -> Option<NodeId> {
-    let nodes = tree.nodes();
-    let id = node(number);
-    if id.value() >= nodes.len() {
-        return None;
-    }
-    Some(last_sibling_of(nodes, id))
 }
 
 fn appends(alloc: Global) -> Result<bool, Fail> {
@@ -171,7 +160,6 @@ fn moves_lists(rt: HostRuntime) -> Result<(), Fail> {
 #[test]
 fn refuses_lists(rt: HostRuntime) -> Result<(), Fail> {
     let mut tree = start(rt.alloc())?;
-    assert!(rt; last_in_list(&tree, 2) == Some(node(4)));
     assert!(rt; tree.append_children_of(&node(4), &node(2)) == Err(EditFault::Cycle));
     assert!(rt; tree.prepend_children_of(&node(2), &node(4)) == Err(EditFault::Cycle));
     assert!(rt; tree.insert_before_of(&node(2), &node(2)) == Err(EditFault::Cycle));

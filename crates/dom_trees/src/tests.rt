@@ -72,7 +72,10 @@ fn walks(rt: HostRuntime) -> Result<(), Fail> {
     let kids = tree.child_ids_of(&NodeId::root())?;
     assert_eq!(rt; numbers(alloc, &kids)?.as_slice(), [1, 4].as_slice());
     assert!(rt;
-        matches!(tree.child_ids_of_it(&tree.root_id()).next(), Some(kid) if kid.value() == 1)
+        matches!(tree.child_ids_of_it(&tree.root_id(), false).next(), Some(kid) if kid.value() == 1)
+    );
+    assert!(rt;
+        matches!(tree.child_ids_of_it(&tree.root_id(), true).next(), Some(kid) if kid.value() == 4)
     );
     let three = NodeId::new(3).ok_or("id")?;
     let above = tree.ancestor_ids_of(&three, None)?;
@@ -83,6 +86,30 @@ fn walks(rt: HostRuntime) -> Result<(), Fail> {
     assert!(rt; tree.get(&three).is_some());
     assert!(rt; tree.get(&NodeId::new(6).ok_or("id")?).is_none());
     Vec::with_capacity(tree.allocator(), 1)?.push(three)?;
+    Ok(())
+}
+
+#[test]
+fn tells_texts(rt: HostRuntime) -> Result<(), Fail> {
+    let alloc = rt.alloc();
+    let mut tree = small_tree(alloc)?;
+    tree.append_child_data_of(
+        &NodeId::new(1).ok_or("id")?,
+        NodeData::Text {
+            contents: Text::new(alloc, "more")?,
+        },
+    )?;
+    for (number, want) in [
+        (0, "textmore"),
+        (2, "text"),
+        (3, "text"),
+        (4, ""),
+        (6, "more"),
+        (7, ""),
+    ] {
+        let node = NodeRef::new(NodeId::new(number).ok_or("id")?, &tree);
+        assert_eq!(rt; node.text()?.as_str(), want);
+    }
     Ok(())
 }
 
@@ -178,5 +205,31 @@ fn nests_deeply(rt: HostRuntime) -> Result<(), Fail> {
     while walk.next().is_some() {}
     assert_eq!(rt; tree.descendant_ids_of(&NodeId::root())?.len(), 20000);
     assert_eq!(rt; walk.reads(), 40000);
+    Ok(())
+}
+
+#[test]
+fn makes_templates(rt: HostRuntime) -> Result<(), Fail> {
+    let alloc = rt.alloc();
+    let mut tree = small_tree(alloc)?;
+    let (template, contents) = tree.append_template_of(
+        &NodeId::root(),
+        html_name(alloc, "template")?,
+        Attrs::new(alloc),
+    )?;
+    assert_eq!(rt; template.value(), 6);
+    assert_eq!(rt; contents.value(), 7);
+    assert_eq!(rt; tree.len(), 8);
+    let node = tree.get(&template).ok_or("template")?;
+    assert!(rt; matches!(node.content.template_contents(), Some(id) if id == contents));
+    assert!(rt; matches!(node.parent, Some(parent) if parent == NodeId::root()));
+    let text = NodeId::new(3).ok_or("id")?;
+    let name = html_name(alloc, "template")?;
+    assert!(rt;
+        matches!(
+            tree.append_template_of(&text, name, Attrs::new(alloc)),
+            Err(EditFault::NoChildrenHere)
+        )
+    );
     Ok(())
 }

@@ -2,28 +2,33 @@
 
 ghost use Rattle.std.specs.Prelude.{◌≡◌, ◌<◌, ◌≤◌, ◌∷◌, [], false, length, IfErr, IfOk, IsErrAnd, MatchOption, None, OnErr, OnOk};
 ghost use Rattle.dom_links.specs.Forest.{forest_of, kids_of};
-ghost use Rattle.dom_links.specs.Growth.{MayAppend, lone, with_child};
+ghost use Rattle.dom_links.specs.Growth.{DataCause, MayAppend, lone, with_child};
 ghost use Rattle.dom_links.specs.Lists.{IsDistinct};
 ghost use Rattle.dom_links.specs.Moves.{after_node, before_node, cut, end_of, front_of, moved_to};
 ghost use Rattle.dom_links.specs.Sound.{Allowed, IsSoundArena};
-ghost use Rattle.dom_links.specs.Trees.{ancestors, limited, walk_below};
+ghost use Rattle.dom_links.specs.Trees.{ancestors, in_order, limited, walk_below};
 ghost use Rattle.dom_links.specs.Walk.{IsNodeOf, leaves_among};
 ghost use Rattle.dom_links.specs.Validation.{IsRefused, Tells};
 ghost use Rattle.dom_links.specs.declared.validation.ValidateFault.TheVariants.{Memory, NoRoot};
-ghost use Rattle.dom_trees.specs.Refusals.{Cause, DataCause, RemovalCause, RootCause};
+ghost use Rattle.dom_trees.specs.Refusals.{Cause, RemovalCause, RootCause};
 
-use crate::checks::{check_after, check_before, check_data, check_end_of, check_front_of};
+use crate::checks::{check_after, check_before, check_end_of, check_front_of};
 use crate::node_ref::NodeRef;
 use dom_links::iters::{AncestorNodes, ChildNodes, DescendantNodes, find_node};
-use dom_links::ops::{create, moves};
-use dom_links::validation::{ValidateFault, validate};
+use dom_links::ops::{TreeNodeOps, create};
+use dom_links::validation::ValidateFault;
 use dom_nodes::fault::{EditFault, OutOfMemory};
 use dom_nodes::node_data::{NodeData, TreeNode};
 use dom_nodes::node_id::NodeId;
 use std::alloc::Global;
 use std::marker::Model;
 
+mod changes;
+mod creation;
 mod lists;
+mod page;
+mod reading;
+mod templates;
 
 /// A tree. A contract sees it as a forest.
 #[derive(Drop)]
@@ -78,7 +83,7 @@ impl Tree {
         ensures cause { IfErr result (λ refused. Tells nodes.items refused.1) }
         ensures empty { nodes.items ≡ [] → IsErrAnd result (λ refused. refused.1 ≡ NoRoot) }
     {
-        match validate(*nodes.allocator(), &nodes) {
+        match TreeNodeOps::validate(*nodes.allocator(), &nodes) {
             Ok(()) => Ok(Tree { nodes }),
             Err(fault) => Err((nodes, fault)),
         }
@@ -88,7 +93,7 @@ impl Tree {
     pub fn validate(&self) -> Result<(), ValidateFault>
         ensures { IfErr result (λ fault. fault ≡ Memory) }
     {
-        validate(self.allocator(), self.nodes())
+        TreeNodeOps::validate(self.allocator(), self.nodes())
     }
 
     /// How many nodes there are, cut-out ones too.
@@ -119,18 +124,18 @@ impl Tree {
         find_node(self.nodes(), *id)
     }
 
-    /// The kids of a node, in order.
-    pub fn child_ids_of_it(&self, id: &NodeId) -> ChildNodes<'_>
-        ensures { result ≡ kids_of self.now id.now }
+    /// The kids of a node, first to last, or last to first where `rev` says so.
+    pub fn child_ids_of_it(&self, id: &NodeId, rev: bool) -> ChildNodes<'_>
+        ensures { result ≡ in_order rev (kids_of self.now id.now) }
     {
-        ChildNodes::new(self.nodes(), id, false)
+        ChildNodes::new(self.nodes(), id, rev)
     }
 
     /// The kids of a node, in order.
     pub fn child_ids_of(&self, id: &NodeId) -> Result<Vec<NodeId>, OutOfMemory>
         ensures { IfOk result (λ ids. ids.items ≡ kids_of self.now id.now) }
     {
-        Ok(self.child_ids_of_it(id).collect(self.allocator())?)
+        Ok(self.child_ids_of_it(id, false).collect(self.allocator())?)
     }
 
     /// The ancestors of a node, from its parent on; at most `max_depth` of them, where that is neither none nor 0.
@@ -184,8 +189,7 @@ impl Tree {
         ensures err { OnErr result (self.new ≡ self.old) }
         ensures cause { IfErr result (λ fault. DataCause self.old id.now content fault) }
     {
-        check_data(&self.nodes, *id, &content)?;
-        create::append_child_data_of(&mut self.nodes, *id, content)
+        TreeNodeOps::append_child_data_of(&mut self.nodes, *id, content)
     }
 
     /// Cuts a node out of its list. It is then a run of its own.
@@ -198,7 +202,7 @@ impl Tree {
         if id.value() >= self.nodes.len() {
             return Err(EditFault::UnknownNode);
         }
-        moves::remove_from_parent(&mut self.nodes, *id);
+        TreeNodeOps::remove_from_parent(&mut self.nodes, *id);
         Ok(())
     }
 
@@ -210,7 +214,7 @@ impl Tree {
         ensures cause { IfErr result (λ fault. Cause self.old (end_of id.now) new_child.now fault) }
     {
         check_end_of(&self.nodes, *id, *new_child)?;
-        moves::append_child_of(&mut self.nodes, *id, *new_child);
+        TreeNodeOps::append_child_of(&mut self.nodes, *id, *new_child);
         Ok(())
     }
 
@@ -222,7 +226,7 @@ impl Tree {
         ensures cause { IfErr result (λ fault. Cause self.old (front_of id.now) new_child.now fault) }
     {
         check_front_of(&self.nodes, *id, *new_child)?;
-        moves::prepend_child_of(&mut self.nodes, *id, *new_child);
+        TreeNodeOps::prepend_child_of(&mut self.nodes, *id, *new_child);
         Ok(())
     }
 
@@ -234,7 +238,7 @@ impl Tree {
         ensures cause { IfErr result (λ fault. Cause self.old (before_node id.now) new_sibling.now fault) }
     {
         check_before(&self.nodes, *id, *new_sibling)?;
-        moves::insert_before_of(&mut self.nodes, *id, *new_sibling);
+        TreeNodeOps::insert_before_of(&mut self.nodes, *id, *new_sibling);
         Ok(())
     }
     /// Moves a node to the place right after another.
@@ -245,7 +249,7 @@ impl Tree {
         ensures cause { IfErr result (λ fault. Cause self.old (after_node id.now) new_sibling.now fault) }
     {
         check_after(&self.nodes, *id, *new_sibling)?;
-        moves::insert_after_of(&mut self.nodes, *id, *new_sibling);
+        TreeNodeOps::insert_after_of(&mut self.nodes, *id, *new_sibling);
         Ok(())
     }
 }

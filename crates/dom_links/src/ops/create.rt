@@ -1,24 +1,76 @@
 //! New nodes.
 
-ghost use Rattle.std.specs.Prelude.{◌≡◌, ◌<◌, ◌+◌, ◌∷◌, ◌++◌, [], IfErr, IfOk, None, OnErr, OnOk, vec_len};
+ghost use Rattle.std.specs.Prelude.{◌≡◌, ◌<◌, ◌+◌, ◌∷◌, ◌++◌, [], IfErr, IfOk, MatchResult, None, OnErr, OnOk, vec_len};
 ghost use Rattle.dom_nodes.specs.Kinds.{contents_named};
 ghost use Rattle.dom_nodes.specs.declared.fault.EditFault.TheVariants.{Memory};
+ghost use Rattle.dom_nodes.specs.declared.node_data.TreeNode.{TreeNode};
 ghost use Rattle.dom_links.specs.Forest.{IsArenaOf, forest_of};
-ghost use Rattle.dom_links.specs.Growth.{Appended, Created, Limit, lone};
+ghost use Rattle.dom_links.specs.Growth.{Appended, Created, DataCause, HasFreeContents, Limit, MayAppend, NodeCause, lone, with_child, with_node};
 ghost use Rattle.dom_links.specs.Sound.{IsSoundArena};
 
-use crate::ops::moves::append_child_of;
+use crate::ops::TreeNodeOps;
+use crate::ops::placing::{is_at_or_below, is_free};
 use dom_nodes::fault::EditFault;
 use dom_nodes::node_data::{NodeData, TreeNode};
 use dom_nodes::node_id::NodeId;
 use std::alloc::Global;
 
+impl TreeNodeOps {
+    /// Makes a node that stands alone. Refused as `BadContents`, `TooManyNodes` or `Memory`.
+    pub fn create_node(nodes: &mut Vec<TreeNode>, content: NodeData) -> Result<NodeId, EditFault>
+        requires { IsSoundArena nodes.old.items }
+        ensures made { OnOk result (forest_of nodes.new.items ≡ with_node content (forest_of nodes.old.items)) }
+        ensures number { IfOk result (λ id. id ≡ vec_len nodes.old) }
+        ensures allowed { OnOk result (HasFreeContents (forest_of nodes.old.items) content) }
+        ensures err { OnErr result (nodes.new.items ≡ nodes.old.items) }
+        ensures cause { IfErr result (λ fault. NodeCause (forest_of nodes.old.items) content fault) }
+        ensures plain { contents_named content ≡ None → IfErr result (λ fault. Limit (vec_len nodes.old) fault) }
+        ensures sound { IsSoundArena nodes.new.items }
+    {
+        check_contents(nodes, &content)?;
+        let id = add_node(nodes, content)?;
+        Ok(id)
+    }
+
+    /// Makes a node as the last child of another. With the contents that it names it counts as moved there.
+    pub fn append_child_data_of(
+        nodes: &mut Vec<TreeNode>,
+        t: NodeId,
+        content: NodeData,
+    ) -> Result<NodeId, EditFault>
+        requires { IsSoundArena nodes.old.items }
+        ensures made { OnOk result (forest_of nodes.new.items ≡ with_child t content (forest_of nodes.old.items)) }
+        ensures number { IfOk result (λ id. id ≡ vec_len nodes.old) }
+        ensures allowed { OnOk result (MayAppend (forest_of nodes.old.items) t content) }
+        ensures err { OnErr result (nodes.new.items ≡ nodes.old.items) }
+        ensures cause { IfErr result (λ fault. DataCause (forest_of nodes.old.items) t content fault) }
+        ensures sound { IsSoundArena nodes.new.items }
+    {
+        check_data(nodes, t, &content)?;
+        add_child(nodes, t, content)
+    }
+}
+
 /// Makes a node that stands alone. Whether its contents are free is the caller's condition for a forest.
-pub fn create_node(nodes: &mut Vec<TreeNode>, content: NodeData) -> Result<NodeId, EditFault>
+fn add_node(nodes: &mut Vec<TreeNode>, content: NodeData) -> Result<NodeId, EditFault>
     requires linked { IsArenaOf (forest_of nodes.old.items) nodes.old.items }
     ensures ok { OnOk result (Created nodes.old.items nodes.new.items content) }
     ensures number { IfOk result (λ id. id ≡ vec_len nodes.old) }
     ensures grown { OnOk result (vec_len nodes.new ≡ vec_len nodes.old + 1) }
+    ensures err { OnErr result (nodes.new.items ≡ nodes.old.items) }
+    ensures cause { IfErr result (λ fault. Limit (vec_len nodes.old) fault) }
+{
+    push_alone(nodes, content)
+}
+
+/// Makes a node that stands alone, behind the others. Whether its contents are free is the caller's condition for a
+/// forest.
+pub(crate) fn push_alone(nodes: &mut Vec<TreeNode>, content: NodeData) -> Result<NodeId, EditFault>
+    requires linked { IsArenaOf (forest_of nodes.old.items) nodes.old.items }
+    ensures ok { OnOk result (Created nodes.old.items nodes.new.items content) }
+    ensures number { IfOk result (λ id. id ≡ vec_len nodes.old) }
+    ensures grown { OnOk result (vec_len nodes.new ≡ vec_len nodes.old + 1) }
+    ensures pushed { OnOk result ((node : TreeNode) × (nodes.new.items ≡ nodes.old.items ++ node ∷ [])) }
     ensures err { OnErr result (nodes.new.items ≡ nodes.old.items) }
     ensures cause { IfErr result (λ fault. Limit (vec_len nodes.old) fault) }
 {
@@ -39,11 +91,7 @@ pub fn create_node(nodes: &mut Vec<TreeNode>, content: NodeData) -> Result<NodeI
 }
 
 /// Makes a node as the last child of another. Whether that is allowed is the caller's condition for a forest.
-pub fn append_child_data_of(
-    nodes: &mut Vec<TreeNode>,
-    t: NodeId,
-    content: NodeData,
-) -> Result<NodeId, EditFault>
+fn add_child(nodes: &mut Vec<TreeNode>, t: NodeId, content: NodeData) -> Result<NodeId, EditFault>
     requires linked { IsArenaOf (forest_of nodes.old.items) nodes.old.items }
     requires target_known { t < vec_len nodes.old }
     ensures ok { OnOk result (Appended nodes.old.items nodes.new.items t content) }
@@ -52,9 +100,52 @@ pub fn append_child_data_of(
     ensures err { OnErr result (nodes.new.items ≡ nodes.old.items) }
     ensures cause { IfErr result (λ fault. Limit (vec_len nodes.old) fault) }
 {
-    let id = create_node(nodes, content)?;
-    append_child_of(nodes, t, id);
+    let id = add_node(nodes, content)?;
+    TreeNodeOps::append_child_of(nodes, t, id);
     Ok(id)
+}
+
+/// Whether a node of this data may be made, which stands alone.
+fn check_contents(nodes: &[TreeNode], content: &NodeData) -> Result<(), EditFault>
+    requires { IsSoundArena nodes.now }
+    ensures { MatchResult result (λ _. HasFreeContents (forest_of nodes.now) content.now)
+        (λ fault. NodeCause (forest_of nodes.now) content.now fault) }
+{
+    let Some(contents) = content.template_contents() else {
+        return Ok(());
+    };
+    if is_free(nodes, contents) {
+        Ok(())
+    } else {
+        Err(EditFault::BadContents)
+    }
+}
+
+/// Whether a node of this data may be made as a child of t.
+fn check_data(nodes: &[TreeNode], t: NodeId, content: &NodeData) -> Result<(), EditFault>
+    requires { IsSoundArena nodes.now }
+    ensures { MatchResult result (λ _. MayAppend (forest_of nodes.now) t content.now)
+        (λ fault. DataCause (forest_of nodes.now) t content.now fault) }
+{
+    if t.value() >= nodes.len() {
+        return Err(EditFault::UnknownNode);
+    }
+    if !TreeNodeOps::may_have_children(nodes, t) {
+        return Err(EditFault::NoChildrenHere);
+    }
+    if content.is_top() {
+        return Err(EditFault::RootOrFragment);
+    }
+    let Some(contents) = content.template_contents() else {
+        return Ok(());
+    };
+    if !is_free(nodes, contents) {
+        return Err(EditFault::BadContents);
+    }
+    if is_at_or_below(nodes, contents, t) {
+        return Err(EditFault::Cycle);
+    }
+    Ok(())
 }
 
 /// Makes an arena of one node, which names no contents.
@@ -65,7 +156,7 @@ pub fn create_root(alloc: Global, content: NodeData) -> Result<Vec<TreeNode>, Ed
     ensures cause { IfErr result (λ fault. Limit 0 fault) }
 {
     let mut nodes = Vec::new(alloc);
-    create_node(&mut nodes, content)?;
+    add_node(&mut nodes, content)?;
     Ok(nodes)
 }
 

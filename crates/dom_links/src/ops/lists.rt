@@ -7,12 +7,89 @@ ghost use Rattle.dom_links.specs.Lists.{stands_in};
 ghost use Rattle.dom_links.specs.Moves.{after_node, before_node, cut, end_of, front_of};
 ghost use Rattle.dom_links.specs.Sound.{IsForest};
 
+use crate::ops::TreeNodeOps;
 use crate::ops::list_writes::{attach_run, set_parents};
-use crate::ops::moves::{append_child_of, insert_before_of, remove_from_parent};
 use crate::ops::siblings::{first_child_of, first_sibling_of, wrapper_of};
 use crate::ops::writes::join;
 use dom_nodes::node_data::TreeNode;
 use dom_nodes::node_id::NodeId;
+
+impl TreeNodeOps {
+    /// Moves a node and its later siblings to the end of the children of another.
+    pub fn append_children_of(nodes: &mut [TreeNode], t: NodeId, x: NodeId)
+        requires linked { IsArenaOf (forest_of nodes.old) nodes.old }
+        requires target_known { t < length nodes.old }
+        requires known { x < length nodes.old }
+        requires apart { stands_in t (with_later (forest_of nodes.old) x) ≡ false }
+        ensures { MovedList nodes.old nodes.new (end_of t) (with_later (forest_of nodes.old) x) }
+    {
+        cut_with_later(nodes, x);
+        let last = nodes[t.value()].last_child;
+        attach_run(nodes, x, Some(t), last, None);
+    }
+
+    /// Moves the whole list of a node, it and all its siblings, to the front of the children of another.
+    pub fn prepend_children_of(nodes: &mut [TreeNode], t: NodeId, x: NodeId)
+        requires linked { IsArenaOf (forest_of nodes.old) nodes.old }
+        requires target_known { t < length nodes.old }
+        requires known { x < length nodes.old }
+        requires apart { stands_in t (siblings (forest_of nodes.old) x) ≡ false }
+        ensures { MovedList nodes.old nodes.new (front_of t) (siblings (forest_of nodes.old) x) }
+    {
+        let start = first_sibling_of(nodes, x);
+        cut_with_later(nodes, start);
+        let first = nodes[t.value()].first_child;
+        attach_run(nodes, start, Some(t), None, first);
+    }
+
+    /// Moves a node and its later siblings to the place right before another.
+    pub fn insert_siblings_before(nodes: &mut [TreeNode], t: NodeId, x: NodeId)
+        requires linked { IsArenaOf (forest_of nodes.old) nodes.old }
+        requires target_known { t < length nodes.old }
+        requires known { x < length nodes.old }
+        requires apart { stands_in t (with_later (forest_of nodes.old) x) ≡ false }
+        ensures { MovedList nodes.old nodes.new (before_node t) (with_later (forest_of nodes.old) x) }
+    {
+        cut_with_later(nodes, x);
+        let target = &nodes[t.value()];
+        let parent = target.parent;
+        let prev = target.prev_sibling;
+        attach_run(nodes, x, parent, prev, Some(t));
+    }
+
+    /// Moves a node and its later siblings to the place right after another.
+    pub fn insert_siblings_after(nodes: &mut [TreeNode], t: NodeId, x: NodeId)
+        requires linked { IsArenaOf (forest_of nodes.old) nodes.old }
+        requires target_known { t < length nodes.old }
+        requires known { x < length nodes.old }
+        requires apart { stands_in t (with_later (forest_of nodes.old) x) ≡ false }
+        ensures { MovedList nodes.old nodes.new (after_node t) (with_later (forest_of nodes.old) x) }
+    {
+        cut_with_later(nodes, x);
+        let target = &nodes[t.value()];
+        let parent = target.parent;
+        let next = target.next_sibling;
+        attach_run(nodes, x, parent, Some(t), next);
+    }
+
+    /// Moves the children of a node to the end of those of another; without one they are then a run of their own.
+    pub fn reparent_children_of(nodes: &mut [TreeNode], x: NodeId, parent: Option<NodeId>)
+        requires linked { IsArenaOf (forest_of nodes.old) nodes.old }
+        requires known { x < length nodes.old }
+        requires target_known { IfSome parent (λ t. t < length nodes.old) }
+        requires apart { IfSome parent (λ t. stands_in t (kids_of (forest_of nodes.old) x) ≡ false) }
+        ensures { Reparents nodes.old nodes.new x parent }
+    {
+        let Some(t) = parent else {
+            remove_children(nodes, x);
+            return;
+        };
+        let Some(first) = first_child_of(nodes, x) else {
+            return;
+        };
+        TreeNodeOps::append_children_of(nodes, t, first);
+    }
+}
 
 /// Cuts a node and its later siblings out of their list. They are then a run of their own.
 pub(crate) fn cut_with_later(nodes: &mut [TreeNode], x: NodeId)
@@ -28,63 +105,6 @@ pub(crate) fn cut_with_later(nodes: &mut [TreeNode], x: NodeId)
     set_parents(nodes, x, None);
 }
 
-/// Moves a node and its later siblings to the end of the children of another.
-pub fn append_children_of(nodes: &mut [TreeNode], t: NodeId, x: NodeId)
-    requires linked { IsArenaOf (forest_of nodes.old) nodes.old }
-    requires target_known { t < length nodes.old }
-    requires known { x < length nodes.old }
-    requires apart { stands_in t (with_later (forest_of nodes.old) x) ≡ false }
-    ensures { MovedList nodes.old nodes.new (end_of t) (with_later (forest_of nodes.old) x) }
-{
-    cut_with_later(nodes, x);
-    let last = nodes[t.value()].last_child;
-    attach_run(nodes, x, Some(t), last, None);
-}
-
-/// Moves the whole list of a node, it and all its siblings, to the front of the children of another.
-pub fn prepend_children_of(nodes: &mut [TreeNode], t: NodeId, x: NodeId)
-    requires linked { IsArenaOf (forest_of nodes.old) nodes.old }
-    requires target_known { t < length nodes.old }
-    requires known { x < length nodes.old }
-    requires apart { stands_in t (siblings (forest_of nodes.old) x) ≡ false }
-    ensures { MovedList nodes.old nodes.new (front_of t) (siblings (forest_of nodes.old) x) }
-{
-    let start = first_sibling_of(nodes, x);
-    cut_with_later(nodes, start);
-    let first = nodes[t.value()].first_child;
-    attach_run(nodes, start, Some(t), None, first);
-}
-
-/// Moves a node and its later siblings to the place right before another.
-pub fn insert_siblings_before(nodes: &mut [TreeNode], t: NodeId, x: NodeId)
-    requires linked { IsArenaOf (forest_of nodes.old) nodes.old }
-    requires target_known { t < length nodes.old }
-    requires known { x < length nodes.old }
-    requires apart { stands_in t (with_later (forest_of nodes.old) x) ≡ false }
-    ensures { MovedList nodes.old nodes.new (before_node t) (with_later (forest_of nodes.old) x) }
-{
-    cut_with_later(nodes, x);
-    let target = &nodes[t.value()];
-    let parent = target.parent;
-    let prev = target.prev_sibling;
-    attach_run(nodes, x, parent, prev, Some(t));
-}
-
-/// Moves a node and its later siblings to the place right after another.
-pub fn insert_siblings_after(nodes: &mut [TreeNode], t: NodeId, x: NodeId)
-    requires linked { IsArenaOf (forest_of nodes.old) nodes.old }
-    requires target_known { t < length nodes.old }
-    requires known { x < length nodes.old }
-    requires apart { stands_in t (with_later (forest_of nodes.old) x) ≡ false }
-    ensures { MovedList nodes.old nodes.new (after_node t) (with_later (forest_of nodes.old) x) }
-{
-    cut_with_later(nodes, x);
-    let target = &nodes[t.value()];
-    let parent = target.parent;
-    let next = target.next_sibling;
-    attach_run(nodes, x, parent, Some(t), next);
-}
-
 /// Cuts the children of a node out. They are then a run of their own.
 pub fn remove_children(nodes: &mut [TreeNode], x: NodeId)
     requires linked { IsArenaOf (forest_of nodes.old) nodes.old }
@@ -97,24 +117,6 @@ pub fn remove_children(nodes: &mut [TreeNode], x: NodeId)
     cut_with_later(nodes, first);
 }
 
-/// Moves the children of a node to the end of those of another; without one they are then a run of their own.
-pub fn reparent_children_of(nodes: &mut [TreeNode], x: NodeId, parent: Option<NodeId>)
-    requires linked { IsArenaOf (forest_of nodes.old) nodes.old }
-    requires known { x < length nodes.old }
-    requires target_known { IfSome parent (λ t. t < length nodes.old) }
-    requires apart { IfSome parent (λ t. stands_in t (kids_of (forest_of nodes.old) x) ≡ false) }
-    ensures { Reparents nodes.old nodes.new x parent }
-{
-    let Some(t) = parent else {
-        remove_children(nodes, x);
-        return;
-    };
-    let Some(first) = first_child_of(nodes, x) else {
-        return;
-    };
-    append_children_of(nodes, t, first);
-}
-
 /// Puts a node right before another, and cuts that one out.
 pub fn replace_with(nodes: &mut [TreeNode], t: NodeId, x: NodeId)
     requires linked { IsArenaOf (forest_of nodes.old) nodes.old }
@@ -123,8 +125,8 @@ pub fn replace_with(nodes: &mut [TreeNode], t: NodeId, x: NodeId)
     requires apart { x ≢ t }
     ensures { Replaced nodes.old nodes.new t x }
 {
-    insert_before_of(nodes, t, x);
-    remove_from_parent(nodes, t);
+    TreeNodeOps::insert_before_of(nodes, t, x);
+    TreeNodeOps::remove_from_parent(nodes, t);
 }
 
 /// Puts w right before x, and then x to the end of the children of w.
@@ -135,8 +137,8 @@ pub fn wrap_node(nodes: &mut [TreeNode], x: NodeId, w: NodeId)
     requires apart { w ≢ x }
     ensures { Wrapped nodes.old nodes.new x w }
 {
-    insert_before_of(nodes, x, w);
-    append_child_of(nodes, w, x);
+    TreeNodeOps::insert_before_of(nodes, x, w);
+    TreeNodeOps::append_child_of(nodes, w, x);
 }
 
 /// Where the parent of a node and its parent are elements, puts the parent's children right before the parent and
@@ -151,6 +153,6 @@ pub fn unwrap_node(nodes: &mut [TreeNode], x: NodeId)
         return;
     };
     let first = first_sibling_of(nodes, x);
-    insert_siblings_before(nodes, parent, first);
-    remove_from_parent(nodes, parent);
+    TreeNodeOps::insert_siblings_before(nodes, parent, first);
+    TreeNodeOps::remove_from_parent(nodes, parent);
 }

@@ -3,12 +3,49 @@
 ghost use Rattle.std.specs.Prelude.{◌≡◌, ◌≢◌, ◌<◌, ◌⊎◌, IfSome, MatchBool, MatchOption, Some, [], false, length, not, true};
 ghost use Rattle.dom_links.specs.Forest.{IsArenaOf, forest_of, kids_of, parent, siblings};
 ghost use Rattle.dom_links.specs.ListMoves.{BlockedRun, EachOf, element_above, element_at, with_later, wrapper};
-ghost use Rattle.dom_links.specs.Lists.{first, last, stands_in};
+ghost use Rattle.dom_links.specs.Lists.{first, stands_in};
 ghost use Rattle.dom_links.specs.Sound.{IsForest, MayPlace, stays};
 
+use crate::ops::TreeNodeOps;
 use crate::ops::placing::{stays_put, step_up};
 use dom_nodes::node_data::{NodeData, TreeNode};
 use dom_nodes::node_id::NodeId;
+
+impl TreeNodeOps {
+    /// Whether nodes may be put beside a node: it is no root, document or fragment.
+    pub fn may_have_siblings(nodes: &[TreeNode], t: NodeId) -> bool
+        requires linked { IsArenaOf (forest_of nodes.now) nodes.now }
+        requires known { t < length nodes.now }
+        ensures { result ≡ not (stays (forest_of nodes.now) t) }
+    {
+        !stays_put(nodes, t)
+    }
+
+    /// Whether a node and each of its later siblings may be moved to the children or beside another node.
+    pub fn may_place_run(nodes: &[TreeNode], t: NodeId, x: NodeId) -> bool
+        requires linked { IsArenaOf (forest_of nodes.now) nodes.now }
+        requires forest { IsForest (forest_of nodes.now) }
+        requires target_known { t < length nodes.now }
+        requires known { x < length nodes.now }
+        ensures { MatchBool result (EachOf (with_later (forest_of nodes.now) x) (MayPlace (forest_of nodes.now) t))
+            (BlockedRun (forest_of nodes.now) t x) }
+    {
+        if stays_put(nodes, x) {
+            return false;
+        }
+        let mut at = t;
+        for _step in 0..nodes.len() {
+            if shares_parent(nodes, x, at) {
+                return !is_at_or_after(nodes, x, at);
+            }
+            let Some(above) = step_up(nodes, at) else {
+                return true;
+            };
+            at = above;
+        }
+        true
+    }
+}
 
 /// The first node of the list that a node stands in.
 pub fn first_sibling_of(nodes: &[TreeNode], x: NodeId) -> NodeId
@@ -25,20 +62,6 @@ pub fn first_sibling_of(nodes: &[TreeNode], x: NodeId) -> NodeId
     at
 }
 
-/// The last node of the list that a node stands in.
-pub fn last_sibling_of(nodes: &[TreeNode], x: NodeId) -> NodeId
-    requires linked { IsArenaOf (forest_of nodes.now) nodes.now }
-    requires known { x < length nodes.now }
-    ensures last { last (siblings (forest_of nodes.now) x) ≡ Some result }
-    ensures known { result < length nodes.now }
-{
-    let mut at = x;
-    while let Some(next) = nodes[at.value()].next_sibling {
-        at = next;
-    }
-    at
-}
-
 /// The first child of a node.
 pub fn first_child_of(nodes: &[TreeNode], x: NodeId) -> Option<NodeId>
     requires linked { IsArenaOf (forest_of nodes.now) nodes.now }
@@ -49,15 +72,6 @@ pub fn first_child_of(nodes: &[TreeNode], x: NodeId) -> Option<NodeId>
         (λ kid. with_later (forest_of nodes.now) kid ≡ kids_of (forest_of nodes.now) x) }
 {
     nodes[x.value()].first_child
-}
-
-/// Whether nodes may be put beside a node: it is no root, document or fragment.
-pub fn may_have_siblings(nodes: &[TreeNode], t: NodeId) -> bool
-    requires linked { IsArenaOf (forest_of nodes.now) nodes.now }
-    requires known { t < length nodes.now }
-    ensures { result ≡ not (stays (forest_of nodes.now) t) }
-{
-    !stays_put(nodes, t)
 }
 
 /// Whether n is x or one of its later siblings.
@@ -88,31 +102,6 @@ fn shares_parent(nodes: &[TreeNode], x: NodeId, n: NodeId) -> bool
         return false;
     }
     nodes[n.value()].parent == nodes[x.value()].parent
-}
-
-/// Whether a node and each of its later siblings may be moved to the children or beside another node.
-pub fn may_place_run(nodes: &[TreeNode], t: NodeId, x: NodeId) -> bool
-    requires linked { IsArenaOf (forest_of nodes.now) nodes.now }
-    requires forest { IsForest (forest_of nodes.now) }
-    requires target_known { t < length nodes.now }
-    requires known { x < length nodes.now }
-    ensures { MatchBool result (EachOf (with_later (forest_of nodes.now) x) (MayPlace (forest_of nodes.now) t))
-        (BlockedRun (forest_of nodes.now) t x) }
-{
-    if stays_put(nodes, x) {
-        return false;
-    }
-    let mut at = t;
-    for _step in 0..nodes.len() {
-        if shares_parent(nodes, x, at) {
-            return !is_at_or_after(nodes, x, at);
-        }
-        let Some(above) = step_up(nodes, at) else {
-            return true;
-        };
-        at = above;
-    }
-    true
 }
 
 fn is_element(nodes: &[TreeNode], n: NodeId) -> bool

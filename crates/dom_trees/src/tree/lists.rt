@@ -14,7 +14,7 @@ use crate::list_checks::{
     check_wrap,
 };
 use crate::tree::Tree;
-use dom_links::ops::lists;
+use dom_links::ops::{TreeNodeOps, lists};
 use dom_nodes::fault::EditFault;
 use dom_nodes::node_id::NodeId;
 
@@ -29,7 +29,7 @@ impl Tree {
         ensures cause { IfErr result (λ fault. ListCause self.old (end_of id.now) new_child.now (with_later self.old new_child.now) fault) }
     {
         check_run_end_of(&self.nodes, *id, *new_child)?;
-        lists::append_children_of(&mut self.nodes, *id, *new_child);
+        TreeNodeOps::append_children_of(&mut self.nodes, *id, *new_child);
         Ok(())
     }
 
@@ -43,7 +43,7 @@ impl Tree {
         ensures cause { IfErr result (λ fault. ListCause self.old (front_of id.now) new_child.now (siblings self.old new_child.now) fault) }
     {
         check_list_front_of(&self.nodes, *id, *new_child)?;
-        lists::prepend_children_of(&mut self.nodes, *id, *new_child);
+        TreeNodeOps::prepend_children_of(&mut self.nodes, *id, *new_child);
         Ok(())
     }
 
@@ -61,7 +61,7 @@ impl Tree {
         ensures cause { IfErr result (λ fault. ListCause self.old (before_node id.now) new_sibling.now (with_later self.old new_sibling.now) fault) }
     {
         check_run_before(&self.nodes, *id, *new_sibling)?;
-        lists::insert_siblings_before(&mut self.nodes, *id, *new_sibling);
+        TreeNodeOps::insert_siblings_before(&mut self.nodes, *id, *new_sibling);
         Ok(())
     }
 
@@ -79,7 +79,7 @@ impl Tree {
         ensures cause { IfErr result (λ fault. ListCause self.old (after_node id.now) new_sibling.now (with_later self.old new_sibling.now) fault) }
     {
         check_run_after(&self.nodes, *id, *new_sibling)?;
-        lists::insert_siblings_after(&mut self.nodes, *id, *new_sibling);
+        TreeNodeOps::insert_siblings_after(&mut self.nodes, *id, *new_sibling);
         Ok(())
     }
 
@@ -99,7 +99,7 @@ impl Tree {
     {
         let parent = new_parent;
         check_reparent(&self.nodes, *id, parent)?;
-        lists::reparent_children_of(&mut self.nodes, *id, new_parent);
+        TreeNodeOps::reparent_children_of(&mut self.nodes, *id, new_parent);
         Ok(())
     }
 

@@ -1,7 +1,8 @@
 use Rattle.std.proofs.Common.{refl, ◌∙◌, ap}
 use Rattle.dom_links.specs.Trees.{upward}
 use Rattle.dom_links.proofs.Depth.{parent_inside, upward-none}
-use Rattle.dom_links.proofs.Later.{Follows, follows, ancestors-parent}
+use Rattle.dom_links.proofs.Later.{Begins, begins, Follows, follows, ancestors-parent, tree_at}
+use Rattle.dom_links.proofs.Nodes.{kids_past, parent_past, siblings_past}
 use Rattle.dom_links.proofs.laws.lines_of_a_forest.Goals as goal
 
 pub returns : goal.returns
@@ -9,4 +10,10 @@ returns c = λ forest good. record {
   up = λ n p is. ancestors-parent forest n p good is (parent_inside forest n p good is);
   top = λ n is. ap (upward forest) is ∙ upward-none forest;
   beside = λ rev n. Follows.rest (follows forest rev n _ good refl);
+  beside_known = λ rev n. Follows.within (follows forest rev n _ good refl);
+  below = λ rev n. Begins.all (begins forest rev n _ good refl);
+  below_known = λ rev n. Begins.within (begins forest rev n _ good refl);
+  unknown_alone = λ n past. (parent_past forest n good.once past, siblings_past forest n good.once past, kids_past forest n good.once past);
+  row_trees = λ n known. tree_at forest n good known;
+  together = λ rev n m is. Follows.same_parent (follows forest rev n _ good refl) m is;
 }

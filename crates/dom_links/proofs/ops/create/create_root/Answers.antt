@@ -4,5 +4,5 @@ use Rattle.dom_links.specs.Forest.{IsArenaOf, forest_of}
 use Rattle.dom_links.proofs.Appends.{empty_arena}
 use Rattle.dom_links.proofs.ops.create.create_root.Goals as goal
 
-pub create_node-requires : goal.create_node-requires
-create_node-requires c = record { linked = subst (λ (nodes : List TreeNode). IsArenaOf (forest_of nodes) nodes) (sym c.new-nodes.ensures.items) empty_arena }
+pub add_node-requires : goal.add_node-requires
+add_node-requires c = record { linked = subst (λ (nodes : List TreeNode). IsArenaOf (forest_of nodes) nodes) (sym c.new-nodes.ensures.items) empty_arena }

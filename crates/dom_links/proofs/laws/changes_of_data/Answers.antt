@@ -1,0 +1,5 @@
+use Rattle.dom_links.proofs.Changing.{are_changes}
+use Rattle.dom_links.proofs.laws.changes_of_data.Goals as goal
+
+pub returns : goal.returns
+returns c = are_changes

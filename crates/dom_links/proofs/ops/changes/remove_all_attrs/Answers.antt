@@ -1,0 +1,10 @@
+use Rattle.std.proofs.Common.{rules, []}
+use Rattle.dom_nodes.specs.Changes.{with_attrs}
+use Rattle.dom_links.proofs.Changing.{written, unknown, keeps_attrs}
+use Rattle.dom_links.proofs.ops.changes.remove_all_attrs.Goals as goal
+
+pub returns-then-at-nodes : goal.returns-then-at-nodes
+returns-then-at-nodes c = written c.args.nodes.now c.value-at.result c.args.x c.remove_all_attrs.new.self c.index-nodes-at.result (with_attrs (λ _. [])) (keeps_attrs (λ _. [])) c.requires (search rules) c.value-at.ensures.number c.remove_all_attrs.ensures
+
+pub returns-else-at-nodes : goal.returns-else-at-nodes
+returns-else-at-nodes c = unknown c.args.nodes.now c.value-at.result c.args.x (with_attrs (λ _. [])) (keeps_attrs (λ _. [])) c.requires (search rules) c.value-at.ensures.number

@@ -1,0 +1,62 @@
+//! Changes of a node's data.
+
+ghost use Rattle.std.specs.Prelude.{◌≡◌, IfOk, None};
+ghost use Rattle.dom_nodes.specs.Kinds.{contents_named};
+
+use crate::laws;
+use crate::ops::changes;
+use crate::ops::create::create_root;
+use dom_nodes::name::{LocalName, Namespace, QualName};
+use dom_nodes::node_data::{Attrs, Element, NodeData, NodeEdit, TreeNode};
+use dom_nodes::node_id::NodeId;
+use dom_nodes::text::Text;
+use std::alloc::Global;
+use std::test::Fail;
+
+fn element(alloc: Global, local: &str) -> Result<NodeData, Fail>
+    ensures { IfOk result (λ content. contents_named content ≡ None) }
+{
+    let name = QualName {
+        prefix: None,
+        ns: Namespace::Html,
+        local: LocalName(Text::new(alloc, local)?),
+    };
+    Ok(NodeData::Element(Element::new(name, Attrs::new(alloc), None, false)))
+}
+
+fn root_of(nodes: &[TreeNode]) -> Option<&Element> {
+    nodes.first()?.as_element()
+}
+
+#[test]
+fn attributes_of_a_node(rt: HostRuntime) -> Result<(), Fail> {
+    laws::changes_of_data();
+    let root = NodeId::root();
+    let mut nodes = create_root(rt.alloc(), element(rt.alloc(), "a")?)?;
+    changes::set_attr(&mut nodes, root, "id", "v")?;
+    changes::set_attr(&mut nodes, root, "x", "v")?;
+    changes::remove_attr(&mut nodes, root, "x");
+    changes::remove_attrs(&mut nodes, root, &["y", "z"]);
+    changes::retain_attrs(&mut nodes, root, &["id"]);
+    assert!(rt; root_of(&nodes).is_some_and(|it| it.attr("id") == Some("v")));
+    changes::remove_all_attrs(&mut nodes, root);
+    assert!(rt; root_of(&nodes).is_some_and(|it| it.attr("id").is_none()));
+    Ok(())
+}
+
+#[test]
+fn names_and_classes_of_a_node(rt: HostRuntime) -> Result<(), Fail> {
+    let root = NodeId::root();
+    let mut nodes = create_root(rt.alloc(), element(rt.alloc(), "a")?)?;
+    changes::rename(&mut nodes, root, "b")?;
+    changes::add_class(&mut nodes, root, "k l")?;
+    changes::remove_class(&mut nodes, root, "k")?;
+    assert!(rt; root_of(&nodes).is_some_and(|it| it.node_name() == "b"));
+    assert!(rt; root_of(&nodes).is_some_and(|it| it.class() == Some("l")));
+    let told = Text::new(rt.alloc(), "c")?;
+    changes::update(&mut nodes, rt.alloc(), root, |edit: &mut NodeEdit| {
+        edit.name.local = LocalName(told);
+    });
+    assert!(rt; root_of(&nodes).is_some_and(|it| it.node_name() == "c"));
+    Ok(())
+}

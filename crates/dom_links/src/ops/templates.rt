@@ -1,0 +1,57 @@
+//! New elements with contents.
+
+ghost use Rattle.std.specs.Prelude.{◌≡◌, ◌<◌, ◌+◌, ◌∷◌, ◌++◌, [], List, IfErr, IfOk, OnErr, OnOk, vec_len};
+ghost use Rattle.dom_nodes.specs.declared.node_data.TreeNode.{TreeNode};
+ghost use Rattle.dom_links.specs.Forest.{IsArenaOf, forest_of};
+ghost use Rattle.dom_links.specs.Growth.{AppendedTemplate, Created, Limit};
+
+use crate::ops::TreeNodeOps;
+use crate::ops::create::push_alone;
+use dom_nodes::fault::EditFault;
+use dom_nodes::node_data::{NodeData, TreeNode};
+use dom_nodes::node_id::NodeId;
+
+/// Takes the last node away.
+fn drop_last(nodes: &mut Vec<TreeNode>)
+    ensures { (front : List TreeNode) (node : TreeNode) → nodes.old.items ≡ front ++ node ∷ [] → nodes.new.items ≡ front }
+{
+    nodes.pop();
+}
+
+/// Makes a fragment that stands alone. Where it is refused, the last node is taken away.
+fn create_fragment(nodes: &mut Vec<TreeNode>) -> Result<(), EditFault>
+    requires linked { IsArenaOf (forest_of nodes.old.items) nodes.old.items }
+    ensures ok { OnOk result (Created nodes.old.items nodes.new.items NodeData.Fragment) }
+    ensures grown { OnOk result (vec_len nodes.new ≡ vec_len nodes.old + 1) }
+    ensures err { OnErr result ((front : List TreeNode) (node : TreeNode) → nodes.old.items ≡ front ++ node ∷ [] → nodes.new.items ≡ front) }
+    ensures cause { IfErr result (λ fault. Limit (vec_len nodes.old) fault) }
+{
+    match push_alone(nodes, NodeData::Fragment) {
+        Ok(_) => Ok(()),
+        Err(fault) => {
+            drop_last(nodes);
+            Err(fault)
+        }
+    }
+}
+
+/// Makes a node as the last child of another, and right after it a fragment, for its contents: both or none. Whether
+/// that is allowed is the caller's condition for a forest.
+pub fn append_template_of(
+    nodes: &mut Vec<TreeNode>,
+    t: NodeId,
+    content: NodeData,
+) -> Result<NodeId, EditFault>
+    requires linked { IsArenaOf (forest_of nodes.old.items) nodes.old.items }
+    requires target_known { t < vec_len nodes.old }
+    ensures ok { OnOk result (AppendedTemplate nodes.old.items nodes.new.items t content) }
+    ensures number { IfOk result (λ id. id ≡ vec_len nodes.old) }
+    ensures grown { OnOk result (vec_len nodes.new ≡ vec_len nodes.old + 2) }
+    ensures err { OnErr result (nodes.new.items ≡ nodes.old.items) }
+    ensures cause { IfErr result (λ fault. Limit (vec_len nodes.old + 1) fault) }
+{
+    let id = push_alone(nodes, content)?;
+    create_fragment(nodes)?;
+    TreeNodeOps::append_child_of(nodes, t, id);
+    Ok(id)
+}

@@ -1,0 +1,49 @@
+//! The texts of nodes.
+
+ghost use Rattle.std.specs.Prelude.{◌≡◌, ◌++◌, ◌∷◌, IfOk, OnOk, string_bytes};
+ghost use Rattle.dom_links.specs.Forest.{forest_of};
+ghost use Rattle.dom_links.specs.Sound.{IsSoundArena};
+ghost use Rattle.dom_links.specs.Texts.{text_at, text_in, text_of};
+
+use crate::iters::{DescendantNodes, find_node};
+use crate::ops::TreeNodeOps;
+use dom_nodes::fault::OutOfMemory;
+use dom_nodes::node_data::{NodeData, TreeNode};
+use dom_nodes::node_id::NodeId;
+use std::alloc::Global;
+
+impl TreeNodeOps {
+    /// The contents of the texts at the node and below, in walk order, joined; nothing for an unknown number. Template
+    /// contents are not entered.
+    pub fn text_of(nodes: &[TreeNode], id: &NodeId, alloc: Global) -> Result<String, OutOfMemory>
+        requires { IsSoundArena nodes.now }
+        ensures { IfOk result (λ text. string_bytes text ≡ text_of (forest_of nodes.now) id.now) }
+    {
+        let mut text = String::new(alloc);
+        text.push_str(text_at(nodes, *id))?;
+        for below in DescendantNodes::new(nodes, id) {
+            text.push_str(text_at(nodes, below))?;
+        }
+        Ok(text)
+    }
+}
+
+/// What the node itself holds as a text.
+fn text_at(nodes: &[TreeNode], id: NodeId) -> &str
+    requires { IsSoundArena nodes.now }
+    ensures { result.now ≡ text_at (forest_of nodes.now) id }
+{
+    match find_node(nodes, id) {
+        Some(node) => text_in(&node.content),
+        None => "",
+    }
+}
+
+fn text_in(content: &NodeData) -> &str
+    ensures { result.now ≡ text_in content.now }
+{
+    match content {
+        NodeData::Text { contents } => contents.as_str(),
+        _ => "",
+    }
+}

@@ -1,0 +1,17 @@
+-- What the nodes are that calls make.
+use Rattle.std.specs.Prelude.{ℕ, false, List, [], None}
+use Rattle.dom_nodes.specs.declared.name.QualName.{QualName}
+use Rattle.dom_nodes.specs.declared.name.Namespace.TheVariants.{Html}
+use Rattle.dom_nodes.specs.declared.node_data.NodeData.{NodeData}
+use Rattle.dom_nodes.specs.declared.node_data.NodeData.TheVariants.{Element, Text}
+
+-- the HTML name of that local name, without prefix
+abbrev pub html_name : List ℕ → QualName
+html_name name = record { prefix = None; ns = Html; local = record { 0 = name } }
+
+-- the element of that name, without attributes and contents
+abbrev pub bare_element : QualName → NodeData
+bare_element name = Element (record { name = name; attrs = []; template_contents = None; mathml_annotation_xml_integration_point = false })
+
+abbrev pub text_node : List ℕ → NodeData
+text_node text = Text text

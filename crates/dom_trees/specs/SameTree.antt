@@ -1,0 +1,37 @@
+-- When two nodes, of one forest or of two, are the same tree.
+use Rattle.std.specs.Prelude.{◌≡◌, ℕ, false, [], ◌∷◌, Option, None, map, slice_get}
+use Rattle.std.specs.Option.{option_map}
+use Rattle.dom_nodes.specs.declared.name.Attr.{Attr}
+use Rattle.dom_nodes.specs.declared.node_data.NodeData.{NodeData}
+use Rattle.dom_nodes.specs.declared.node_data.NodeData.TheVariants.{Element}
+use Rattle.dom_links.specs.Forest.{Forest}
+use Rattle.dom_links.specs.Trees.{Trees, NoTrees, Tree, trees}
+
+abbrev pub without_prefix : Attr → Attr
+without_prefix attr = record { name = record { prefix = None; ns = attr.name.ns; local = attr.name.local }; value = attr.value }
+
+-- what is compared of a node: its kind, its name with namespace and prefix, its texts, its attributes without their
+-- prefixes; no text shows those, nor the MathML flag. The contents stand among the trees
+abbrev pub compared : NodeData → NodeData
+compared (Element element) = Element (record {
+  name = element.name;
+  attrs = map without_prefix element.attrs;
+  template_contents = None;
+  mathml_annotation_xml_integration_point = false;
+})
+compared content = content
+
+-- Trees without numbers: what is compared of the first tree's root, its contents, its kids, and the trees after it
+pub data Shown : Type 0 where
+  nothing : Shown
+  shown_tree : (root : Option NodeData) (contents kids later : Shown) → Shown
+
+abbrev pub shown : Forest → Trees → Shown
+shown forest NoTrees = nothing
+shown forest (Tree n contents kids later) =
+    shown_tree (option_map compared (slice_get forest.content n)) (shown forest contents) (shown forest kids) (shown forest later)
+
+-- n and m are the same tree: what is reached from them by kids and contents, they too, can be paired so that each pair
+-- is compared equal, and so are the orders of their kids
+abbrev pub SameTree : Forest → ℕ → Forest → ℕ → Type 0
+SameTree one n other m = shown one (trees one (n ∷ [])) ≡ shown other (trees other (m ∷ []))

@@ -1,0 +1,107 @@
+//! What stands around a node, and the parts of a page.
+
+use crate::list_tests::{add_comment, add_element, node};
+use crate::node_ref::NodeRef;
+use crate::tree::Tree;
+use dom_nodes::name::{LocalName, Namespace, QualName};
+use dom_nodes::node_data::{Attrs, Element, NodeData};
+use dom_nodes::text::Text;
+use std::alloc::Global;
+use std::test::Fail;
+
+/// Root 0 has the comment 1 and the element 2, `html`, which has the comment 3, `head` 4, the comment 5 and `body` 6.
+fn page(alloc: Global) -> Result<Tree, Fail> {
+    let mut tree = Tree::new(alloc, NodeData::Document)?;
+    add_comment(&mut tree, 0)?;
+    add_element(&mut tree, 0, "html")?;
+    add_comment(&mut tree, 2)?;
+    add_element(&mut tree, 2, "head")?;
+    add_comment(&mut tree, 2)?;
+    add_element(&mut tree, 2, "body")?;
+    Ok(tree)
+}
+
+#[test]
+fn finds_elements(rt: HostRuntime) -> Result<(), Fail> {
+    let tree = page(rt.alloc())?;
+    assert!(rt;
+        matches!(NodeRef::new(node(3), &tree).next_element_sibling(), Some(found) if found.id == node(4))
+    );
+    assert!(rt;
+        matches!(NodeRef::new(node(5), &tree).prev_element_sibling(), Some(found) if found.id == node(4))
+    );
+    assert!(rt; matches!(tree.root().first_element_child(), Some(found) if found.id == node(2)));
+    assert!(rt;
+        matches!(NodeRef::new(node(3), &tree).last_sibling(), Some(found) if found.id == node(6))
+    );
+    assert!(rt; matches!(tree.last_sibling_of(&node(3)), Some(found) if found.id == node(6)));
+    assert!(rt; tree.last_sibling_of(&node(6)).is_none());
+    assert!(rt;
+        NodeRef::new(node(6), &tree)
+            .next_element_sibling()
+            .is_none()
+    );
+    assert!(rt;
+        NodeRef::new(node(4), &tree)
+            .prev_element_sibling()
+            .is_none()
+    );
+    Ok(())
+}
+
+#[test]
+fn lists_nodes(rt: HostRuntime) -> Result<(), Fail> {
+    let tree = page(rt.alloc())?;
+    let body = NodeRef::new(node(6), &tree);
+    assert_eq!(rt; NodeRef::new(node(2), &tree).children()?.len(), 4);
+    assert_eq!(rt; NodeRef::new(node(2), &tree).element_children()?.len(), 2);
+    assert_eq!(rt; body.ancestors(None)?.len(), 2);
+    assert_eq!(rt; body.ancestors(Some(1))?.len(), 1);
+    assert_eq!(rt; tree.root().descendants()?.len(), 6);
+    Ok(())
+}
+
+#[test]
+fn finds_the_parts_of_a_page(rt: HostRuntime) -> Result<(), Fail> {
+    let alloc = rt.alloc();
+    let tree = page(alloc)?;
+    assert!(rt; matches!(tree.html_root(), Some(found) if found.id == node(2)));
+    assert!(rt; matches!(tree.head(), Some(found) if found.id == node(4)));
+    assert!(rt; matches!(tree.body(), Some(found) if found.id == node(6)));
+    let empty = Tree::new(alloc, NodeData::Document)?;
+    assert!(rt; empty.html_root().is_none() && empty.head().is_none() && empty.body().is_none());
+    Ok(())
+}
+
+#[test]
+fn tells_integration_points(rt: HostRuntime) -> Result<(), Fail> {
+    let alloc = rt.alloc();
+    let mut tree = page(alloc)?;
+    let name = QualName {
+        prefix: None,
+        ns: Namespace::MathMl,
+        local: LocalName(Text::new(alloc, "annotation-xml")?),
+    };
+    let flagged = Element::new(name, Attrs::new(alloc), None, true);
+    let made = tree.create_node(NodeData::Element(flagged))?;
+    assert!(rt; tree.is_mathml_annotation_xml_integration_point(&made));
+    assert!(rt; !tree.is_mathml_annotation_xml_integration_point(&node(2)));
+    assert!(rt; tree.get_unchecked(&made).id == made);
+    Ok(())
+}
+
+#[test]
+fn answers_nothing_of_an_unknown_node(rt: HostRuntime) -> Result<(), Fail> {
+    let tree = page(rt.alloc())?;
+    let nowhere = tree.get_unchecked(&node(99));
+    assert!(rt; nowhere.parent().is_none() && nowhere.first_child().is_none());
+    assert!(rt; nowhere.next_sibling().is_none() && nowhere.prev_sibling().is_none());
+    assert!(rt; nowhere.last_sibling().is_none() && nowhere.first_element_child().is_none());
+    assert!(rt; nowhere.children()?.is_empty() && nowhere.ancestors(None)?.is_empty());
+    assert!(rt; !nowhere.is_element() && !nowhere.has_attr("id") && !nowhere.has_class("a"));
+    assert!(rt; nowhere.attr_or("id", "none") == "none");
+    assert!(rt; nowhere.attrs().is_empty() && nowhere.node_name().is_none());
+    assert!(rt; tree.query_node(&node(99), |node| node.is_text()).is_none());
+    assert!(rt; tree.query_node_or(&node(99), true, |node| node.is_text()));
+    Ok(())
+}
