@@ -1,5 +1,5 @@
 -- The attributes that a tag's reader has kept.
-use Rattle.std.proofs.Common.{ℕ, ◌≡◌, true, false, List, [], ◌∷◌, ◌++◌, refl, sym, ap, ◌∙◌, map, ◌||◌}
+use Rattle.std.proofs.Common.{ℕ, ◌≡◌, Bool, true, false, List, [], ◌∷◌, ◌++◌, refl, sym, ap, ◌∙◌, map, ◌||◌}
 use Rattle.std.specs.List.{list_any}
 use Rattle.std.specs.Str.{bytes_eq}
 use Rattle.std.proofs.lemmas.List.{map-append}
@@ -34,26 +34,26 @@ added attrs a new kept e =
 pub record AreKept (text rest : List ℕ) (attrs : List Attr) : Type 0 where
   pub first : List Attribute
   pub are : attrs ≡ map read_attr first
-  pub later : (all : List Attribute) (end : List ℕ) → EndsTag text all end → (more : List Attribute) × EndsTag rest more end × (kept_after [] all ≡ kept_after first more)
+  pub later : (slash : Bool) (all : List Attribute) (end : List ℕ) → EndsTag slash text all end → (more : List Attribute) × EndsTag slash rest more end × (kept_after [] all ≡ kept_after first more)
 
 pub kept_none : (text : List ℕ) (attrs : List Attr) → attrs ≡ [] → AreKept text text attrs
-kept_none text attrs e = record { first = []; are = e; later = λ all end h. (all, h, refl) }
+kept_none text attrs e = record { first = []; are = e; later = λ slash all end h. (all, h, refl) }
 
 pub kept_one : (text rest after : List ℕ) (old new : List Attr) (a : Attribute) → BeginsAttribute rest a after → AreKept text rest old →
     ((kept : List Attribute) → old ≡ map read_attr kept → new ≡ map read_attr (kept_after kept (a ∷ []))) → AreKept text after new
 kept_one text rest after old new a b h step = record {
   first = kept_after h.first (a ∷ []);
   are = step h.first h.are;
-  later = λ all end ends.
-      let now = h.later all end ends in
-      let one = one_first rest after a b now.0 end now.1 in
+  later = λ slash all end ends.
+      let now = h.later slash all end ends in
+      let one = one_first slash rest after a b now.0 end now.1 in
       (one.0, one.1, now.2 ∙ ap (kept_after h.first) one.2);
 }
 
 pub kept_all : (text rest : List ℕ) (attrs : List Attr) → AreKept text rest attrs → ((a : Attribute) (after : List ℕ) → BeginsAttribute rest a after → ⊥) →
-    (all : List Attribute) (end : List ℕ) → EndsTag text all end → attrs ≡ map read_attr (kept_after [] all)
-kept_all text rest attrs h none all end ends = go (h.later all end ends).0 (h.later all end ends).1 (h.later all end ends).2
+    (slash : Bool) (all : List Attribute) (end : List ℕ) → EndsTag slash text all end → attrs ≡ map read_attr (kept_after [] all)
+kept_all text rest attrs h none slash all end ends = go (h.later slash all end ends).0 (h.later slash all end ends).1 (h.later slash all end ends).2
   where
-    go : (more : List Attribute) → EndsTag rest more end → kept_after [] all ≡ kept_after h.first more → attrs ≡ map read_attr (kept_after [] all)
+    go : (more : List Attribute) → EndsTag slash rest more end → kept_after [] all ≡ kept_after h.first more → attrs ≡ map read_attr (kept_after [] all)
     go [] t e = h.are ∙ ap (map read_attr) (sym e)
     go (c ∷ cs) t e = absurd (none c t.0 t.1)

@@ -9,14 +9,14 @@ use Rattle.std.proofs.lemmas.List.Folds.{list_all-append}
 use Rattle.std.proofs.lemmas.Str.{inside_one}
 use Rattle.dom_markup.specs.Escaping.{text_char, value_char, spaced_char, escaped_text, escaped_value, lacks}
 
-lacks_from : (byte : ℕ) (xs : List ℕ) → ((k : ℕ) → k < length xs → get_or xs k 0 ≡ byte → ⊥) → lacks byte xs ≡ true
+pub lacks_from : (byte : ℕ) (xs : List ℕ) → ((k : ℕ) → k < length xs → get_or xs k 0 ≡ byte → ⊥) → lacks byte xs ≡ true
 lacks_from byte [] none = refl
 lacks_from byte (x ∷ xs) none =
     let here : (x == byte) ≡ false = ne_eqb x byte (none 0 (omega arith)) in
     and_from (not (x == byte)) (lacks byte xs) (not_from_false (x == byte) here) (lacks_from byte xs (λ k below is. none (suc k) (omega arith) is))
 
 -- a character's bytes hold no other ASCII character
-encode_lacks : (byte c : ℕ) → byte < 128 → (c == byte) ≡ false → lacks byte (encode_utf8 c) ≡ true
+pub encode_lacks : (byte c : ℕ) → byte < 128 → (c == byte) ≡ false → lacks byte (encode_utf8 c) ≡ true
 encode_lacks byte c ascii other = lacks_from byte (encode_utf8 c) (λ k below is. eqb-false c byte other (inside_one c [] (encode_utf8 c) k (sym (append-nil (encode_utf8 c))) below (omega arith) ∙ is))
 
 flat_map_lacks : (byte : ℕ) (f : ℕ → List ℕ) → ((c : ℕ) → lacks byte (f c) ≡ true) → (cs : List ℕ) → lacks byte (flat_map f cs) ≡ true

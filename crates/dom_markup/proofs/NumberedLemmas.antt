@@ -140,3 +140,30 @@ forest_of_rows-child p content rows below =
     (map-append (λ (r : Row). r.content) rows (row ∷ []))
     (kids_more p n content rows long (rw (← long) below))
     (map_from-append (λ m (r : Row). run_among m r.parent) 0 rows (row ∷ []) ∙ sym (runs_more p n (with_node content forest) old refl old_long))
+
+-- ---- a node more that stands alone
+
+abbrev pub lone_row : NodeData → Row
+lone_row content = record { parent = None; content = content }
+
+kids_among-lone : (content : NodeData) (q i : ℕ) (rows : List Row) → kids_among i (rows ++ lone_row content ∷ []) q ≡ kids_among i rows q
+kids_among-lone content q i [] = refl
+kids_among-lone content q i (row ∷ rows) = ap (λ (ks : List ℕ). cond (names row.parent q) (i ∷ ks) ks) (kids_among-lone content q (i + 1) rows)
+
+pub forest_of_rows-lone : (content : NodeData) (rows : List Row) → ParentsBelow (length rows) rows → forest_of_rows (rows ++ lone_row content ∷ []) ≡ with_node content (forest_of_rows rows)
+forest_of_rows-lone content rows below =
+    let forest : Forest = forest_of_rows rows in
+    let row = lone_row content in
+    let all : List Row = rows ++ row ∷ [] in
+    let long : length rows ≡ length forest.content = sym (length-map rows (λ (r : Row). r.content)) in
+    let last : kids_among 0 all (0 + length rows) ≡ [] =
+    kids_among-lone content (0 + length rows) 0 rows ∙ ap (kids_among 0 rows) (omega arith) ∙ kids_among-none (length rows) 0 rows below in
+    let kids : map_from 0 (λ q r. kids_among 0 all q) all ≡ map_from 0 (λ q r. kids_among 0 rows q) rows ++ [] ∷ [] =
+    map_from-append (λ q r. kids_among 0 all q) 0 rows (row ∷ [])
+    ∙ ap (λ (t : List (List ℕ)). t ++ kids_among 0 all (0 + length rows) ∷ []) (map_from-same (λ q r. kids_among 0 all q) (λ q r. kids_among 0 rows q) 0 rows (λ q r. kids_among-lone content q 0 rows))
+    ∙ ap (λ (ks : List ℕ). map_from 0 (λ q (r : Row). kids_among 0 rows q) rows ++ ks ∷ []) last in
+    let place : 0 + length rows ≡ length forest.content = omega (arith, long) in
+    forest_same _ _ _ _ _ _
+    (map-append (λ (r : Row). r.content) rows (row ∷ []))
+    kids
+    (map_from-append (λ m (r : Row). run_among m r.parent) 0 rows (row ∷ []) ∙ ap (λ (n : ℕ). map_from 0 (λ m (r : Row). run_among m r.parent) rows ++ (n ∷ []) ∷ []) place)

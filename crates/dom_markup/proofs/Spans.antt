@@ -1,18 +1,18 @@
 -- A front whose bytes all pass a test, before a byte that fails it, is told by the text.
-use Rattle.std.proofs.Common.{◌≡◌, ℕ, zero, suc, ◌+◌, ◌<◌, ◌≤◌, get_or, add-one, List, [], ◌∷◌, ◌++◌, Bool, true, false, not, cond, refl, sym, ap, ◌∙◌, subst, arith, take, drop, length, inl, inr, unwrap_or}
+use Rattle.std.proofs.Common.{◌≡◌, ℕ, zero, suc, ◌+◌, ◌<◌, ◌≤◌, get_or, add-one, List, [], ◌∷◌, ◌++◌, Bool, true, false, cond, refl, sym, ◌∙◌, subst, arith, take, drop, length}
 use Rattle.std.specs.Prelude.{nat_eq, Option, None, Some, MatchOption, IfNone}
 use Rattle.std.specs.List.{list_all, prefix_len}
-use Rattle.std.proofs.lemmas.Bool.{true≢false, and_parts, eqb-true, cases_lt}
+use Rattle.std.proofs.lemmas.Bool.{true≢false, and_parts, eqb-true}
 use Rattle.std.proofs.lemmas.Bool.Decides.{nat_tests}
 use Rattle.std.proofs.lemmas.List.{take-append-drop}
 use Rattle.std.proofs.lemmas.List.Sums.{prefix_len-le-length, prefix_len_passes, prefix_len_stops}
 use Rattle.std.proofs.lemmas.Str.{IsCharBoundary-after_ascii, IsCharBoundary-start}
 use Rattle.std.specs.Str.{IsUtf8, IsCharBoundary}
-use Rattle.memchr.specs.Find.{IsFirstByte}
 use Rattle.dom_markup.specs.declared.document.scan.Letters.{Letters}
-use Rattle.dom_markup.specs.declared.document.scan.Letters.TheVariants.{Whitespace, Name, Text, Value}
-use Rattle.dom_markup.specs.Written.{Fails, Splits, passes}
-use Rattle.dom_markup.specs.Letters.{is_whitespace, is_letter, is_name_byte, is_text_byte, is_value_byte}
+use Rattle.dom_markup.specs.declared.document.scan.Letters.TheVariants.{Whitespace, Name, Bare}
+use Rattle.dom_markup.specs.Markup.{Fails, is_bare_byte}
+use Rattle.dom_markup.specs.Written.{Splits, passes}
+use Rattle.dom_markup.specs.Letters.{is_whitespace, is_letter, is_name_byte}
 
 pub span_same : (p : ℕ → Bool) (xs ys us vs : List ℕ) → list_all p xs ≡ true → Fails p ys → list_all p us ≡ true → Fails p vs → xs ++ ys ≡ us ++ vs → (xs ≡ us) × (ys ≡ vs)
 span_same p [] ys [] vs a f b g e = (refl, e)
@@ -78,11 +78,8 @@ space_small b h = grind (arith, nat_tests)
 name_small : (b : ℕ) → is_name_byte b ≡ false → b < 128
 name_small b h = grind (arith, nat_tests)
 
-text_small : (b : ℕ) → is_text_byte b ≡ false → b < 128
-text_small b h = grind (arith, nat_tests)
-
-value_small : (b : ℕ) → is_value_byte b ≡ false → b < 128
-value_small b h = grind (arith, nat_tests)
+bare_small : (b : ℕ) → is_bare_byte b ≡ false → b < 128
+bare_small b h = grind (arith, nat_tests)
 
 -- where the byte behind the front is ASCII, a text may be cut before it
 stops_boundary : (p : ℕ → Bool) (xs : List ℕ) → ((b : ℕ) → p b ≡ false → b < 128) → IsCharBoundary xs (prefix_len p xs)
@@ -101,8 +98,7 @@ front_boundary Whitespace xs u = go (prefix_len is_whitespace xs) (prefix_len-le
     go zero l h = IsCharBoundary-start xs u
     go (suc n) l h = rw (← add-one n) (IsCharBoundary-after_ascii xs n u (omega arith) (space_small _ (h n (omega arith))))
 front_boundary Name xs u = stops_boundary is_name_byte xs name_small
-front_boundary Text xs u = stops_boundary is_text_byte xs text_small
-front_boundary Value xs u = stops_boundary is_value_byte xs value_small
+front_boundary Bare xs u = stops_boundary is_bare_byte xs bare_small
 
 pub IfNone-from_cases : {X : Type 0} (r : Option X) (P : Type 0) (Q : X → Type 0) → MatchOption r P Q → IfNone r P
 IfNone-from_cases None P Q h = h
@@ -117,22 +113,3 @@ nil_from_length (x ∷ xs) e =
 pub length_from_nil : (xs : List ℕ) → xs ≡ [] → nat_eq (length xs) 0 ≡ false → ⊥
 length_from_nil [] e h = true≢false h
 length_from_nil (x ∷ xs) e h = cc
-
-failing : (b : Bool) → not b ≡ false → b ≡ true
-failing true e = refl
-failing false e = cc
-
--- a search for a byte that fails ends where the front does
-pub first_fails : (p test : ℕ → Bool) → ((b : ℕ) → p b ≡ not (test b)) → (xs : List ℕ) (r : Option ℕ) → IsFirstByte test xs r → unwrap_or r (length xs) ≡ prefix_len p xs
-first_fails p test differ xs None none = elim (cases_lt (prefix_len p xs) (length xs)) [
-  | inl h ↦ absurd (none (prefix_len p xs) (omega arith) h (failing (test (get_or xs (prefix_len p xs) 0)) (sym (differ _) ∙ prefix_len_stops p xs 0 h)))
-  | inr past ↦ omega (arith, prefix_len-le-length p xs)
-]
-first_fails p test differ xs (Some k) (first, here) = elim (cases_lt (prefix_len p xs) k) [
-  | inl h ↦ (let below : prefix_len p xs < length xs = omega (arith, first.high) in
-      absurd (first.before (prefix_len p xs) (omega arith) h (failing (test (get_or xs (prefix_len p xs) 0)) (sym (differ _) ∙ prefix_len_stops p xs 0 below))))
-  | inr past ↦ elim (cases_lt k (prefix_len p xs)) [
-    | inl h ↦ absurd (true≢false (sym (prefix_len_passes p xs k 0 h) ∙ differ _ ∙ ap not here))
-    | inr other ↦ omega arith
-  ]
-]

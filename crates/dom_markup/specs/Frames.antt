@@ -1,11 +1,13 @@
 -- A document of which a part has been read: the elements that are open, and the trees that are done.
-use Rattle.std.specs.Prelude.{◌≡◌, ◌+◌, ℕ, List, [], ◌∷◌, ◌++◌}
+use Rattle.std.specs.Prelude.{◌≡◌, ◌+◌, ℕ, List, [], ◌∷◌, ◌++◌, length, Bool, true, false, Some, None, if◌then◌else◌}
+use Rattle.dom_markup.specs.Names.{is_among, is_template, void_names}
 use Rattle.dom_markup.specs.ValueTrees.{Attribute, ValueTrees}
-use Rattle.dom_markup.specs.ValueTrees.ValueTrees.{no_trees, text_node, element_node}
-use Rattle.dom_markup.specs.Markup.{Item, items_of}
+use Rattle.dom_markup.specs.ValueTrees.ValueTrees.{no_trees, text_node, comment_node, doctype_node, element_node}
+use Rattle.dom_markup.specs.Markup.{Item, AreInPlace, items_of}
 use Rattle.dom_markup.specs.Markup.Item.{start_tag}
 use Rattle.dom_links.specs.Forest.{Forest}
-use Rattle.dom_markup.specs.Numbered.{document_of, size}
+use Rattle.dom_links.specs.Growth.{with_child, with_template}
+use Rattle.dom_markup.specs.Numbered.{document_of, read_element, size}
 
 -- an open element: the trees before it that are done, its name and its attributes
 pub record Frame : Type 0 where
@@ -18,6 +20,8 @@ infixl 20 ◌then◌
 abbrev pub ◌then◌ : ValueTrees → ValueTrees → ValueTrees
 no_trees then more = more
 (text_node contents after) then more = text_node contents (after then more)
+(comment_node contents after) then more = comment_node contents (after then more)
+(doctype_node name public system after) then more = doctype_node name public system (after then more)
 (element_node name attributes kids after) then more = element_node name attributes kids (after then more)
 
 -- the innermost element stands first in the list
@@ -30,12 +34,22 @@ abbrev pub closed : List Frame → ValueTrees → ValueTrees
 closed [] done = done
 closed (f ∷ fs) done = closed fs (f.before then element_node f.name f.attributes done no_trees)
 
--- how many nodes stand up to and with the innermost element; that is also its number
+abbrev pub is_top : List Frame → Bool
+is_top [] = true
+is_top (f ∷ fs) = false
+
+-- no open element is void, and doctypes stand only at the top
+abbrev pub FramesInPlace : List Frame → Type 0
+FramesInPlace [] = Unit {0}
+FramesInPlace (f ∷ fs) = AreInPlace (is_top fs) f.before × (is_among f.name void_names ≡ false) × FramesInPlace fs
+
+-- how many nodes stand up to and with the innermost element, and its contents where it is a template; that is also the
+-- number of the node below which its kids stand
 abbrev pub opened_size : List Frame → ℕ
 opened_size [] = 0
-opened_size (f ∷ fs) = opened_size fs + (size f.before + 1)
+opened_size (f ∷ fs) = opened_size fs + (size f.before + (if is_template f.name then 2 else 1))
 
--- an open element's number, and its name
+-- an open element: the number of the node below which its kids stand, and its name
 pub record Opened : Type 0 where
   pub number : ℕ
   pub name : List ℕ
@@ -45,6 +59,16 @@ abbrev pub opened : List Frame → List Opened
 opened [] = []
 opened (f ∷ fs) = opened fs ++ record { number = opened_size (f ∷ fs); name = f.name } ∷ []
 
+-- the forest with a new element of this name as the last kid of p, and a template's contents
+abbrev pub with_element : ℕ → List ℕ → List Attribute → Forest → Forest
+with_element p name attributes forest =
+    if is_template name then with_template p (read_element name attributes (Some (length forest.content + 1))) forest
+    else with_child p (read_element name attributes None) forest
+
+-- the number of the node below which its kids stand
+abbrev pub kids_place : List ℕ → Forest → ℕ
+kids_place name forest = if is_template name then length forest.content + 1 else length forest.content
+
 -- what has been read after these items: the forest so far, and the open elements
 pub record HasRead (items : List Item) (forest : Forest) (stack : List Opened) : Type 0 where
   pub frames : List Frame
@@ -52,3 +76,5 @@ pub record HasRead (items : List Item) (forest : Forest) (stack : List Opened) :
   pub items_are : items ≡ opened_items frames ++ items_of done
   pub forest_is : forest ≡ document_of (closed frames done)
   pub stack_is : stack ≡ opened frames
+  pub open_in_place : FramesInPlace frames
+  pub in_place : AreInPlace (is_top frames) done

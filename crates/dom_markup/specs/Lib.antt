@@ -1,8 +1,11 @@
 pub mod Letters
 pub mod Names
+pub mod References
+pub mod Referring
 pub mod ValueTrees
 pub mod Markup
 pub mod Written
+pub mod Attributes
 pub mod Token
 pub mod Tokens
 pub mod Numbered
@@ -16,3 +19,6 @@ pub mod Html
 pub mod Scopes
 pub mod Cutting
 pub mod Ops
+pub mod Plain
+pub mod ReadingBack
+pub mod FaultKinds

@@ -1,12 +1,11 @@
 -- Nodes that can be made but for a limit, and the limits.
-use Rattle.std.specs.Prelude.{◌≡◌, ◌≤◌, false, None, length}
+use Rattle.std.specs.Prelude.{ℕ, ◌≡◌, ◌≤◌, false, None}
 use Rattle.dom_nodes.specs.Kinds.{contents_named, is_top}
 use Rattle.dom_nodes.specs.declared.fault.EditFault.{EditFault}
 use Rattle.dom_nodes.specs.declared.fault.EditFault.TheVariants as edit_faults
 use Rattle.dom_nodes.specs.declared.fault.MarkupFaultKind.{MarkupFaultKind}
 use Rattle.dom_nodes.specs.declared.fault.MarkupFaultKind.TheVariants.{TooManyNodes, Memory}
 use Rattle.dom_nodes.specs.declared.node_data.NodeData.{NodeData}
-use Rattle.dom_links.specs.Forest.{Forest}
 
 -- neither a document or fragment, nor a template with contents
 pub record IsPlainData (content : NodeData) : Type 0 where
@@ -24,8 +23,8 @@ abbrev pub limit_kind : EditFault → MarkupFaultKind
 limit_kind edit_faults.TooManyNodes = TooManyNodes
 limit_kind _ = Memory
 
--- no number is left in the forest, or there was no memory
-abbrev pub LacksNumbers : Forest → MarkupFaultKind → Type 0
-LacksNumbers forest TooManyNodes = 4294967295 ≤ length forest.content
-LacksNumbers forest Memory = Unit {0}
-LacksNumbers forest _ = ⊥
+-- with so many nodes there is no number left, or there was no memory
+abbrev pub LacksNumbers : ℕ → MarkupFaultKind → Type 0
+LacksNumbers count TooManyNodes = 4294967295 ≤ count
+LacksNumbers count Memory = Unit {0}
+LacksNumbers count _ = ⊥

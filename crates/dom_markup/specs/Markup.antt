@@ -1,46 +1,92 @@
 -- The grammar of explicit markup: which text spells which trees.
-use Rattle.std.specs.Prelude.{◌≡◌, ◌≢◌, ℕ, List, [], ◌∷◌, ◌++◌, Bool, true, false, if◌then◌else◌}
+use Rattle.std.specs.Prelude.{◌≡◌, ◌≢◌, ℕ, ◌≤◌, ◌==◌, ◌||◌, ◌&&◌, not, List, [], ◌∷◌, ◌++◌, length, drop, Bool, true, false, MatchBool, ◌⊎◌, codes, if◌then◌else◌}
 use Rattle.std.specs.List.{list_all, list_any}
 use Rattle.std.specs.Str.{bytes_eq}
-use Rattle.dom_markup.specs.Letters.{is_whitespace, is_letter, is_name_byte, is_text_byte, is_value_byte, folded}
-use Rattle.dom_markup.specs.Names.{has_rules_of_its_own}
+use Rattle.dom_markup.specs.Letters.{is_whitespace, is_letter, is_name_byte, folded}
+use Rattle.dom_markup.specs.Names.{Mode, markup, text_of, raw_text_of, mode_in, is_among, void_names}
+use Rattle.dom_markup.specs.References.{decoded}
 use Rattle.dom_markup.specs.ValueTrees.{Attribute, ValueTrees}
-use Rattle.dom_markup.specs.ValueTrees.ValueTrees.{no_trees, text_node, element_node}
+use Rattle.dom_markup.specs.ValueTrees.ValueTrees.{no_trees, text_node, comment_node, doctype_node, element_node}
 
--- a tag or a text, the smallest parts that mean something
+-- a tag, a text, a comment or a doctype: the smallest parts that mean something
 pub data Item : Type 0 where
   start_tag : List ℕ → List Attribute → Item
   end_tag : List ℕ → Item
   characters : List ℕ → Item
+  comment : List ℕ → Item
+  doctype : List ℕ → List ℕ → List ℕ → Item
+
+-- ---- names and whitespace
 
 -- a letter, and then name bytes
 abbrev pub IsTagName : List ℕ → Type 0
 IsTagName [] = ⊥
 IsTagName (b ∷ bs) = (is_letter b ≡ true) × (list_all is_name_byte bs ≡ true)
 
--- a tag's name as it is written names the element of this name, which has no rules of its own
-pub record NamesElement (written name : List ℕ) : Type 0 where
-  pub is_name : IsTagName written
-  pub folds : name ≡ folded written
-  pub plain : has_rules_of_its_own name ≡ false
+-- a tag's name as it is written names the element of this name
+abbrev pub NamesElement : List ℕ → List ℕ → Type 0
+NamesElement written name = IsTagName written × (name ≡ folded written)
 
--- text is whitespace, a name, `="`, a value, `"` and then rest
+abbrev pub IsSpace : List ℕ → Type 0
+IsSpace text = list_all is_whitespace text ≡ true
+
+-- the text without the whitespace at its front
+abbrev pub after_space : List ℕ → List ℕ
+after_space [] = []
+after_space (b ∷ bs) = if is_whitespace b then after_space bs else b ∷ bs
+
+-- ---- attributes
+
+abbrev pub is_bare_byte : ℕ → Bool
+is_bare_byte b = not (is_whitespace b || b == 62)
+
+-- text is empty, or its first byte fails
+abbrev pub Fails : (ℕ → Bool) → List ℕ → Type 0
+Fails p [] = Unit {0}
+Fails p (b ∷ bs) = p b ≡ false
+
+-- text is a value as it is written and then rest: in quotes of one kind without that quote, or bare, as far as it goes
+abbrev pub BeginsValue : List ℕ → List ℕ → List ℕ → Type 0
+BeginsValue [] written rest = ⊥
+BeginsValue (c ∷ more) written rest =
+    MatchBool (c == 34 || c == 39)
+    ((list_all (λ b. not (b == c)) written ≡ true) × (more ≡ written ++ c ∷ rest))
+    ((c ∷ more ≡ written ++ rest) × (written ≢ []) × (list_all is_bare_byte written ≡ true) × Fails is_bare_byte rest)
+
+abbrev pub begins_equals : List ℕ → Bool
+begins_equals [] = false
+begins_equals (b ∷ bs) = b == 61
+
+-- after is `=` and a value, with whitespace allowed round the `=`, and then rest; or there is none, and the value is empty
+abbrev pub HasValue : List ℕ → List ℕ → List ℕ → Type 0
+HasValue after value rest = MatchBool (begins_equals (after_space after))
+    ((written : List ℕ) × BeginsValue (after_space (drop 1 (after_space after))) written rest × (value ≡ decoded written))
+    ((value ≡ []) × (rest ≡ after))
+
+-- text is whitespace, a name, its value if there is one, and then rest
 pub record BeginsAttribute (text : List ℕ) (attribute : Attribute) (rest : List ℕ) : Type 0 where
   pub space : List ℕ
   pub name : List ℕ
-  pub is : text ≡ space ++ (name ++ (61 ∷ 34 ∷ (attribute.value ++ (34 ∷ rest))))
-  pub is_space : list_all is_whitespace space ≡ true
+  pub after : List ℕ
+  pub is : text ≡ space ++ (name ++ after)
+  pub is_space : IsSpace space
   pub some_space : space ≢ []
   pub is_name : list_all is_name_byte name ≡ true
   pub some_name : name ≢ []
+  pub whole_name : Fails is_name_byte after
   pub folds : attribute.name ≡ folded name
-  pub is_value : list_all is_value_byte attribute.value ≡ true
+  pub valued : HasValue after attribute.value rest
 
--- text is these attributes as they are written, optional whitespace, `>` and then rest
-abbrev pub EndsTag : List ℕ → List Attribute → List ℕ → Type 0
-EndsTag text [] rest = (space : List ℕ) × (list_all is_whitespace space ≡ true) × (text ≡ space ++ (62 ∷ rest))
-EndsTag text (attribute ∷ attributes) rest =
-    (after : List ℕ) × BeginsAttribute text attribute after × EndsTag after attributes rest
+-- text is optional whitespace, where it may be a slash, and `>`, and then rest
+abbrev pub Closes : Bool → List ℕ → List ℕ → Type 0
+Closes slash text rest = (space : List ℕ) × IsSpace space
+    × ((text ≡ space ++ (62 ∷ rest)) ⊎ ((slash ≡ true) × (text ≡ space ++ (47 ∷ 62 ∷ rest))))
+
+-- text is these attributes as they are written, the end of the tag, and then rest
+abbrev pub EndsTag : Bool → List ℕ → List Attribute → List ℕ → Type 0
+EndsTag slash text [] rest = Closes slash text rest
+EndsTag slash text (attribute ∷ attributes) rest =
+    (after : List ℕ) × BeginsAttribute text attribute after × EndsTag slash after attributes rest
 
 abbrev pub has_name : List ℕ → List Attribute → Bool
 has_name name attributes = list_any (λ a. bytes_eq a.name name) attributes
@@ -51,45 +97,160 @@ kept_after first [] = first
 kept_after first (attribute ∷ attributes) =
     kept_after (if has_name attribute.name first then first else first ++ attribute ∷ []) attributes
 
--- text doesn't go on as a text does
-abbrev pub EndsText : List ℕ → Type 0
-EndsText [] = Unit {0}
-EndsText (b ∷ bs) = is_text_byte b ≡ false
+-- ---- tags
 
--- text is the item and then rest; a text goes as far as it can
-abbrev pub Begins : List ℕ → Item → List ℕ → Type 0
-Begins text (start_tag name attributes) rest =
-    (written more : List ℕ) × (all : List Attribute) × (text ≡ 60 ∷ (written ++ more))
-    × NamesElement written name × EndsTag more all rest × (attributes ≡ kept_after [] all)
-Begins text (end_tag name) rest =
-    (written space : List ℕ) × (text ≡ 60 ∷ 47 ∷ (written ++ (space ++ (62 ∷ rest))))
-    × NamesElement written name × (list_all is_whitespace space ≡ true)
-Begins text (characters contents) rest =
-    (text ≡ contents ++ rest) × (contents ≢ []) × (list_all is_text_byte contents ≡ true) × EndsText rest
+-- text is a start tag and then rest; a void element's may end in a slash
+pub record BeginsStart (text name : List ℕ) (attributes : List Attribute) (rest : List ℕ) : Type 0 where
+  pub written : List ℕ
+  pub more : List ℕ
+  pub all : List Attribute
+  pub is : text ≡ 60 ∷ (written ++ more)
+  pub names : NamesElement written name
+  pub ends : EndsTag (is_among name void_names) more all rest
+  pub kept : attributes ≡ kept_after [] all
+
+-- text is an end tag and then rest
+pub record BeginsEnd (text name rest : List ℕ) : Type 0 where
+  pub written : List ℕ
+  pub space : List ℕ
+  pub is : text ≡ 60 ∷ 47 ∷ (written ++ (space ++ (62 ∷ rest)))
+  pub names : NamesElement written name
+  pub is_space : IsSpace space
+
+-- ---- texts
+
+-- a tag, a comment, a doctype or an instruction begins here: a `<` and a letter, `/`, `!` or `?`
+abbrev pub begins_markup : List ℕ → Bool
+begins_markup [] = false
+begins_markup (a ∷ []) = false
+begins_markup (a ∷ b ∷ bs) = a == 60 && (is_letter b || b == 47 || b == 33 || b == 63)
+
+-- the text up to the first place where markup begins
+abbrev pub text_front : List ℕ → List ℕ
+text_front [] = []
+text_front (b ∷ bs) = if begins_markup (b ∷ bs) then [] else b ∷ text_front bs
+
+-- text is front, as far as the end tag of this name that stands first, and rest
+pub record EndsAtTag (name text front rest : List ℕ) : Type 0 where
+  pub is : text ≡ front ++ rest
+  pub after : List ℕ
+  pub ends : BeginsEnd rest name after
+  pub first : (before later beyond : List ℕ) → text ≡ before ++ later → BeginsEnd later name beyond → length front ≤ length before
+
+-- ---- comments and doctypes
+
+-- text is front, as far as the first place where the mark stands, the mark, and rest
+pub record EndsAtMark (mark text front rest : List ℕ) : Type 0 where
+  pub is : text ≡ front ++ (mark ++ rest)
+  pub first : (before later : List ℕ) → text ≡ before ++ (mark ++ later) → length front ≤ length before
+
+-- text is whitespace, a text in quotes, and then rest
+pub record BeginsQuoted (text value rest : List ℕ) : Type 0 where
+  pub space : List ℕ
+  pub quote : ℕ
+  pub is : text ≡ space ++ (quote ∷ (value ++ (quote ∷ rest)))
+  pub is_space : IsSpace space
+  pub some_space : space ≢ []
+  pub is_quote : (quote ≡ 34) ⊎ (quote ≡ 39)
+  pub within : list_all (λ b. not (b == quote)) value ≡ true
+
+-- text is whitespace, the word in any case, and then rest
+pub record BeginsWord (word text rest : List ℕ) : Type 0 where
+  pub space : List ℕ
+  pub written : List ℕ
+  pub is : text ≡ space ++ (written ++ rest)
+  pub is_space : IsSpace space
+  pub some_space : space ≢ []
+  pub folds : folded written ≡ word
+
+-- text is the identifiers of a doctype, and then rest: none, a public and perhaps a system one, or a system one
+abbrev pub BeginsIdentifiers : List ℕ → List ℕ → List ℕ → List ℕ → Type 0
+BeginsIdentifiers text public system rest =
+    ((public ≡ []) × (system ≡ []) × (rest ≡ text))
+    ⊎ ((after : List ℕ) × BeginsWord (codes "public") text after × BeginsQuoted after public rest × (system ≡ []))
+    ⊎ ((after later : List ℕ) × BeginsWord (codes "public") text after × BeginsQuoted after public later × BeginsQuoted later system rest)
+    ⊎ ((after : List ℕ) × BeginsWord (codes "system") text after × BeginsQuoted after system rest × (public ≡ []))
+
+-- text is a doctype and then rest
+pub record BeginsDoctype (text name public system rest : List ℕ) : Type 0 where
+  pub word : List ℕ
+  pub space : List ℕ
+  pub written : List ℕ
+  pub more : List ℕ
+  pub close : List ℕ
+  pub is : text ≡ 60 ∷ 33 ∷ (word ++ (space ++ (written ++ more)))
+  pub is_word : folded word ≡ codes "doctype"
+  pub is_space : IsSpace space
+  pub some_space : space ≢ []
+  pub is_name : list_all is_name_byte written ≡ true
+  pub some_name : written ≢ []
+  pub whole_name : Fails is_name_byte more
+  pub folds : name ≡ folded written
+  pub identifiers : BeginsIdentifiers more public system close
+  pub closes : Closes false close rest
+
+-- ---- items
+
+-- text is the item and then rest, as the mode reads it
+abbrev pub Begins : Mode → List ℕ → Item → List ℕ → Type 0
+Begins markup text (start_tag name attributes) rest = BeginsStart text name attributes rest
+Begins markup text (end_tag name) rest = BeginsEnd text name rest
+Begins markup text (characters contents) rest = (text_front text ≢ []) × (text ≡ text_front text ++ rest) × (contents ≡ decoded (text_front text))
+Begins markup text (comment contents) rest = (more : List ℕ) × (text ≡ codes "<!--" ++ more) × EndsAtMark (codes "-->") more contents rest
+Begins markup text (doctype name public system) rest = BeginsDoctype text name public system rest
+Begins (text_of name) text (end_tag other) rest = (other ≡ name) × BeginsEnd text name rest
+Begins (text_of name) text (characters contents) rest = (front : List ℕ) × (front ≢ []) × EndsAtTag name text front rest × (contents ≡ decoded front)
+Begins (text_of name) text item rest = ⊥
+Begins (raw_text_of name) text (end_tag other) rest = (other ≡ name) × BeginsEnd text name rest
+Begins (raw_text_of name) text (characters contents) rest = (contents ≢ []) × EndsAtTag name text contents rest
+Begins (raw_text_of name) text item rest = ⊥
+
+-- how what follows the item is read
+abbrev pub mode_after : Mode → Item → Mode
+mode_after mode (start_tag name attributes) = mode_in name
+mode_after mode (end_tag name) = markup
+mode_after mode (characters contents) = mode
+mode_after mode (comment contents) = markup
+mode_after mode (doctype name public system) = markup
+
+-- how what follows the items is read
+abbrev pub mode_past : Mode → List Item → Mode
+mode_past mode [] = mode
+mode_past mode (item ∷ items) = mode_past (mode_after mode item) items
 
 -- text is these items, one after the other, and then rest
-abbrev pub SpellsItemsUpTo : List ℕ → List Item → List ℕ → Type 0
-SpellsItemsUpTo text [] rest = text ≡ rest
-SpellsItemsUpTo text (item ∷ items) rest = (after : List ℕ) × Begins text item after × SpellsItemsUpTo after items rest
+abbrev pub SpellsItemsUpTo : Mode → List ℕ → List Item → List ℕ → Type 0
+SpellsItemsUpTo mode text [] rest = text ≡ rest
+SpellsItemsUpTo mode text (item ∷ items) rest = (after : List ℕ) × Begins mode text item after × SpellsItemsUpTo (mode_after mode item) after items rest
 
--- text is these items, one after the other
-abbrev pub SpellsItems : List ℕ → List Item → Type 0
-SpellsItems text items = SpellsItemsUpTo text items []
+-- ---- trees
 
--- the tags and texts of trees, in order
+-- the tags and texts of trees, in order; a void element is its start tag
 abbrev pub items_of : ValueTrees → List Item
 items_of no_trees = []
 items_of (text_node contents later) = characters contents ∷ items_of later
+items_of (comment_node contents later) = comment contents ∷ items_of later
+items_of (doctype_node name public system later) = doctype name public system ∷ items_of later
 items_of (element_node name attributes kids later) =
-    start_tag name attributes ∷ (items_of kids ++ end_tag name ∷ items_of later)
+    start_tag name attributes ∷ (if is_among name void_names then items_of later else (items_of kids ++ end_tag name ∷ items_of later))
+
+-- void elements have no kids, and doctypes stand only at the top
+abbrev pub AreInPlace : Bool → ValueTrees → Type 0
+AreInPlace top no_trees = Unit {0}
+AreInPlace top (text_node contents later) = AreInPlace top later
+AreInPlace top (comment_node contents later) = AreInPlace top later
+AreInPlace top (doctype_node name public system later) = (top ≡ true) × AreInPlace top later
+AreInPlace top (element_node name attributes kids later) =
+    (is_among name void_names ≡ true → kids ≡ no_trees) × AreInPlace false kids × AreInPlace top later
 
 -- the text spells the trees
-abbrev pub Spells : List ℕ → ValueTrees → Type 0
-Spells text trees = SpellsItems text (items_of trees)
+pub record Spells (text : List ℕ) (trees : ValueTrees) : Type 0 where
+  pub items : SpellsItemsUpTo markup text (items_of trees) []
+  pub in_place : AreInPlace true trees
 
 -- no item begins the text
-abbrev pub BeginsNothing : List ℕ → Type 0
-BeginsNothing text = (item : Item) (rest : List ℕ) → Begins text item rest → ⊥
+abbrev pub BeginsNothing : Mode → List ℕ → Type 0
+BeginsNothing mode text = (item : Item) (rest : List ℕ) → Begins mode text item rest → ⊥
 
 -- the text spells no trees
 abbrev pub SpellsNothing : List ℕ → Type 0

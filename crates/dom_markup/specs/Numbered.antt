@@ -2,12 +2,14 @@
 use Rattle.std.specs.Prelude.{ℕ, ◌+◌, List, [], ◌∷◌, ◌++◌, map, Option, None, Some, false, if◌then◌else◌}
 use Rattle.dom_nodes.specs.declared.name.Attr.{Attr}
 use Rattle.dom_nodes.specs.declared.name.Namespace.TheVariants.{None as NoNamespace, Html}
+use Rattle.dom_nodes.specs.declared.name.QualName.{QualName}
 use Rattle.dom_nodes.specs.declared.node_data.NodeData.{NodeData}
-use Rattle.dom_nodes.specs.declared.node_data.NodeData.TheVariants.{Document, Text, Element}
+use Rattle.dom_nodes.specs.declared.node_data.NodeData.TheVariants.{Document, Fragment, Doctype, Comment, Text, Element}
 use Rattle.dom_links.specs.Forest.{Forest}
 use Rattle.dom_links.specs.Lists.{map_from, names}
+use Rattle.dom_markup.specs.Names.{is_template}
 use Rattle.dom_markup.specs.ValueTrees.{Attribute, ValueTrees}
-use Rattle.dom_markup.specs.ValueTrees.ValueTrees.{no_trees, text_node, element_node}
+use Rattle.dom_markup.specs.ValueTrees.ValueTrees.{no_trees, text_node, comment_node, doctype_node, element_node}
 
 -- a node: its parent, and what it holds
 pub record Row : Type 0 where
@@ -19,25 +21,35 @@ abbrev pub read_attr : Attribute → Attr
 read_attr attribute = record { name = record { prefix = None; ns = NoNamespace; local = record { 0 = attribute.name } }; value = attribute.value }
 
 -- a read element is in the namespace of HTML, and nothing has a prefix
-abbrev pub read_element : List ℕ → List Attribute → NodeData
-read_element name attributes = Element (record {
-  name = record { prefix = None; ns = Html; local = record { 0 = name } };
+abbrev pub html_name : List ℕ → QualName
+html_name name = record { prefix = None; ns = Html; local = record { 0 = name } }
+
+abbrev pub read_element : List ℕ → List Attribute → Option ℕ → NodeData
+read_element name attributes contents = Element (record {
+  name = html_name name;
   attrs = map read_attr attributes;
-  template_contents = None;
+  template_contents = contents;
   mathml_annotation_xml_integration_point = false;
 })
 
+-- how many nodes trees have; a template has a fragment more
 abbrev pub size : ValueTrees → ℕ
 size no_trees = 0
 size (text_node contents later) = 1 + size later
-size (element_node name attributes kids later) = 1 + size kids + size later
+size (comment_node contents later) = 1 + size later
+size (doctype_node name public system later) = 1 + size later
+size (element_node name attributes kids later) = (if is_template name then 2 else 1) + size kids + size later
 
--- the nodes of trees below a parent, in order of start, where the first has the number n
+-- the nodes of trees below a parent, in order of start, where the first has the number n; a template's fragment comes right after it
 abbrev pub rows_from : ℕ → ℕ → ValueTrees → List Row
 rows_from p n no_trees = []
 rows_from p n (text_node contents later) = record { parent = Some p; content = Text contents } ∷ rows_from p (n + 1) later
+rows_from p n (comment_node contents later) = record { parent = Some p; content = Comment contents } ∷ rows_from p (n + 1) later
+rows_from p n (doctype_node name public system later) = record { parent = Some p; content = Doctype name public system } ∷ rows_from p (n + 1) later
 rows_from p n (element_node name attributes kids later) =
-    record { parent = Some p; content = read_element name attributes } ∷ (rows_from n (n + 1) kids ++ rows_from p (n + 1 + size kids) later)
+    if is_template name then
+    record { parent = Some p; content = read_element name attributes (Some (n + 1)) } ∷ (record { parent = None; content = Fragment } ∷ (rows_from (n + 1) (n + 2) kids ++ rows_from p (n + 2 + size kids) later))
+    else record { parent = Some p; content = read_element name attributes None } ∷ (rows_from n (n + 1) kids ++ rows_from p (n + 1 + size kids) later)
 
 -- the nodes are a document and these trees below it
 abbrev pub rows_of : ValueTrees → List Row

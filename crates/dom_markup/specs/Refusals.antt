@@ -1,24 +1,27 @@
 -- Why a text is refused.
-use Rattle.std.specs.Prelude.{ℕ, ◌≡◌, ◌≢◌, ◌+◌, ◌≤◌, List, [], ◌∷◌, ◌++◌, length}
+use Rattle.std.specs.Prelude.{ℕ, ◌≡◌, ◌≢◌, ◌+◌, ◌≤◌, ◌⊎◌, List, [], ◌∷◌, ◌++◌, length, codes, if◌then◌else◌}
+use Rattle.dom_markup.specs.Names.{Mode, markup, text_of, raw_text_of, is_template}
 use Rattle.dom_nodes.specs.declared.fault.MarkupFaultKind.{MarkupFaultKind}
 use Rattle.dom_nodes.specs.declared.fault.MarkupFaultKind.TheVariants.{BadTag, Unclosed, MismatchedEnd, StrayEnd, SlashOnOpen, BadComment, BadDeclaration, MisplacedDoctype, Instruction, TooManyNodes, Memory}
 use Rattle.dom_markup.specs.ValueTrees.{ValueTrees}
-use Rattle.dom_markup.specs.Frames.{Frame, opened_items}
-use Rattle.dom_markup.specs.Markup.{Item, Begins, BeginsNothing, SpellsItemsUpTo, SpellsNothing, items_of}
-use Rattle.dom_markup.specs.Markup.Item.{start_tag, end_tag, characters}
+use Rattle.dom_markup.specs.Frames.{Frame, FramesInPlace, is_top, opened_items}
+use Rattle.dom_markup.specs.Markup.{Item, AreInPlace, Begins, BeginsEnd, BeginsNothing, SpellsItemsUpTo, SpellsNothing, items_of, mode_past}
+use Rattle.dom_markup.specs.Markup.Item.{start_tag, end_tag, characters, comment, doctype}
 
--- how many nodes begin with these items
+-- how many nodes begin with these items; a template has its contents besides
 abbrev pub nodes_begun : List Item → ℕ
 nodes_begun [] = 0
-nodes_begun (start_tag name attributes ∷ items) = 1 + nodes_begun items
+nodes_begun (start_tag name attributes ∷ items) = (if is_template name then 2 else 1) + nodes_begun items
 nodes_begun (end_tag name ∷ items) = nodes_begun items
 nodes_begun (characters contents ∷ items) = 1 + nodes_begun items
+nodes_begun (comment contents ∷ items) = 1 + nodes_begun items
+nodes_begun (doctype name public system ∷ items) = 1 + nodes_begun items
 
 -- a beginning of the text has more nodes than a document can number below its root
 pub record BeginsTooManyNodes (text : List ℕ) : Type 0 where
   pub items : List Item
   pub rest : List ℕ
-  pub spelled : SpellsItemsUpTo text items rest
+  pub spelled : SpellsItemsUpTo markup text items rest
   pub many : 4294967295 ≤ nodes_begun items
 
 -- what a fault tells of the text
@@ -41,6 +44,8 @@ Refused text Memory = Unit {0}
 pub record LeavesOpen (items : List Item) (frames : List Frame) : Type 0 where
   pub done : ValueTrees
   pub are : items ≡ opened_items frames ++ items_of done
+  pub open_in_place : FramesInPlace frames
+  pub in_place : AreInPlace (is_top frames) done
 
 abbrev pub LeavesSomeOpen : List Item → Type 0
 LeavesSomeOpen items = (innermost : Frame) × (outer : List Frame) × LeavesOpen items (innermost ∷ outer)
@@ -50,22 +55,35 @@ abbrev pub EndsAnother : List Item → Item → Type 0
 EndsAnother items (start_tag name attributes) = ⊥
 EndsAnother items (end_tag name) = (innermost : Frame) × (outer : List Frame) × LeavesOpen items (innermost ∷ outer) × (name ≢ innermost.name)
 EndsAnother items (characters contents) = ⊥
+EndsAnother items (comment contents) = ⊥
+EndsAnother items (doctype name public system) = ⊥
 
 -- the item ends an element, and none is open
 abbrev pub EndsNothing : List Item → Item → Type 0
 EndsNothing items (start_tag name attributes) = ⊥
 EndsNothing items (end_tag name) = LeavesOpen items []
 EndsNothing items (characters contents) = ⊥
+EndsNothing items (comment contents) = ⊥
+EndsNothing items (doctype name public system) = ⊥
 
--- the item begins a node, and no number is left for it
+-- the item is a doctype, and an element is open
+abbrev pub IsInside : List Item → Item → Type 0
+IsInside items (start_tag name attributes) = ⊥
+IsInside items (end_tag name) = ⊥
+IsInside items (characters contents) = ⊥
+IsInside items (comment contents) = ⊥
+IsInside items (doctype name public system) = LeavesSomeOpen items
+
+-- the item begins a node, or two, and no number is left for one of these
 pub record IsOneTooMany (items : List Item) (item : Item) : Type 0 where
-  pub begins_one : nodes_begun (item ∷ []) ≡ 1
+  pub begins_some : 1 ≤ nodes_begun (item ∷ [])
   pub many : 4294967295 ≤ nodes_begun (items ++ item ∷ [])
 
 -- why the item isn't read behind these items
 abbrev pub Declines : List Item → Item → MarkupFaultKind → Type 0
 Declines items item MismatchedEnd = EndsAnother items item
 Declines items item StrayEnd = EndsNothing items item
+Declines items item MisplacedDoctype = IsInside items item
 Declines items item TooManyNodes = IsOneTooMany items item
 Declines items item Memory = Unit {0}
 Declines items item _ = ⊥
@@ -76,33 +94,64 @@ pub record StopsBefore (text : List ℕ) (at : ℕ) (kind : MarkupFaultKind) : T
   pub item : Item
   pub left : List ℕ
   pub rest : List ℕ
-  pub spelled : SpellsItemsUpTo text items left
+  pub spelled : SpellsItemsUpTo markup text items left
   pub place : at + length left ≡ length text
-  pub begins : Begins left item rest
+  pub begins : Begins (mode_past markup items) left item rest
   pub cause : Declines items item kind
 
+-- no end tag of this name stands in the text
+abbrev pub LacksEnd : List ℕ → List ℕ → Type 0
+LacksEnd name text = (before later beyond : List ℕ) → text ≡ before ++ later → BeginsEnd later name beyond → ⊥
+
+-- the text of an element is read, and its end tag stands nowhere
+abbrev pub LacksItsEnd : Mode → List ℕ → Type 0
+LacksItsEnd markup text = ⊥
+LacksItsEnd (text_of name) text = LacksEnd name text
+LacksItsEnd (raw_text_of name) text = LacksEnd name text
+
+-- a fault of this kind stands where no item begins, and tells of what stands there
+abbrev pub Shows : Mode → List ℕ → MarkupFaultKind → Type 0
+Shows mode left BadTag = mode ≡ markup
+Shows mode left SlashOnOpen = mode ≡ markup
+Shows mode left BadComment = (mode ≡ markup) × (more : List ℕ) × (left ≡ codes "<!--" ++ more)
+Shows mode left BadDeclaration = (mode ≡ markup) × (more : List ℕ) × (left ≡ codes "<!" ++ more)
+Shows mode left Instruction = (mode ≡ markup) × (more : List ℕ) × (left ≡ codes "<?" ++ more)
+Shows mode left Unclosed = LacksItsEnd mode left
+Shows mode left _ = ⊥
+
+-- a start tag doesn't end
+abbrev pub IsTagFault : MarkupFaultKind → Type 0
+IsTagFault BadTag = Unit {0}
+IsTagFault SlashOnOpen = Unit {0}
+IsTagFault _ = ⊥
+
 -- the text is items up to a byte, and no item begins there
-pub record BeginsNothingAt (text : List ℕ) (at : ℕ) : Type 0 where
+pub record BeginsNothingAt (text : List ℕ) (at : ℕ) (kind : MarkupFaultKind) : Type 0 where
   pub items : List Item
   pub left : List ℕ
-  pub spelled : SpellsItemsUpTo text items left
+  pub spelled : SpellsItemsUpTo markup text items left
   pub place : at + length left ≡ length text
   pub some : left ≢ []
-  pub nothing : BeginsNothing left
+  pub nothing : BeginsNothing (mode_past markup items) left
+  pub shows : Shows (mode_past markup items) left kind
 
 -- the text is items up to its end, and an element is open there
 pub record EndsOpenAt (text : List ℕ) (at : ℕ) : Type 0 where
   pub items : List Item
-  pub spelled : SpellsItemsUpTo text items []
+  pub spelled : SpellsItemsUpTo markup text items []
   pub place : at ≡ length text
   pub not_closed : LeavesSomeOpen items
 
 -- what a fault of this kind tells of a byte of the text
 abbrev pub IsFaultAt : List ℕ → ℕ → MarkupFaultKind → Type 0
-IsFaultAt text at BadTag = BeginsNothingAt text at
-IsFaultAt text at Unclosed = EndsOpenAt text at
+IsFaultAt text at BadTag = BeginsNothingAt text at BadTag
+IsFaultAt text at SlashOnOpen = BeginsNothingAt text at SlashOnOpen
+IsFaultAt text at BadComment = BeginsNothingAt text at BadComment
+IsFaultAt text at BadDeclaration = BeginsNothingAt text at BadDeclaration
+IsFaultAt text at Instruction = BeginsNothingAt text at Instruction
+IsFaultAt text at Unclosed = EndsOpenAt text at ⊎ BeginsNothingAt text at Unclosed
 IsFaultAt text at MismatchedEnd = StopsBefore text at MismatchedEnd
 IsFaultAt text at StrayEnd = StopsBefore text at StrayEnd
+IsFaultAt text at MisplacedDoctype = StopsBefore text at MisplacedDoctype
 IsFaultAt text at TooManyNodes = StopsBefore text at TooManyNodes
 IsFaultAt text at Memory = Unit {0}
-IsFaultAt text at _ = ⊥

@@ -1,34 +1,62 @@
 -- What a token is: one item of its kind, and where it stands.
 use Rattle.std.specs.Prelude.{◌≡◌, ◌+◌, ℕ, List, ◌++◌, length}
-use Rattle.dom_markup.specs.Markup.{Item, Begins}
-use Rattle.dom_markup.specs.Markup.Item.{start_tag, end_tag, characters}
+use Rattle.dom_markup.specs.Letters.{folded}
+use Rattle.dom_markup.specs.Names.{Mode, markup, text_of, raw_text_of}
+use Rattle.dom_markup.specs.References.{decoded}
+use Rattle.dom_markup.specs.Markup.{Item, Begins, mode_after}
+use Rattle.dom_markup.specs.Markup.Item.{start_tag, end_tag, characters, comment, doctype}
+use Rattle.dom_markup.specs.declared.document.within.Within.{Within}
+use Rattle.dom_markup.specs.declared.document.within.Within.TheVariants.{Markup, Text, RawText}
 use Rattle.dom_markup.specs.declared.document.tokens.TokenKind.{TokenKind}
-use Rattle.dom_markup.specs.declared.document.tokens.TokenKind.TheVariants.{StartTag, EndTag, Text}
+use Rattle.dom_markup.specs.declared.document.tokens.TokenKind.TheVariants as kinds
 
--- what is left of a text, and the byte at which that begins
+-- what is left of a text, the byte at which that begins, and how it is read
 pub record Unread : Type 0 where
   pub text : List ℕ
   pub at : ℕ
+  pub mode : Mode
 
--- the item is of this kind
-abbrev pub IsOfKind : TokenKind → Item → Type 0
-IsOfKind StartTag (start_tag name attributes) = Unit {0}
-IsOfKind StartTag (end_tag name) = ⊥
-IsOfKind StartTag (characters contents) = ⊥
-IsOfKind EndTag (start_tag name attributes) = ⊥
-IsOfKind EndTag (end_tag name) = Unit {0}
-IsOfKind EndTag (characters contents) = ⊥
-IsOfKind Text (start_tag name attributes) = ⊥
-IsOfKind Text (end_tag name) = ⊥
-IsOfKind Text (characters contents) = Unit {0}
+-- the mode of an element whose name is given as it is written
+abbrev pub mode_of : Within → Mode
+mode_of Markup = markup
+mode_of (Text name) = text_of (folded name.now)
+mode_of (RawText name) = raw_text_of (folded name.now)
 
--- an item of this kind stands at the front of the text, and rest after it
-abbrev pub BeginsKind : List ℕ → TokenKind → List ℕ → Type 0
-BeginsKind text kind rest = (item : Item) × IsOfKind kind item × Begins text item rest
+abbrev pub kind_of_text : Mode → TokenKind
+kind_of_text markup = kinds.Text
+kind_of_text (text_of name) = kinds.RawText
+kind_of_text (raw_text_of name) = kinds.RawText
+
+-- the kind of an item, as the mode reads it
+abbrev pub kind_of : Mode → Item → TokenKind
+kind_of mode (start_tag name attributes) = kinds.StartTag
+kind_of mode (end_tag name) = kinds.EndTag
+kind_of mode (characters contents) = kind_of_text mode
+kind_of mode (comment contents) = kinds.Comment
+kind_of mode (doctype name public system) = kinds.Doctype
+
+-- the mode is that of the text of an element of this name
+abbrev pub IsTextIn : Mode → List ℕ → Type 0
+IsTextIn markup name = ⊥
+IsTextIn (text_of other) name = other ≡ name
+IsTextIn (raw_text_of other) name = other ≡ name
+
+-- what the characters of a text stand for
+abbrev pub contents_in : Mode → List ℕ → List ℕ
+contents_in markup text = decoded text
+contents_in (text_of name) text = decoded text
+contents_in (raw_text_of name) text = text
+
+-- an item of this kind stands at the front of the text, and rest after it, which is read in this mode
+pub record BeginsKind (mode : Mode) (text : List ℕ) (kind : TokenKind) (rest : List ℕ) (next : Mode) : Type 0 where
+  pub item : Item
+  pub begins : Begins mode text item rest
+  pub is_kind : kind ≡ kind_of mode item
+  pub goes_on : next ≡ mode_after mode item
 
 -- the token is the item at the front of what is left, from its first byte to its last, and what is left then follows it
 pub record IsNext (left : Unread) (kind : TokenKind) (text : List ℕ) (start end : ℕ) (later : Unread) : Type 0 where
-  pub item : BeginsKind left.text kind later.text
+  pub item : BeginsKind left.mode left.text kind later.text later.mode
   pub covers : left.text ≡ text ++ later.text
   pub starts : start ≡ left.at
   pub ends : end ≡ start + length text

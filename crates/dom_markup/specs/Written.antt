@@ -1,28 +1,44 @@
 -- What a stretch of markup is made of, and stands for.
-use Rattle.std.specs.Prelude.{◌≡◌, ℕ, List, [], ◌∷◌, ◌++◌, Bool, true, false}
+use Rattle.std.specs.Prelude.{◌≡◌, ◌≢◌, ℕ, List, [], ◌++◌, Bool, true, false, ◌⊎◌}
 use Rattle.std.specs.List.{list_all}
-use Rattle.dom_markup.specs.Letters.{is_whitespace, is_name_byte, is_text_byte, is_value_byte, folded}
+use Rattle.dom_markup.specs.Letters.{is_whitespace, is_name_byte, folded}
+use Rattle.dom_markup.specs.References.{decoded}
 use Rattle.dom_markup.specs.ValueTrees.{Attribute}
+use Rattle.dom_markup.specs.Markup.{BeginsIdentifiers, BeginsQuoted, Closes, EndsTag, Fails, is_bare_byte}
 use Rattle.dom_markup.specs.declared.document.scan.Letters.{Letters}
-use Rattle.dom_markup.specs.declared.document.scan.Letters.TheVariants.{Whitespace, Name, Text, Value}
+use Rattle.dom_markup.specs.declared.document.scan.Letters.TheVariants.{Whitespace, Name, Bare}
 
 abbrev pub passes : Letters → ℕ → Bool
 passes Whitespace = is_whitespace
 passes Name = is_name_byte
-passes Text = is_text_byte
-passes Value = is_value_byte
+passes Bare = is_bare_byte
 
--- the attribute of a name and a value as they are written
+-- the attribute of a name and a value as they are written; the references in the value are read
 abbrev pub attribute_of : List ℕ → List ℕ → Attribute
-attribute_of name value = record { name = folded name; value = value }
-
--- text is empty, or its first byte fails
-abbrev pub Fails : (ℕ → Bool) → List ℕ → Type 0
-Fails p [] = Unit {0}
-Fails p (b ∷ bs) = p b ≡ false
+attribute_of name value = record { name = folded name; value = decoded value }
 
 -- text is front, whose bytes pass, and then behind, which goes on with none that does
 pub record Splits (p : ℕ → Bool) (text front behind : List ℕ) : Type 0 where
   pub is : text ≡ front ++ behind
   pub passes : list_all p front ≡ true
   pub fails : Fails p behind
+
+-- the tags that end so end there alike, with fewer attributes before
+pub record SameEnd (text rest : List ℕ) : Type 0 where
+  pub back : (slash : Bool) (all : List Attribute) (r : List ℕ) → EndsTag slash rest all r → (more : List Attribute) × EndsTag slash text more r
+  pub forth : (slash : Bool) (all : List Attribute) (r : List ℕ) → EndsTag slash text all r → (more : List Attribute) × EndsTag slash rest more r
+
+-- text is the identifiers of a doctype, its end, and then rest
+abbrev pub EndsDoctype : List ℕ → List ℕ → List ℕ → List ℕ → Type 0
+EndsDoctype text public system rest = (close : List ℕ) × BeginsIdentifiers text public system close × Closes false close rest
+
+-- what follows the word `public` is one identifier or two, the end of the doctype, and then rest
+abbrev pub AfterPublic : List ℕ → List ℕ → List ℕ → List ℕ → Type 0
+AfterPublic after public system rest = (later : List ℕ) × BeginsQuoted after public later
+    × (((system ≡ []) × Closes false later rest) ⊎ ((close : List ℕ) × BeginsQuoted later system close × Closes false close rest))
+
+-- a word that markup knows, in lower case
+pub record IsWord (word : List ℕ) : Type 0 where
+  pub folds : folded word ≡ word
+  pub name : list_all is_name_byte word ≡ true
+  pub some : word ≢ []

@@ -1,21 +1,38 @@
 //! Documents, and reading them from explicit markup.
 
-ghost use Rattle.std.specs.Prelude.{◌≡◌, ◌≤◌, [], length, IfErr, IfOk};
+ghost use Rattle.std.specs.Prelude.{◌≡◌, ◌≤◌, [], List, find, length, IfErr, IfOk, IfSome, MatchResult};
+ghost use Rattle.std.specs.Option.{option_map};
+ghost use Rattle.dom_links.specs.Forest.{Forest, kids_of};
 ghost use Rattle.dom_links.specs.Growth.{lone};
-ghost use Rattle.dom_markup.specs.Markup.{Spells};
+ghost use Rattle.dom_links.specs.ListMoves.{element_at};
+ghost use Rattle.dom_trees.specs.declared.node_ref.NodeRef.{NodeRef};
+ghost use Rattle.dom_markup.specs.Markup.{Item, Spells, SpellsItemsUpTo};
 ghost use Rattle.dom_markup.specs.Numbered.{document_of};
+ghost use Rattle.dom_markup.specs.FaultKinds.{HoldsMark, IsLimitFault, IsNestingFault};
+ghost use Rattle.dom_markup.specs.Names.{markup};
+ghost use Rattle.dom_markup.specs.Plain.{IsPlain};
+ghost use Rattle.dom_markup.specs.ReadingBack.{LacksIdentifiers, SpellsDocument};
 ghost use Rattle.dom_markup.specs.Refusals.{IsFaultAt, Refused};
+ghost use Rattle.dom_trees.specs.SameTree.{SameTree};
 ghost use Rattle.dom_markup.specs.ValueTrees.{ValueTrees};
 
+mod attributes;
+mod doctypes;
 mod names;
+mod raw;
 mod reader;
 mod scan;
+mod tags;
 #[cfg(test)]
 mod tests;
 pub mod tokens;
+mod within;
 
 use crate::document::reader::Reader;
 pub use crate::document::tokens::{Token, TokenKind, Tokens};
+use crate::document::within::Within;
+use crate::laws::faults::kinds_of_faults;
+use crate::laws::plain::{documents_without_identifiers_are_plain, spelled_documents_are_the_same};
 use dom_nodes::fault::{MarkupFault, MarkupFaultKind, OutOfMemory};
 use dom_nodes::node_data::NodeData;
 use dom_nodes::node_id::NodeId;
@@ -54,10 +71,35 @@ impl Document {
 
     /// The document that the text spells, with its nodes numbered in order of start.
     ///
-    /// At the fault's byte no tag or text can be read (`BadTag`), an end tag stands that doesn't end the innermost
-    /// open element (`MismatchedEnd`) or where none is open (`StrayEnd`), or the text ends in an open element
-    /// (`Unclosed`). `TooManyNodes` and `Memory` tell of a limit, met at the tag or text that begins there.
+    /// At the fault's byte no tag begins (`BadTag`), a start tag ends in a slash that isn't void (`SlashOnOpen`), a comment
+    /// doesn't end (`BadComment`), another declaration than a doctype stands (`BadDeclaration`), an instruction
+    /// (`Instruction`), a doctype in an element (`MisplacedDoctype`), or an end tag that doesn't end the innermost open
+    /// element (`MismatchedEnd`) or where none is open (`StrayEnd`). `Unclosed`: the text ends there in an open element, or
+    /// the text of an element begins there that no end tag ends. `TooManyNodes` and `Memory` tell of a limit, met at
+    /// what begins there.
     pub fn parse(alloc: Global, source: &str) -> Result<Document, MarkupFault>
+        ensures ok { IfOk result (λ document. (trees : ValueTrees) × Spells source.now trees × (document.tree ≡ document_of trees)) }
+        ensures no_errors { IfOk result (λ document. document.errors.items ≡ []) }
+        ensures no_quirks { IfOk result (λ document. document.quirks_mode ≡ QuirksMode.NoQuirks) }
+        ensures refused { IfErr result (λ fault. Refused source.now fault.kind) }
+        ensures place { IfErr result (λ fault. fault.at ≤ length source.now) }
+        ensures cause { IfErr result (λ fault. IsFaultAt source.now fault.at fault.kind) }
+        ensures plain { IfOk result (λ document. LacksIdentifiers document.tree → IsPlain document.tree) }
+        ensures same { (forest : Forest) → SpellsDocument source.now forest
+            → MatchResult result (λ document. SameTree forest 0 document.tree 0) (λ fault. IsLimitFault fault.kind) }
+        ensures nesting { IfErr result (λ fault. (items : List Item) → SpellsItemsUpTo markup source.now items []
+            → IsNestingFault fault.kind) }
+        ensures marks { IfErr result (λ fault. HoldsMark source.now fault.kind) }
+    {
+        kinds_of_faults();
+        documents_without_identifiers_are_plain();
+        spelled_documents_are_the_same();
+        let document = Document::read(alloc, source)?;
+        Ok(document)
+    }
+
+    /// What `parse` reads.
+    fn read(alloc: Global, source: &str) -> Result<Document, MarkupFault>
         ensures ok { IfOk result (λ document. (trees : ValueTrees) × Spells source.now trees × (document.tree ≡ document_of trees)) }
         ensures no_errors { IfOk result (λ document. document.errors.items ≡ []) }
         ensures no_quirks { IfOk result (λ document. document.quirks_mode ≡ QuirksMode.NoQuirks) }
@@ -72,14 +114,18 @@ impl Document {
             });
         };
         let mut tokens = Tokens::new(source);
+        let mut left = source;
+        let mut within = Within::Markup;
         while let Some(found) = tokens.next() {
             let token = found?;
-            if let Err(kind) = reader.read(alloc, token) {
+            if let Err(kind) = reader.read(alloc, token, left, within) {
                 return Err(MarkupFault {
                     kind,
                     at: token.start,
                 });
             }
+            left = tokens.left();
+            within = tokens.within();
         }
         match reader.finish() {
             Ok(tree) => Ok(whole(alloc, tree)),
@@ -96,6 +142,14 @@ impl Document {
         ensures tree { result.tree.now ≡ self.now.tree }
     {
         NodeRef::new(NodeId::root(), &self.tree)
+    }
+
+    /// The first child of the root that is an element.
+    pub fn html_root(&self) -> Option<NodeRef<'_>>
+        ensures number { option_map (λ (node : NodeRef). node.id) result ≡ find (element_at self.now.tree) (kids_of self.now.tree 0) }
+        ensures tree { IfSome result (λ node. node.tree.now ≡ self.now.tree) }
+    {
+        self.tree.html_root()
     }
 }
 

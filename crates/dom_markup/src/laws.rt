@@ -5,6 +5,8 @@ ghost use Rattle.dom_markup.specs.ValueTrees.{ValueTrees};
 ghost use Rattle.dom_markup.specs.Markup.{Spells};
 
 pub mod escaping;
+pub mod faults;
+pub mod plain;
 
 /// A text spells one list of trees at most.
 pub fn one_reading()

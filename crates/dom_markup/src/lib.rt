@@ -5,5 +5,6 @@ pub mod document;
 mod escaping;
 pub mod laws;
 mod names;
+mod references;
 pub mod serializing;
 pub mod writing;

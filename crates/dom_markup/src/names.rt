@@ -6,7 +6,7 @@ pub(crate) const VOID_NAMES: [&str; 18] = [
     "keygen", "link", "meta", "param", "source", "track", "wbr",
 ];
 
-/// The elements whose texts are written as they are.
+/// The elements whose texts are read and written as they are.
 pub(crate) const RAW_NAMES: [&str; 7] = [
     "style",
     "script",
@@ -17,5 +17,5 @@ pub(crate) const RAW_NAMES: [&str; 7] = [
     "plaintext",
 ];
 
-/// The other elements whose contents are read in a way of their own.
-pub(crate) const APART_NAMES: [&str; 3] = ["title", "textarea", "template"];
+/// The elements that hold one text alone, in which references are read.
+pub(crate) const TEXT_NAMES: [&str; 2] = ["title", "textarea"];

@@ -2,12 +2,16 @@
 
 ghost use Rattle.std.specs.Prelude.{◌≡◌, IfOk, IfSome, string_bytes};
 ghost use Rattle.dom_markup.specs.Html.{html_of, inner_html_of};
+ghost use Rattle.dom_markup.specs.Plain.{IsPlain};
+ghost use Rattle.dom_markup.specs.ReadingBack.{SpellsDocument};
 ghost use Rattle.dom_markup.specs.Writing.{Writes};
 
+use crate::laws::plain::plain_documents_are_spelled;
 use crate::serializing::stack::{put_kids, put_node};
 use crate::writing::{ToText, ToWriter};
 use dom_nodes::fault::OutOfMemory;
 use dom_trees::node_ref::NodeRef;
+use dom_trees::tree::Tree;
 use std::io::Write;
 
 mod stack;
@@ -61,25 +65,34 @@ pub trait NodeMarkup {
         ensures { Writes (W.contents w.old) (W.contents w.new) result
             (html_in scope (forest self.now) (number self.now)) };
 
-    /// The node's HTML; empty for an unknown number.
+    /// The node's HTML; empty for an unknown number. That of a plain document's root spells the document, so
+    /// `Document::parse` reads it back.
     fn html(&self) -> Result<String, OutOfMemory>
-        ensures { IfOk result (λ text. string_bytes text
-            ≡ html_of (forest self.now) (number self.now)) };
+        ensures text { IfOk result (λ text. string_bytes text
+            ≡ html_of (forest self.now) (number self.now)) }
+        ensures spelled { IfOk result (λ text. number self.now ≡ 0 → IsPlain (forest self.now)
+            → SpellsDocument (string_bytes text) (forest self.now)) };
 
-    /// The HTML of the node's kids; empty for an unknown number.
+    /// The HTML of the node's kids; empty for an unknown number. That of a plain document's root spells the document.
     fn inner_html(&self) -> Result<String, OutOfMemory>
-        ensures { IfOk result (λ text. string_bytes text
-            ≡ inner_html_of (forest self.now) (number self.now)) };
+        ensures text { IfOk result (λ text. string_bytes text
+            ≡ inner_html_of (forest self.now) (number self.now)) }
+        ensures spelled { IfOk result (λ text. number self.now ≡ 0 → IsPlain (forest self.now)
+            → SpellsDocument (string_bytes text) (forest self.now)) };
 
-    /// The node's HTML. None where memory was refused.
+    /// The same as `html`, but None where memory was refused.
     fn try_html(&self) -> Option<String>
-        ensures { IfSome result (λ text. string_bytes text
-            ≡ html_of (forest self.now) (number self.now)) };
+        ensures text { IfSome result (λ text. string_bytes text
+            ≡ html_of (forest self.now) (number self.now)) }
+        ensures spelled { IfSome result (λ text. number self.now ≡ 0 → IsPlain (forest self.now)
+            → SpellsDocument (string_bytes text) (forest self.now)) };
 
-    /// The HTML of the node's kids. None where memory was refused.
+    /// The same as `inner_html`, but None where memory was refused.
     fn try_inner_html(&self) -> Option<String>
-        ensures { IfSome result (λ text. string_bytes text
-            ≡ inner_html_of (forest self.now) (number self.now)) };
+        ensures text { IfSome result (λ text. string_bytes text
+            ≡ inner_html_of (forest self.now) (number self.now)) }
+        ensures spelled { IfSome result (λ text. number self.now ≡ 0 → IsPlain (forest self.now)
+            → SpellsDocument (string_bytes text) (forest self.now)) };
 }
 
 ghost use Rattle.dom_markup.specs.Scopes.{html_in};
@@ -97,12 +110,14 @@ impl<'a> NodeMarkup for NodeRef<'a> {
     }
 
     fn html(&self) -> Result<String, OutOfMemory> {
+        tell_of_plain(self.tree);
         let mut text = String::new(self.tree.allocator());
         put_node::<ToText, String>(self.tree, self.id, &mut text)?;
         Ok(text)
     }
 
     fn inner_html(&self) -> Result<String, OutOfMemory> {
+        tell_of_plain(self.tree);
         let mut text = String::new(self.tree.allocator());
         put_kids::<ToText, String>(self.tree, self.id, &mut text)?;
         Ok(text)
@@ -115,6 +130,15 @@ impl<'a> NodeMarkup for NodeRef<'a> {
     fn try_inner_html(&self) -> Option<String> {
         self.inner_html().ok()
     }
+}
+
+/// Tells that the HTML of a plain document spells it. It does nothing.
+fn tell_of_plain(tree: &Tree)
+    ensures root { IsPlain tree.now → SpellsDocument (html_of tree.now 0) tree.now }
+    ensures kids { IsPlain tree.now → SpellsDocument (inner_html_of tree.now 0) tree.now }
+{
+    tree.nodes();
+    plain_documents_are_spelled();
 }
 
 /// A node that can be written.

@@ -5,9 +5,9 @@ ghost use Rattle.std.specs.List.{list_all, list_any};
 ghost use Rattle.std.specs.Str.{bytes_eq};
 ghost use Rattle.dom_markup.specs.Letters.{folded, is_letter, is_name_byte};
 ghost use Rattle.dom_markup.specs.Markup.{NamesElement};
-ghost use Rattle.dom_markup.specs.Names.{has_rules_of_its_own};
+ghost use Rattle.dom_markup.specs.Names.{is_among, is_template, raw_names, text_names, void_names};
 
-use crate::names::{APART_NAMES, RAW_NAMES, VOID_NAMES};
+use crate::names::{RAW_NAMES, TEXT_NAMES, VOID_NAMES};
 
 /// Whether the name is one of those, A to Z being a to z.
 fn is_one_of(names: &[&str], name: &str) -> bool
@@ -16,17 +16,32 @@ fn is_one_of(names: &[&str], name: &str) -> bool
     names.iter().any(|known| known.eq_ignore_ascii_case(name))
 }
 
-/// Whether markup can't spell such an element yet.
-fn has_rules_of_its_own(name: &str) -> bool
-    ensures { result ≡ has_rules_of_its_own (folded name.now) }
+/// Whether the element is a start tag alone.
+pub fn is_void(name: &str) -> bool
+    ensures { result ≡ is_among (folded name.now) void_names }
 {
-    if is_one_of(&VOID_NAMES, name) {
-        return true;
-    }
-    if is_one_of(&RAW_NAMES, name) {
-        return true;
-    }
-    is_one_of(&APART_NAMES, name)
+    is_one_of(&VOID_NAMES, name)
+}
+
+/// Whether the texts in the element are read as they are.
+pub fn is_raw(name: &str) -> bool
+    ensures { result ≡ is_among (folded name.now) raw_names }
+{
+    is_one_of(&RAW_NAMES, name)
+}
+
+/// Whether the element holds one text alone, in which references are read.
+pub fn holds_text(name: &str) -> bool
+    ensures { result ≡ is_among (folded name.now) text_names }
+{
+    is_one_of(&TEXT_NAMES, name)
+}
+
+/// Whether the element has contents.
+pub fn is_template(name: &str) -> bool
+    ensures { result ≡ is_template (folded name.now) }
+{
+    "template".eq_ignore_ascii_case(name)
 }
 
 pub fn is_letter(byte: u8) -> bool
@@ -43,5 +58,5 @@ pub fn names_element(name: &str) -> bool
     let [first, ..] = name.as_bytes() else {
         return false;
     };
-    is_letter(*first) && !has_rules_of_its_own(name)
+    is_letter(*first)
 }

@@ -1,21 +1,30 @@
 //! Reading tags and texts into a tree.
 
-ghost use Rattle.std.specs.Prelude.{◌≡◌, ◌≤◌, ◌<◌, ◌++◌, ◌∷◌, [], List, ℕ, map, IfErr, IfOk, OnOk, length};
+ghost use Rattle.std.specs.Prelude.{◌≡◌, ◌≤◌, ◌<◌, ◌+◌, ◌++◌, ◌∷◌, [], List, ℕ, Bool, None, map, IfErr, IfOk, OnOk, length};
 ghost use Rattle.std.specs.List.{list_any};
 ghost use Rattle.std.specs.Str.{bytes_eq};
-ghost use Rattle.dom_links.specs.Growth.{lone, with_child};
+ghost use Rattle.dom_links.specs.Growth.{lone, with_child, with_template};
+ghost use Rattle.dom_trees.specs.Refusals.{element_with};
 ghost use Rattle.dom_markup.specs.Letters.{folded};
 ghost use Rattle.dom_markup.specs.ValueTrees.{Attribute};
-ghost use Rattle.dom_markup.specs.Markup.{Item, Begins, EndsTag, kept_after};
+ghost use Rattle.dom_markup.specs.Markup.{Item, Begins, BeginsDoctype, BeginsEnd, BeginsStart, EndsTag, kept_after};
 ghost use Rattle.dom_markup.specs.Written.{attribute_of};
-ghost use Rattle.dom_markup.specs.Token.{IsOfKind};
-ghost use Rattle.dom_markup.specs.Frames.{opened_size};
+ghost use Rattle.dom_markup.specs.Names.{markup};
+ghost use Rattle.dom_markup.specs.Token.{contents_in, kind_of, mode_of};
+ghost use Rattle.dom_markup.specs.Frames.{kids_place, opened_size, with_element};
 ghost use Rattle.dom_markup.specs.Limits.{IsLimit, IsPlainData, LacksNumbers, limit_kind};
-ghost use Rattle.dom_markup.specs.Numbered.{read_attr, read_element};
+ghost use Rattle.dom_markup.specs.Numbered.{html_name, read_attr};
 ghost use Rattle.dom_markup.specs.Refusals.{Declines, LeavesSomeOpen};
 
-use crate::document::scan::{Letters, Written, attribute_at, split_front, strip};
+use crate::document::attributes::{attrs_of, folded_name};
+use crate::document::doctypes::{Doctype, doctype_at};
+use crate::document::names::{is_template, is_void};
+use crate::document::scan::{
+    Letters, Written, attribute_at, comment_at, split_front, strip, strip_all,
+};
 use crate::document::tokens::{Token, TokenKind};
+use crate::document::within::Within;
+use crate::references::decode;
 use dom_nodes::fault::{EditFault, MarkupFaultKind, OutOfMemory};
 use dom_nodes::name::{Attr, LocalName, Namespace, QualName};
 use dom_nodes::node_data::{Attrs, Element, NodeData};
@@ -23,53 +32,6 @@ use dom_nodes::node_id::NodeId;
 use dom_nodes::text::Text;
 use dom_trees::tree::Tree;
 use std::alloc::Global;
-
-/// The name with A to Z in lower case.
-fn folded_name(alloc: Global, name: &str) -> Result<Text, OutOfMemory>
-    ensures { IfOk result (λ text. text ≡ folded name.now) }
-{
-    let mut letters = String::from_str(alloc, name)?;
-    letters.make_ascii_lowercase();
-    Ok(Text::from(letters))
-}
-
-/// Whether some attribute has the local name.
-fn has_attr(attrs: &[Attr], name: &str) -> bool
-    ensures { result ≡ list_any (λ attr. bytes_eq attr.name.local.0 name.now) attrs.now }
-{
-    attrs.iter().any(|attr| attr.name.local.0.as_str() == name)
-}
-
-/// Adds an attribute, unless one of its name is there: it is compared with each before it.
-fn add_attr(alloc: Global, attrs: &mut Attrs, written: Written) -> Result<(), OutOfMemory>
-    ensures { OnOk result ((kept : List Attribute) → attrs.old ≡ map read_attr kept
-        → attrs.new ≡ map read_attr (kept_after kept (attribute_of written.entry.name.now written.entry.value.now ∷ []))) }
-{
-    let local = folded_name(alloc, written.name)?;
-    if has_attr(attrs.as_slice(), local.as_str()) {
-        return Ok(());
-    }
-    let value = Text::new(alloc, written.value)?;
-    let name = QualName {
-        prefix: None,
-        ns: Namespace::None,
-        local: LocalName(local),
-    };
-    attrs.push(Attr { name, value })
-}
-
-/// The attributes of a start tag, behind its name; of equal names the first is kept.
-fn attrs_of(alloc: Global, text: &str) -> Result<Attrs, OutOfMemory>
-    ensures { IfOk result (λ attrs. (all : List Attribute) (rest : List ℕ) → EndsTag text.now all rest → attrs ≡ map read_attr (kept_after [] all)) }
-{
-    let mut attrs = Attrs::new(alloc);
-    let mut rest = text;
-    while let Some((written, after)) = attribute_at(rest) {
-        add_attr(alloc, &mut attrs, written)?;
-        rest = after;
-    }
-    Ok(attrs)
-}
 
 /// What stands behind a letter that the text begins with.
 fn behind(text: &str, letter: char) -> &str
@@ -82,39 +44,106 @@ fn behind(text: &str, letter: char) -> &str
     }
 }
 
-/// The element of a written name with these attributes.
-fn element_of(alloc: Global, written: &str, attrs: Attrs) -> Result<NodeData, OutOfMemory>
-    ensures element { IfOk result (λ content. (all : List Attribute) → attrs ≡ map read_attr all → content ≡ read_element (folded written.now) all) }
-    ensures plain { IfOk result (λ content. IsPlainData content) }
+/// The HTML name that is written so.
+fn html_name(alloc: Global, written: &str) -> Result<QualName, OutOfMemory>
+    ensures { IfOk result (λ name. name ≡ html_name (folded written.now)) }
 {
-    let name = QualName {
+    Ok(QualName {
         prefix: None,
         ns: Namespace::Html,
         local: LocalName(folded_name(alloc, written)?),
-    };
-    Ok(NodeData::Element(Element::new(name, attrs, None, false)))
+    })
 }
 
-/// The name as it is written, and the element, of a start tag.
-fn start_tag_of(alloc: Global, tag: &str) -> Result<(&str, NodeData), OutOfMemory>
-    ensures element { IfOk result (λ found. (name : List ℕ) (all : List Attribute) (rest : List ℕ) → Begins tag.now (Item.start_tag name all) rest
-        → (folded found.0.now ≡ name) × (found.1 ≡ read_element name all)) }
-    ensures plain { IfOk result (λ found. IsPlainData found.1) }
+/// What a start tag tells: the name as it is written, the element's name, and its attributes.
+#[derive(Drop)]
+struct Started<'a> {
+    written: &'a str,
+    name: QualName,
+    attrs: Attrs,
+}
+
+/// What a start tag tells.
+fn start_tag_of(alloc: Global, tag: &str) -> Result<Started<'_>, OutOfMemory>
+    ensures { IfOk result (λ found. (name : List ℕ) (all : List Attribute) (rest : List ℕ) → BeginsStart tag.now name all rest
+        → (folded found.written.now ≡ name) × (found.name ≡ html_name name) × (found.attrs ≡ map read_attr all)) }
 {
     let inner = behind(tag, '<');
     let (written, rest) = split_front(Letters::Name, inner);
     let attrs = attrs_of(alloc, rest)?;
-    let element = element_of(alloc, written, attrs)?;
-    Ok((written, element))
+    let name = html_name(alloc, written)?;
+    Ok(Started {
+        written,
+        name,
+        attrs,
+    })
 }
 
 /// The name of an end tag, as it is written.
 fn end_tag_of(tag: &str) -> &str
-    ensures { (name : List ℕ) (rest : List ℕ) → Begins tag.now (Item.end_tag name) rest → folded result.now ≡ name }
+    ensures { (name : List ℕ) (rest : List ℕ) → BeginsEnd tag.now name rest → folded result.now ≡ name }
 {
     let inner = behind(behind(tag, '<'), '/');
     let (name, _) = split_front(Letters::Name, inner);
     name
+}
+
+/// The contents of a comment.
+fn comment_of(left: &str) -> &str
+    ensures { (contents : List ℕ) (rest : List ℕ) → Begins markup left.now (Item.comment contents) rest → result.now ≡ contents }
+{
+    let Some(comment) = strip_all(left, "<!--") else {
+        return left;
+    };
+    match comment_at(comment) {
+        Some((contents, _)) => contents,
+        None => left,
+    }
+}
+
+/// A doctype as it is written.
+fn written_doctype(left: &str) -> Doctype<'_>
+    ensures { (name public system rest : List ℕ) → BeginsDoctype left.now name public system rest
+        → (folded result.name.now ≡ name) × (result.public.now ≡ public) × (result.system.now ≡ system) }
+{
+    let nothing = Doctype {
+        name: left,
+        public: left,
+        system: left,
+    };
+    let Some(tag) = strip_all(left, "<!") else {
+        return nothing;
+    };
+    match doctype_at(tag) {
+        Some((written, _)) => written,
+        None => nothing,
+    }
+}
+
+/// The node of a doctype.
+fn doctype_of(alloc: Global, written: Doctype) -> Result<NodeData, OutOfMemory>
+    ensures doctype { IfOk result (λ content. content ≡ NodeData.Doctype (folded written.entry.name.now) written.entry.public.now written.entry.system.now) }
+    ensures plain { IfOk result (λ content. IsPlainData content) }
+{
+    let name = folded_name(alloc, written.name)?;
+    let public_id = Text::new(alloc, written.public)?;
+    let system_id = Text::new(alloc, written.system)?;
+    Ok(NodeData::Doctype {
+        name,
+        public_id,
+        system_id,
+    })
+}
+
+/// What a text stands for: a raw one for itself, in every other the references are read.
+fn contents_of(alloc: Global, text: &str, within: Within) -> Result<Text, OutOfMemory>
+    ensures { IfOk result (λ contents. contents ≡ contents_in (mode_of within.entry) text.now) }
+{
+    match within {
+        Within::Markup => decode(alloc, text),
+        Within::Text(_) => decode(alloc, text),
+        Within::RawText(_) => Text::new(alloc, text),
+    }
 }
 
 /// What a limit that an edit met is called in markup.
@@ -129,7 +158,7 @@ fn limit_of(fault: EditFault) -> MarkupFaultKind
     }
 }
 
-/// An open element: its number, and its name as it is written.
+/// An open element: the number of the node below which its kids stand, and its name as it is written.
 #[derive(Clone, Copy)]
 struct Open<'a> {
     number: NodeId,
@@ -159,7 +188,7 @@ impl<'a> Reader<'a> {
         })
     }
 
-    /// The number of the innermost open element, or of the document.
+    /// The number of the innermost open element, of its contents where it is a template, or of the document.
     fn parent(&self) -> NodeId
         ensures { (items : List Item) (h : AfterItems items self.now) → result ≡ opened_size h.frames }
     {
@@ -176,7 +205,7 @@ impl<'a> Reader<'a> {
         ensures tree { OnOk result ((items : List Item) (h : AfterItems items self.old) → self.new.tree ≡ with_child (opened_size h.frames) content self.old.tree) }
         ensures stack { self.new.stack ≡ self.old.stack }
         ensures number { IfOk result (λ number. number ≡ length self.old.tree.content) }
-        ensures limit { IfErr result (λ kind. LacksNumbers self.old.tree kind) }
+        ensures limit { IfErr result (λ kind. LacksNumbers (length self.old.tree.content) kind) }
     {
         let parent = self.parent();
         match self.tree.append_child_data_of(&parent, content) {
@@ -185,30 +214,102 @@ impl<'a> Reader<'a> {
         }
     }
 
-    /// Reads a text.
-    fn read_text(&mut self, alloc: Global, contents: &str) -> Result<(), MarkupFaultKind>
+    /// Makes an element with contents as the last kid of the innermost open element, and tells the contents' number.
+    fn append_template(&mut self, name: QualName, attrs: Attrs) -> Result<NodeId, MarkupFaultKind>
         requires { IsReading self.old }
-        ensures ok { OnOk result ((items : List Item) → AfterItems items self.old → AfterItems (items ++ Item.characters contents.now ∷ []) self.new) }
-        ensures err { IfErr result (λ kind. (items : List Item) → AfterItems items self.old → Declines items (Item.characters contents.now) kind) }
+        ensures tree { OnOk result ((items : List Item) (h : AfterItems items self.old) → self.new.tree ≡ with_template (opened_size h.frames) (element_with name attrs (length self.old.tree.content + 1)) self.old.tree) }
+        ensures stack { self.new.stack ≡ self.old.stack }
+        ensures number { IfOk result (λ number. number ≡ length self.old.tree.content + 1) }
+        ensures limit { IfErr result (λ kind. LacksNumbers (length self.old.tree.content + 1) kind) }
     {
-        let Ok(contents) = Text::new(alloc, contents) else {
+        let parent = self.parent();
+        match self.tree.append_template_of(&parent, name, attrs) {
+            Ok((_, contents)) => Ok(contents),
+            Err(fault) => Err(limit_of(fault)),
+        }
+    }
+
+    /// Makes an element as the last kid of the innermost open element, with contents where it is a template, and tells
+    /// below which number its kids stand.
+    fn append_element(&mut self, started: Started) -> Result<NodeId, MarkupFaultKind>
+        requires { IsReading self.old }
+        ensures tree { OnOk result ((items : List Item) (h : AfterItems items self.old) (name : List ℕ) (all : List Attribute) → folded started.entry.written.now ≡ name
+            → started.entry.name ≡ html_name name → started.entry.attrs ≡ map read_attr all → self.new.tree ≡ with_element (opened_size h.frames) name all self.old.tree) }
+        ensures stack { self.new.stack ≡ self.old.stack }
+        ensures number { IfOk result (λ number. number ≡ kids_place (folded started.entry.written.now) self.old.tree) }
+        ensures limit { IfErr result (λ kind. LacksNumbers (kids_place (folded started.entry.written.now) self.old.tree) kind) }
+    {
+        if !is_template(started.written) {
+            let element = Element::new(started.name, started.attrs, None, false);
+            return self.append(NodeData::Element(element));
+        }
+        self.append_template(started.name, started.attrs)
+    }
+
+    /// Reads a text.
+    fn read_text(
+        &mut self,
+        alloc: Global,
+        text: &str,
+        within: Within,
+    ) -> Result<(), MarkupFaultKind>
+        requires { IsReading self.old }
+        ensures ok { OnOk result ((items : List Item) → AfterItems items self.old → AfterItems (items ++ Item.characters (contents_in (mode_of within.entry) text.now) ∷ []) self.new) }
+        ensures err { IfErr result (λ kind. (items : List Item) → AfterItems items self.old → Declines items (Item.characters (contents_in (mode_of within.entry) text.now)) kind) }
+    {
+        let Ok(contents) = contents_of(alloc, text, within) else {
             return Err(MarkupFaultKind::Memory);
         };
         self.append(NodeData::Text { contents })?;
         Ok(())
     }
 
+    /// Reads a comment.
+    fn read_comment(&mut self, alloc: Global, left: &str) -> Result<(), MarkupFaultKind>
+        requires { IsReading self.old }
+        ensures ok { OnOk result ((items : List Item) (contents rest : List ℕ) → AfterItems items self.old → Begins markup left.now (Item.comment contents) rest → AfterItems (items ++ Item.comment contents ∷ []) self.new) }
+        ensures err { IfErr result (λ kind. (items : List Item) (contents : List ℕ) → AfterItems items self.old → Declines items (Item.comment contents) kind) }
+    {
+        let Ok(contents) = Text::new(alloc, comment_of(left)) else {
+            return Err(MarkupFaultKind::Memory);
+        };
+        self.append(NodeData::Comment { contents })?;
+        Ok(())
+    }
+
+    /// Reads a doctype, which stands where no element is open.
+    fn read_doctype(&mut self, alloc: Global, left: &str) -> Result<(), MarkupFaultKind>
+        requires { IsReading self.old }
+        ensures ok { OnOk result ((items : List Item) (name public system rest : List ℕ) → AfterItems items self.old → BeginsDoctype left.now name public system rest
+            → AfterItems (items ++ Item.doctype name public system ∷ []) self.new) }
+        ensures err { IfErr result (λ kind. (items : List Item) (name public system : List ℕ) → AfterItems items self.old → Declines items (Item.doctype name public system) kind) }
+    {
+        if !self.stack.is_empty() {
+            return Err(MarkupFaultKind::MisplacedDoctype);
+        }
+        let Ok(doctype) = doctype_of(alloc, written_doctype(left)) else {
+            return Err(MarkupFaultKind::Memory);
+        };
+        self.append(doctype)?;
+        Ok(())
+    }
+
     /// Reads a start tag.
     fn read_start(&mut self, alloc: Global, tag: &'a str) -> Result<(), MarkupFaultKind>
         requires { IsReading self.old }
-        ensures ok { OnOk result ((items : List Item) (name : List ℕ) (all : List Attribute) (rest : List ℕ) → AfterItems items self.old → Begins tag.now (Item.start_tag name all) rest
+        ensures ok { OnOk result ((items : List Item) (name : List ℕ) (all : List Attribute) (rest : List ℕ) → AfterItems items self.old → BeginsStart tag.now name all rest
             → AfterItems (items ++ Item.start_tag name all ∷ []) self.new) }
-        ensures err { IfErr result (λ kind. (items : List Item) (name : List ℕ) (all : List Attribute) → AfterItems items self.old → Declines items (Item.start_tag name all) kind) }
+        ensures err { IfErr result (λ kind. (items : List Item) (name : List ℕ) (all : List Attribute) (rest : List ℕ) → AfterItems items self.old → BeginsStart tag.now name all rest
+            → Declines items (Item.start_tag name all) kind) }
     {
-        let Ok((name, element)) = start_tag_of(alloc, tag) else {
+        let Ok(started) = start_tag_of(alloc, tag) else {
             return Err(MarkupFaultKind::Memory);
         };
-        let number = self.append(element)?;
+        let name = started.written;
+        let number = self.append_element(started)?;
+        if is_void(name) {
+            return Ok(());
+        }
         match self.stack.push(Open { number, name }) {
             Ok(()) => Ok(()),
             Err(_) => Err(MarkupFaultKind::Memory),
@@ -217,9 +318,9 @@ impl<'a> Reader<'a> {
 
     /// Reads an end tag.
     fn read_end(&mut self, tag: &str) -> Result<(), MarkupFaultKind>
-        ensures ok { OnOk result ((items : List Item) (name : List ℕ) (rest : List ℕ) → AfterItems items self.old → Begins tag.now (Item.end_tag name) rest
+        ensures ok { OnOk result ((items : List Item) (name : List ℕ) (rest : List ℕ) → AfterItems items self.old → BeginsEnd tag.now name rest
             → AfterItems (items ++ Item.end_tag name ∷ []) self.new) }
-        ensures err { IfErr result (λ kind. (items : List Item) (name : List ℕ) (rest : List ℕ) → AfterItems items self.old → Begins tag.now (Item.end_tag name) rest
+        ensures err { IfErr result (λ kind. (items : List Item) (name : List ℕ) (rest : List ℕ) → AfterItems items self.old → BeginsEnd tag.now name rest
             → Declines items (Item.end_tag name) kind) }
     {
         let Some(innermost) = self.stack.pop() else {
@@ -231,18 +332,27 @@ impl<'a> Reader<'a> {
         Ok(())
     }
 
-    /// Reads a token; `Err` for a limit, or where no trees have such items.
-    pub fn read(&mut self, alloc: Global, token: Token<'a>) -> Result<(), MarkupFaultKind>
+    /// Reads a token, with which `left` begins; `Err` for a limit, or where no trees have such items.
+    pub fn read(
+        &mut self,
+        alloc: Global,
+        token: Token<'a>,
+        left: &'a str,
+        within: Within<'a>,
+    ) -> Result<(), MarkupFaultKind>
         requires { IsReading self.old }
-        ensures ok { OnOk result ((items : List Item) (item : Item) → AfterItems items self.old → IsOfKind token.entry.kind item → Begins token.entry.text.now item []
-            → AfterItems (items ++ item ∷ []) self.new) }
-        ensures err { IfErr result (λ kind. (items : List Item) (item : Item) → AfterItems items self.old → IsOfKind token.entry.kind item → Begins token.entry.text.now item []
-            → Declines items item kind) }
+        ensures ok { OnOk result ((items : List Item) (item : Item) (rest : List ℕ) → AfterItems items self.old → token.entry.kind ≡ kind_of (mode_of within.entry) item → Begins (mode_of within.entry) left.now item rest
+            → left.now ≡ token.entry.text.now ++ rest → AfterItems (items ++ item ∷ []) self.new) }
+        ensures err { IfErr result (λ kind. (items : List Item) (item : Item) (rest : List ℕ) → AfterItems items self.old → token.entry.kind ≡ kind_of (mode_of within.entry) item → Begins (mode_of within.entry) left.now item rest
+            → left.now ≡ token.entry.text.now ++ rest → Declines items item kind) }
     {
         match token.kind {
-            TokenKind::StartTag => self.read_start(alloc, token.text),
-            TokenKind::EndTag => self.read_end(token.text),
-            TokenKind::Text => self.read_text(alloc, token.text),
+            TokenKind::StartTag => self.read_start(alloc, left),
+            TokenKind::EndTag => self.read_end(left),
+            TokenKind::Text => self.read_text(alloc, token.text, within),
+            TokenKind::RawText => self.read_text(alloc, token.text, within),
+            TokenKind::Comment => self.read_comment(alloc, left),
+            TokenKind::Doctype => self.read_doctype(alloc, left),
         }
     }
 

@@ -1,22 +1,22 @@
 //! Fronts of a text: whitespace, names, attributes, the end of a start tag.
 
-ghost use Rattle.std.specs.Prelude.{◌≡◌, ◌≤◌, ◌<◌, List, ℕ, ◌∷◌, Option, length, IfNone, IfSome, unwrap_or};
-ghost use Rattle.std.specs.List.{prefix_len};
-ghost use Rattle.dom_markup.specs.Letters.{is_whitespace};
+ghost use Rattle.std.specs.Prelude.{◌≡◌, ◌≤◌, ◌<◌, ◌==◌, ◌||◌, not, true, List, ℕ, ◌∷◌, ◌++◌, Option, codes, drop, length, IfNone, IfSome, unwrap_or};
+ghost use Rattle.std.specs.List.{list_all, prefix_len};
+ghost use Rattle.dom_markup.specs.Letters.{is_letter, is_whitespace};
+ghost use Rattle.dom_markup.specs.References.{decoded};
 ghost use Rattle.dom_markup.specs.ValueTrees.{Attribute};
-ghost use Rattle.dom_markup.specs.Markup.{Item, BeginsAttribute, EndsTag, Begins};
-ghost use Rattle.dom_markup.specs.Written.{attribute_of, passes, Splits};
+ghost use Rattle.dom_markup.specs.Markup.{Item, BeginsAttribute, BeginsValue, Closes, EndsAtMark, EndsTag, HasValue, begins_markup, is_bare_byte, text_front};
+ghost use Rattle.dom_markup.specs.Written.{attribute_of, passes, SameEnd, Splits};
 
-use crate::document::names::names_element;
-use memchr::{memchr2, memchr3};
+use crate::document::names::is_letter;
+use memchr::memchr;
 
 /// What a stretch of markup is made of.
 #[derive(Clone, Copy)]
 pub enum Letters {
     Whitespace,
     Name,
-    Text,
-    Value,
+    Bare,
 }
 
 /// Tab, line feed, form feed, carriage return and space.
@@ -37,14 +37,13 @@ impl Letters {
                 !(is_whitespace(byte)
                     || matches!(byte, b'/' | b'>' | b'<' | b'=' | b'"' | b'\'' | 0))
             }
-            Letters::Text => !matches!(byte, b'<' | b'>' | b'&'),
-            Letters::Value => !matches!(byte, b'"' | b'&'),
+            Letters::Bare => !(is_whitespace(byte) || byte == b'>'),
         }
     }
 }
 
-/// How many bytes of this kind stand at the front, found byte by byte.
-fn short_front_len(letters: Letters, bytes: &[u8]) -> usize
+/// How many bytes of this kind stand at the front.
+fn front_len(letters: Letters, bytes: &[u8]) -> usize
     ensures { result ≡ prefix_len (passes letters) bytes.now }
 {
     for (index, byte) in bytes.iter().enumerate() {
@@ -53,18 +52,6 @@ fn short_front_len(letters: Letters, bytes: &[u8]) -> usize
         }
     }
     bytes.len()
-}
-
-/// How many bytes of this kind stand at the front.
-fn front_len(letters: Letters, bytes: &[u8]) -> usize
-    ensures { result ≡ prefix_len (passes letters) bytes.now }
-{
-    let end = match letters {
-        Letters::Text => memchr3(b'<', b'>', b'&', bytes),
-        Letters::Value => memchr2(b'"', b'&', bytes),
-        _ => return short_front_len(letters, bytes),
-    };
-    end.unwrap_or(bytes.len())
 }
 
 /// The front that is of this kind, as far as it goes, and what follows it.
@@ -81,6 +68,122 @@ pub fn strip(text: &str, letter: char) -> Option<&str>
     ensures none { IfNone result ((rest : List ℕ) → text.now ≡ letter ∷ rest → ⊥) }
 {
     text.strip_prefix(letter)
+}
+
+/// What follows the front, if the text begins with it.
+pub fn strip_all<'a>(text: &'a str, front: &str) -> Option<&'a str>
+    ensures some { IfSome result (λ rest. text.now ≡ front.now ++ rest.now) }
+    ensures none { IfNone result ((rest : List ℕ) → text.now ≡ front.now ++ rest → ⊥) }
+{
+    text.strip_prefix(front)
+}
+
+// ---- texts
+
+/// Whether markup begins at a `<` with this byte behind it.
+fn opens_markup(byte: u8) -> bool
+    ensures { result ≡ (is_letter byte || byte == 47 || byte == 33 || byte == 63) }
+{
+    is_letter(byte) || matches!(byte, b'/' | b'!' | b'?')
+}
+
+/// Whether a tag, a comment, a doctype or an instruction begins here.
+pub fn begins_markup(bytes: &[u8]) -> bool
+    ensures { result ≡ begins_markup bytes.now }
+{
+    let [first, second, ..] = bytes else {
+        return false;
+    };
+    *first == b'<' && opens_markup(*second)
+}
+
+/// The bytes from a place on.
+pub fn bytes_from(bytes: &[u8], at: usize) -> &[u8]
+    requires { at ≤ length bytes.now }
+    ensures { result.now ≡ drop at bytes.now }
+{
+    let (_, rest) = bytes.split_at(at);
+    rest
+}
+
+/// How many bytes stand before the first place where markup begins.
+fn text_len(bytes: &[u8]) -> usize
+    ensures { result ≡ length (text_front bytes.now) }
+{
+    let mut at = 0;
+    while let Some(found) = memchr(b'<', bytes_from(bytes, at)) {
+        let start = at + found;
+        if begins_markup(bytes_from(bytes, start)) {
+            return start;
+        }
+        at = start + 1;
+    }
+    bytes.len()
+}
+
+/// The text up to the first place where markup begins, and what follows it.
+pub fn split_text(text: &str) -> (&str, &str)
+    ensures front { result.0.now ≡ text_front text.now }
+    ensures whole { text.now ≡ result.0.now ++ result.1.now }
+{
+    text.split_at(text_len(text.as_bytes()))
+}
+
+// ---- comments
+
+/// The contents of a comment, behind its `<!--`, and what follows its first `-->`.
+pub fn comment_at(text: &str) -> Option<(&str, &str)>
+    ensures some { IfSome result (λ found. EndsAtMark (codes "-->") text.now found.0.now found.1.now) }
+    ensures none { IfNone result ((front rest : List ℕ) → text.now ≡ front ++ (codes "-->" ++ rest) → ⊥) }
+{
+    let (contents, rest) = text.split_once("-->")?;
+    Some((contents, rest))
+}
+
+// ---- attributes
+
+/// What stands before the first such letter, and what follows it.
+pub fn split_letter(text: &str, letter: u8) -> Option<(&str, &str)>
+    requires { letter < 128 }
+    ensures some { IfSome result (λ found. (list_all (λ b. not (b == letter)) found.0.now ≡ true) × (text.now ≡ found.0.now ++ letter ∷ found.1.now)) }
+    ensures none { IfNone result ((front rest : List ℕ) → text.now ≡ front ++ letter ∷ rest → ⊥) }
+{
+    let at = memchr(letter, text.as_bytes())?;
+    Some((&text[..at], &text[at + 1..]))
+}
+
+/// The value at the front as it is written, without its quotes, and what follows it.
+fn value_at(text: &str) -> Option<(&str, &str)>
+    ensures some { IfSome result (λ found. BeginsValue text.now found.0.now found.1.now) }
+    ensures none { IfNone result ((written rest : List ℕ) → BeginsValue text.now written rest → ⊥) }
+{
+    if let Some(inner) = strip(text, '"') {
+        let found = split_letter(inner, b'"')?;
+        return Some(found);
+    }
+    if let Some(inner) = strip(text, '\'') {
+        let found = split_letter(inner, b'\'')?;
+        return Some(found);
+    }
+    let (bare, rest) = split_front(Letters::Bare, text);
+    if bare.is_empty() {
+        return None;
+    }
+    Some((bare, rest))
+}
+
+/// The value behind an attribute's name as it is written, and what follows it; empty where there is none.
+fn value_behind(after: &str) -> Option<(&str, &str)>
+    ensures some { IfSome result (λ found. HasValue after.now (decoded found.0.now) found.1.now) }
+    ensures none { IfNone result ((value rest : List ℕ) → HasValue after.now value rest → ⊥) }
+{
+    let (_, equals) = split_front(Letters::Whitespace, after);
+    let Some(behind) = strip(equals, '=') else {
+        return Some(("", after));
+    };
+    let (_, text) = split_front(Letters::Whitespace, behind);
+    let found = value_at(text)?;
+    Some(found)
 }
 
 /// An attribute as it is written.
@@ -100,50 +203,35 @@ pub fn attribute_at(text: &str) -> Option<(Written<'_>, &str)>
     if space.is_empty() || name.is_empty() {
         return None;
     }
-    let equals = strip(behind, '=')?;
-    let quoted = strip(equals, '"')?;
-    let (value, behind) = split_front(Letters::Value, quoted);
-    let rest = strip(behind, '"')?;
+    let (value, rest) = value_behind(behind)?;
     Some((Written { name, value }, rest))
 }
 
-/// What follows the start tag whose name has just been read.
-pub fn tag_end(text: &str) -> Option<&str>
-    ensures some { IfSome result (λ rest. (all : List Attribute) × EndsTag text.now all rest.now) }
-    ensures none { IfNone result ((all : List Attribute) (rest : List ℕ) → EndsTag text.now all rest → ⊥) }
+/// What follows the end of a tag at the front, which may be a slash and `>`.
+pub fn close_at(text: &str, slash: bool) -> Option<&str>
+    ensures some { IfSome result (λ rest. Closes slash text.now rest.now) }
+    ensures none { IfNone result ((rest : List ℕ) → Closes slash text.now rest → ⊥) }
+{
+    let (_, end) = split_front(Letters::Whitespace, text);
+    if let Some(rest) = strip(end, '>') {
+        return Some(rest);
+    }
+    if !slash {
+        return None;
+    }
+    let close = strip(end, '/')?;
+    let rest = strip(close, '>')?;
+    Some(rest)
+}
+
+/// What follows the attributes at the front.
+pub fn attributes_end(text: &str) -> &str
+    ensures same { SameEnd text.now result.now }
+    ensures none { (attribute : Attribute) (rest : List ℕ) → BeginsAttribute result.now attribute rest → ⊥ }
 {
     let mut rest = text;
     while let Some((_, after)) = attribute_at(rest) {
         rest = after;
     }
-    let (_, behind) = split_front(Letters::Whitespace, rest);
-    let rest = strip(behind, '>')?;
-    Some(rest)
-}
-
-/// What follows the start tag, behind its `<`.
-pub fn start_tag_end(tag: &str) -> Option<&str>
-    ensures some { IfSome result (λ rest. (name : List ℕ) × (attributes : List Attribute) × Begins (60 ∷ tag.now) (Item.start_tag name attributes) rest.now) }
-    ensures none { IfNone result ((name : List ℕ) (attributes : List Attribute) (rest : List ℕ) → Begins (60 ∷ tag.now) (Item.start_tag name attributes) rest → ⊥) }
-{
-    let (name, behind) = split_front(Letters::Name, tag);
-    if !names_element(name) {
-        return None;
-    }
-    let rest = tag_end(behind)?;
-    Some(rest)
-}
-
-/// What follows the end tag, behind its `</`.
-pub fn end_tag_end(tag: &str) -> Option<&str>
-    ensures some { IfSome result (λ rest. (name : List ℕ) × Begins (60 ∷ 47 ∷ tag.now) (Item.end_tag name) rest.now) }
-    ensures none { IfNone result ((name : List ℕ) (rest : List ℕ) → Begins (60 ∷ 47 ∷ tag.now) (Item.end_tag name) rest → ⊥) }
-{
-    let (name, behind) = split_front(Letters::Name, tag);
-    let (_, behind) = split_front(Letters::Whitespace, behind);
-    if !names_element(name) {
-        return None;
-    }
-    let rest = strip(behind, '>')?;
-    Some(rest)
+    rest
 }

@@ -1,43 +1,138 @@
-//! Markup as a row of tags and texts.
+//! Markup as a row of tags, texts, comments and doctypes.
 
-ghost use Rattle.std.specs.Prelude.{◌≡◌, ◌^◌, ◌<◌, ◌+◌, ◌++◌, List, ℕ, length, IfNone, IfSome};
+ghost use Rattle.std.specs.Prelude.{◌≡◌, ◌^◌, ◌<◌, ◌+◌, ◌++◌, ◌≢◌, [], List, ℕ, length, IfErr, IfOk};
 ghost use Rattle.std.specs.Iterator.{at_most};
-ghost use Rattle.dom_markup.specs.Markup.{BeginsNothing};
-ghost use Rattle.dom_markup.specs.Token.{BeginsKind, Unread};
+ghost use Rattle.dom_markup.specs.Letters.{folded};
+ghost use Rattle.dom_markup.specs.Names.{markup, mode_in};
+ghost use Rattle.dom_markup.specs.ValueTrees.{Attribute};
+ghost use Rattle.dom_markup.specs.Markup.{BeginsNothing, BeginsStart};
+ghost use Rattle.dom_markup.specs.Refusals.{IsTagFault, Shows};
+ghost use Rattle.dom_markup.specs.Token.{BeginsKind, IsTextIn, Unread, mode_of};
+ghost use Rattle.dom_markup.specs.declared.document.tokens.TokenKind.TheVariants as kinds;
 
-use crate::document::scan::{Letters, end_tag_end, split_front, start_tag_end, strip};
+use crate::document::doctypes::doctype_at;
+use crate::document::raw::{after_end, split_raw};
+use crate::document::scan::{begins_markup, comment_at, split_text, strip, strip_all};
+use crate::document::tags::{end_tag_end, start_tag_end};
+use crate::document::within::{Within, within_element};
 use dom_nodes::fault::{MarkupFault, MarkupFaultKind};
 use std::marker::Model;
 
-/// What a token is. A text goes as far as it can.
+/// What a token is. A text goes as far as it can. A `RawText` is the contents of a raw element, `title` or `textarea`.
 #[derive(Clone, Copy, PartialEq, Eq, Debug, Drop)]
 pub enum TokenKind {
+    Text,
+    RawText,
     StartTag,
     EndTag,
-    Text,
+    Comment,
+    Doctype,
 }
 
-/// What follows the item at the front, and which kind that item is.
-fn item_at(text: &str) -> Option<(TokenKind, &str)>
-    ensures some { IfSome result (λ found. BeginsKind text.now found.0 found.1.now) }
-    ensures none { IfNone result (BeginsNothing text.now) }
+/// An item at the front: its kind, what follows it, and how that is read.
+#[derive(Clone, Copy)]
+struct Found<'a> {
+    kind: TokenKind,
+    rest: &'a str,
+    within: Within<'a>,
+}
+
+/// An item that markup follows.
+fn then_markup<'a>(kind: TokenKind, rest: &'a str) -> Found<'a>
+    ensures kind { result.kind ≡ kind }
+    ensures rest { result.rest.now ≡ rest.now }
+    ensures mode { mode_of result.within ≡ markup }
+{
+    Found {
+        kind,
+        rest,
+        within: Within::Markup,
+    }
+}
+
+/// The tag at the front, where neither an end tag nor a comment, a doctype or an instruction stands.
+fn start_at(text: &str) -> Result<Found<'_>, MarkupFaultKind>
+    ensures ok { IfOk result (λ found. (name : List ℕ) × (attributes : List Attribute) × BeginsStart text.now name attributes found.rest.now × (found.kind ≡ kinds.StartTag) × (mode_of found.within ≡ mode_in name)) }
+    ensures err { IfErr result (λ kind. (name : List ℕ) (attributes : List Attribute) (rest : List ℕ) → BeginsStart text.now name attributes rest → ⊥) }
+    ensures kind { IfErr result (λ kind. IsTagFault kind) }
 {
     let Some(tag) = strip(text, '<') else {
-        let (contents, rest) = split_front(Letters::Text, text);
-        if contents.is_empty() {
-            return None;
-        }
-        return Some((TokenKind::Text, rest));
+        return Err(MarkupFaultKind::BadTag);
     };
-    match strip(tag, '/') {
-        Some(end) => {
-            let rest = end_tag_end(end)?;
-            Some((TokenKind::EndTag, rest))
-        }
-        None => {
-            let rest = start_tag_end(tag)?;
-            Some((TokenKind::StartTag, rest))
-        }
+    let (name, rest) = start_tag_end(tag)?;
+    Ok(Found {
+        kind: TokenKind::StartTag,
+        rest,
+        within: within_element(name),
+    })
+}
+
+/// The item at the front of markup.
+fn markup_at(text: &str) -> Result<Found<'_>, MarkupFaultKind>
+    requires { text.now ≢ [] }
+    ensures ok { IfOk result (λ found. BeginsKind markup text.now found.kind found.rest.now (mode_of found.within)) }
+    ensures err { IfErr result (λ kind. BeginsNothing markup text.now) }
+    ensures kind { IfErr result (λ kind. Shows markup text.now kind) }
+{
+    if !begins_markup(text.as_bytes()) {
+        let (_, rest) = split_text(text);
+        return Ok(then_markup(TokenKind::Text, rest));
+    }
+    if let Some(tag) = strip_all(text, "</") {
+        let Some((_, rest)) = end_tag_end(tag) else {
+            return Err(MarkupFaultKind::BadTag);
+        };
+        return Ok(then_markup(TokenKind::EndTag, rest));
+    }
+    if let Some(comment) = strip_all(text, "<!--") {
+        let Some((_, rest)) = comment_at(comment) else {
+            return Err(MarkupFaultKind::BadComment);
+        };
+        return Ok(then_markup(TokenKind::Comment, rest));
+    }
+    if let Some(tag) = strip_all(text, "<!") {
+        let Some((_, rest)) = doctype_at(tag) else {
+            return Err(MarkupFaultKind::BadDeclaration);
+        };
+        return Ok(then_markup(TokenKind::Doctype, rest));
+    }
+    if let Some(_) = strip_all(text, "<?") {
+        return Err(MarkupFaultKind::Instruction);
+    }
+    start_at(text)
+}
+
+/// The item at the front of the text of an element of this name: the text, or where none is left the end tag.
+fn text_at<'a>(text: &'a str, name: &str, within: Within<'a>) -> Result<Found<'a>, MarkupFaultKind>
+    requires { IsTextIn (mode_of within) (folded name.now) }
+    ensures ok { IfOk result (λ found. BeginsKind (mode_of within.entry) text.now found.kind found.rest.now (mode_of found.within)) }
+    ensures err { IfErr result (λ kind. BeginsNothing (mode_of within.entry) text.now) }
+    ensures kind { IfErr result (λ kind. Shows (mode_of within.entry) text.now kind) }
+{
+    if let Some(rest) = after_end(text, name) {
+        return Ok(then_markup(TokenKind::EndTag, rest));
+    }
+    let Some((_, rest)) = split_raw(text, name) else {
+        return Err(MarkupFaultKind::Unclosed);
+    };
+    Ok(Found {
+        kind: TokenKind::RawText,
+        rest,
+        within,
+    })
+}
+
+/// The item at the front.
+fn item_at<'a>(text: &'a str, within: Within<'a>) -> Result<Found<'a>, MarkupFaultKind>
+    requires { text.now ≢ [] }
+    ensures ok { IfOk result (λ found. BeginsKind (mode_of within.entry) text.now found.kind found.rest.now (mode_of found.within)) }
+    ensures err { IfErr result (λ kind. BeginsNothing (mode_of within.entry) text.now) }
+    ensures kind { IfErr result (λ kind. Shows (mode_of within.entry) text.now kind) }
+{
+    match within {
+        Within::Markup => markup_at(text),
+        Within::Text(name) => text_at(text, name, within),
+        Within::RawText(name) => text_at(text, name, within),
     }
 }
 
@@ -50,7 +145,7 @@ fn front_of<'a>(text: &'a str, rest: &str) -> &'a str
     front
 }
 
-/// A tag or a text: the slice of the source that it is, and the bytes where that begins and ends.
+/// A tag, a text, a comment or a doctype: the slice of the source that it is, and the bytes where that begins and ends.
 #[derive(Clone, Copy)]
 pub struct Token<'a> {
     pub kind: TokenKind,
@@ -59,21 +154,22 @@ pub struct Token<'a> {
     pub end: usize,
 }
 
-/// The tokens of a text, in order, one behind the other. They take no memory. `Err` stands where no tag or text
-/// begins, and after it there are no more.
+/// The tokens of a text, in order, one behind the other. They take no memory. `Err` stands where none of
+/// these begins (`Unclosed` where the text of an element has no end tag), and after it there are no more.
 #[derive(Drop)]
 pub struct Tokens<'a> {
     rest: &'a str,
     at: usize,
+    within: Within<'a>,
 }
 
 impl<'a> Model for Tokens<'a> {
     ghost use Rattle.std.specs.Prelude.{◌^◌, ◌<◌, ◌+◌, length};
-    ghost use Rattle.dom_markup.specs.Token.{Unread};
+    ghost use Rattle.dom_markup.specs.Token.{Unread, mode_of};
 
     ghost Value = { Unread };
 
-    ghost view = { λ tokens. record { text = tokens.rest.now; at = tokens.at } };
+    ghost view = { λ tokens. record { text = tokens.rest.now; at = tokens.at; mode = mode_of tokens.within } };
 
     ghost invariant = { λ tokens. tokens.at + length tokens.rest.now < 2 ^ 64 };
 }
@@ -81,12 +177,27 @@ impl<'a> Model for Tokens<'a> {
 impl<'a> Tokens<'a> {
     /// The tokens of the whole text.
     pub fn new(source: &'a str) -> Tokens<'a>
-        ensures { result ≡ record { text = source.now; at = 0 } }
+        ensures { result ≡ record { text = source.now; at = 0; mode = markup } }
     {
         Tokens {
             rest: source,
             at: 0,
+            within: Within::Markup,
         }
+    }
+
+    /// What is left of the text.
+    pub(crate) fn left(&self) -> &'a str
+        ensures { result.now ≡ self.now.text }
+    {
+        self.rest
+    }
+
+    /// How that is read.
+    pub(crate) fn within(&self) -> Within<'a>
+        ensures { mode_of result ≡ self.now.mode }
+    {
+        self.within
     }
 }
 
@@ -105,20 +216,21 @@ impl<'a> Iterator for Tokens<'a> {
             return None;
         }
         let start = self.at;
-        let Some((kind, rest)) = item_at(source) else {
-            let (_, end) = source.split_at(source.len());
-            self.rest = end;
-            return Some(Err(MarkupFault {
-                kind: MarkupFaultKind::BadTag,
-                at: start,
-            }));
+        let found = match item_at(source, self.within) {
+            Ok(found) => found,
+            Err(kind) => {
+                let (_, end) = source.split_at(source.len());
+                self.rest = end;
+                return Some(Err(MarkupFault { kind, at: start }));
+            }
         };
-        let text = front_of(source, rest);
+        let text = front_of(source, found.rest);
         let end = start + text.len();
-        self.rest = rest;
+        self.rest = found.rest;
         self.at = end;
+        self.within = found.within;
         Some(Ok(Token {
-            kind,
+            kind: found.kind,
             text,
             start,
             end,

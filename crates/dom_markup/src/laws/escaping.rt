@@ -1,7 +1,9 @@
 //! What escaping alone makes sure of.
 
 ghost use Rattle.std.specs.Prelude.{◌≡◌, true, ℕ, List};
+ghost use Rattle.std.specs.Str.{IsUtf8};
 ghost use Rattle.dom_markup.specs.Escaping.{escaped_text, escaped_value, lacks};
+ghost use Rattle.dom_markup.specs.References.{decoded};
 
 /// An escaped text begins no tag and ends none.
 pub fn text_is_inert()
@@ -12,4 +14,14 @@ pub fn text_is_inert()
 /// An escaped value doesn't end its quotes.
 pub fn value_is_inert()
     ensures { (text : List ℕ) → lacks 34 (escaped_value text) ≡ true }
+{}
+
+/// An escaped text with its references read is the text again.
+pub fn text_reads_back()
+    ensures { (text : List ℕ) → IsUtf8 text → decoded (escaped_text text) ≡ text }
+{}
+
+/// An escaped value with its references read is the value again.
+pub fn value_reads_back()
+    ensures { (text : List ℕ) → IsUtf8 text → decoded (escaped_value text) ≡ text }
 {}

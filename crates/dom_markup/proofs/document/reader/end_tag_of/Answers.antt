@@ -4,7 +4,7 @@ use Rattle.dom_markup.proofs.document.reader.end_tag_of.Goals as goal
 
 pub returns : goal.returns
 returns c = λ name rest h.
-    let first = c.behind.ensures _ h.2 in
+    let first = c.behind.ensures _ h.is in
     let second = c.behind-inner.ensures _ first in
-    let is : c.args.tag.now ≡ 60 ∷ 47 ∷ c.behind-inner.result.now = h.2 ∙ ap (λ (t : List ℕ). 60 ∷ 47 ∷ t) (sym second) in
+    let is : c.args.tag.now ≡ 60 ∷ 47 ∷ c.behind-inner.result.now = h.is ∙ ap (λ (t : List ℕ). 60 ∷ 47 ∷ t) (sym second) in
     end_parts _ _ _ _ is c.split_front.ensures name rest h

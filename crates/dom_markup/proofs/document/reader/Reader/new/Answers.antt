@@ -10,5 +10,7 @@ returns c = record {
   done = no_trees;
   items_are = refl;
   forest_is = c.in-Ok.ensures.ok ∙ sym document_of-none;
+  open_in_place = tt;
+  in_place = tt;
   stack_is = ap (map opened_by) c.new-2.ensures.items;
 }

@@ -1,7 +1,0 @@
-use Rattle.std.proofs.Common.{◌≡◌, ◌+◌, drop}
-use Rattle.std.specs.List.{prefix_len}
-use Rattle.dom_markup.specs.Written.{passes}
-use Rattle.dom_markup.proofs.document.scan.short_front_len.Given as goal
-
-abbrev pub invariant-loop-index : goal.invariant-loop-index
-invariant-loop-index l = prefix_len (passes l.letters) l.bytes ≡ l.index + prefix_len (passes l.letters) (drop l.index l.bytes)

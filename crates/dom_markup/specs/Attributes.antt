@@ -1,0 +1,20 @@
+-- The names of the attributes that are kept of a tag.
+use Rattle.std.specs.Prelude.{◌≡◌, ◌≤◌, ℕ, List, Bool, length, take, ◌||◌, String}
+use Rattle.std.specs.BTreeSet.{BTreeSet, contains_text}
+use Rattle.std.specs.List.{list_any}
+use Rattle.std.specs.Str.{bytes_eq}
+use Rattle.dom_nodes.specs.declared.name.Attr.{Attr}
+use Rattle.dom_markup.specs.declared.document.attributes.Kept.{Kept}
+
+-- the attribute's local name is this one
+abbrev pub is_named : List ℕ → Attr → Bool
+is_named name attr = bytes_eq attr.name.local.0 name
+
+-- the new set has the name, and what the old one has
+abbrev pub Gains : {A : Type 0} → List ℕ → BTreeSet (String A) → BTreeSet (String A) → Type 0
+Gains name old new = (other : List ℕ) → contains_text new other ≡ (contains_text old other || bytes_eq name other)
+
+-- the set has the names of the first attributes, and no other
+pub record IsNoted (kept : Kept) : Type 0 where
+  pub within : kept.noted ≤ length kept.attrs
+  pub names : (name : List ℕ) → contains_text kept.older name ≡ list_any (is_named name) (take kept.noted kept.attrs)

@@ -1,0 +1,136 @@
+-- Documents whose HTML spells them.
+use Rattle.std.specs.Prelude.{◌≡◌, ◌≢◌, ℕ, List, [], ◌∷◌, ◌++◌, map, Bool, true, false, if◌then◌else◌, Option, None, MatchBool, MatchOption, Some, slice_get, codes}
+use Rattle.std.specs.List.{flat_map, list_all}
+use Rattle.std.specs.Str.{IsUtf8}
+use Rattle.dom_nodes.specs.declared.name.Attr.{Attr}
+use Rattle.dom_nodes.specs.declared.name.Namespace.TheVariants.{None as NoNamespace, Html}
+use Rattle.dom_nodes.specs.declared.node_data.NodeData.{NodeData}
+use Rattle.dom_nodes.specs.declared.node_data.NodeData.TheVariants.{Document, Doctype, Comment, Text, Element}
+use Rattle.dom_links.specs.Forest.{Forest, kids_of}
+use Rattle.dom_markup.specs.Letters.{is_name_byte, folded}
+use Rattle.dom_markup.specs.Names.{Mode, markup, text_of, raw_text_of, mode_in, is_among, is_template, void_names, raw_names}
+use Rattle.dom_markup.specs.Escaping.{escaped_text}
+use Rattle.dom_markup.specs.Html.{attr_text, end_tag}
+use Rattle.dom_markup.specs.Markup.{IsTagName, BeginsEnd, has_name}
+use Rattle.dom_markup.specs.Numbered.{read_attr}
+use Rattle.dom_markup.specs.ValueTrees.{Attribute, ValueTrees}
+use Rattle.dom_markup.specs.ValueTrees.ValueTrees.{no_trees, text_node, comment_node, doctype_node, element_node}
+
+-- ---- the HTML of value trees
+
+abbrev pub start_text : List ℕ → List Attribute → List ℕ
+start_text name attributes = codes "<" ++ (name ++ (flat_map attr_text (map read_attr attributes) ++ codes ">"))
+
+-- the HTML of trees, one after another; `raw` says that texts at the top are written as they are
+abbrev pub text_of_trees : Bool → ValueTrees → List ℕ
+text_of_trees raw no_trees = []
+text_of_trees raw (text_node contents later) = (if raw then contents else escaped_text contents) ++ text_of_trees raw later
+text_of_trees raw (comment_node contents later) = codes "<!--" ++ (contents ++ (codes "-->" ++ text_of_trees raw later))
+text_of_trees raw (doctype_node name public system later) = codes "<!DOCTYPE " ++ (name ++ (codes ">" ++ text_of_trees raw later))
+text_of_trees raw (element_node name attributes kids later) =
+    start_text name attributes ++ ((if is_among name void_names then [] else text_of_trees (is_among name raw_names) kids ++ end_tag name) ++ text_of_trees raw later)
+
+-- ---- plain trees
+
+-- no end tag of this name stands in the text
+abbrev pub HoldsNoEnd : List ℕ → List ℕ → Type 0
+HoldsNoEnd name text = (before later beyond : List ℕ) → text ≡ before ++ later → BeginsEnd later name beyond → ⊥
+
+-- no end of a comment stands in the text
+abbrev pub HoldsNoClose : List ℕ → Type 0
+HoldsNoClose text = (before later : List ℕ) → text ≡ before ++ (codes "-->" ++ later) → ⊥
+
+-- a name as the grammar spells it, in lower case
+abbrev pub IsPlainName : List ℕ → Type 0
+IsPlainName name = (name ≢ []) × (list_all is_name_byte name ≡ true) × (folded name ≡ name)
+
+-- attributes of plain names, none of which comes twice
+abbrev pub ArePlain : List Attribute → Type 0
+ArePlain [] = Unit {0}
+ArePlain (attribute ∷ later) = IsPlainName attribute.name × IsUtf8 attribute.value × (has_name attribute.name later ≡ false) × ArePlain later
+
+abbrev pub begins_with_text : ValueTrees → Bool
+begins_with_text (text_node contents later) = true
+begins_with_text _ = false
+
+-- what is read in a mode of its own is one text at most, and a raw one does not hold its end tag
+abbrev pub IsPlainIn : Mode → ValueTrees → Type 0
+IsPlainIn markup kids = Unit {0}
+IsPlainIn (text_of name) no_trees = Unit {0}
+IsPlainIn (text_of name) (text_node contents no_trees) = Unit {0}
+IsPlainIn (text_of name) _ = ⊥
+IsPlainIn (raw_text_of name) no_trees = Unit {0}
+IsPlainIn (raw_text_of name) (text_node contents no_trees) = HoldsNoEnd name contents
+IsPlainIn (raw_text_of name) _ = ⊥
+
+-- Trees that their HTML spells: no text is empty or next to a text, names are as the grammar spells them, void elements
+-- have no kids, comments do not hold their end, and doctypes stand only at the top and have no identifiers. Every text of
+-- a program is UTF-8
+abbrev pub IsPlainTrees : Bool → ValueTrees → Type 0
+IsPlainTrees top no_trees = Unit {0}
+IsPlainTrees top (text_node contents later) = (contents ≢ []) × IsUtf8 contents × (begins_with_text later ≡ false) × IsPlainTrees top later
+IsPlainTrees top (comment_node contents later) = HoldsNoClose contents × IsPlainTrees top later
+IsPlainTrees top (doctype_node name public system later) = (top ≡ true) × IsPlainName name × (public ≡ []) × (system ≡ []) × IsPlainTrees top later
+IsPlainTrees top (element_node name attributes kids later) =
+    IsTagName name × (folded name ≡ name) × ArePlain attributes
+    × (is_among name void_names ≡ true → kids ≡ no_trees) × IsPlainIn (mode_in name) kids
+    × IsPlainTrees false kids × IsPlainTrees top later
+
+-- ---- trees that are plain where a text spells them
+
+-- no doctype has an identifier
+abbrev pub HaveNoIdentifiers : ValueTrees → Type 0
+HaveNoIdentifiers no_trees = Unit {0}
+HaveNoIdentifiers (text_node contents later) = HaveNoIdentifiers later
+HaveNoIdentifiers (comment_node contents later) = HaveNoIdentifiers later
+HaveNoIdentifiers (doctype_node name public system later) = (public ≡ []) × (system ≡ []) × HaveNoIdentifiers later
+HaveNoIdentifiers (element_node name attributes kids later) = HaveNoIdentifiers kids × HaveNoIdentifiers later
+
+-- ---- nodes that stand for trees
+
+-- attributes without a namespace, of these names and with these values; a prefix is not written
+abbrev pub StandForAttributes : List Attr → List Attribute → Type 0
+StandForAttributes [] [] = Unit {0}
+StandForAttributes (attr ∷ attrs) (attribute ∷ attributes) =
+    (attr.name.ns ≡ NoNamespace) × (attr.name.local.0 ≡ attribute.name) × (attr.value ≡ attribute.value) × StandForAttributes attrs attributes
+StandForAttributes _ _ = ⊥
+
+-- an element of HTML without a prefix
+abbrev pub html_element : List ℕ → List Attr → Option ℕ → Bool → NodeData
+html_element name attrs contents flag = Element (record {
+  name = record { prefix = None; ns = Html; local = record { 0 = name } };
+  attrs = attrs;
+  template_contents = contents;
+  mathml_annotation_xml_integration_point = flag;
+})
+
+-- the node is an element of this name and with these attributes, and these numbers are its kids, or those of its contents where it is a template
+pub record IsElement (forest : Forest) (n : ℕ) (name : List ℕ) (attributes : List Attribute) (below : List ℕ) : Type 0 where
+  pub attrs : List Attr
+  pub contents : Option ℕ
+  pub flag : Bool
+  pub read : slice_get forest.content n ≡ Some (html_element name attrs contents flag)
+  pub named : StandForAttributes attrs attributes
+  pub holds : MatchBool (is_template name)
+      (MatchOption contents ⊥ (λ inner. (kids_of forest n ≡ []) × (below ≡ kids_of forest inner)))
+      ((contents ≡ None) × (below ≡ kids_of forest n))
+
+-- these nodes, one after another, stand for these trees
+abbrev pub Represents : Forest → List ℕ → ValueTrees → Type 0
+Represents forest ns no_trees = ns ≡ []
+Represents forest ns (text_node contents later) =
+    (n : ℕ) × (others : List ℕ) × (ns ≡ n ∷ others) × (slice_get forest.content n ≡ Some (Text contents)) × Represents forest others later
+Represents forest ns (comment_node contents later) =
+    (n : ℕ) × (others : List ℕ) × (ns ≡ n ∷ others) × (slice_get forest.content n ≡ Some (Comment contents)) × Represents forest others later
+Represents forest ns (doctype_node name public system later) =
+    (n : ℕ) × (others : List ℕ) × (ns ≡ n ∷ others) × (slice_get forest.content n ≡ Some (Doctype name public system)) × Represents forest others later
+Represents forest ns (element_node name attributes kids later) =
+    (n : ℕ) × (others below : List ℕ) × (ns ≡ n ∷ others) × IsElement forest n name attributes below
+    × Represents forest below kids × Represents forest others later
+
+-- a document is plain where the nodes below its root stand for plain trees
+pub record IsPlain (forest : Forest) : Type 0 where
+  pub trees : ValueTrees
+  pub root : slice_get forest.content 0 ≡ Some Document
+  pub below : Represents forest (kids_of forest 0) trees
+  pub plain : IsPlainTrees true trees

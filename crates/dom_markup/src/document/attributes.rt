@@ -1,0 +1,131 @@
+//! The attributes of a start tag: of equal names the first is kept.
+
+ghost use Rattle.std.specs.Prelude.{◌≡◌, ◌<◌, ◌++◌, ◌∷◌, [], List, ℕ, Bool, IfOk, OnOk, length, map, string_bytes};
+ghost use Rattle.std.specs.List.{list_any};
+ghost use Rattle.dom_markup.specs.Attributes.{Gains, IsNoted, is_named};
+ghost use Rattle.dom_markup.specs.Letters.{folded};
+ghost use Rattle.dom_markup.specs.Markup.{EndsTag, kept_after};
+ghost use Rattle.dom_markup.specs.Numbered.{read_attr};
+ghost use Rattle.dom_markup.specs.References.{decoded};
+ghost use Rattle.dom_markup.specs.ValueTrees.{Attribute};
+ghost use Rattle.dom_markup.specs.Written.{attribute_of};
+
+use crate::document::scan::{Written, attribute_at};
+use crate::references::decode;
+use dom_nodes::fault::OutOfMemory;
+use dom_nodes::name::{Attr, LocalName, Namespace, QualName};
+use dom_nodes::node_data::Attrs;
+use dom_nodes::text::Text;
+use std::alloc::Global;
+use std::collections::BTreeSet;
+
+/// A name is compared with so many before it; older ones are looked up in a set.
+const RECENT: usize = 16;
+
+/// The name with A to Z in lower case.
+pub fn folded_name(alloc: Global, name: &str) -> Result<Text, OutOfMemory>
+    ensures { IfOk result (λ text. text ≡ folded name.now) }
+{
+    let mut letters = String::from_str(alloc, name)?;
+    letters.make_ascii_lowercase();
+    Ok(Text::from(letters))
+}
+
+/// Whether some attribute has the local name.
+fn has_attr(attrs: &[Attr], name: &str) -> bool
+    ensures { result ≡ list_any (is_named name.now) attrs.now }
+{
+    attrs.iter().any(|attr| attr.name.local.0.as_str() == name)
+}
+
+/// The attributes of a tag so far. The names of all but the last few stand in a set too, so that a tag of many
+/// attributes is read quickly, whatever their names are.
+#[derive(Drop)]
+struct Kept {
+    attrs: Attrs,
+    noted: usize,
+    older: BTreeSet<String>,
+}
+
+impl Kept {
+    /// No attributes.
+    fn new(alloc: Global) -> Kept
+        ensures none { result.attrs ≡ [] }
+        ensures noted { IsNoted result }
+    {
+        Kept {
+            attrs: Attrs::new(alloc),
+            noted: 0,
+            older: BTreeSet::new(alloc),
+        }
+    }
+
+    /// Whether some attribute has the local name.
+    fn has(&self, name: &str) -> bool
+        requires { IsNoted self.now }
+        ensures { result ≡ list_any (is_named name.now) self.now.attrs }
+    {
+        let (_, recent) = self.attrs.as_slice().split_at(self.noted);
+        self.older.contains(name) || has_attr(recent, name)
+    }
+
+    /// Puts a name into the set.
+    fn insert_older(&mut self, name: String) -> Result<(), OutOfMemory>
+        ensures attrs { self.new.attrs ≡ self.old.attrs }
+        ensures noted { self.new.noted ≡ self.old.noted }
+        ensures names { OnOk result (Gains (string_bytes name) self.old.older self.new.older) }
+    {
+        self.older.insert(name)?;
+        Ok(())
+    }
+
+    /// Puts the oldest name that isn't in the set there, where many aren't.
+    fn note(&mut self, alloc: Global) -> Result<(), OutOfMemory>
+        requires { IsNoted self.old }
+        ensures noted { OnOk result (IsNoted self.new) }
+        ensures attrs { self.new.attrs ≡ self.old.attrs }
+    {
+        let attrs = self.attrs.as_slice();
+        if attrs.len() - self.noted < RECENT {
+            return Ok(());
+        }
+        let name = String::from_str(alloc, attrs[self.noted].name.local.0.as_str())?;
+        self.insert_older(name)?;
+        self.noted += 1;
+        Ok(())
+    }
+
+    /// Adds an attribute, unless one of its name is there.
+    fn add(&mut self, alloc: Global, written: Written) -> Result<(), OutOfMemory>
+        requires { IsNoted self.old }
+        ensures noted { OnOk result (IsNoted self.new) }
+        ensures added { OnOk result ((kept : List Attribute) → self.old.attrs ≡ map read_attr kept
+            → self.new.attrs ≡ map read_attr (kept_after kept (attribute_of written.entry.name.now written.entry.value.now ∷ []))) }
+    {
+        let local = folded_name(alloc, written.name)?;
+        if self.has(local.as_str()) {
+            return Ok(());
+        }
+        let value = decode(alloc, written.value)?;
+        let name = QualName {
+            prefix: None,
+            ns: Namespace::None,
+            local: LocalName(local),
+        };
+        self.attrs.push(Attr { name, value })?;
+        self.note(alloc)
+    }
+}
+
+/// The attributes of a start tag, behind its name; of equal names the first is kept.
+pub fn attrs_of(alloc: Global, text: &str) -> Result<Attrs, OutOfMemory>
+    ensures { IfOk result (λ attrs. (slash : Bool) (all : List Attribute) (rest : List ℕ) → EndsTag slash text.now all rest → attrs ≡ map read_attr (kept_after [] all)) }
+{
+    let mut kept = Kept::new(alloc);
+    let mut rest = text;
+    while let Some((written, after)) = attribute_at(rest) {
+        kept.add(alloc, written)?;
+        rest = after;
+    }
+    Ok(kept.attrs)
+}

@@ -1,0 +1,112 @@
+//! Doctypes.
+
+ghost use Rattle.std.specs.Prelude.{◌≡◌, ◌≢◌, [], codes, true, List, ℕ, ◌∷◌, IfNone, IfSome};
+ghost use Rattle.dom_markup.specs.Letters.{folded, is_name_byte};
+ghost use Rattle.dom_markup.specs.Markup.{BeginsDoctype, BeginsQuoted, BeginsWord, Fails};
+ghost use Rattle.dom_markup.specs.Written.{AfterPublic, EndsDoctype, IsWord};
+
+use crate::document::scan::{Letters, close_at, split_front, split_letter, strip};
+
+/// A doctype as it is written.
+#[derive(Clone, Copy)]
+pub struct Doctype<'a> {
+    pub name: &'a str,
+    pub public: &'a str,
+    pub system: &'a str,
+}
+
+/// A text in quotes behind whitespace, and what follows it.
+fn quoted_at(text: &str) -> Option<(&str, &str)>
+    ensures some { IfSome result (λ found. BeginsQuoted text.now found.0.now found.1.now) }
+    ensures none { IfNone result ((value rest : List ℕ) → BeginsQuoted text.now value rest → ⊥) }
+{
+    let (space, quoted) = split_front(Letters::Whitespace, text);
+    if space.is_empty() {
+        return None;
+    }
+    if let Some(inner) = strip(quoted, '"') {
+        let found = split_letter(inner, b'"')?;
+        return Some(found);
+    }
+    let inner = strip(quoted, '\'')?;
+    let found = split_letter(inner, b'\'')?;
+    Some(found)
+}
+
+/// What follows the whitespace and the word at the front, A to Z being a to z.
+fn word_end<'a>(text: &'a str, word: &str) -> Option<&'a str>
+    requires { IsWord word.now }
+    ensures some { IfSome result (λ rest. BeginsWord word.now text.now rest.now) }
+    ensures whole { IfSome result (λ rest. Fails is_name_byte rest.now) }
+    ensures none { IfNone result ((rest : List ℕ) → Fails is_name_byte rest → BeginsWord word.now text.now rest → ⊥) }
+{
+    let (space, behind) = split_front(Letters::Whitespace, text);
+    let (written, rest) = split_front(Letters::Name, behind);
+    if space.is_empty() {
+        return None;
+    }
+    if !written.eq_ignore_ascii_case(word) {
+        return None;
+    }
+    Some(rest)
+}
+
+/// The identifiers behind the word `public`, and what follows the doctype.
+fn public_at(text: &str) -> Option<(&str, &str, &str)>
+    ensures some { IfSome result (λ found. AfterPublic text.now found.0.now found.1.now found.2.now) }
+    ensures none { IfNone result ((public system rest : List ℕ) → AfterPublic text.now public system rest → ⊥) }
+{
+    let (public, later) = quoted_at(text)?;
+    let Some((system, close)) = quoted_at(later) else {
+        let rest = close_at(later, false)?;
+        return Some((public, "", rest));
+    };
+    let rest = close_at(close, false)?;
+    Some((public, system, rest))
+}
+
+/// The identifiers, and what follows the doctype; an identifier that isn't there is empty.
+fn identifiers_at(text: &str) -> Option<(&str, &str, &str)>
+    ensures some { IfSome result (λ found. EndsDoctype text.now found.0.now found.1.now found.2.now) }
+    ensures none { IfNone result ((public system rest : List ℕ) → EndsDoctype text.now public system rest → ⊥) }
+{
+    if let Some(after) = word_end(text, "public") {
+        let found = public_at(after)?;
+        return Some(found);
+    }
+    if let Some(after) = word_end(text, "system") {
+        let (system, close) = quoted_at(after)?;
+        let rest = close_at(close, false)?;
+        return Some(("", system, rest));
+    }
+    let rest = close_at(text, false)?;
+    Some(("", "", rest))
+}
+
+/// The doctype, behind its `<!`, and what follows it.
+pub fn doctype_at(tag: &str) -> Option<(Doctype<'_>, &str)>
+    ensures some { IfSome result (λ found. BeginsDoctype (60 ∷ 33 ∷ tag.now) (folded found.0.name.now) found.0.public.now found.0.system.now found.1.now) }
+    ensures none { IfNone result ((name public system rest : List ℕ) → BeginsDoctype (60 ∷ 33 ∷ tag.now) name public system rest → ⊥) }
+{
+    let (word, inner) = split_front(Letters::Name, tag);
+    let (space, gap) = split_front(Letters::Whitespace, inner);
+    let (name, behind) = split_front(Letters::Name, gap);
+    if !word.eq_ignore_ascii_case("doctype") {
+        return None;
+    }
+    if space.is_empty() {
+        return None;
+    }
+    if name.is_empty() {
+        return None;
+    }
+    let (public, system, rest) = identifiers_at(behind)?;
+    Some((
+        Doctype {
+            name,
+            public,
+            system,
+        },
+        rest,
+    ))
+}

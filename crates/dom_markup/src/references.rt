@@ -1,0 +1,132 @@
+// The references in a text, and the text with each read as the character that it stands for.
+ghost use Rattle.std.specs.Prelude.{◌≡◌, ◌≤◌, ℕ, List, None, Some, IfOk, if◌then◌else◌};
+ghost use Rattle.dom_markup.specs.References.{decoded, is_numbered, numeral, reference};
+ghost use Rattle.dom_markup.specs.Referring.{CutsReference};
+
+use dom_nodes::fault::OutOfMemory;
+use dom_nodes::text::Text;
+use memchr::memchr;
+use std::alloc::Global;
+
+/// The text with its references read.
+pub fn decode(alloc: Global, text: &str) -> Result<Text, OutOfMemory>
+    ensures { IfOk result (λ read. read ≡ decoded text.now) }
+{
+    let mut read = String::new(alloc);
+    let mut rest = text;
+    while let Some(cut) = cut_reference(rest) {
+        read.push_str(cut.before)?;
+        read.push(cut.character)?;
+        rest = cut.after;
+    }
+    read.push_str(rest)?;
+    Ok(Text::from(read))
+}
+
+/// A character that a reference stands for: the text before the reference, the character, and the text after it.
+#[derive(Clone, Copy)]
+struct Referred<'a> {
+    before: &'a str,
+    character: char,
+    after: &'a str,
+}
+
+/// The first `&` of a text, with the reference that it begins, if it does.
+fn cut_reference(text: &str) -> Option<Referred<'_>>
+    ensures { CutsReference text.now result }
+{
+    let at = memchr(b'&', text.as_bytes())?;
+    let after = &text[at + 1..];
+    let bare = Reference {
+        character: '&',
+        len: 0,
+    };
+    let found = reference_at(after).unwrap_or(bare);
+    let character = found.character;
+    Some(Referred {
+        before: &text[..at],
+        character,
+        after: &after[found.len..],
+    })
+}
+
+/// The character that a reference stands for, and how many bytes it takes after its `&`.
+#[derive(Clone, Copy)]
+struct Reference {
+    character: char,
+    len: usize,
+}
+
+/// The reference that begins at an `&`, told by what follows.
+fn reference_at(after: &str) -> Option<Reference>
+    ensures { result ≡ reference after.now }
+{
+    let bytes = after.as_bytes();
+    if bytes.starts_with(b"amp;") {
+        Some(Reference {
+            character: '&',
+            len: 4,
+        })
+    } else if bytes.starts_with(b"lt;") {
+        Some(Reference {
+            character: '<',
+            len: 3,
+        })
+    } else if bytes.starts_with(b"gt;") {
+        Some(Reference {
+            character: '>',
+            len: 3,
+        })
+    } else if bytes.starts_with(b"quot;") {
+        Some(Reference {
+            character: '"',
+            len: 5,
+        })
+    } else if bytes.starts_with(b"nbsp;") {
+        Some(Reference {
+            character: '\u{a0}',
+            len: 5,
+        })
+    } else if bytes.starts_with(b"#x") || bytes.starts_with(b"#X") {
+        numeral(&bytes[2..], 16, 2)
+    } else if bytes.starts_with(b"#") {
+        numeral(&bytes[1..], 10, 1)
+    } else {
+        None
+    }
+}
+
+/// What the digits before a semicolon refer to, `before` bytes after the `&`.
+fn numeral(bytes: &[u8], base: u32, before: usize) -> Option<Reference>
+    requires digits { 2 ≤ base }
+    requires base { base ≤ 16 }
+    requires before { before ≤ 2 }
+    ensures { result ≡ numeral base 0 before bytes.now }
+{
+    let mut number = 0;
+    for (index, byte) in bytes.iter().enumerate() {
+        if *byte == b';' {
+            let character = numbered(number)?;
+            return Some(Reference {
+                character,
+                len: before + index + 1,
+            });
+        }
+        let digit = char::from(*byte).to_digit(base)?;
+        number = number * base + digit;
+        if number > 0x10FFFF {
+            return None;
+        }
+    }
+    None
+}
+
+/// The character of a number, where a reference by that number stands for it.
+fn numbered(number: u32) -> Option<char>
+    ensures { result ≡ (if is_numbered number then Some number else None) }
+{
+    match char::from_u32(number) {
+        Some(character) if number != 0 && !(128 <= number && number < 160) => Some(character),
+        _ => None,
+    }
+}
