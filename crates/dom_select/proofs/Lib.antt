@@ -4,6 +4,7 @@ pub mod ComparisonLemmas
 pub mod CssLemmas
 pub mod DeepLemmas
 pub mod FaultLemmas
+pub mod FollowLemmas
 pub mod KeepLemmas
 pub mod Layers
 pub mod LengthLemmas
@@ -13,6 +14,7 @@ pub mod NameLemmas
 pub mod PrintedLemmas
 pub mod ReachLemmas
 pub mod RefusalLemmas
+pub mod RowLemmas
 pub mod Runs
 pub mod SelectionLemmas
 pub mod SelectorLemmas

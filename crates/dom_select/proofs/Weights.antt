@@ -16,7 +16,7 @@ abbrev mutual
 
   pub selectors_weight : SelectorList → ℕ
   selectors_weight no_selectors = 0
-  selectors_weight (alternative first rest more) = 3 + compound_weight first + steps_weight rest + selectors_weight more
+  selectors_weight (alternative first rest more) = 9 + compound_weight first + steps_weight rest + selectors_weight more
 
   pub steps_weight : Steps → ℕ
   steps_weight no_steps = 0

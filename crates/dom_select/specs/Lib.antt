@@ -17,3 +17,4 @@ pub mod Spelling
 pub mod Strings
 pub mod Syntax
 pub mod Tokens
+pub mod Ways

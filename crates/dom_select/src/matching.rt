@@ -1,17 +1,22 @@
-//! Whether a selector means a node: from right to left, and back where an earlier choice fails.
+//! Whether a selector means a node. Its compounds are followed from right to left, those first that bind more tightly: `+`,
+//! then `~`, then `>`, then whitespace. Where a combinator leaves a choice, the nearest node from which they can be followed
+//! is taken and never given up: what stands on the left of a farther one stands on the left of that one too.
 
-ghost use Rattle.std.specs.Prelude.{◌≡◌, ◌↔◌, ℕ, map, IsTrue};
+ghost use Rattle.std.specs.Prelude.{◌≡◌, ◌↔◌, ◌∷◌, [], ℕ, map, IfSome, IsTrue, MatchBool, MatchOption};
 ghost use Rattle.dom_links.specs.Laws.{AreLines};
 ghost use Rattle.dom_select.specs.Items.{lists_of, steps_of};
 ghost use Rattle.dom_select.specs.Lines.{ends_at, left_of};
-ghost use Rattle.dom_select.specs.Meaning.{Holds, ListsHold, ListHolds, MayBeside, Means, Reaches, Stands};
+ghost use Rattle.dom_select.specs.Meaning.{Holds, ListsHold, ListHolds, MayBeside, Means, PartsHold, Reaches};
 ghost use Rattle.dom_select.specs.Reading.{read_compound, read_list, read_nested, read_step};
+ghost use Rattle.dom_select.specs.Syntax.{no_lists, compound as the_compound};
+ghost use Rattle.dom_select.specs.Ways.{EndHolds, Followed, FollowedFrom, IsOrPrecedes, ReachesSome, looseness};
 
-use crate::parts::{is_element, parts_hold};
-use crate::selector::{Combinator, Compound, Nested, Selector, Step};
+use crate::parts::{is_element, is_named_node, parts_hold};
+use crate::selector::{Combinator, Compound, Nested, Part, Selector, Step};
 use dom_links::iters::{parent_id, prev_sibling_id};
 use dom_links::laws::lines_of_a_forest;
 use dom_nodes::node_id::NodeId;
+use dom_nodes::text::Text;
 use dom_trees::tree::Tree;
 
 /// Whether the node may stand beside `+` or `~`.
@@ -24,6 +29,14 @@ fn may_beside(tree: &Tree, spared: NodeId, combinator: Combinator, id: NodeId) -
             id.value() == spared.value() || is_element(tree, &id)
         }
     }
+}
+
+/// Tells how the nodes of the tree follow each other. It does nothing.
+fn know_lines(tree: &Tree)
+    ensures { AreLines tree.now }
+{
+    let _nodes = tree.nodes();
+    lines_of_a_forest();
 }
 
 /// The next node on the way to the left: the parent, or the sibling before.
@@ -50,11 +63,52 @@ fn ends_at(tree: &Tree, combinator: Combinator, id: NodeId) -> bool
     }
 }
 
-/// Whether the compound holds of the node.
+/// How loosely a combinator binds.
+fn looseness(combinator: Combinator) -> usize
+    ensures { result ≡ looseness combinator }
+{
+    match combinator {
+        Combinator::NextSibling => 1,
+        Combinator::LaterSibling => 2,
+        Combinator::Child => 3,
+        Combinator::Descendant => 4,
+    }
+}
+
+/// Looser than every combinator.
+const ALL: usize = 5;
+
+/// The name, where the compound is a type and nothing else.
+fn bare_type(compound: &Compound) -> Option<&Text>
+    ensures { IfSome result (λ name. read_compound compound.now ≡ the_compound (Part.«Type» name.now ∷ []) no_lists) }
+{
+    if !compound.nested.is_empty() {
+        return None;
+    }
+    match compound.parts.as_slice() {
+        [Part::Type(name)] => Some(name),
+        _ => None,
+    }
+}
+
+/// Whether the number is an element's that bears the name as a type.
+fn bears_name(tree: &Tree, id: &NodeId, name: &str) -> bool
+    ensures { MatchBool result (PartsHold (Part.«Type» name.now ∷ []) tree.now id.now) (PartsHold (Part.«Type» name.now ∷ []) tree.now id.now → ⊥) }
+{
+    match tree.get(id) {
+        Some(found) => is_named_node(&found.content, name),
+        None => false,
+    }
+}
+
+/// Whether the compound holds of the node. Of a type alone the names are compared, and nothing else is looked at.
 #[cycle(matching)]
 fn holds(compound: &Compound, tree: &Tree, id: NodeId) -> bool
     ensures { IsTrue result ↔ Holds (read_compound compound.now) tree.now id }
 {
+    if let Some(name) = bare_type(compound) {
+        return bears_name(tree, &id, name.as_str());
+    }
     parts_hold(&compound.parts, tree, &id) && lists_hold(&compound.nested, tree, id)
 }
 
@@ -87,7 +141,7 @@ pub(crate) fn means(selectors: &[Selector], tree: &Tree, id: NodeId) -> bool
     ensures { IsTrue result ↔ Means (read_list selectors.now) tree.now id }
 {
     for selector in selectors {
-        if reaches(&selector.first, &selector.rest, tree, id, id) {
+        if reaches(&selector.first, &selector.rest, tree, id) {
             return true;
         }
     }
@@ -96,45 +150,105 @@ pub(crate) fn means(selectors: &[Selector], tree: &Tree, id: NodeId) -> bool
 
 /// Whether there are nodes for the first compound and for those of the steps, the last of them this one.
 #[cycle(matching)]
-fn reaches(first: &Compound, steps: &[Step], tree: &Tree, spared: NodeId, id: NodeId) -> bool
-    ensures { IsTrue result ↔ Reaches (read_compound first.now) (steps_of (map read_step steps.now)) tree.now spared id }
+fn reaches(first: &Compound, steps: &[Step], tree: &Tree, id: NodeId) -> bool
+    ensures { IsTrue result ↔ Reaches (read_compound first.now) (steps_of (map read_step steps.now)) tree.now id id }
+{
+    if steps.is_empty() {
+        return holds(first, tree, id);
+    }
+    follow(ALL, first, steps, tree, id, id).is_some()
+}
+
+/// Whether the last compound holds of the node, which may stand as the combinator on its left asks.
+#[cycle(matching)]
+fn end_holds(first: &Compound, steps: &[Step], tree: &Tree, spared: NodeId, id: NodeId) -> bool
+    ensures { MatchBool result (EndHolds tree.now spared (read_compound first.now) (map read_step steps.now) id)
+        (EndHolds tree.now spared (read_compound first.now) (map read_step steps.now) id → ⊥) }
 {
     match steps.split_last() {
         None => holds(first, tree, id),
-        Some((last, front)) => {
+        Some((last, _)) => {
             if !may_beside(tree, spared, last.combinator, id) {
                 return false;
             }
-            if !holds(&last.compound, tree, id) {
-                return false;
-            }
-            comes_from(first, front, last.combinator, tree, spared, id)
+            holds(&last.compound, tree, id)
         }
     }
 }
 
-/// Whether the steps lead to some node that stands to this one as the combinator says.
+/// Where a chain was followed to: the steps that are left, and the node that they must reach.
+#[derive(Clone, Copy)]
+struct Place<'a> {
+    left: &'a [Step],
+    at: NodeId,
+}
+
+/// Follows the steps from the node to the left, over all that bind more tightly than `level`.
 #[cycle(matching)]
-fn comes_from(
+fn follow<'a>(
+    level: usize,
     first: &Compound,
-    steps: &[Step],
+    steps: &'a [Step],
+    tree: &Tree,
+    spared: NodeId,
+    id: NodeId,
+) -> Option<Place<'a>>
+    requires { IsOrPrecedes tree.now id spared }
+    ensures { MatchOption result (Reaches (read_compound first.now) (steps_of (map read_step steps.now)) tree.now spared id → ⊥)
+        (λ place. Followed tree.now spared (read_compound first.now) level (map read_step steps.now) (map read_step place.left.now) id place.at) }
+{
+    if level <= 1 {
+        if !end_holds(first, steps, tree, spared, id) {
+            return None;
+        }
+        return Some(Place {
+            left: steps,
+            at: id,
+        });
+    }
+    know_lines(tree);
+    let Some(mut place) = follow(level - 1, first, steps, tree, spared, id) else {
+        return None;
+    };
+    while let Some((last, front)) = place.left.split_last() {
+        if looseness(last.combinator) >= level {
+            return Some(place);
+        }
+        let Some(next) = follow_from(first, front, last.combinator, tree, spared, place.at) else {
+            return None;
+        };
+        place = next;
+    }
+    Some(place)
+}
+
+/// Follows the steps from the nearest node that they can be followed from, of those that stand to this one as the combinator
+/// says.
+#[cycle(matching)]
+fn follow_from<'a>(
+    first: &Compound,
+    steps: &'a [Step],
     combinator: Combinator,
     tree: &Tree,
     spared: NodeId,
     id: NodeId,
-) -> bool
-    ensures { IsTrue result ↔ ((v : ℕ) × Stands tree.now combinator v id × (MayBeside tree.now spared combinator v
-        × Reaches (read_compound first.now) (steps_of (map read_step steps.now)) tree.now spared v)) }
+) -> Option<Place<'a>>
+    requires { IsOrPrecedes tree.now id spared }
+    ensures { MatchOption result (ReachesSome tree.now spared (read_compound first.now) (map read_step steps.now) combinator id → ⊥)
+        (λ place. FollowedFrom tree.now spared (read_compound first.now) combinator (map read_step steps.now) (map read_step place.left.now) id place.at) }
 {
     let mut at = id;
     while let Some(v) = on_the_left(tree, combinator, at) {
-        if may_beside(tree, spared, combinator, v) && reaches(first, steps, tree, spared, v) {
-            return true;
+        if may_beside(tree, spared, combinator, v) {
+            let level = looseness(combinator);
+            if let Some(place) = follow(level, first, steps, tree, spared, v) {
+                return Some(place);
+            }
         }
         if ends_at(tree, combinator, v) {
-            return false;
+            return None;
         }
         at = v;
     }
-    false
+    None
 }

@@ -1,6 +1,6 @@
 //! Whether a part of a compound holds of a node.
 
-ghost use Rattle.std.specs.Prelude.{◌≡◌, ◌||◌, codes, MatchBool};
+ghost use Rattle.std.specs.Prelude.{◌≡◌, ◌||◌, ◌∷◌, [], codes, MatchBool};
 ghost use Rattle.std.specs.List.{list_any};
 ghost use Rattle.std.specs.Str.{bytes_eq, str_to_ascii_lowercase};
 ghost use Rattle.dom_select.specs.Lines.{element_at};
@@ -21,6 +21,16 @@ pub(crate) fn parts_hold(parts: &[Part], tree: &Tree, id: &NodeId) -> bool
     match tree.get(id) {
         Some(found) => all_hold(parts, &found.content),
         None => false,
+    }
+}
+
+/// Whether the node is an element that bears the name as a type.
+pub(crate) fn is_named_node(node: &NodeData, name: &str) -> bool
+    ensures { result ≡ all_hold (Part.«Type» name.now ∷ []) node.now }
+{
+    match node {
+        NodeData::Element(element) => is_named(&element.name.ns, element.node_name(), name),
+        _ => false,
     }
 }
 

@@ -1,10 +1,12 @@
-use Rattle.std.proofs.Common.{◌+◌, ◌≤◌, map, drop, length, ◌↔◌}
+use Rattle.std.proofs.Common.{ℕ, ◌≡◌, ◌+◌, ◌-◌, ◌≤◌, map, drop, length, ◌↔◌}
 use Rattle.dom_select.specs.Items.{lists_of, steps_of}
 use Rattle.dom_select.specs.Lines.{line, ends_at}
-use Rattle.dom_select.specs.Meaning.{ListsHold, MayBeside, Means, Reaches}
+use Rattle.dom_select.specs.Meaning.{ListsHold, Means}
 use Rattle.dom_select.specs.Reading.{read_compound, read_list, read_nested, read_step}
 use Rattle.dom_select.proofs.Weights.{compound_weight, lists_weight, list_weight, selectors_weight, steps_weight}
-use Rattle.dom_select.proofs.ReachLemmas.{SomeOnLine}
+use Rattle.dom_select.proofs.ReachLemmas.{IsMeant, SomeOnLine}
+use Rattle.dom_select.specs.Ways.{looseness}
+use Rattle.dom_select.proofs.FollowLemmas.{Following}
 use Rattle.dom_select.proofs.matching.+matching.Given as goal
 
 abbrev pub decreases-holds : goal.decreases-holds
@@ -20,10 +22,16 @@ abbrev pub decreases-means : goal.decreases-means
 decreases-means l = selectors_weight (read_list l.selectors.now)
 
 abbrev pub decreases-reaches : goal.decreases-reaches
-decreases-reaches l = 1 + compound_weight (read_compound l.first.now) + steps_weight (steps_of (map read_step l.steps.now))
+decreases-reaches l = 8 + compound_weight (read_compound l.first.now) + steps_weight (steps_of (map read_step l.steps.now))
 
-abbrev pub decreases-comes_from : goal.decreases-comes_from
-decreases-comes_from l = 2 + compound_weight (read_compound l.first.now) + steps_weight (steps_of (map read_step l.steps.now))
+abbrev pub decreases-end_holds : goal.decreases-end_holds
+decreases-end_holds l = 1 + compound_weight (read_compound l.first.now) + steps_weight (steps_of (map read_step l.steps.now))
+
+abbrev pub decreases-follow : goal.decreases-follow
+decreases-follow l = 2 + compound_weight (read_compound l.first.now) + steps_weight (steps_of (map read_step l.steps.now)) + l.level
+
+abbrev pub decreases-follow_from : goal.decreases-follow_from
+decreases-follow_from l = 3 + compound_weight (read_compound l.first.now) + steps_weight (steps_of (map read_step l.steps.now)) + looseness l.combinator
 
 -- the lists that are left decide
 abbrev pub invariant-lists_hold-loop-list : goal.invariant-lists_hold-loop-list
@@ -45,13 +53,22 @@ invariant-means-loop-selector l =
       light : selectors_weight left ≤ selectors_weight all;
     }
 
--- what is left of the way decides
-abbrev pub invariant-comes_from-loop-v : goal.invariant-comes_from-loop-v
-invariant-comes_from-loop-v l =
-    let first = read_compound l.first in
-    let steps = steps_of (map read_step l.steps) in
-    let meant = SomeOnLine (ends_at l.tree l.combinator) (λ v. MayBeside l.tree l.spared l.combinator v × Reaches first steps l.tree l.spared v) in
-    (meant (line l.tree l.combinator l.at) ↔ meant (line l.tree l.combinator l.fn.id))
+-- the steps are followed so far
+abbrev pub invariant-follow-loop-last : goal.invariant-follow-loop-last
+invariant-follow-loop-last l = Following l.tree l.spared (read_compound l.first) l.level (l.level - 1) (map read_step l.steps) (map read_step l.place.left.now) l.fn.id l.place.at
 
-abbrev pub decreases-comes_from-loop-v : goal.decreases-comes_from-loop-v
-decreases-comes_from-loop-v l = length (line l.tree l.combinator l.at)
+abbrev pub decreases-follow-loop-last : goal.decreases-follow-loop-last
+decreases-follow-loop-last l = length l.place.left.now
+
+-- what is left of the way decides
+abbrev pub invariant-follow_from-loop-v : goal.invariant-follow_from-loop-v
+invariant-follow_from-loop-v l =
+    let ends = ends_at l.tree l.combinator in
+    let meant = SomeOnLine ends (IsMeant l.tree l.spared (read_compound l.first) (steps_of (map read_step l.steps)) l.combinator) in
+    record {
+      forth : meant (line l.tree l.combinator l.fn.id) → meant (line l.tree l.combinator l.at);
+      back : (v : ℕ) → SomeOnLine ends (λ n. n ≡ v) (line l.tree l.combinator l.at) → SomeOnLine ends (λ n. n ≡ v) (line l.tree l.combinator l.fn.id);
+    }
+
+abbrev pub decreases-follow_from-loop-v : goal.decreases-follow_from-loop-v
+decreases-follow_from-loop-v l = length (line l.tree l.combinator l.at)
