@@ -3,7 +3,7 @@ use Rattle.std.proofs.Common.{◌≡◌, ◌≢◌, ℕ, List, [], ◌∷◌, �
 use Rattle.std.specs.Str.{chars}
 use Rattle.std.specs.Str.Pattern.{FindsTextPrefix, StripsPrefix}
 use Rattle.std.proofs.lemmas.List.{append_cancel_left}
-use Rattle.dom_query.specs.declared.script.Command.TheVariants.{Nothing, Select, Html, Document}
+use Rattle.dom_query.specs.declared.script.Command.TheVariants.{Nothing, Select, Count, Text, Html, Document}
 use Rattle.dom_query.specs.Script.{HasArgument, IsBad, StandsForNothing}
 
 pub argument-none : (line word : List ℕ) → FindsTextPrefix word line None → (argument : List ℕ) → HasArgument line word argument → ⊥
@@ -38,10 +38,19 @@ argument-once line word a b (inl p) (inr q) = let e : 32 ∷ a ≡ [] = behind-i
 argument-once line word a b (inr p) (inl q) = let e : 32 ∷ b ≡ [] = behind-is line word (32 ∷ b) [] q (p.0 ∙ sym (append-nil word)) in cc
 argument-once line word a b (inr p) (inr q) = p.1 ∙ sym q.1
 
--- no selector stands behind `select`
-pub bad-line : (line : List ℕ) → line ≢ [] → line ≢ codes "html" → line ≢ codes "document"
-    → ((argument : List ℕ) → HasArgument line (codes "select") argument → StandsForNothing (chars argument)) → IsBad line
-bad-line line full html document unselected Nothing h = full h
-bad-line line full html document unselected (Select selector) h = unselected h.0 h.1 selector h.2
-bad-line line full html document unselected Html h = html h
-bad-line line full html document unselected Document h = document h
+-- the line is none of the words that stand alone
+pub record IsNoWord (line : List ℕ) : Type 0 where
+  pub full : line ≢ []
+  pub count : line ≢ codes "count"
+  pub text : line ≢ codes "text"
+  pub html : line ≢ codes "html"
+  pub document : line ≢ codes "document"
+
+-- nor does a selector stand behind `select`
+pub bad-line : (line : List ℕ) → IsNoWord line → ((argument : List ℕ) → HasArgument line (codes "select") argument → StandsForNothing (chars argument)) → IsBad line
+bad-line line none unselected Nothing h = none.full h
+bad-line line none unselected (Select selector) h = unselected h.0 h.1 selector h.2
+bad-line line none unselected Count h = none.count h
+bad-line line none unselected Text h = none.text h
+bad-line line none unselected Html h = none.html h
+bad-line line none unselected Document h = none.document h

@@ -1,10 +1,12 @@
 -- A script has one reading at most.
-use Rattle.std.proofs.Common.{◌≡◌, ◌+◌, ◌<◌, lit<, ℕ, zero, suc, List, [], ◌∷◌, ◌++◌, inl, inr, refl, sym, ◌∙◌, ap, codes, length, arith, subst}
+use Rattle.std.proofs.Common.{◌≡◌, ◌+◌, ℕ, zero, suc, List, [], ◌∷◌, ◌++◌, false, true≢false, inl, inr, refl, sym, ◌∙◌, ap, codes, length, arith, subst}
+use Rattle.std.specs.Prelude.{◌==◌}
+use Rattle.std.proofs.lemmas.Bool.{eq-eqb}
 use Rattle.std.specs.Str.{chars}
 use Rattle.dom_select.specs.Syntax.{SelectorList}
 use Rattle.dom_select.specs.Grammar.{StandsFor}
 use Rattle.dom_query.specs.declared.script.Command.{Command}
-use Rattle.dom_query.specs.declared.script.Command.TheVariants.{Nothing, Select, Html, Document}
+use Rattle.dom_query.specs.declared.script.Command.TheVariants.{Nothing, Select, Count, Text, Html, Document}
 use Rattle.dom_query.specs.Script.{AreCommands, FirstBad, HasArgument, IsBad, IsCommand, IsNoScript, IsScript, lines_of}
 use Rattle.dom_query.proofs.Lines.{argument-once}
 
@@ -12,45 +14,75 @@ use Rattle.dom_query.proofs.Lines.{argument-once}
 abbrev pub OneSelector : Type 0
 OneSelector = (text : List ℕ) (a b : SelectorList) → StandsFor text a → StandsFor text b → a ≡ b
 
+-- the letter that a line begins with, and the one of the word of a command
+abbrev letter : List ℕ → ℕ
+letter [] = 0
+letter (x ∷ xs) = x
+
+abbrev initial : Command → ℕ
+initial Nothing = 0
+initial (Select selector) = 115
+initial Count = 99
+initial Text = 116
+initial Html = 104
+initial Document = 100
+
 -- how a line with `select` begins
-selects : (line argument : List ℕ) → HasArgument line (codes "select") argument → (rest : List ℕ) × (line ≡ 115 ∷ rest)
-selects line argument (inl is) = (codes "elect" ++ 32 ∷ argument, is)
-selects line argument (inr p) = (codes "elect", p.0)
+selects : (line argument : List ℕ) → HasArgument line (codes "select") argument → letter line ≡ 115
+selects line argument (inl is) = ap letter is
+selects line argument (inr p) = ap letter p.0
 
-heads : (line : List ℕ) (x y : ℕ) (xs ys : List ℕ) → line ≡ x ∷ xs → line ≡ y ∷ ys → y < x → ⊥
-heads line x y xs ys a b below = let same : x ≡ y = cc in omega arith
+begins : (line : List ℕ) (command : Command) → IsCommand line command → letter line ≡ initial command
+begins line Nothing p = ap letter p
+begins line (Select selector) p = selects line p.0 p.1
+begins line Count p = ap letter p
+begins line Text p = ap letter p
+begins line Html p = ap letter p
+begins line Document p = ap letter p
 
-not-html : (line argument : List ℕ) → HasArgument line (codes "select") argument → line ≡ codes "html" → ⊥
-not-html line argument h e = let at = selects line argument h in heads line 115 104 at.0 (codes "tml") at.1 e (lit< tt)
-
-not-document : (line argument : List ℕ) → HasArgument line (codes "select") argument → line ≡ codes "document" → ⊥
-not-document line argument h e = let at = selects line argument h in heads line 115 100 at.0 (codes "ocument") at.1 e (lit< tt)
-
-not-empty : (line argument : List ℕ) → HasArgument line (codes "select") argument → line ≡ [] → ⊥
-not-empty line argument h e = let at = (selects line argument h).1 in cc
-
-not-both : (line : List ℕ) → line ≡ codes "html" → line ≡ codes "document" → ⊥
-not-both line p q = heads line 104 100 (codes "tml") (codes "ocument") p q (lit< tt)
+-- words that begin otherwise are others
+other : (line : List ℕ) (a b : Command) → IsCommand line a → IsCommand line b → (initial a == initial b) ≡ false → ⊥
+other line a b p q apart = true≢false (sym (eq-eqb (initial a) (initial b) (sym (begins line a p) ∙ begins line b q)) ∙ apart)
 
 -- a line asks for one command at most
 pub command-once : OneSelector → (line : List ℕ) (a b : Command) → IsCommand line a → IsCommand line b → a ≡ b
 command-once one line Nothing Nothing p q = refl
-command-once one line Nothing (Select t) p q = absurd (not-empty line q.0 q.1 p)
-command-once one line Nothing Html p q = cc
-command-once one line Nothing Document p q = cc
-command-once one line (Select s) Nothing p q = absurd (not-empty line p.0 p.1 q)
+command-once one line Nothing (Select t) p q = absurd (other line Nothing (Select t) p q refl)
+command-once one line Nothing Count p q = absurd (other line Nothing Count p q refl)
+command-once one line Nothing Text p q = absurd (other line Nothing Text p q refl)
+command-once one line Nothing Html p q = absurd (other line Nothing Html p q refl)
+command-once one line Nothing Document p q = absurd (other line Nothing Document p q refl)
+command-once one line (Select s) Nothing p q = absurd (other line (Select s) Nothing p q refl)
 command-once one line (Select s) (Select t) p q =
     let same = argument-once line (codes "select") p.0 q.0 p.1 q.1 in
     ap Select (one (chars q.0) s t (subst (λ text. StandsFor (chars text) s) same p.2) q.2)
-command-once one line (Select s) Html p q = absurd (not-html line p.0 p.1 q)
-command-once one line (Select s) Document p q = absurd (not-document line p.0 p.1 q)
-command-once one line Html Nothing p q = cc
-command-once one line Html (Select t) p q = absurd (not-html line q.0 q.1 p)
+command-once one line (Select s) Count p q = absurd (other line (Select s) Count p q refl)
+command-once one line (Select s) Text p q = absurd (other line (Select s) Text p q refl)
+command-once one line (Select s) Html p q = absurd (other line (Select s) Html p q refl)
+command-once one line (Select s) Document p q = absurd (other line (Select s) Document p q refl)
+command-once one line Count Nothing p q = absurd (other line Count Nothing p q refl)
+command-once one line Count (Select t) p q = absurd (other line Count (Select t) p q refl)
+command-once one line Count Count p q = refl
+command-once one line Count Text p q = absurd (other line Count Text p q refl)
+command-once one line Count Html p q = absurd (other line Count Html p q refl)
+command-once one line Count Document p q = absurd (other line Count Document p q refl)
+command-once one line Text Nothing p q = absurd (other line Text Nothing p q refl)
+command-once one line Text (Select t) p q = absurd (other line Text (Select t) p q refl)
+command-once one line Text Count p q = absurd (other line Text Count p q refl)
+command-once one line Text Text p q = refl
+command-once one line Text Html p q = absurd (other line Text Html p q refl)
+command-once one line Text Document p q = absurd (other line Text Document p q refl)
+command-once one line Html Nothing p q = absurd (other line Html Nothing p q refl)
+command-once one line Html (Select t) p q = absurd (other line Html (Select t) p q refl)
+command-once one line Html Count p q = absurd (other line Html Count p q refl)
+command-once one line Html Text p q = absurd (other line Html Text p q refl)
 command-once one line Html Html p q = refl
-command-once one line Html Document p q = absurd (not-both line p q)
-command-once one line Document Nothing p q = cc
-command-once one line Document (Select t) p q = absurd (not-document line q.0 q.1 p)
-command-once one line Document Html p q = absurd (not-both line q p)
+command-once one line Html Document p q = absurd (other line Html Document p q refl)
+command-once one line Document Nothing p q = absurd (other line Document Nothing p q refl)
+command-once one line Document (Select t) p q = absurd (other line Document (Select t) p q refl)
+command-once one line Document Count p q = absurd (other line Document Count p q refl)
+command-once one line Document Text p q = absurd (other line Document Text p q refl)
+command-once one line Document Html p q = absurd (other line Document Html p q refl)
 command-once one line Document Document p q = refl
 
 pub commands-once : OneSelector → (lines : List (List ℕ)) (a b : List Command) → AreCommands lines a → AreCommands lines b → a ≡ b

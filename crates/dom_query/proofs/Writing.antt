@@ -1,5 +1,8 @@
 -- Texts written one after another.
-use Rattle.std.proofs.Common.{ℕ, List, [], ◌++◌, Option, Some, None, Result, Ok, Err, refl, sym, ◌∙◌, ap, append_assoc, append-nil}
+use Rattle.std.proofs.Common.{◌≡◌, ◌<◌, ◌+◌, ℕ, List, [], ◌∷◌, ◌++◌, Option, Some, None, Result, Ok, Err, refl, sym, ◌∙◌, ap, append_assoc, append-nil, take, drop, length, get_or, subst}
+use Rattle.std.specs.List.{flat_map}
+use Rattle.std.proofs.lemmas.List.{take_more, take-append-drop}
+use Rattle.std.proofs.lemmas.Grind.{flat_map-append}
 use Rattle.std.specs.Io.KnownBytes.{Appends}
 use Rattle.dom_markup.specs.Writing.{AppendsBeginning, Writes}
 
@@ -44,3 +47,25 @@ then-writes a b c (Err e) xs ys first second = beginning-then a b c xs ys first 
 -- a whole text is a beginning of itself
 pub whole-begun : (a b : Option (List ℕ)) (text : List ℕ) → Appends a b text → AppendsBeginning a b text
 whole-begun a b text written = record { front = text; back = []; whole = append-nil text; written = written }
+
+-- texts of nodes, joined, cut at one of them
+pub joined-split : (f : ℕ → List ℕ) (ns : List ℕ) (k n : ℕ) → k < length ns → n ≡ get_or ns k n
+    → flat_map f ns ≡ (flat_map f (take k ns) ++ f n) ++ flat_map f (drop (k + 1) ns)
+joined-split f ns k n within is =
+    let more : take (k + 1) ns ≡ take k ns ++ n ∷ [] = take_more ns k n within ∙ ap (λ m. take k ns ++ m ∷ []) (sym is) in
+    let all : ns ≡ take (k + 1) ns ++ drop (k + 1) ns = sym (take-append-drop (k + 1) ns) in
+    ap (flat_map f) all ∙ (flat_map-append f (take (k + 1) ns) (drop (k + 1) ns) ∙ ap (λ zs. zs ++ flat_map f (drop (k + 1) ns))
+    (ap (flat_map f) more ∙ (flat_map-append f (take k ns) (n ∷ []) ∙ ap (λ zs. flat_map f (take k ns) ++ zs) (append-nil (f n)))))
+
+module _ (f : ℕ → List ℕ) (ns : List ℕ) (k n : ℕ) (within : k < length ns) (is : n ≡ get_or ns k n) (a b c : Option (List ℕ)) (end : List ℕ) where
+  -- the texts of the first nodes were written, and no more
+  pub joined-so_far : Appends a b (flat_map f (take k ns)) → AppendsBeginning a b (flat_map f ns ++ end)
+  joined-so_far written =
+      beginning-more a b (flat_map f ns) end (subst (AppendsBeginning a b) (sym (joined-split f ns k n within is))
+      (beginning-more a b _ (flat_map f (drop (k + 1) ns)) (beginning-more a b (flat_map f (take k ns)) (f n) (whole-begun a b (flat_map f (take k ns)) written))))
+
+  -- then a beginning of the next one's was
+  pub joined-next : (text : List ℕ) → text ≡ f n → Appends a b (flat_map f (take k ns)) → AppendsBeginning b c text → AppendsBeginning a c (flat_map f ns ++ end)
+  joined-next text so written begun =
+      beginning-more a c (flat_map f ns) end (subst (AppendsBeginning a c) (sym (joined-split f ns k n within is))
+      (beginning-more a c _ (flat_map f (drop (k + 1) ns)) (beginning-then a b c (flat_map f (take k ns)) (f n) written (subst (AppendsBeginning b c) so begun))))

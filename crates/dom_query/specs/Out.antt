@@ -1,14 +1,16 @@
 -- What a run writes, and how it ends.
-use Rattle.std.specs.Prelude.{◌≡◌, ◌⊎◌, ℕ, List, [], ◌∷◌, ◌++◌}
+use Rattle.std.specs.Prelude.{◌≡◌, ◌⊎◌, ℕ, List, [], ◌∷◌, ◌++◌, decimal, length}
+use Rattle.std.specs.List.{flat_map}
 use Rattle.std.specs.Str.{IsUtf8}
 use Rattle.dom_links.specs.Forest.{Forest}
+use Rattle.dom_links.specs.Texts.{text_of}
 use Rattle.dom_markup.specs.Html.{html_of}
 use Rattle.dom_markup.specs.Markup.{Spells, SpellsNothing}
 use Rattle.dom_markup.specs.Numbered.{document_of}
 use Rattle.dom_markup.specs.ValueTrees.{ValueTrees}
 use Rattle.dom_select.specs.Selected.{Selected}
 use Rattle.dom_query.specs.declared.script.Command.{Command}
-use Rattle.dom_query.specs.declared.script.Command.TheVariants.{Nothing, Select, Html, Document}
+use Rattle.dom_query.specs.declared.script.Command.TheVariants.{Nothing, Select, Count, Text, Html, Document}
 use Rattle.dom_query.specs.Script.{IsScript, IsNoScript}
 
 -- the commands were done; a line is no command; the markup is none
@@ -22,6 +24,10 @@ abbrev pub first_html : Forest → List ℕ → List ℕ
 first_html forest [] = []
 first_html forest (n ∷ ns) = html_of forest n
 
+-- the texts of the nodes, joined
+abbrev pub texts_of : Forest → List ℕ → List ℕ
+texts_of forest ns = flat_map (text_of forest) ns
+
 -- the text, and a line feed
 abbrev pub line_of : List ℕ → List ℕ
 line_of text = text ++ 10 ∷ []
@@ -30,6 +36,8 @@ line_of text = text ++ 10 ∷ []
 abbrev pub Does : Forest → List ℕ → Command → List ℕ → List ℕ → Type 0
 Does forest selection Nothing text selected = (text ≡ []) × (selected ≡ selection)
 Does forest selection (Select selector) text selected = (text ≡ []) × Selected forest (0 ∷ []) selector selected
+Does forest selection Count text selected = (text ≡ line_of (decimal (length selection))) × (selected ≡ selection)
+Does forest selection Text text selected = (text ≡ line_of (texts_of forest selection)) × (selected ≡ selection)
 Does forest selection Html text selected = (text ≡ line_of (first_html forest selection)) × (selected ≡ selection)
 Does forest selection Document text selected = (text ≡ line_of (html_of forest 0)) × (selected ≡ selection)
 

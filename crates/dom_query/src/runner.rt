@@ -1,6 +1,6 @@
 //! A script of lines, run over markup.
 
-ghost use Rattle.std.specs.Prelude.{◌≡◌, ◌∷◌, ◌++◌, [], ℕ, List, IfErr, IfOk, OnErr, OnOk};
+ghost use Rattle.std.specs.Prelude.{◌≡◌, ◌∷◌, ◌++◌, [], ℕ, List, decimal, length, IfErr, IfOk, OnErr, OnOk};
 ghost use Rattle.std.specs.Io.KnownBytes.{Appends};
 ghost use Rattle.std.specs.Str.{IsUtf8};
 ghost use Rattle.dom_markup.specs.Html.{html_of};
@@ -9,7 +9,7 @@ ghost use Rattle.dom_markup.specs.Numbered.{document_of};
 ghost use Rattle.dom_markup.specs.ValueTrees.{ValueTrees};
 ghost use Rattle.dom_markup.specs.Writing.{AppendsBeginning, Writes};
 ghost use Rattle.dom_query.specs.Faults.{GaveOut, MarkupRefused};
-ghost use Rattle.dom_query.specs.Out.{Does, DoesAll, first_html, line_of};
+ghost use Rattle.dom_query.specs.Out.{Does, DoesAll, first_html, line_of, texts_of};
 ghost use Rattle.dom_query.specs.Out.Ending.{done};
 ghost use Rattle.dom_query.specs.Runs.{Began, Ended, Tells};
 
@@ -22,7 +22,7 @@ use dom_nodes::node_id::NodeId;
 use dom_select::selection::select_below;
 use dom_trees::node_ref::NodeRef;
 use dom_trees::tree::Tree;
-use std::alloc::Global;
+use std::alloc::{AllocError, Global};
 use std::io::Write;
 
 /// Why a run ended early.
@@ -58,6 +58,16 @@ impl From<OutOfMemory> for RunFault {
     }
 }
 
+impl From<AllocError> for RunFault {
+    ghost use Rattle.dom_query.specs.declared.runner.RunFault.TheVariants.{Memory};
+
+    ghost from_gives = { λ _ fault. fault ≡ Memory };
+
+    fn from(_refused: AllocError) -> RunFault {
+        RunFault::Memory
+    }
+}
+
 impl From<WriteFault> for RunFault {
     ghost use Rattle.dom_query.specs.Faults.{GaveOut};
 
@@ -82,6 +92,28 @@ impl From<ScriptFault> for RunFault {
             ScriptFault::Memory => RunFault::Memory,
         }
     }
+}
+
+/// Writes the number of the nodes, and a line feed.
+fn write_count<W: Write>(alloc: Global, selection: &[NodeId], out: &mut W) -> Result<(), RunFault>
+    ensures writes { Writes (W.contents out.old) (W.contents out.new) result (line_of (decimal (length selection.now))) }
+    ensures cause { IfErr result GaveOut }
+{
+    let count = selection.len();
+    let line = format!(in alloc; "{count}\n")?;
+    Ok(write_bytes(out, line.as_bytes())?)
+}
+
+/// Writes the texts of the nodes, and a line feed.
+fn write_texts<W: Write>(tree: &Tree, selection: &[NodeId], out: &mut W) -> Result<(), RunFault>
+    ensures writes { Writes (W.contents out.old) (W.contents out.new) result (line_of (texts_of tree.now selection.now)) }
+    ensures cause { IfErr result GaveOut }
+{
+    for id in selection {
+        let text = NodeRef::new(*id, tree).text()?;
+        write_bytes(out, text.as_bytes())?;
+    }
+    Ok(write_bytes(out, b"\n")?)
 }
 
 /// Writes the HTML of a node, and a line feed.
@@ -116,6 +148,14 @@ fn do_command<W: Write>(
     match command {
         Command::Nothing => Ok(selection),
         Command::Select(matcher) => Ok(select_below(tree, &NodeId::root(), matcher)?),
+        Command::Count => {
+            write_count(tree.allocator(), &selection, out)?;
+            Ok(selection)
+        }
+        Command::Text => {
+            write_texts(tree, &selection, out)?;
+            Ok(selection)
+        }
         Command::Html => {
             write_first(tree, &selection, out)?;
             Ok(selection)

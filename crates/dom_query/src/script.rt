@@ -17,6 +17,10 @@ pub enum Command {
     Nothing,
     /// The matches below the root are selected.
     Select(Matcher),
+    /// The number of selected nodes is written.
+    Count,
+    /// The texts of the selected nodes are written.
+    Text,
     /// The HTML of the first selected node is written.
     Html,
     /// The HTML of the root is written.
@@ -81,6 +85,12 @@ fn command_of(alloc: Global, line: &str) -> Result<Option<Command>, OutOfMemory>
 {
     if line.is_empty() {
         return Ok(Some(Command::Nothing));
+    }
+    if line == "count" {
+        return Ok(Some(Command::Count));
+    }
+    if line == "text" {
+        return Ok(Some(Command::Text));
     }
     if line == "html" {
         return Ok(Some(Command::Html));

@@ -7,6 +7,8 @@ use std::io::{ErrorKind, Read, Write};
 use std::process::Abort;
 use std::test::Fail;
 
+mod selecting;
+
 const PAGE: &str = "<div><p class=\"x\">a</p></div>";
 
 /// A writer that takes so many writes, one byte at a time, and then fails.
@@ -68,6 +70,9 @@ fn runs(rt: HostRuntime) -> Result<(), Fail> {
         ),
         ("<p>a</p>", "select .x\nhtml", "\n"),
         ("", "document", "\n"),
+        ("<p>a<b>b</b></p>c", "count\ntext", "1\nabc\n"),
+        ("<p>a<b>b</b></p>c", "select p, b\ncount\ntext", "2\nabb\n"),
+        ("<p>a</p>", "select b\ncount\ntext", "0\n\n"),
         (
             "<p>a</p><p>b</p>",
             "html\nselect p\nhtml\ndocument",
@@ -96,6 +101,8 @@ fn refuses(rt: HostRuntime) -> Result<(), Fail> {
         (b"\xff", b"document", RunFault::BadMarkup),
         (b"<p>a</p>", b"document\nselect", RunFault::BadScript(2)),
         (b"<p>a</p>", b"document ", RunFault::BadScript(1)),
+        (b"<p>a</p>", b"count 1", RunFault::BadScript(1)),
+        (b"<p>a</p>", b"count\ntext ", RunFault::BadScript(2)),
         (b"<p>a</p>", b"\nhtml x\nselect", RunFault::BadScript(2)),
         (b"<p>a", b"documents", RunFault::BadScript(1)),
         (b"\xff", b"document\n\xff", RunFault::BadScript(0)),
