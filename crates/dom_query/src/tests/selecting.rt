@@ -14,7 +14,11 @@ const PAGE: &str = "<!DOCTYPE html><html></html>";
 fn count(alloc: Global, markup: &str, selector: &str) -> Result<usize, Fail> {
     let document = Document::parse(alloc, markup)?;
     let matcher = Matcher::new(alloc, selector)?;
-    Ok(DescendantMatches::new(document.root(), &matcher).count())
+    let mut found: usize = 0;
+    for _ in DescendantMatches::new(document.root(), &matcher) {
+        found = found.saturating_add(1);
+    }
+    Ok(found)
 }
 
 #[test]
