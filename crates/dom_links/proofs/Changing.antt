@@ -1,5 +1,5 @@
 -- A change of what one node is keeps a forest and its links.
-use Rattle.std.proofs.Common.{ℕ, zero, suc, ◌≡◌, ◌<◌, ◌≤◌, Bool, false, List, [], ◌∷◌, Option, Some, None, refl, sym, ap, ◌∙◌, subst, arith, inl, inr, length, map, get_or}
+use Rattle.std.proofs.Common.{ℕ, zero, suc, ◌≡◌, ◌<◌, ◌≤◌, Bool, false, ◌&&◌, List, [], ◌∷◌, Option, Some, None, refl, sym, ap, ◌∙◌, subst, arith, inl, inr, length, map, get_or}
 use Rattle.std.specs.Prelude.{◌==◌, ◌||◌, slice_get, slice_set, option_and_then, IfSome}
 use Rattle.std.specs.Option.{option_map_or}
 use Rattle.std.proofs.lemmas.Option.{slice_get_past}
@@ -9,6 +9,9 @@ use Rattle.dom_nodes.specs.declared.node_data.NodeData.{NodeData}
 use Rattle.dom_nodes.specs.declared.node_data.NodeData.TheVariants.{Document, Fragment, Doctype, Text, Comment, Element as AnElement, ProcessingInstruction}
 use Rattle.dom_nodes.specs.declared.node_data.TreeNode.{TreeNode}
 use Rattle.dom_nodes.specs.declared.node_data.node_edit.NodeEdit.{NodeEdit}
+use Rattle.dom_nodes.specs.declared.node_data.changing.Change.{Change}
+use Rattle.dom_nodes.specs.declared.node_data.changing.Change.TheVariants.{SetAttr, RemoveAttr, RemoveAttrs, RetainAttrs, RemoveAllAttrs, Rename, AddClass, RemoveClass}
+use Rattle.dom_nodes.specs.Change.{changed as made_of}
 use Rattle.dom_nodes.specs.Changes.{on_element, with_attrs}
 use Rattle.dom_nodes.specs.Kinds.{contents_named, is_element, is_fragment, is_top, may_bear}
 use Rattle.dom_nodes.specs.Updates.{edit_of, empty_edit, with_edit, IsUpdated}
@@ -178,6 +181,12 @@ element_read nodes i x d sound here same other =
     let at : slice_get (forest_of nodes).content i ≡ Some (get_or nodes i d).content = ap (λ contents. slice_get contents i) (sym sound.arena.links.contents) ∙ content_got nodes i d here in
     sym (ap (λ o. option_map_or is_element o false) at) ∙ ap (λ (k : ℕ). element_at (forest_of nodes) k) same ∙ other
 
+-- what the element at a place is asked for
+pub asks_read : (nodes : List TreeNode) (i x : ℕ) (d : TreeNode) (asking : Bool) → IsSoundArena nodes → i < length nodes → i ≡ x → (element_at (forest_of nodes) x && asking) ≡ false → (is_element (get_or nodes i d).content && asking) ≡ false
+asks_read nodes i x d asking sound here same none =
+    let at : slice_get (forest_of nodes).content i ≡ Some (get_or nodes i d).content = ap (λ contents. slice_get contents i) (sym sound.arena.links.contents) ∙ content_got nodes i d here in
+    sym (ap (λ o. option_map_or is_element o false && asking) at) ∙ ap (λ (k : ℕ). element_at (forest_of nodes) k && asking) same ∙ none
+
 -- What keeps the kind
 
 same_kind : (content : NodeData) → SameKind content content
@@ -200,6 +209,17 @@ keeps_attrs change (Text contents) = same_kind (Text contents)
 keeps_attrs change (Comment contents) = same_kind (Comment contents)
 keeps_attrs change (AnElement element) = record { top = refl; fragment = refl; bearing = refl; contents = refl }
 keeps_attrs change (ProcessingInstruction target contents) = same_kind (ProcessingInstruction target contents)
+
+-- each change of an element
+pub keeps_change : (change : Change) → KeepsKind (made_of change)
+keeps_change (SetAttr name value) = keeps_attrs _
+keeps_change (RemoveAttr name) = keeps_attrs _
+keeps_change (RemoveAttrs names) = keeps_attrs _
+keeps_change (RetainAttrs names) = keeps_attrs _
+keeps_change RemoveAllAttrs = keeps_attrs _
+keeps_change (Rename name) = keeps_element _ (λ element. refl)
+keeps_change (AddClass classes) = keeps_attrs _
+keeps_change (RemoveClass classes) = keeps_attrs _
 
 pub keeps_edit : (edit : NodeEdit) → KeepsKind (with_edit edit)
 keeps_edit edit Document = same_kind Document

@@ -7,7 +7,7 @@ use crate::laws;
 use crate::ops::changes;
 use crate::ops::create::create_root;
 use dom_nodes::name::{LocalName, Namespace, QualName};
-use dom_nodes::node_data::{Attrs, Element, NodeData, NodeEdit, TreeNode};
+use dom_nodes::node_data::{Attrs, Change, Element, NodeData, NodeEdit, TreeNode};
 use dom_nodes::node_id::NodeId;
 use dom_nodes::text::Text;
 use std::alloc::Global;
@@ -19,7 +19,7 @@ fn element(alloc: Global, local: &str) -> Result<NodeData, Fail>
     let name = QualName {
         prefix: None,
         ns: Namespace::Html,
-        local: LocalName(Text::new(alloc, local)?),
+        local: LocalName::new(alloc, local)?,
     };
     Ok(NodeData::Element(Element::new(name, Attrs::new(alloc), None, false)))
 }
@@ -33,13 +33,27 @@ fn attributes_of_a_node(rt: HostRuntime) -> Result<(), Fail> {
     laws::changes_of_data();
     let root = NodeId::root();
     let mut nodes = create_root(rt.alloc(), element(rt.alloc(), "a")?)?;
-    changes::set_attr(&mut nodes, root, "id", "v")?;
-    changes::set_attr(&mut nodes, root, "x", "v")?;
-    changes::remove_attr(&mut nodes, root, "x");
-    changes::remove_attrs(&mut nodes, root, &["y", "z"]);
-    changes::retain_attrs(&mut nodes, root, &["id"]);
+    changes::apply(
+        &mut nodes,
+        root,
+        Change::SetAttr {
+            name: "id",
+            value: "v",
+        },
+    )?;
+    changes::apply(
+        &mut nodes,
+        root,
+        Change::SetAttr {
+            name: "x",
+            value: "v",
+        },
+    )?;
+    changes::apply(&mut nodes, root, Change::RemoveAttr("x"))?;
+    changes::apply(&mut nodes, root, Change::RemoveAttrs(&["y", "z"]))?;
+    changes::apply(&mut nodes, root, Change::RetainAttrs(&["id"]))?;
     assert!(rt; root_of(&nodes).is_some_and(|it| it.attr("id") == Some("v")));
-    changes::remove_all_attrs(&mut nodes, root);
+    changes::apply(&mut nodes, root, Change::RemoveAllAttrs)?;
     assert!(rt; root_of(&nodes).is_some_and(|it| it.attr("id").is_none()));
     Ok(())
 }
@@ -48,14 +62,14 @@ fn attributes_of_a_node(rt: HostRuntime) -> Result<(), Fail> {
 fn names_and_classes_of_a_node(rt: HostRuntime) -> Result<(), Fail> {
     let root = NodeId::root();
     let mut nodes = create_root(rt.alloc(), element(rt.alloc(), "a")?)?;
-    changes::rename(&mut nodes, root, "b")?;
-    changes::add_class(&mut nodes, root, "k l")?;
-    changes::remove_class(&mut nodes, root, "k")?;
+    changes::apply(&mut nodes, root, Change::Rename("b"))?;
+    changes::apply(&mut nodes, root, Change::AddClass("k l"))?;
+    changes::apply(&mut nodes, root, Change::RemoveClass("k"))?;
     assert!(rt; root_of(&nodes).is_some_and(|it| it.node_name() == "b"));
     assert!(rt; root_of(&nodes).is_some_and(|it| it.class() == Some("l")));
-    let told = Text::new(rt.alloc(), "c")?;
+    let told = LocalName::new(rt.alloc(), "c")?;
     changes::update(&mut nodes, rt.alloc(), root, |edit: &mut NodeEdit| {
-        edit.name.local = LocalName(told);
+        edit.name.local = told;
     });
     assert!(rt; root_of(&nodes).is_some_and(|it| it.node_name() == "c"));
     Ok(())

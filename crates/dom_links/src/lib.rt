@@ -3,6 +3,7 @@
 
 #[cfg(test)]
 mod change_tests;
+pub mod gap;
 pub mod iters;
 pub mod laws;
 pub mod ops;

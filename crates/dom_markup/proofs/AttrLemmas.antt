@@ -9,22 +9,22 @@ use Rattle.dom_markup.specs.Markup.{BeginsAttribute, EndsTag, has_name, kept_aft
 use Rattle.dom_markup.specs.Numbered.{read_attr}
 use Rattle.dom_markup.proofs.Reading.{one_first}
 
-has_name-read : (name : List ℕ) (kept : List Attribute) → list_any (λ attr. bytes_eq attr.name.local.0 name) (map read_attr kept) ≡ has_name name kept
+has_name-read : (name : List ℕ) (kept : List Attribute) → list_any (λ attr. bytes_eq attr.name.local name) (map read_attr kept) ≡ has_name name kept
 has_name-read name [] = refl
 has_name-read name (a ∷ kept) = ap (λ b. bytes_eq a.name name || b) (has_name-read name kept)
 
-name_known : (attrs : List Attr) (kept : List Attribute) (name : List ℕ) → attrs ≡ map read_attr kept → list_any (λ attr. bytes_eq attr.name.local.0 name) attrs ≡ has_name name kept
-name_known attrs kept name e = ap (list_any (λ (attr : Attr). bytes_eq attr.name.local.0 name)) e ∙ has_name-read name kept
+name_known : (attrs : List Attr) (kept : List Attribute) (name : List ℕ) → attrs ≡ map read_attr kept → list_any (λ attr. bytes_eq attr.name.local name) attrs ≡ has_name name kept
+name_known attrs kept name e = ap (list_any (λ (attr : Attr). bytes_eq attr.name.local name)) e ∙ has_name-read name kept
 
 -- an attribute whose name is known is left out
-pub left_out : (attrs : List Attr) (a : Attribute) → list_any (λ attr. bytes_eq attr.name.local.0 a.name) attrs ≡ true →
+pub left_out : (attrs : List Attr) (a : Attribute) → list_any (λ attr. bytes_eq attr.name.local a.name) attrs ≡ true →
     (kept : List Attribute) → attrs ≡ map read_attr kept → attrs ≡ map read_attr (kept_after kept (a ∷ []))
 left_out attrs a known kept e =
     let is : has_name a.name kept ≡ true = sym (name_known attrs kept a.name e) ∙ known in
     rw is e
 
 -- another is added
-pub added : (attrs : List Attr) (a : Attribute) → list_any (λ attr. bytes_eq attr.name.local.0 a.name) attrs ≡ false →
+pub added : (attrs : List Attr) (a : Attribute) → list_any (λ attr. bytes_eq attr.name.local a.name) attrs ≡ false →
     (kept : List Attribute) → attrs ≡ map read_attr kept → attrs ++ read_attr a ∷ [] ≡ map read_attr (kept_after kept (a ∷ []))
 added attrs a new kept e =
     let is : has_name a.name kept ≡ false = sym (name_known attrs kept a.name e) ∙ new in

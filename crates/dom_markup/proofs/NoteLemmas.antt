@@ -14,7 +14,7 @@ cond_or false false = refl
 
 -- one more name is that of one more attribute
 pub one_more : (attrs : List Attr) (noted : ℕ) (x : Attr) (text name : List ℕ) (old new : Bool) → noted < length attrs → x ≡ get_or attrs noted x →
-    text ≡ x.name.local.0 → old ≡ list_any (is_named name) (take noted attrs) → new ≡ (old || bytes_eq text name) →
+    text ≡ x.name.local → old ≡ list_any (is_named name) (take noted attrs) → new ≡ (old || bytes_eq text name) →
     new ≡ list_any (is_named name) (take (noted + 1) attrs)
 one_more attrs noted x text name old new within is spelled had has =
     has ∙ ap (λ b. b || bytes_eq text name) had ∙ ap (λ (t : List ℕ). list_any (is_named name) (take noted attrs) || bytes_eq t name) spelled

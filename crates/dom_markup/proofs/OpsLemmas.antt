@@ -158,7 +158,7 @@ element-below forest good n node e is shape void raw keeps rest closed opened al
     let kept : raw ≡ is_raw e = rw shape at keeps in
     let inner = trees_text forest false (trees forest (contents_list forest n)) in
     let kids = trees_text forest (is_raw e) (trees forest (kids_of forest n)) in
-    let tag = end_tag e.name.local.0 in
+    let tag = end_tag e.name.local in
     let ends : op_text forest (Close n) ≡ tag = rw read refl in
     let follows : text_below forest n node.content ≡ inner ++ (kids ++ tag) = rw (shape, not_void) refl in
     let second : opened ≡ kids ++ closed = two ∙ rw (kids_are, kept) refl in

@@ -113,7 +113,7 @@ inside-text forest good are n name attributes below kids is text = by_name (is_t
         ∙ ap (λ x. x ++ end_tag name) (ap (λ l. trees_text forest (is_among name raw_names) (trees forest l)) (sym holds.1) ∙ text (is_among name raw_names))
 
 -- attributes that stand for others are written as they are
-attr-text : (attr : Attr) (attribute : Attribute) → attr.name.ns ≡ NoNamespace → attr.name.local.0 ≡ attribute.name → attr.value ≡ attribute.value → attr_text attr ≡ attr_text (read_attr attribute)
+attr-text : (attr : Attr) (attribute : Attribute) → attr.name.ns ≡ NoNamespace → attr.name.local ≡ attribute.name → attr.value ≡ attribute.value → attr_text attr ≡ attr_text (read_attr attribute)
 attr-text attr attribute ns local value = rw (ns, local, value) refl
 
 attrs-text : (attrs : List Attr) (attributes : List Attribute) → StandForAttributes attrs attributes → flat_map attr_text attrs ≡ flat_map attr_text (map read_attr attributes)

@@ -52,7 +52,7 @@ same_data x y is = cc
 element_parts : (name other : List ℕ) (attrs more : List Attr) (contents inner : Option ℕ) (flag mark : Bool) → html_element name attrs contents flag ≡ html_element other more inner mark → SameElement name other attrs more contents inner
 element_parts name other attrs more contents inner flag mark is =
     let both = same_data _ _ is in
-    record { names = ap (λ e. e.name.local.0) both; attributes = ap (λ e. e.attrs) both; same_contents = ap (λ e. e.template_contents) both }
+    record { names = ap (λ e. e.name.local) both; attributes = ap (λ e. e.attrs) both; same_contents = ap (λ e. e.template_contents) both }
 
 first_number : (ns : List ℕ) (n m : ℕ) (xs ys : List ℕ) → ns ≡ n ∷ xs → ns ≡ m ∷ ys → n ≡ m
 first_number ns n m xs ys p q = let both : n ∷ xs ≡ m ∷ ys = sym p ∙ q in cc

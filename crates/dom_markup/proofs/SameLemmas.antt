@@ -88,7 +88,7 @@ shown-fragment forest are c is = by_content (slice_get forest.content c) refl
     by_content (Some (ProcessingInstruction a b)) read = absurd (other (ProcessingInstruction a b) refl read)
 
 -- attributes that stand for others are compared equal to them
-one_attr : (attr : Attr) (attribute : Attribute) → attr.name.ns ≡ (read_attr attribute).name.ns → attr.name.local.0 ≡ attribute.name → attr.value ≡ attribute.value → without_prefix attr ≡ without_prefix (read_attr attribute)
+one_attr : (attr : Attr) (attribute : Attribute) → attr.name.ns ≡ (read_attr attribute).name.ns → attr.name.local ≡ attribute.name → attr.value ≡ attribute.value → without_prefix attr ≡ without_prefix (read_attr attribute)
 one_attr attr attribute ns local value = rw (ns, local, value) refl
 
 all_attrs : (attrs : List Attr) (attributes : List Attribute) → StandForAttributes attrs attributes → map without_prefix attrs ≡ map without_prefix (map read_attr attributes)

@@ -8,7 +8,7 @@ use Rattle.dom_markup.specs.declared.document.attributes.Kept.{Kept}
 
 -- the attribute's local name is this one
 abbrev pub is_named : List ℕ → Attr → Bool
-is_named name attr = bytes_eq attr.name.local.0 name
+is_named name attr = bytes_eq attr.name.local name
 
 -- the new set has the name, and what the old one has
 abbrev pub Gains : {A : Type 0} → List ℕ → BTreeSet (String A) → BTreeSet (String A) → Type 0

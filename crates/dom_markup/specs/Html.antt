@@ -23,15 +23,15 @@ is_html _ = false
 
 -- an element that is written as its start tag alone
 abbrev pub is_void : Element → Bool
-is_void element = is_html element.name.ns && is_among element.name.local.0 void_names
+is_void element = is_html element.name.ns && is_among element.name.local void_names
 
 -- an element whose texts are written as they are
 abbrev pub is_raw : Element → Bool
-is_raw element = is_html element.name.ns && is_among element.name.local.0 raw_names
+is_raw element = is_html element.name.ns && is_among element.name.local raw_names
 
 -- what stands before an attribute's local name
 abbrev pub prefix_text : QualName → List ℕ
-prefix_text name = prefix_in name.ns name.local.0
+prefix_text name = prefix_in name.ns name.local
   where
     prefix_in : Namespace → List ℕ → List ℕ
     prefix_in NoNamespace local = []
@@ -41,10 +41,10 @@ prefix_text name = prefix_in name.ns name.local.0
     prefix_in _ local = codes "unknown_namespace:"
 
 abbrev pub attr_text : Attr → List ℕ
-attr_text attr = codes " " ++ (prefix_text attr.name ++ (attr.name.local.0 ++ (codes "=\"" ++ (escaped_value attr.value ++ codes "\""))))
+attr_text attr = codes " " ++ (prefix_text attr.name ++ (attr.name.local ++ (codes "=\"" ++ (escaped_value attr.value ++ codes "\""))))
 
 abbrev pub start_tag : Element → List ℕ
-start_tag element = codes "<" ++ (element.name.local.0 ++ (flat_map attr_text element.attrs ++ codes ">"))
+start_tag element = codes "<" ++ (element.name.local ++ (flat_map attr_text element.attrs ++ codes ">"))
 
 abbrev pub end_tag : List ℕ → List ℕ
 end_tag name = codes "</" ++ (name ++ codes ">")
@@ -73,14 +73,14 @@ opening (AnElement element) raw = start_tag element
 
 -- what ends it
 abbrev pub closing : NodeData → List ℕ
-closing (AnElement element) = end_tag element.name.local.0
+closing (AnElement element) = end_tag element.name.local
 closing _ = []
 
 -- what then follows, of the texts of its template contents and of its kids; below a void element nothing is written
 abbrev pub following : NodeData → List ℕ → List ℕ → List ℕ
 following Document inner below = below
 following Fragment inner below = below
-following (AnElement element) inner below = if is_void element then [] else inner ++ (below ++ end_tag element.name.local.0)
+following (AnElement element) inner below = if is_void element then [] else inner ++ (below ++ end_tag element.name.local)
 following _ inner below = []
 
 abbrev pub node_text : NodeData → Bool → List ℕ → List ℕ → List ℕ

@@ -18,11 +18,11 @@ pub record Row : Type 0 where
 
 -- a read attribute has no namespace
 abbrev pub read_attr : Attribute → Attr
-read_attr attribute = record { name = record { prefix = None; ns = NoNamespace; local = record { 0 = attribute.name } }; value = attribute.value }
+read_attr attribute = record { name = record { prefix = None; ns = NoNamespace; local = attribute.name }; value = attribute.value }
 
 -- a read element is in the namespace of HTML, and nothing has a prefix
 abbrev pub html_name : List ℕ → QualName
-html_name name = record { prefix = None; ns = Html; local = record { 0 = name } }
+html_name name = record { prefix = None; ns = Html; local = name }
 
 abbrev pub read_element : List ℕ → List Attribute → Option ℕ → NodeData
 read_element name attributes contents = Element (record {

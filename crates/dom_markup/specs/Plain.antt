@@ -92,13 +92,13 @@ HaveNoIdentifiers (element_node name attributes kids later) = HaveNoIdentifiers 
 abbrev pub StandForAttributes : List Attr → List Attribute → Type 0
 StandForAttributes [] [] = Unit {0}
 StandForAttributes (attr ∷ attrs) (attribute ∷ attributes) =
-    (attr.name.ns ≡ NoNamespace) × (attr.name.local.0 ≡ attribute.name) × (attr.value ≡ attribute.value) × StandForAttributes attrs attributes
+    (attr.name.ns ≡ NoNamespace) × (attr.name.local ≡ attribute.name) × (attr.value ≡ attribute.value) × StandForAttributes attrs attributes
 StandForAttributes _ _ = ⊥
 
 -- an element of HTML without a prefix
 abbrev pub html_element : List ℕ → List Attr → Option ℕ → Bool → NodeData
 html_element name attrs contents flag = Element (record {
-  name = record { prefix = None; ns = Html; local = record { 0 = name } };
+  name = record { prefix = None; ns = Html; local = name };
   attrs = attrs;
   template_contents = contents;
   mathml_annotation_xml_integration_point = flag;

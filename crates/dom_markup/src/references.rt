@@ -12,6 +12,9 @@ use std::alloc::Global;
 pub fn decode(alloc: Global, text: &str) -> Result<Text, OutOfMemory>
     ensures { IfOk result (λ read. read ≡ decoded text.now) }
 {
+    if cut_reference(text).is_none() {
+        return Text::new(alloc, text);
+    }
     let mut read = String::new(alloc);
     let mut rest = text;
     while let Some(cut) = cut_reference(rest) {

@@ -48,7 +48,7 @@ attr_of-with_attr name value attrs =
     ]
 
 other_name : (name other : List ℕ) (attr : Attr) → bytes_eq name other ≡ false → is_named name attr ≡ true → is_named other attr ≡ false
-other_name name other attr apart here = ap (λ text. bytes_eq text other) ((bytes_eq-Decides attr.name.local.0 name).0 here) ∙ apart
+other_name name other attr apart here = ap (λ text. bytes_eq text other) ((bytes_eq-Decides attr.name.local name).0 here) ∙ apart
 
 attr_of-with_value-other : (name other value : List ℕ) (attrs : List Attr) → bytes_eq name other ≡ false → attr_of (with_value name value attrs) other ≡ attr_of attrs other
 attr_of-with_value-other name other value [] apart = refl

@@ -3,3 +3,4 @@ pub mod AttrLemmas
 pub mod ClassLemmas
 pub mod UpdateLemmas
 pub mod LawLemmas
+pub mod KnownLemmas

@@ -12,7 +12,7 @@ use Rattle.dom_nodes.specs.Attrs.{attr_of}
 
 -- the attribute has that local name
 abbrev pub is_named : List ℕ → Attr → Bool
-is_named name attr = bytes_eq attr.name.local.0 name
+is_named name attr = bytes_eq attr.name.local name
 
 -- the text is one of the names
 abbrev pub is_one_of : List (List ℕ) → List ℕ → Bool
@@ -20,11 +20,11 @@ is_one_of names text = list_any (λ name. bytes_eq text name) names
 
 -- the attribute's local name is one of the names
 abbrev pub is_named_in : List (List ℕ) → Attr → Bool
-is_named_in names attr = is_one_of names attr.name.local.0
+is_named_in names attr = is_one_of names attr.name.local
 
 -- a local name without prefix and namespace
 abbrev pub plain_name : List ℕ → QualName
-plain_name name = record { prefix = None; ns = Nowhere; local = record { 0 = name } }
+plain_name name = record { prefix = None; ns = Nowhere; local = name }
 
 -- an attribute without prefix and namespace
 abbrev pub plain_attr : List ℕ → List ℕ → Attr
@@ -54,7 +54,7 @@ only_names names attrs = filter (is_named_in names) attrs
 
 -- the element with that local name
 abbrev pub renamed : List ℕ → Element → Element
-renamed name element = record element { name = record element.name { local = record { 0 = name } } }
+renamed name element = record element { name = record element.name { local = name } }
 
 -- a name that links have
 abbrev pub is_link_name : List ℕ → Bool
@@ -62,7 +62,7 @@ is_link_name name = bytes_eq name (codes "a") || (bytes_eq name (codes "area") |
 
 -- a link: an element of such a name with an attribute of local name `href`
 abbrev pub is_link : Element → Bool
-is_link element = is_link_name element.name.local.0 && is_some (attr_of element.attrs (codes "href"))
+is_link element = is_link_name element.name.local && is_some (attr_of element.attrs (codes "href"))
 
 -- the node with its element changed; a node that is no element stays
 abbrev pub on_element : (Element → Element) → NodeData → NodeData

@@ -3,9 +3,9 @@
 ghost use Rattle.std.specs.Prelude.{◌≡◌, IfOk};
 
 use crate::fault::OutOfMemory;
-use crate::name::{Attr, LocalName, Namespace, QualName};
+use crate::name::{Attr, Namespace, QualName};
 use crate::node_data::{Attrs, Element, NodeData, TreeNode};
-use crate::text::Text;
+use crate::text::{RareText, Text};
 
 impl Namespace {
     /// The same namespace.
@@ -22,16 +22,6 @@ impl Namespace {
             Namespace::XmlNs => Namespace::XmlNs,
             Namespace::Other(url) => Namespace::Other(url.try_clone()?),
         })
-    }
-}
-
-impl LocalName {
-    /// The same name.
-    pub fn try_clone(&self) -> Result<LocalName, OutOfMemory>
-        ensures { IfOk result (λ made. made ≡ self.now) }
-    {
-        let text = self.0.try_clone()?;
-        Ok(LocalName(text))
     }
 }
 
@@ -130,7 +120,7 @@ impl TreeNode {
     }
 }
 
-fn copied(text: &Option<Text>) -> Result<Option<Text>, OutOfMemory>
+fn copied(text: &Option<RareText>) -> Result<Option<RareText>, OutOfMemory>
     ensures { IfOk result (λ made. made ≡ text.now) }
 {
     match text {

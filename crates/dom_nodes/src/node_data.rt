@@ -5,6 +5,7 @@ ghost use Rattle.dom_nodes.specs.Words.{is_among, words_of};
 
 mod any_node;
 mod attributes;
+mod changing;
 mod classes;
 mod lending;
 mod node_edit;
@@ -15,6 +16,7 @@ use crate::fault::OutOfMemory;
 use crate::name::{Attr, QualName};
 use crate::node_id::NodeId;
 use crate::text::Text;
+pub use changing::Change;
 pub use node_edit::NodeEdit;
 use std::alloc::Global;
 use std::marker::Model;
@@ -50,6 +52,13 @@ impl Attrs {
         ensures { result.now ≡ self.now }
     {
         self.items.as_slice()
+    }
+
+    /// Gives back the memory past the last attribute.
+    pub fn shrink_to_fit(&mut self)
+        ensures { self.new ≡ self.old }
+    {
+        self.items.shrink_to_fit();
     }
 
     /// Adds an attribute at the end.
@@ -100,9 +109,9 @@ impl Element {
 
     /// The local name.
     pub fn node_name(&self) -> &str
-        ensures { result.now ≡ self.now.name.local.0 }
+        ensures { result.now ≡ self.now.name.local }
     {
-        self.name.local.0.as_str()
+        self.name.local.as_str()
     }
 
     /// The value of the first attribute of that local name.
@@ -112,7 +121,7 @@ impl Element {
         self.attrs
             .as_slice()
             .iter()
-            .find(|attr| attr.name.local.0.as_str() == name)
+            .find(|attr| attr.name.local.as_str() == name)
             .map(|attr| attr.value.as_str())
     }
 

@@ -12,7 +12,7 @@ fn html_name(alloc: Global, local: &str) -> Result<QualName, Fail> {
     Ok(QualName {
         prefix: None,
         ns: Namespace::Html,
-        local: LocalName(Text::new(alloc, local)?),
+        local: LocalName::new(alloc, local)?,
     })
 }
 

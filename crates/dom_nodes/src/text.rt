@@ -1,38 +1,66 @@
-//! Owned text, as the fields of nodes hold it.
+//! Texts: bytes of valid UTF-8, short ones without memory of their own.
 
-ghost use Rattle.std.specs.Prelude.{◌≡◌, IfOk, List, ℕ};
+ghost use Rattle.std.specs.Prelude.{◌≡◌, ◌≤◌, IfOk, MatchOption, List, ℕ, length};
+
+mod rare;
+mod short;
 
 use crate::fault::OutOfMemory;
+pub use rare::RareText;
+use short::ShortText;
 use std::alloc::Global;
 use std::marker::Model;
 
 /// A text. A contract sees it as the list of its bytes.
-#[derive(Drop)]
 pub struct Text {
-    letters: String,
+    form: Form,
+    alloc: Global,
+}
+
+/// Written out, so that what drops a text has no case for each form.
+impl Drop for Text {
+    fn drop(self) {
+        let Text { form, alloc: _ } = self;
+        drop(form);
+    }
+}
+
+/// Where the bytes of a text lie.
+#[derive(Drop)]
+enum Form {
+    Short(ShortText),
+    Long(String),
 }
 
 impl Model for Text {
-    ghost use Rattle.std.specs.Prelude.{List, ℕ, string_bytes};
+    ghost use Rattle.std.specs.Prelude.{List, ℕ};
+    ghost use Rattle.dom_nodes.specs.Forms.{form_bytes};
 
     ghost Value = { List ℕ };
 
-    ghost view = { λ text. string_bytes text.letters };
+    ghost view = { λ text. form_bytes text.form };
 }
 
 impl Text {
+    /// Asks for memory only where the text has more than 30 bytes.
     pub fn new(alloc: Global, text: &str) -> Result<Text, OutOfMemory>
         ensures { IfOk result (λ made. made ≡ text.now) }
     {
-        Ok(Text {
-            letters: String::from_str(alloc, text)?,
-        })
+        let form = match ShortText::new(text) {
+            Some(short) => Form::Short(short),
+            None => Form::Long(String::from_str(alloc, text)?),
+        };
+        Ok(Text { form, alloc })
     }
 
+    #[inline(always)]
     pub fn as_str(&self) -> &str
         ensures { result.now ≡ self.now }
     {
-        self.letters.as_str()
+        match &self.form {
+            Form::Short(short) => short.as_str(),
+            Form::Long(letters) => letters.as_str(),
+        }
     }
 
     /// A text of the same bytes in memory of its own.
@@ -44,7 +72,7 @@ impl Text {
 
     /// The allocator of the text.
     pub(crate) fn allocator(&self) -> Global {
-        *self.letters.allocator()
+        self.alloc
     }
 }
 
@@ -54,6 +82,11 @@ impl From<String> for Text {
     ghost from_gives = { λ letters made. made ≡ string_bytes letters };
 
     fn from(letters: String) -> Text {
-        Text { letters }
+        let alloc = *letters.allocator();
+        let form = match ShortText::new(letters.as_str()) {
+            Some(short) => Form::Short(short),
+            None => Form::Long(letters),
+        };
+        Text { form, alloc }
     }
 }

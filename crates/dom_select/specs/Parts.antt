@@ -23,7 +23,7 @@ name_within Html name = str_to_ascii_lowercase name
 name_within _ name = name
 
 abbrev pub is_attr : List ℕ → List ℕ → Attr → Bool
-is_attr name value attr = bytes_eq attr.name.local.0 name && bytes_eq attr.value value
+is_attr name value attr = bytes_eq attr.name.local name && bytes_eq attr.value value
 
 abbrev pub is_without : Namespace → Bool
 is_without Namespace.None = true
@@ -35,17 +35,17 @@ asked_passes (Some comparison) value = passes comparison value
 
 -- the attribute stands in no namespace, bears the name, and its value is what it is asked for
 abbrev pub attr_passes : Namespace → attributes.Attribute → Attr → Bool
-attr_passes ns asked attr = is_without attr.name.ns && bytes_eq attr.name.local.0 (name_within ns asked.name) && asked_passes asked.comparison attr.value
+attr_passes ns asked attr = is_without attr.name.ns && bytes_eq attr.name.local (name_within ns asked.name) && asked_passes asked.comparison attr.value
 
 -- the element may link elsewhere, by its name, and does
 abbrev pub is_link : Element → Bool
-is_link element = (bytes_eq element.name.local.0 (codes "a") || bytes_eq element.name.local.0 (codes "area") || bytes_eq element.name.local.0 (codes "link"))
+is_link element = (bytes_eq element.name.local (codes "a") || bytes_eq element.name.local (codes "area") || bytes_eq element.name.local (codes "link"))
     && is_some (attr_of element.attrs (codes "href"))
 
 -- the part holds of the element: by its name, by any attribute `id`, by a word of its first attribute `class`, by any attribute
 abbrev pub element_passes : Part → Element → Bool
 element_passes Universal element = true
-element_passes (Part.«Type» name) element = bytes_eq element.name.local.0 (name_within element.name.ns name)
+element_passes (Part.«Type» name) element = bytes_eq element.name.local (name_within element.name.ns name)
 element_passes (Id value) element = list_any (is_attr (codes "id") value) element.attrs
 element_passes (Class word) element = is_among word (class_words element.attrs)
 element_passes (Attribute asked) element = list_any (attr_passes element.name.ns asked) element.attrs

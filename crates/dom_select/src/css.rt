@@ -40,10 +40,10 @@ impl ToCss for CssString {
 pub struct CssLocalName(pub LocalName);
 
 impl ToCss for CssLocalName {
-    ghost css = { λ name. name.0.0 };
+    ghost css = { λ name. name.0 };
 
     fn to_css(&self, out: &mut String) -> Result<(), OutOfMemory> {
-        out.push_str(self.0.0.as_str())?;
+        out.push_str(self.0.as_str())?;
         Ok(())
     }
 }

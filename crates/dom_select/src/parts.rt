@@ -113,7 +113,7 @@ fn has_attr(attrs: &[Attr], name: &str, value: &str) -> bool
 fn is_attr(attr: &Attr, name: &str, value: &str) -> bool
     ensures { result ≡ is_attr name.now value.now attr.now }
 {
-    attr.name.local.0.as_str() == name && attr.value.as_str() == value
+    attr.name.local.as_str() == name && attr.value.as_str() == value
 }
 
 /// Whether one of the element's attributes is as the part asks.
@@ -134,7 +134,7 @@ fn attr_passes(ns: &Namespace, asked: &Attribute, attr: &Attr) -> bool
     if !is_without(&attr.name.ns) {
         return false;
     }
-    if !is_named(ns, attr.name.local.0.as_str(), asked.name.as_str()) {
+    if !is_named(ns, attr.name.local.as_str(), asked.name.as_str()) {
         return false;
     }
     asked_passes(&asked.comparison, attr.value.as_str())

@@ -6,7 +6,8 @@ use Rattle.dom_nodes.specs.declared.fault.EditFault.{EditFault}
 use Rattle.dom_nodes.specs.declared.fault.EditFault.TheVariants.{UnknownNode, NoChildrenHere, RootOrFragment, Cycle, TooManyNodes, Memory, BadContents, Markup}
 use Rattle.dom_nodes.specs.declared.node_data.TreeNode.{TreeNode}
 use Rattle.dom_links.specs.Forest.{Forest, forest_of, kids_of}
-use Rattle.dom_links.specs.Moves.{Gap, end_of}
+use Rattle.dom_links.specs.declared.gap.Gap.{Gap}
+use Rattle.dom_links.specs.declared.gap.Gap.TheVariants.{EndOf as end_of}
 use Rattle.dom_links.specs.Sound.{AtOrBelow, IsSoundArena, MayPlace, is_open, stays, target}
 use Rattle.dom_links.specs.ListMoves.{AllowedList, EachOf, MayReparent, SomeOf, with_later}
 use Rattle.dom_trees.specs.ListRefusals.{ListCause, ReparentCause, RunCause}

@@ -3,7 +3,8 @@ use Rattle.std.specs.Prelude.{ℕ, ◌≡◌, ◌≤◌, ◌⊎◌, true, false,
 use Rattle.dom_nodes.specs.declared.fault.EditFault.{EditFault}
 use Rattle.dom_nodes.specs.declared.fault.EditFault.TheVariants.{UnknownNode, NoChildrenHere, RootOrFragment, Cycle}
 use Rattle.dom_links.specs.Forest.{Forest, kids_of}
-use Rattle.dom_links.specs.Moves.{Gap, end_of}
+use Rattle.dom_links.specs.declared.gap.Gap.{Gap}
+use Rattle.dom_links.specs.declared.gap.Gap.TheVariants.{EndOf as end_of}
 use Rattle.dom_links.specs.Sound.{AtOrBelow, bears, stays, target}
 use Rattle.dom_links.specs.ListMoves.{SomeOf, with_later}
 use Rattle.dom_trees.specs.Refusals.{LacksKids, LacksSiblings, RemovalCause}

@@ -7,7 +7,7 @@ use Rattle.dom_nodes.specs.declared.node_data.NodeData.TheVariants.{Element, Tex
 
 -- the HTML name of that local name, without prefix
 abbrev pub html_name : List ℕ → QualName
-html_name name = record { prefix = None; ns = Html; local = record { 0 = name } }
+html_name name = record { prefix = None; ns = Html; local = name }
 
 -- the element of that name, without attributes and contents
 abbrev pub bare_element : QualName → NodeData

@@ -80,7 +80,7 @@ fn tells_integration_points(rt: HostRuntime) -> Result<(), Fail> {
     let name = QualName {
         prefix: None,
         ns: Namespace::MathMl,
-        local: LocalName(Text::new(alloc, "annotation-xml")?),
+        local: LocalName::new(alloc, "annotation-xml")?,
     };
     let flagged = Element::new(name, Attrs::new(alloc), None, true);
     let made = tree.create_node(NodeData::Element(flagged))?;

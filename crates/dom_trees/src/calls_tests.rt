@@ -16,7 +16,7 @@ fn loose_nodes(alloc: Global) -> Result<Tree, Fail> {
     tree.new_element_qualname(QualName {
         prefix: None,
         ns: Namespace::Svg,
-        local: LocalName(Text::new(alloc, "g")?),
+        local: LocalName::new(alloc, "g")?,
     })?;
     tree.new_text("text")?;
     Ok(tree)
@@ -48,7 +48,7 @@ fn plain_name(alloc: Global, local: &str) -> Result<QualName, Fail> {
     Ok(QualName {
         prefix: None,
         ns: Namespace::None,
-        local: LocalName(Text::new(alloc, local)?),
+        local: LocalName::new(alloc, local)?,
     })
 }
 

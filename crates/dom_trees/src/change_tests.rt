@@ -15,7 +15,7 @@ fn template(alloc: Global, contents: Option<NodeId>) -> Result<NodeData, Fail> {
     let name = QualName {
         prefix: None,
         ns: Namespace::Html,
-        local: LocalName(Text::new(alloc, "template")?),
+        local: LocalName::new(alloc, "template")?,
     };
     Ok(NodeData::Element(Element::new(name, Attrs::new(alloc), contents, false)))
 }

@@ -2,32 +2,29 @@
 
 ghost use Rattle.std.specs.Prelude.{MatchResult};
 ghost use Rattle.dom_links.specs.Forest.{forest_of};
-ghost use Rattle.dom_links.specs.Moves.{before_node, after_node, end_of, front_of};
+ghost use Rattle.dom_links.specs.declared.gap.Gap.TheVariants.{Before as before_node, After as after_node, EndOf as end_of, FrontOf as front_of};
 ghost use Rattle.dom_links.specs.Sound.{Allowed, IsSoundArena};
 ghost use Rattle.dom_trees.specs.Refusals.{Cause};
 
+use dom_links::gap::Gap;
 use dom_links::ops::TreeNodeOps;
 use dom_links::ops::placing::stays_put;
 use dom_nodes::fault::EditFault;
 use dom_nodes::node_data::TreeNode;
 use dom_nodes::node_id::NodeId;
 
-/// Whether x may be moved to the end of the children of t.
-pub(crate) fn check_end_of(nodes: &[TreeNode], t: NodeId, x: NodeId) -> Result<(), EditFault>
+/// Whether x may be moved to the gap.
+pub(crate) fn check_move(nodes: &[TreeNode], gap: &Gap, x: NodeId) -> Result<(), EditFault>
     requires { IsSoundArena nodes.now }
-    ensures { MatchResult result (λ _. Allowed (forest_of nodes.now) (end_of t) x)
-        (λ fault. Cause (forest_of nodes.now) (end_of t) x fault) }
+    ensures { MatchResult result (λ _. Allowed (forest_of nodes.now) gap.now x)
+        (λ fault. Cause (forest_of nodes.now) gap.now x fault) }
 {
-    check_child_of(nodes, t, x)
-}
-
-/// Whether x may be moved to the front of the children of t.
-pub(crate) fn check_front_of(nodes: &[TreeNode], t: NodeId, x: NodeId) -> Result<(), EditFault>
-    requires { IsSoundArena nodes.now }
-    ensures { MatchResult result (λ _. Allowed (forest_of nodes.now) (front_of t) x)
-        (λ fault. Cause (forest_of nodes.now) (front_of t) x fault) }
-{
-    check_child_of(nodes, t, x)
+    match *gap {
+        Gap::EndOf(t) => check_child_of(nodes, t, x),
+        Gap::FrontOf(t) => check_child_of(nodes, t, x),
+        Gap::Before(t) => check_sibling_of(nodes, t, x),
+        Gap::After(t) => check_sibling_of(nodes, t, x),
+    }
 }
 
 /// Whether x may be moved to the children of t.
@@ -52,24 +49,6 @@ fn check_child_of(nodes: &[TreeNode], t: NodeId, x: NodeId) -> Result<(), EditFa
     } else {
         Err(EditFault::Cycle)
     }
-}
-
-/// Whether x may be moved to the place right before t.
-pub(crate) fn check_before(nodes: &[TreeNode], t: NodeId, x: NodeId) -> Result<(), EditFault>
-    requires { IsSoundArena nodes.now }
-    ensures { MatchResult result (λ _. Allowed (forest_of nodes.now) (before_node t) x)
-        (λ fault. Cause (forest_of nodes.now) (before_node t) x fault) }
-{
-    check_sibling_of(nodes, t, x)
-}
-
-/// Whether x may be moved to the place right after t.
-pub(crate) fn check_after(nodes: &[TreeNode], t: NodeId, x: NodeId) -> Result<(), EditFault>
-    requires { IsSoundArena nodes.now }
-    ensures { MatchResult result (λ _. Allowed (forest_of nodes.now) (after_node t) x)
-        (λ fault. Cause (forest_of nodes.now) (after_node t) x fault) }
-{
-    check_sibling_of(nodes, t, x)
 }
 
 /// Whether x may be moved to a place beside t.

@@ -3,11 +3,12 @@
 ghost use Rattle.std.specs.Prelude.{MatchResult, ◌<◌, length};
 ghost use Rattle.dom_links.specs.Forest.{forest_of, siblings};
 ghost use Rattle.dom_links.specs.ListMoves.{AllowedList, EachOf, MayReparent, MayWrap, with_later};
-ghost use Rattle.dom_links.specs.Moves.{after_node, before_node, end_of, front_of};
+ghost use Rattle.dom_links.specs.declared.gap.Gap.TheVariants.{After as after_node, Before as before_node, EndOf as end_of, FrontOf as front_of};
 ghost use Rattle.dom_links.specs.Sound.{IsSoundArena, MayPlace};
 ghost use Rattle.dom_trees.specs.ListRefusals.{ListCause, ReparentCause, RunCause, WrapCause};
 
-use crate::checks::check_before;
+use crate::checks::check_move;
+use dom_links::gap::Gap;
 use dom_links::ops::TreeNodeOps;
 use dom_links::ops::placing::stays_put;
 use dom_links::ops::siblings::{first_child_of, first_sibling_of};
@@ -127,7 +128,7 @@ pub(crate) fn check_wrap(nodes: &[TreeNode], x: NodeId, w: NodeId) -> Result<(),
     requires { IsSoundArena nodes.now }
     ensures { MatchResult result (λ _. MayWrap (forest_of nodes.now) x w) (λ fault. WrapCause (forest_of nodes.now) x w fault) }
 {
-    check_before(nodes, x, w)?;
+    check_move(nodes, &Gap::Before(x), w)?;
     if !TreeNodeOps::may_have_children(nodes, w) {
         return Err(EditFault::NoChildrenHere);
     }

@@ -19,7 +19,7 @@ pub(crate) fn add_element(tree: &mut Tree, parent: usize, local: &str) -> Result
     let name = QualName {
         prefix: None,
         ns: Namespace::Html,
-        local: LocalName(Text::new(alloc, local)?),
+        local: LocalName::new(alloc, local)?,
     };
     let content = NodeData::Element(Element::new(name, Attrs::new(alloc), None, false));
     Ok(tree.append_child_data_of(&node(parent), content)?)

@@ -4,7 +4,8 @@ ghost use Rattle.std.specs.Prelude.{◌≡◌, ◌<◌, ◌≤◌, ◌∷◌, []
 ghost use Rattle.std.specs.Borrow.{sem};
 ghost use Rattle.dom_links.specs.Forest.{kids_of, siblings};
 ghost use Rattle.dom_links.specs.ListMoves.{AllowedList, MayWrap, replaced, unwrapped, with_later, wrapped};
-ghost use Rattle.dom_links.specs.Moves.{after_node, before_node, cut, end_of, front_of, moved_to};
+ghost use Rattle.dom_links.specs.Moves.{cut, moved_to};
+ghost use Rattle.dom_links.specs.declared.gap.Gap.TheVariants.{After as after_node, Before as before_node, EndOf as end_of, FrontOf as front_of};
 ghost use Rattle.dom_links.specs.Sound.{Allowed};
 ghost use Rattle.dom_trees.specs.ListRefusals.{ListCause, WrapCause};
 ghost use Rattle.dom_trees.specs.Refusals.{Cause, RemovalCause};

@@ -4,7 +4,8 @@ ghost use Rattle.std.specs.Prelude.{◌≡◌, ◌<◌, ◌≤◌, ◌∷◌, []
 ghost use Rattle.dom_links.specs.Forest.{forest_of, kids_of};
 ghost use Rattle.dom_links.specs.Growth.{DataCause, MayAppend, lone, with_child};
 ghost use Rattle.dom_links.specs.Lists.{IsDistinct};
-ghost use Rattle.dom_links.specs.Moves.{after_node, before_node, cut, end_of, front_of, moved_to};
+ghost use Rattle.dom_links.specs.Moves.{cut, moved_to};
+ghost use Rattle.dom_links.specs.declared.gap.Gap.TheVariants.{After as after_node, Before as before_node, EndOf as end_of, FrontOf as front_of};
 ghost use Rattle.dom_links.specs.Sound.{Allowed, IsSoundArena};
 ghost use Rattle.dom_links.specs.Trees.{ancestors, in_order, limited, walk_below};
 ghost use Rattle.dom_links.specs.Walk.{IsNodeOf, leaves_among};
@@ -12,8 +13,9 @@ ghost use Rattle.dom_links.specs.Validation.{IsRefused, Tells};
 ghost use Rattle.dom_links.specs.declared.validation.ValidateFault.TheVariants.{Memory, NoRoot};
 ghost use Rattle.dom_trees.specs.Refusals.{Cause, RemovalCause, RootCause};
 
-use crate::checks::{check_after, check_before, check_end_of, check_front_of};
+use crate::checks::check_move;
 use crate::node_ref::NodeRef;
+use dom_links::gap::Gap;
 use dom_links::iters::{AncestorNodes, ChildNodes, DescendantNodes, find_node};
 use dom_links::ops::{TreeNodeOps, create};
 use dom_links::validation::ValidateFault;
@@ -206,6 +208,18 @@ impl Tree {
         Ok(())
     }
 
+    /// Moves a node to a gap.
+    pub(crate) fn move_to(&mut self, gap: Gap, x: &NodeId) -> Result<(), EditFault>
+        ensures ok { OnOk result (self.new ≡ moved_to (x.now ∷ []) gap self.old) }
+        ensures allowed { OnOk result (Allowed self.old gap x.now) }
+        ensures err { OnErr result (self.new ≡ self.old) }
+        ensures cause { IfErr result (λ fault. Cause self.old gap x.now fault) }
+    {
+        check_move(&self.nodes, &gap, *x)?;
+        TreeNodeOps::move_to(&mut self.nodes, gap, *x);
+        Ok(())
+    }
+
     /// Moves a node to the end of the children of another.
     pub fn append_child_of(&mut self, id: &NodeId, new_child: &NodeId) -> Result<(), EditFault>
         ensures ok { OnOk result (self.new ≡ moved_to (new_child.now ∷ []) (end_of id.now) self.old) }
@@ -213,9 +227,7 @@ impl Tree {
         ensures err { OnErr result (self.new ≡ self.old) }
         ensures cause { IfErr result (λ fault. Cause self.old (end_of id.now) new_child.now fault) }
     {
-        check_end_of(&self.nodes, *id, *new_child)?;
-        TreeNodeOps::append_child_of(&mut self.nodes, *id, *new_child);
-        Ok(())
+        self.move_to(Gap::EndOf(*id), new_child)
     }
 
     /// Moves a node to the front of the children of another.
@@ -225,9 +237,7 @@ impl Tree {
         ensures err { OnErr result (self.new ≡ self.old) }
         ensures cause { IfErr result (λ fault. Cause self.old (front_of id.now) new_child.now fault) }
     {
-        check_front_of(&self.nodes, *id, *new_child)?;
-        TreeNodeOps::prepend_child_of(&mut self.nodes, *id, *new_child);
-        Ok(())
+        self.move_to(Gap::FrontOf(*id), new_child)
     }
 
     /// Moves a node to the place right before another.
@@ -237,9 +247,7 @@ impl Tree {
         ensures err { OnErr result (self.new ≡ self.old) }
         ensures cause { IfErr result (λ fault. Cause self.old (before_node id.now) new_sibling.now fault) }
     {
-        check_before(&self.nodes, *id, *new_sibling)?;
-        TreeNodeOps::insert_before_of(&mut self.nodes, *id, *new_sibling);
-        Ok(())
+        self.move_to(Gap::Before(*id), new_sibling)
     }
     /// Moves a node to the place right after another.
     pub fn insert_after_of(&mut self, id: &NodeId, new_sibling: &NodeId) -> Result<(), EditFault>
@@ -248,8 +256,6 @@ impl Tree {
         ensures err { OnErr result (self.new ≡ self.old) }
         ensures cause { IfErr result (λ fault. Cause self.old (after_node id.now) new_sibling.now fault) }
     {
-        check_after(&self.nodes, *id, *new_sibling)?;
-        TreeNodeOps::insert_after_of(&mut self.nodes, *id, *new_sibling);
-        Ok(())
+        self.move_to(Gap::After(*id), new_sibling)
     }
 }

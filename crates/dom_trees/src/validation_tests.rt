@@ -47,7 +47,7 @@ fn element(alloc: Global, contents: Option<NodeId>) -> Result<NodeData, Fail> {
     let name = QualName {
         prefix: None,
         ns: Namespace::Html,
-        local: LocalName(Text::new(alloc, "b")?),
+        local: LocalName::new(alloc, "b")?,
     };
     Ok(NodeData::Element(Element::new(name, Attrs::new(alloc), contents, false)))
 }

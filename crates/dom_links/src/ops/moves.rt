@@ -3,8 +3,9 @@
 ghost use Rattle.std.specs.Prelude.{◌≡◌, ◌≢◌, ◌<◌, [], ◌∷◌, length};
 ghost use Rattle.dom_links.specs.Forest.{IsArenaOf, forest_of};
 ghost use Rattle.dom_links.specs.Moves.{after_node, before_node, cut, end_of, front_of};
-ghost use Rattle.dom_links.specs.Sound.{Moved, Removed};
+ghost use Rattle.dom_links.specs.Sound.{Moved, Removed, target};
 
+use crate::gap::Gap;
 use crate::ops::TreeNodeOps;
 use crate::ops::writes::{attach, join, place};
 use dom_nodes::node_data::TreeNode;
@@ -80,5 +81,21 @@ impl TreeNodeOps {
         let parent = target.parent;
         let next = target.next_sibling;
         attach(nodes, x, parent, Some(t), next);
+    }
+
+    /// Moves a node to a gap.
+    pub fn move_to(nodes: &mut [TreeNode], gap: Gap, x: NodeId)
+        requires linked { IsArenaOf (forest_of nodes.old) nodes.old }
+        requires target_known { target gap < length nodes.old }
+        requires known { x < length nodes.old }
+        requires apart { x ≢ target gap }
+        ensures { Moved nodes.old nodes.new gap x }
+    {
+        match gap {
+            Gap::EndOf(t) => TreeNodeOps::append_child_of(nodes, t, x),
+            Gap::FrontOf(t) => TreeNodeOps::prepend_child_of(nodes, t, x),
+            Gap::Before(t) => TreeNodeOps::insert_before_of(nodes, t, x),
+            Gap::After(t) => TreeNodeOps::insert_after_of(nodes, t, x),
+        }
     }
 }

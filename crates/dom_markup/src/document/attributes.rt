@@ -32,10 +32,10 @@ pub fn folded_name(alloc: Global, name: &str) -> Result<Text, OutOfMemory>
 }
 
 /// Whether some attribute has the local name.
-fn has_attr(attrs: &[Attr], name: &str) -> bool
+fn has_attr(attrs: &[Attr], name: &LocalName) -> bool
     ensures { result ≡ list_any (is_named name.now) attrs.now }
 {
-    attrs.iter().any(|attr| attr.name.local.0.as_str() == name)
+    attrs.iter().any(|attr| attr.name.local.is_same(name))
 }
 
 /// The attributes of a tag so far. The names of all but the last few stand in a set too, so that a tag of many
@@ -61,12 +61,12 @@ impl Kept {
     }
 
     /// Whether some attribute has the local name.
-    fn has(&self, name: &str) -> bool
+    fn has(&self, name: &LocalName) -> bool
         requires { IsNoted self.now }
         ensures { result ≡ list_any (is_named name.now) self.now.attrs }
     {
         let (_, recent) = self.attrs.as_slice().split_at(self.noted);
-        self.older.contains(name) || has_attr(recent, name)
+        self.older.contains(name.as_str()) || has_attr(recent, name)
     }
 
     /// Puts a name into the set.
@@ -89,7 +89,7 @@ impl Kept {
         if attrs.len() - self.noted < RECENT {
             return Ok(());
         }
-        let name = String::from_str(alloc, attrs[self.noted].name.local.0.as_str())?;
+        let name = String::from_str(alloc, attrs[self.noted].name.local.as_str())?;
         self.insert_older(name)?;
         self.noted += 1;
         Ok(())
@@ -102,15 +102,15 @@ impl Kept {
         ensures added { OnOk result ((kept : List Attribute) → self.old.attrs ≡ map read_attr kept
             → self.new.attrs ≡ map read_attr (kept_after kept (attribute_of written.entry.name.now written.entry.value.now ∷ []))) }
     {
-        let local = folded_name(alloc, written.name)?;
-        if self.has(local.as_str()) {
+        let local = LocalName::folded(alloc, written.name)?;
+        if self.has(&local) {
             return Ok(());
         }
         let value = decode(alloc, written.value)?;
         let name = QualName {
             prefix: None,
             ns: Namespace::None,
-            local: LocalName(local),
+            local,
         };
         self.attrs.push(Attr { name, value })?;
         self.note(alloc)
@@ -127,5 +127,7 @@ pub fn attrs_of(alloc: Global, text: &str) -> Result<Attrs, OutOfMemory>
         kept.add(alloc, written)?;
         rest = after;
     }
-    Ok(kept.attrs)
+    let mut attrs = kept.attrs;
+    attrs.shrink_to_fit();
+    Ok(attrs)
 }

@@ -18,12 +18,13 @@ ghost use Rattle.dom_markup.specs.Refusals.{Declines, LeavesSomeOpen};
 
 use crate::document::attributes::{attrs_of, folded_name};
 use crate::document::doctypes::{Doctype, doctype_at};
-use crate::document::names::{is_template, is_void};
+use crate::document::names::is_template;
 use crate::document::scan::{
     Letters, Written, attribute_at, comment_at, split_front, strip, strip_all,
 };
 use crate::document::tokens::{Token, TokenKind};
 use crate::document::within::Within;
+use crate::names::is_void_name;
 use crate::references::decode;
 use dom_nodes::fault::{EditFault, MarkupFaultKind, OutOfMemory};
 use dom_nodes::name::{Attr, LocalName, Namespace, QualName};
@@ -51,7 +52,7 @@ fn html_name(alloc: Global, written: &str) -> Result<QualName, OutOfMemory>
     Ok(QualName {
         prefix: None,
         ns: Namespace::Html,
-        local: LocalName(folded_name(alloc, written)?),
+        local: LocalName::folded(alloc, written)?,
     })
 }
 
@@ -306,8 +307,9 @@ impl<'a> Reader<'a> {
             return Err(MarkupFaultKind::Memory);
         };
         let name = started.written;
+        let void = is_void_name(&started.name.local);
         let number = self.append_element(started)?;
-        if is_void(name) {
+        if void {
             return Ok(());
         }
         match self.stack.push(Open { number, name }) {

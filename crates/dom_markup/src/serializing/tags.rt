@@ -7,7 +7,7 @@ ghost use Rattle.dom_markup.specs.Html.{attr_text, closing, is_void_node, is_raw
 ghost use Rattle.dom_markup.specs.Writing.{Writes};
 
 use crate::escaping::Escaper;
-use crate::names::{RAW_NAMES, VOID_NAMES};
+use crate::names::{is_raw_name, is_void_name};
 use crate::writing::{PutText, put_parts};
 use dom_nodes::name::{Attr, Namespace, QualName};
 use dom_nodes::node_data::{Element, NodeData};
@@ -65,7 +65,7 @@ fn put_start_tag<P: PutText<W>, W>(
 fn put_attr<P: PutText<W>, W>(w: &mut W, escaper: &Escaper, attr: &Attr) -> Result<(), P::Fault>
     ensures { Writes (P.written w.old) (P.written w.new) result (attr_text attr.now) }
 {
-    let local = attr.name.local.0.as_str();
+    let local = attr.name.local.as_str();
     put_parts::<P, W>(w, &[" ", prefix(&attr.name), local, "=\""])?;
     escaper.put_value::<P, W>(w, attr.value.as_str())?;
     P::put(w, "\"")
@@ -79,19 +79,18 @@ fn prefix(name: &QualName) -> &str
         Namespace::None => "",
         Namespace::Xml => "xml:",
         Namespace::XLink => "xlink:",
-        Namespace::XmlNs if name.local.0.as_str() == "xmlns" => "",
+        Namespace::XmlNs if name.local.as_str() == "xmlns" => "",
         Namespace::XmlNs => "xmlns:",
         _ => "unknown_namespace:",
     }
 }
 
 /// Whether the element is written as its start tag alone.
-#[tactic(auto, unfolding(crate::specs::Names::void_names))]
 pub(super) fn is_void(element: &Element) -> bool
     ensures { result ≡ is_void element.now }
 {
     match element.name.ns {
-        Namespace::Html => is_one_of(&VOID_NAMES, element.node_name()),
+        Namespace::Html => is_void_name(&element.name.local),
         _ => false,
     }
 }
@@ -117,18 +116,11 @@ pub(super) fn keeps_texts(content: &NodeData) -> bool
 }
 
 /// Whether the element's texts are written as they are.
-#[tactic(auto, unfolding(crate::specs::Names::raw_names))]
 fn is_raw(element: &Element) -> bool
     ensures { result ≡ is_raw element.now }
 {
     match element.name.ns {
-        Namespace::Html => is_one_of(&RAW_NAMES, element.node_name()),
+        Namespace::Html => is_raw_name(&element.name.local),
         _ => false,
     }
-}
-
-fn is_one_of(names: &[&str], name: &str) -> bool
-    ensures { result ≡ list_any (λ n. bytes_eq n.now name.now) names.now }
-{
-    names.iter().any(|n| *n == name)
 }

@@ -1,16 +1,14 @@
 //! What a node is, and the calls on elements for any node: no element, nothing happens.
 
-ghost use Rattle.std.specs.Prelude.{◌≡◌, IsOk, OnErr, OnOk, map, [], false};
+ghost use Rattle.std.specs.Prelude.{◌≡◌, false};
 ghost use Rattle.std.specs.Option.{option_copied, option_map_or};
 
 use super::{Element, NodeData, TreeNode};
-use crate::fault::OutOfMemory;
 
 impl NodeData {
     ghost use Rattle.dom_nodes.specs.Attrs.{element_of};
     ghost use Rattle.dom_nodes.specs.Kinds.{is_document, is_element, is_text, is_comment, is_doctype};
-    ghost use Rattle.dom_nodes.specs.Changes.{is_link, on_element, only_names, renamed, with_attr, with_attrs, without_name, without_names};
-    ghost use Rattle.dom_nodes.specs.Classes.{with_classes, without_classes};
+    ghost use Rattle.dom_nodes.specs.Changes.{is_link};
 
     pub fn is_document(&self) -> bool
         ensures { result ≡ is_document self.now }
@@ -51,96 +49,12 @@ impl NodeData {
             _ => false,
         }
     }
-
-    /// As `Element::set_attr`.
-    pub fn set_attr(&mut self, name: &str, value: &str) -> Result<(), OutOfMemory>
-        ensures ok { OnOk result (self.new ≡ with_attrs (with_attr name.now value.now) self.old) }
-        ensures err { OnErr result (self.new ≡ self.old) }
-        ensures no_element { is_element self.old ≡ false → IsOk result }
-    {
-        match self {
-            NodeData::Element(element) => element.set_attr(name, value),
-            _ => Ok(()),
-        }
-    }
-
-    /// As `Element::remove_attr`.
-    pub fn remove_attr(&mut self, name: &str)
-        ensures { self.new ≡ with_attrs (without_name name.now) self.old }
-    {
-        if let NodeData::Element(element) = self {
-            element.remove_attr(name);
-        }
-    }
-
-    /// As `Element::remove_attrs`.
-    pub fn remove_attrs(&mut self, names: &[&str])
-        ensures { self.new ≡ with_attrs (without_names (map (λ name. name.now) names.now)) self.old }
-    {
-        if let NodeData::Element(element) = self {
-            element.remove_attrs(names);
-        }
-    }
-
-    /// As `Element::retain_attrs`.
-    pub fn retain_attrs(&mut self, names: &[&str])
-        ensures { self.new ≡ with_attrs (only_names (map (λ name. name.now) names.now)) self.old }
-    {
-        if let NodeData::Element(element) = self {
-            element.retain_attrs(names);
-        }
-    }
-
-    pub fn remove_all_attrs(&mut self)
-        ensures { self.new ≡ with_attrs (λ _. []) self.old }
-    {
-        if let NodeData::Element(element) = self {
-            element.remove_all_attrs();
-        }
-    }
-
-    /// As `Element::add_class`.
-    pub fn add_class(&mut self, classes: &str) -> Result<(), OutOfMemory>
-        ensures ok { OnOk result (self.new ≡ with_attrs (with_classes classes.now) self.old) }
-        ensures err { OnErr result (self.new ≡ self.old) }
-        ensures no_element { is_element self.old ≡ false → IsOk result }
-    {
-        match self {
-            NodeData::Element(element) => element.add_class(classes),
-            _ => Ok(()),
-        }
-    }
-
-    /// As `Element::remove_class`.
-    pub fn remove_class(&mut self, classes: &str) -> Result<(), OutOfMemory>
-        ensures ok { OnOk result (self.new ≡ with_attrs (without_classes classes.now) self.old) }
-        ensures err { OnErr result (self.new ≡ self.old) }
-        ensures no_element { is_element self.old ≡ false → IsOk result }
-    {
-        match self {
-            NodeData::Element(element) => element.remove_class(classes),
-            _ => Ok(()),
-        }
-    }
-
-    /// As `Element::rename`.
-    pub fn rename(&mut self, name: &str) -> Result<(), OutOfMemory>
-        ensures ok { OnOk result (self.new ≡ on_element (renamed name.now) self.old) }
-        ensures err { OnErr result (self.new ≡ self.old) }
-        ensures no_element { is_element self.old ≡ false → IsOk result }
-    {
-        match self {
-            NodeData::Element(element) => element.rename(name),
-            _ => Ok(()),
-        }
-    }
 }
 
 impl TreeNode {
     ghost use Rattle.dom_nodes.specs.Attrs.{element_of};
     ghost use Rattle.dom_nodes.specs.Kinds.{is_document, is_element, is_text, is_comment, is_doctype, is_fragment, may_bear};
-    ghost use Rattle.dom_nodes.specs.Changes.{is_link, on_element, only_names, renamed, with_attr, with_attrs, without_name, without_names};
-    ghost use Rattle.dom_nodes.specs.Classes.{with_classes, without_classes};
+    ghost use Rattle.dom_nodes.specs.Changes.{is_link};
 
     pub fn is_document(&self) -> bool
         ensures { result ≡ is_document self.now.content }
@@ -197,68 +111,5 @@ impl TreeNode {
         ensures { result ≡ option_map_or is_link (element_of self.now.content) false }
     {
         self.content.is_link()
-    }
-
-    /// As `Element::set_attr`.
-    pub fn set_attr(&mut self, name: &str, value: &str) -> Result<(), OutOfMemory>
-        ensures ok { OnOk result (self.new ≡ record self.old { content = with_attrs (with_attr name.now value.now) self.old.content }) }
-        ensures err { OnErr result (self.new ≡ self.old) }
-        ensures no_element { is_element self.old.content ≡ false → IsOk result }
-    {
-        self.content.set_attr(name, value)
-    }
-
-    /// As `Element::remove_attr`.
-    pub fn remove_attr(&mut self, name: &str)
-        ensures { self.new ≡ record self.old { content = with_attrs (without_name name.now) self.old.content } }
-    {
-        self.content.remove_attr(name);
-    }
-
-    /// As `Element::remove_attrs`.
-    pub fn remove_attrs(&mut self, names: &[&str])
-        ensures { self.new ≡ record self.old { content = with_attrs (without_names (map (λ name. name.now) names.now)) self.old.content } }
-    {
-        self.content.remove_attrs(names);
-    }
-
-    /// As `Element::retain_attrs`.
-    pub fn retain_attrs(&mut self, names: &[&str])
-        ensures { self.new ≡ record self.old { content = with_attrs (only_names (map (λ name. name.now) names.now)) self.old.content } }
-    {
-        self.content.retain_attrs(names);
-    }
-
-    pub fn remove_all_attrs(&mut self)
-        ensures { self.new ≡ record self.old { content = with_attrs (λ _. []) self.old.content } }
-    {
-        self.content.remove_all_attrs();
-    }
-
-    /// As `Element::add_class`.
-    pub fn add_class(&mut self, classes: &str) -> Result<(), OutOfMemory>
-        ensures ok { OnOk result (self.new ≡ record self.old { content = with_attrs (with_classes classes.now) self.old.content }) }
-        ensures err { OnErr result (self.new ≡ self.old) }
-        ensures no_element { is_element self.old.content ≡ false → IsOk result }
-    {
-        self.content.add_class(classes)
-    }
-
-    /// As `Element::remove_class`.
-    pub fn remove_class(&mut self, classes: &str) -> Result<(), OutOfMemory>
-        ensures ok { OnOk result (self.new ≡ record self.old { content = with_attrs (without_classes classes.now) self.old.content }) }
-        ensures err { OnErr result (self.new ≡ self.old) }
-        ensures no_element { is_element self.old.content ≡ false → IsOk result }
-    {
-        self.content.remove_class(classes)
-    }
-
-    /// As `Element::rename`.
-    pub fn rename(&mut self, name: &str) -> Result<(), OutOfMemory>
-        ensures ok { OnOk result (self.new ≡ record self.old { content = on_element (renamed name.now) self.old.content }) }
-        ensures err { OnErr result (self.new ≡ self.old) }
-        ensures no_element { is_element self.old.content ≡ false → IsOk result }
-    {
-        self.content.rename(name)
     }
 }

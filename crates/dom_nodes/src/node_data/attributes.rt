@@ -40,7 +40,7 @@ impl Attrs {
     pub fn remove(&mut self, name: &str)
         ensures { self.new ≡ without_name name.now self.old }
     {
-        self.items.retain(|attr| attr.name.local.0.as_str() != name);
+        self.items.retain(|attr| attr.name.local.as_str() != name);
     }
 
     /// Removes every attribute whose local name is one of the names.
@@ -48,7 +48,7 @@ impl Attrs {
         ensures { self.new ≡ without_names (map (λ name. name.now) names.now) self.old }
     {
         self.items
-            .retain(|attr| !is_one_of(attr.name.local.0.as_str(), names));
+            .retain(|attr| !is_one_of(attr.name.local.as_str(), names));
     }
 
     /// Removes every attribute whose local name is none of the names.
@@ -56,7 +56,7 @@ impl Attrs {
         ensures { self.new ≡ only_names (map (λ name. name.now) names.now) self.old }
     {
         self.items
-            .retain(|attr| is_one_of(attr.name.local.0.as_str(), names));
+            .retain(|attr| is_one_of(attr.name.local.as_str(), names));
     }
 
     pub fn clear(&mut self)
@@ -140,8 +140,8 @@ impl Element {
         ensures ok { OnOk result (self.new ≡ renamed name.now self.old) }
         ensures err { OnErr result (self.new ≡ self.old) }
     {
-        let local = Text::new(self.attrs.allocator(), name)?;
-        self.name.local = LocalName(local);
+        let local = LocalName::new(self.attrs.allocator(), name)?;
+        self.name.local = local;
         Ok(())
     }
 }
@@ -152,14 +152,14 @@ fn place_of(attrs: &[Attr], name: &str) -> Option<usize>
 {
     attrs
         .iter()
-        .position(|attr| attr.name.local.0.as_str() == name)
+        .position(|attr| attr.name.local.as_str() == name)
 }
 
 /// An attribute without prefix and namespace.
 fn plain_attr(alloc: Global, name: &str, value: Text) -> Result<Attr, OutOfMemory>
     ensures { IfOk result (λ made. made ≡ plain_attr name.now value) }
 {
-    let local = LocalName(Text::new(alloc, name)?);
+    let local = LocalName::new(alloc, name)?;
     let name = QualName {
         prefix: None,
         ns: Namespace::None,

@@ -27,7 +27,7 @@ impl NodeEdit {
         ensures { result ≡ empty_edit }
     {
         NodeEdit {
-            name: empty_name(alloc),
+            name: empty_name(),
             attrs: Attrs::new(alloc),
             contents: empty_text(alloc),
         }
@@ -115,12 +115,12 @@ fn empty_text(alloc: Global) -> Text
     Text::from(String::new(alloc))
 }
 
-fn empty_name(alloc: Global) -> QualName
+fn empty_name() -> QualName
     ensures { result ≡ plain_name [] }
 {
     QualName {
         prefix: None,
         ns: Namespace::None,
-        local: LocalName(empty_text(alloc)),
+        local: LocalName::empty(),
     }
 }

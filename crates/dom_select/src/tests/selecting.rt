@@ -19,7 +19,7 @@ fn name(alloc: Global, ns: Namespace, local: &str) -> Result<QualName, Fail> {
     Ok(QualName {
         prefix: None,
         ns,
-        local: LocalName(Text::new(alloc, local)?),
+        local: LocalName::new(alloc, local)?,
     })
 }
 

@@ -11,7 +11,7 @@ fn writes(rt: HostRuntime) -> Result<(), Fail> {
     let mut out = String::from_str(alloc, "=")?;
     CssString(Text::new(alloc, "a\"\\\u{1}\u{7f}é\0")?).to_css(&mut out)?;
     assert!(rt; out.as_str() == "=\"a\\\"\\\\\\1 \\7f é\u{fffd}\"");
-    CssLocalName(LocalName(Text::new(alloc, "a b")?)).to_css(&mut out)?;
+    CssLocalName(LocalName::new(alloc, "a b")?).to_css(&mut out)?;
     assert!(rt; out.as_str() == "=\"a\\\"\\\\\\1 \\7f é\u{fffd}\"a b");
     Ok(())
 }

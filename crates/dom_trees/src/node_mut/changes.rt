@@ -10,7 +10,7 @@ ghost use Rattle.dom_trees.specs.Refusals.{ChangeCause};
 
 use crate::node_mut::NodeMut;
 use dom_nodes::fault::EditFault;
-use dom_nodes::node_data::NodeEdit;
+use dom_nodes::node_data::{Change, NodeEdit};
 
 impl<'a> NodeMut<'a> {
     /// Lets the closure change what the node is, as `Tree::update_node`. An unknown number changes nothing.
@@ -32,7 +32,8 @@ impl<'a> NodeMut<'a> {
         ensures same_node { self.new.id ≡ self.old.id }
         ensures same_tree { self.new.tree.ghost_name ≡ self.old.tree.ghost_name }
     {
-        self.tree.set_attr_of(&self.id, name, value)
+        self.tree
+            .try_change_of(&self.id, Change::SetAttr { name, value })
     }
 
     /// Changes the local name of an element alone. Refused as `UnknownNode`, and as `Memory` of an element.
@@ -44,7 +45,7 @@ impl<'a> NodeMut<'a> {
         ensures same_node { self.new.id ≡ self.old.id }
         ensures same_tree { self.new.tree.ghost_name ≡ self.old.tree.ghost_name }
     {
-        self.tree.rename_of(&self.id, name)
+        self.tree.try_change_of(&self.id, Change::Rename(name))
     }
 
     /// Adds the words of the text that aren't classes yet at the end of the first attribute `class`, or of one at the end. Refused as `UnknownNode`, and as `Memory` of an element.
@@ -56,7 +57,7 @@ impl<'a> NodeMut<'a> {
         ensures same_node { self.new.id ≡ self.old.id }
         ensures same_tree { self.new.tree.ghost_name ≡ self.old.tree.ghost_name }
     {
-        self.tree.add_class_of(&self.id, classes)
+        self.tree.try_change_of(&self.id, Change::AddClass(classes))
     }
 
     /// Takes the words of the text out of the first attribute `class`. Refused as `UnknownNode`, and as `Memory` of an element.
@@ -68,7 +69,8 @@ impl<'a> NodeMut<'a> {
         ensures same_node { self.new.id ≡ self.old.id }
         ensures same_tree { self.new.tree.ghost_name ≡ self.old.tree.ghost_name }
     {
-        self.tree.remove_class_of(&self.id, classes)
+        self.tree
+            .try_change_of(&self.id, Change::RemoveClass(classes))
     }
 
     /// Removes every attribute of that local name.
@@ -77,7 +79,7 @@ impl<'a> NodeMut<'a> {
         ensures same_node { self.new.id ≡ self.old.id }
         ensures same_tree { self.new.tree.ghost_name ≡ self.old.tree.ghost_name }
     {
-        self.tree.remove_attr_of(&self.id, name);
+        self.tree.change_of(&self.id, Change::RemoveAttr(name));
     }
 
     /// Removes every attribute whose local name is one of the names.
@@ -86,7 +88,7 @@ impl<'a> NodeMut<'a> {
         ensures same_node { self.new.id ≡ self.old.id }
         ensures same_tree { self.new.tree.ghost_name ≡ self.old.tree.ghost_name }
     {
-        self.tree.remove_attrs_of(&self.id, names);
+        self.tree.change_of(&self.id, Change::RemoveAttrs(names));
     }
 
     /// Removes every attribute whose local name is none of the names.
@@ -95,7 +97,7 @@ impl<'a> NodeMut<'a> {
         ensures same_node { self.new.id ≡ self.old.id }
         ensures same_tree { self.new.tree.ghost_name ≡ self.old.tree.ghost_name }
     {
-        self.tree.retain_attrs_of(&self.id, names);
+        self.tree.change_of(&self.id, Change::RetainAttrs(names));
     }
 
     /// Removes every attribute.
@@ -104,6 +106,6 @@ impl<'a> NodeMut<'a> {
         ensures same_node { self.new.id ≡ self.old.id }
         ensures same_tree { self.new.tree.ghost_name ≡ self.old.tree.ghost_name }
     {
-        self.tree.remove_all_attrs_of(&self.id);
+        self.tree.change_of(&self.id, Change::RemoveAllAttrs);
     }
 }

@@ -1,16 +1,15 @@
 //! Changes of what a node is. Its number, its kind, its template contents and all links stay.
 
-ghost use Rattle.std.specs.Prelude.{◌≡◌, ◌<◌, [], IfErr, OnErr, OnOk, length, map};
+ghost use Rattle.std.specs.Prelude.{◌≡◌, ◌<◌, false, IfErr, OnErr, OnOk, length};
 ghost use Rattle.std.specs.Fn.{FnOnceReturnsAtMut};
-ghost use Rattle.dom_nodes.specs.Changes.{on_element, only_names, renamed, with_attr, with_attrs, without_name, without_names};
-ghost use Rattle.dom_nodes.specs.Classes.{with_classes, without_classes};
+ghost use Rattle.dom_nodes.specs.Change.{asks, changed};
 ghost use Rattle.dom_links.specs.Contents.{IsUpdatedAt, with_content};
 ghost use Rattle.dom_trees.specs.Refusals.{ChangeCause, RemovalCause};
 
 use crate::tree::Tree;
 use dom_links::ops::changes;
 use dom_nodes::fault::EditFault;
-use dom_nodes::node_data::NodeEdit;
+use dom_nodes::node_data::{Change, NodeEdit};
 use dom_nodes::node_id::NodeId;
 
 impl Tree {
@@ -43,14 +42,9 @@ impl Tree {
         changes::update(&mut self.nodes, alloc, *id, change);
     }
 
-    /// As `NodeMut::set_attr`.
-    pub(crate) fn set_attr_of(
-        &mut self,
-        id: &NodeId,
-        name: &str,
-        value: &str,
-    ) -> Result<(), EditFault>
-        ensures ok { OnOk result (self.new ≡ with_content id.now (with_attrs (with_attr name.now value.now)) self.old) }
+    /// Makes a change of a node. Refused as `UnknownNode`, and as `Memory` of an element.
+    pub(crate) fn try_change_of(&mut self, id: &NodeId, change: Change) -> Result<(), EditFault>
+        ensures ok { OnOk result (self.new ≡ with_content id.now (changed change.entry) self.old) }
         ensures known { OnOk result (id.now < length self.old.content) }
         ensures err { OnErr result (self.new ≡ self.old) }
         ensures cause { IfErr result (λ fault. ChangeCause self.old id.now fault) }
@@ -58,85 +52,17 @@ impl Tree {
         if id.value() >= self.nodes.len() {
             return Err(EditFault::UnknownNode);
         }
-        match changes::set_attr(&mut self.nodes, *id, name, value) {
+        match changes::apply(&mut self.nodes, *id, change) {
             Ok(()) => Ok(()),
             Err(_) => Err(EditFault::Memory),
         }
     }
 
-    /// As `NodeMut::rename`.
-    pub(crate) fn rename_of(&mut self, id: &NodeId, name: &str) -> Result<(), EditFault>
-        ensures ok { OnOk result (self.new ≡ with_content id.now (on_element (renamed name.now)) self.old) }
-        ensures known { OnOk result (id.now < length self.old.content) }
-        ensures err { OnErr result (self.new ≡ self.old) }
-        ensures cause { IfErr result (λ fault. ChangeCause self.old id.now fault) }
+    /// Makes a change that asks for no memory; an unknown number changes nothing.
+    pub(crate) fn change_of(&mut self, id: &NodeId, change: Change)
+        requires { asks change ≡ false }
+        ensures { self.new ≡ with_content id.now (changed change.entry) self.old }
     {
-        if id.value() >= self.nodes.len() {
-            return Err(EditFault::UnknownNode);
-        }
-        match changes::rename(&mut self.nodes, *id, name) {
-            Ok(()) => Ok(()),
-            Err(_) => Err(EditFault::Memory),
-        }
-    }
-
-    /// As `NodeMut::add_class`.
-    pub(crate) fn add_class_of(&mut self, id: &NodeId, classes: &str) -> Result<(), EditFault>
-        ensures ok { OnOk result (self.new ≡ with_content id.now (with_attrs (with_classes classes.now)) self.old) }
-        ensures known { OnOk result (id.now < length self.old.content) }
-        ensures err { OnErr result (self.new ≡ self.old) }
-        ensures cause { IfErr result (λ fault. ChangeCause self.old id.now fault) }
-    {
-        if id.value() >= self.nodes.len() {
-            return Err(EditFault::UnknownNode);
-        }
-        match changes::add_class(&mut self.nodes, *id, classes) {
-            Ok(()) => Ok(()),
-            Err(_) => Err(EditFault::Memory),
-        }
-    }
-
-    /// As `NodeMut::remove_class`.
-    pub(crate) fn remove_class_of(&mut self, id: &NodeId, classes: &str) -> Result<(), EditFault>
-        ensures ok { OnOk result (self.new ≡ with_content id.now (with_attrs (without_classes classes.now)) self.old) }
-        ensures known { OnOk result (id.now < length self.old.content) }
-        ensures err { OnErr result (self.new ≡ self.old) }
-        ensures cause { IfErr result (λ fault. ChangeCause self.old id.now fault) }
-    {
-        if id.value() >= self.nodes.len() {
-            return Err(EditFault::UnknownNode);
-        }
-        match changes::remove_class(&mut self.nodes, *id, classes) {
-            Ok(()) => Ok(()),
-            Err(_) => Err(EditFault::Memory),
-        }
-    }
-
-    /// As `NodeMut::remove_attr`.
-    pub(crate) fn remove_attr_of(&mut self, id: &NodeId, name: &str)
-        ensures { self.new ≡ with_content id.now (with_attrs (without_name name.now)) self.old }
-    {
-        changes::remove_attr(&mut self.nodes, *id, name);
-    }
-
-    /// As `NodeMut::remove_attrs`.
-    pub(crate) fn remove_attrs_of(&mut self, id: &NodeId, names: &[&str])
-        ensures { self.new ≡ with_content id.now (with_attrs (without_names (map (λ name. name.now) names.now))) self.old }
-    {
-        changes::remove_attrs(&mut self.nodes, *id, names);
-    }
-
-    /// As `NodeMut::retain_attrs`.
-    pub(crate) fn retain_attrs_of(&mut self, id: &NodeId, names: &[&str])
-        ensures { self.new ≡ with_content id.now (with_attrs (only_names (map (λ name. name.now) names.now))) self.old }
-    {
-        changes::retain_attrs(&mut self.nodes, *id, names);
-    }
-
-    /// As `NodeMut::remove_all_attrs`.
-    pub(crate) fn remove_all_attrs_of(&mut self, id: &NodeId)
-        ensures { self.new ≡ with_content id.now (with_attrs (λ _. [])) self.old }
-    {
-        changes::remove_all_attrs(&mut self.nodes, *id);
+        let _ = changes::apply(&mut self.nodes, *id, change);
     }
 }

@@ -35,11 +35,11 @@ impl Tree {
         ensures err { OnErr result (self.new ≡ self.old) }
         ensures cause { IfErr result (λ fault. Limit (length self.old.content) fault) }
     {
-        let local = owned_text(self.allocator(), name)?;
+        let local = local_name(self.allocator(), name)?;
         self.new_element_qualname(QualName {
             prefix: None,
             ns: Namespace::Html,
-            local: LocalName(local),
+            local,
         })
     }
 
@@ -71,6 +71,16 @@ fn owned_text(alloc: Global, text: &str) -> Result<Text, EditFault>
     ensures { MatchResult result (λ made. made ≡ text.now) (λ fault. fault ≡ Memory) }
 {
     match Text::new(alloc, text) {
+        Ok(made) => Ok(made),
+        Err(_) => Err(EditFault::Memory),
+    }
+}
+
+/// The local name. Refused as `Memory`.
+fn local_name(alloc: Global, name: &str) -> Result<LocalName, EditFault>
+    ensures { MatchResult result (λ made. made ≡ name.now) (λ fault. fault ≡ Memory) }
+{
+    match LocalName::new(alloc, name) {
         Ok(made) => Ok(made),
         Err(_) => Err(EditFault::Memory),
     }

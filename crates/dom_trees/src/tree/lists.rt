@@ -3,17 +3,19 @@
 ghost use Rattle.std.specs.Prelude.{◌≡◌, ◌<◌, ◌∷◌, [], IfErr, None, OnErr, OnOk, length};
 ghost use Rattle.dom_links.specs.Forest.{kids_of, siblings};
 ghost use Rattle.dom_links.specs.ListMoves.{AllowedList, MayReparent, MayWrap, reparented, replaced, unwrapped, with_later, wrapped};
-ghost use Rattle.dom_links.specs.Moves.{after_node, before_node, cut, end_of, front_of, moved_to};
+ghost use Rattle.dom_links.specs.Moves.{cut, moved_to};
+ghost use Rattle.dom_links.specs.declared.gap.Gap.TheVariants.{After as after_node, Before as before_node, EndOf as end_of, FrontOf as front_of};
 ghost use Rattle.dom_links.specs.Sound.{Allowed};
 ghost use Rattle.dom_trees.specs.ListRefusals.{ListCause, ReparentCause, WrapCause};
 ghost use Rattle.dom_trees.specs.Refusals.{Cause, RemovalCause};
 
-use crate::checks::check_before;
+use crate::checks::check_move;
 use crate::list_checks::{
     check_list_front_of, check_reparent, check_run_after, check_run_before, check_run_end_of,
     check_wrap,
 };
 use crate::tree::Tree;
+use dom_links::gap::Gap;
 use dom_links::ops::{TreeNodeOps, lists};
 use dom_nodes::fault::EditFault;
 use dom_nodes::node_id::NodeId;
@@ -125,7 +127,7 @@ impl Tree {
         ensures err { OnErr result (self.new ≡ self.old) }
         ensures cause { IfErr result (λ fault. Cause self.old (before_node id.now) new_node.now fault) }
     {
-        check_before(&self.nodes, *id, *new_node)?;
+        check_move(&self.nodes, &Gap::Before(*id), *new_node)?;
         lists::replace_with(&mut self.nodes, *id, *new_node);
         Ok(())
     }

@@ -1,6 +1,6 @@
 use Rattle.std.proofs.Common.{◌∙◌, sym, rules}
 use Rattle.dom_links.specs.Forest.{forest_of, siblings}
-use Rattle.dom_links.specs.Moves.{front_of}
+use Rattle.dom_links.specs.declared.gap.Gap.TheVariants.{FrontOf as front_of}
 use Rattle.dom_trees.proofs.ListCauses.{told_list, known_in}
 use Rattle.dom_trees.proofs.list_checks.check_list_front_of.Goals as goal
 

@@ -17,4 +17,4 @@ pub loop-written-smaller : goal.loop-written-smaller
 loop-written-smaller c = length_after _ _ _ c.in-Some.ensures.some
 
 pub returns : goal.returns
-returns c = kept_all _ _ _ c.loop-written.invariant.kept c.in_default.ensures.none
+returns c = rw c.shrink_to_fit.ensures (kept_all _ _ _ c.loop-written.invariant.kept c.in_default.ensures.none)

@@ -11,7 +11,7 @@ pub returns-in_err-put_parts : goal.returns-in_err-put_parts
 returns-in_err-put_parts g c =
     let e = err_from_is_err_and c.from_residual.result c.from_residual.ensures.1 in
     rw e.1 (fault-first _ _ _ (flat_map attr_text c.args.element.now.attrs ++ codes ">") _ c.in_err-put_parts.ensures
-    (tag-first c.args.element.now.name.local.0 c.node_name.result.now _ c.node_name.ensures))
+    (tag-first c.args.element.now.name.local c.node_name.result.now _ c.node_name.ensures))
 
 pub returns-in_err-put_attr : goal.returns-in_err-put_attr
 returns-in_err-put_attr g c =
@@ -22,11 +22,11 @@ returns-in_err-put_attr g c =
     split ∙ ap (λ x. (flat_map attr_text (take c.loop-attr.attr-index items) ++ attr_text x) ++ flat_map attr_text (drop (c.loop-attr.attr-index + 1) items)) (sym c.attr-item.is) in
     let all : flat_map attr_text c.args.element.now.attrs ≡ flat_map attr_text items = ap (flat_map attr_text) (sym c.as_slice-attr-items.ensures) in
     rw e.1 (fault-first _ _ _ _ _ (fault-inside _ _ _ _ _ _ c.loop-attr.invariant c.in_err-put_attr.ensures refl)
-    (tag-attr c.args.element.now.name.local.0 (flat_map attr_text c.args.element.now.attrs) _ _ (flat_map attr_text (drop (c.loop-attr.attr-index + 1) items)) (codes ">") (all ∙ one)))
+    (tag-attr c.args.element.now.name.local (flat_map attr_text c.args.element.now.attrs) _ _ (flat_map attr_text (drop (c.loop-attr.attr-index + 1) items)) (codes ">") (all ∙ one)))
 
 pub returns : goal.returns
 returns g c =
     let items = c.as_slice-attr-items.result.now in
     let done : take c.loop-attr.attr-index items ≡ items = take_all c.loop-attr.attr-index items (omega (arith, c.loop-attr-test.false)) in
     then-writes _ _ _ c.put.result _ _ _ c.loop-attr.invariant c.put.ensures
-    (tag-last c.args.element.now.name.local.0 (flat_map attr_text c.args.element.now.attrs) _ (codes ">") (ap (flat_map attr_text) (done ∙ c.as_slice-attr-items.ensures)))
+    (tag-last c.args.element.now.name.local (flat_map attr_text c.args.element.now.attrs) _ (codes ">") (ap (flat_map attr_text) (done ∙ c.as_slice-attr-items.ensures)))

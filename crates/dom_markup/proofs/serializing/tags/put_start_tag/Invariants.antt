@@ -7,4 +7,4 @@ use Rattle.dom_markup.proofs.serializing.tags.put_start_tag.Given as goal
 
 abbrev pub invariant-loop-attr : goal.invariant-loop-attr
 invariant-loop-attr g l =
-    Appends (g.P.PutText.written l.fn.w) (g.P.PutText.written l.w) ((codes "<" ++ l.fn.element.name.local.0) ++ flat_map attr_text (take l.attr-index l.attr-items))
+    Appends (g.P.PutText.written l.fn.w) (g.P.PutText.written l.w) ((codes "<" ++ l.fn.element.name.local) ++ flat_map attr_text (take l.attr-index l.attr-items))

@@ -1,4 +1,4 @@
-use Rattle.std.proofs.Common.{◌≡◌, ◌∷◌, ◌++◌, ℕ, List, Bool, [], None, sym, ◌∙◌, ap}
+use Rattle.std.proofs.Common.{◌≡◌, ◌∷◌, ◌++◌, ℕ, List, Bool, [], None, refl, sym, ◌∙◌, ap}
 use Rattle.std.specs.List.{list_any}
 use Rattle.std.proofs.lemmas.Result.{on_ok_weaker}
 use Rattle.dom_nodes.specs.declared.name.Attr.{Attr}
@@ -18,7 +18,7 @@ tested attrs name local folds found answer f g h i =
     ap (λ (n : List ℕ). list_any (is_named n) attrs) (sym (f ∙ g)) ∙ sym h ∙ i
 
 abbrev of : List ℕ → List ℕ → Attr
-of local value = record { name = record { prefix = None; ns = NoNamespace; local = record { 0 = local } }; value = value }
+of local value = record { name = record { prefix = None; ns = NoNamespace; local = local }; value = value }
 
 attr_of_read : (local value name text : List ℕ) → local ≡ folded name → value ≡ decoded text → of local value ≡ read_attr (attribute_of name text)
 attr_of_read local value name text e f = ap (λ (l : List ℕ). of l value) e ∙ ap (λ (v : List ℕ). of (folded name) v) f
@@ -26,11 +26,11 @@ attr_of_read local value name text e f = ap (λ (l : List ℕ). of l value) e �
 pub returns-then-has-clause-added : goal.returns-then-has-clause-added
 returns-then-has-clause-added c =
     left_out c.args.self.now.attrs (attribute_of c.args.written.name.now c.args.written.value.now)
-    (tested _ _ _ _ _ _ c.as_str.ensures c.in_ok-local.ensures c.has.ensures c.if-has.true)
+    (tested _ _ _ _ _ _ refl c.in_ok-local.ensures c.has.ensures c.if-has.true)
 
 pub returns-clause-added : goal.returns-clause-added
 returns-clause-added c =
-    let new = tested _ _ _ _ _ _ c.as_str.ensures c.in_ok-local.ensures c.has.ensures c.if-has.false in
+    let new = tested _ _ _ _ _ _ refl c.in_ok-local.ensures c.has.ensures c.if-has.false in
     let attr = attr_of_read c.in_ok-local.local c.in_ok-value.value c.args.written.name.now c.args.written.value.now c.in_ok-local.ensures c.in_ok-value.ensures in
     let grown = c.in_ok-push.ensures.ok ∙ ap (λ (a : Attr). c.args.self.now.attrs ++ a ∷ []) attr in
     on_ok_weaker c.note.result (λ _ kept e. c.note.ensures.attrs ∙ grown

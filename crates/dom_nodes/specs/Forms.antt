@@ -1,0 +1,8 @@
+-- The bytes of a text or of a name, wherever they lie.
+use Rattle.std.specs.Prelude.{ℕ, List, string_bytes}
+use Rattle.dom_nodes.specs.declared.text.Form.{Form}
+use Rattle.dom_nodes.specs.declared.text.Form.TheVariants.{Short, Long}
+
+abbrev pub form_bytes : Form → List ℕ
+form_bytes (Short bytes) = bytes
+form_bytes (Long letters) = string_bytes letters

@@ -1,0 +1,134 @@
+//! One change of an element, told as a value, and the calls that make it.
+
+ghost use Rattle.std.specs.Prelude.{◌≡◌, ◌&&◌, false, IsOk, OnErr, OnOk, map, []};
+
+use super::{Element, NodeData, TreeNode};
+use crate::fault::OutOfMemory;
+
+/// A change of an element's local name, attributes or classes. `Element` says what each does.
+#[derive(Clone, Copy)]
+pub enum Change<'a> {
+    SetAttr { name: &'a str, value: &'a str },
+    RemoveAttr(&'a str),
+    RemoveAttrs(&'a [&'a str]),
+    RetainAttrs(&'a [&'a str]),
+    RemoveAllAttrs,
+    Rename(&'a str),
+    AddClass(&'a str),
+    RemoveClass(&'a str),
+}
+
+impl Element {
+    ghost use Rattle.dom_nodes.specs.Change.{Tried, asks, changed};
+
+    /// Makes the change. Removals of attributes ask for no memory.
+    pub fn change(&mut self, change: Change) -> Result<(), OutOfMemory>
+        ensures { Tried result (NodeData.Element self.old) (NodeData.Element self.new)
+            (changed change.entry (NodeData.Element self.old)) (asks change.entry) }
+    {
+        match change {
+            Change::SetAttr { name, value } => return self.set_attr(name, value),
+            Change::RemoveAttr(name) => self.remove_attr(name),
+            Change::RemoveAttrs(names) => self.remove_attrs(names),
+            Change::RetainAttrs(names) => self.retain_attrs(names),
+            Change::RemoveAllAttrs => self.remove_all_attrs(),
+            Change::Rename(name) => return self.rename(name),
+            Change::AddClass(classes) => return self.add_class(classes),
+            Change::RemoveClass(classes) => return self.remove_class(classes),
+        }
+        Ok(())
+    }
+}
+
+impl NodeData {
+    ghost use Rattle.dom_nodes.specs.Change.{Tried, asks_of, changed};
+
+    /// Makes the change; a node that is no element stays, and no memory is asked for.
+    pub fn change(&mut self, change: Change) -> Result<(), OutOfMemory>
+        ensures { Tried result self.old self.new (changed change.entry self.old) (asks_of change.entry self.old) }
+    {
+        match self {
+            NodeData::Element(element) => element.change(change),
+            _ => Ok(()),
+        }
+    }
+}
+
+impl TreeNode {
+    ghost use Rattle.dom_nodes.specs.Kinds.{is_element};
+    ghost use Rattle.dom_nodes.specs.Change.{Tried, asks_of, changed};
+    ghost use Rattle.dom_nodes.specs.Changes.{on_element, only_names, renamed, with_attr, with_attrs, without_name, without_names};
+    ghost use Rattle.dom_nodes.specs.Classes.{with_classes, without_classes};
+
+    /// As `NodeData::change`.
+    pub fn change(&mut self, change: Change) -> Result<(), OutOfMemory>
+        ensures { Tried result self.old self.new
+            (record self.old { content = changed change.entry self.old.content })
+            (asks_of change.entry self.old.content) }
+    {
+        self.content.change(change)
+    }
+
+    /// As `Element::set_attr`.
+    pub fn set_attr(&mut self, name: &str, value: &str) -> Result<(), OutOfMemory>
+        ensures ok { OnOk result (self.new ≡ record self.old { content = with_attrs (with_attr name.now value.now) self.old.content }) }
+        ensures err { OnErr result (self.new ≡ self.old) }
+        ensures no_element { is_element self.old.content ≡ false → IsOk result }
+    {
+        self.change(Change::SetAttr { name, value })
+    }
+
+    /// As `Element::remove_attr`.
+    pub fn remove_attr(&mut self, name: &str)
+        ensures { self.new ≡ record self.old { content = with_attrs (without_name name.now) self.old.content } }
+    {
+        let _ = self.change(Change::RemoveAttr(name));
+    }
+
+    /// As `Element::remove_attrs`.
+    pub fn remove_attrs(&mut self, names: &[&str])
+        ensures { self.new ≡ record self.old { content = with_attrs (without_names (map (λ name. name.now) names.now)) self.old.content } }
+    {
+        let _ = self.change(Change::RemoveAttrs(names));
+    }
+
+    /// As `Element::retain_attrs`.
+    pub fn retain_attrs(&mut self, names: &[&str])
+        ensures { self.new ≡ record self.old { content = with_attrs (only_names (map (λ name. name.now) names.now)) self.old.content } }
+    {
+        let _ = self.change(Change::RetainAttrs(names));
+    }
+
+    pub fn remove_all_attrs(&mut self)
+        ensures { self.new ≡ record self.old { content = with_attrs (λ _. []) self.old.content } }
+    {
+        let _ = self.change(Change::RemoveAllAttrs);
+    }
+
+    /// As `Element::add_class`.
+    pub fn add_class(&mut self, classes: &str) -> Result<(), OutOfMemory>
+        ensures ok { OnOk result (self.new ≡ record self.old { content = with_attrs (with_classes classes.now) self.old.content }) }
+        ensures err { OnErr result (self.new ≡ self.old) }
+        ensures no_element { is_element self.old.content ≡ false → IsOk result }
+    {
+        self.change(Change::AddClass(classes))
+    }
+
+    /// As `Element::remove_class`.
+    pub fn remove_class(&mut self, classes: &str) -> Result<(), OutOfMemory>
+        ensures ok { OnOk result (self.new ≡ record self.old { content = with_attrs (without_classes classes.now) self.old.content }) }
+        ensures err { OnErr result (self.new ≡ self.old) }
+        ensures no_element { is_element self.old.content ≡ false → IsOk result }
+    {
+        self.change(Change::RemoveClass(classes))
+    }
+
+    /// As `Element::rename`.
+    pub fn rename(&mut self, name: &str) -> Result<(), OutOfMemory>
+        ensures ok { OnOk result (self.new ≡ record self.old { content = on_element (renamed name.now) self.old.content }) }
+        ensures err { OnErr result (self.new ≡ self.old) }
+        ensures no_element { is_element self.old.content ≡ false → IsOk result }
+    {
+        self.change(Change::Rename(name))
+    }
+}

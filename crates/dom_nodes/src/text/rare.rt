@@ -1,0 +1,45 @@
+//! Texts that few values have: one pointer in the value that has a place for one.
+
+ghost use Rattle.std.specs.Prelude.{◌≡◌, IfOk, List, ℕ};
+
+use super::Text;
+use crate::fault::OutOfMemory;
+use std::alloc::Global;
+use std::marker::Model;
+
+/// A text behind a pointer. A contract sees it as the list of its bytes.
+#[derive(Drop)]
+pub struct RareText {
+    text: Box<Text>,
+}
+
+impl Model for RareText {
+    ghost use Rattle.std.specs.Prelude.{List, ℕ};
+
+    ghost Value = { List ℕ };
+
+    ghost view = { λ rare. rare.text.value };
+}
+
+impl RareText {
+    pub fn new(alloc: Global, text: &str) -> Result<RareText, OutOfMemory>
+        ensures { IfOk result (λ made. made ≡ text.now) }
+    {
+        let text = Text::new(alloc, text)?;
+        let text = Box::new(alloc, text)?;
+        Ok(RareText { text })
+    }
+
+    pub fn as_str(&self) -> &str
+        ensures { result.now ≡ self.now }
+    {
+        self.text.as_str()
+    }
+
+    /// A text of the same bytes in memory of its own.
+    pub fn try_clone(&self) -> Result<RareText, OutOfMemory>
+        ensures { IfOk result (λ made. made ≡ self.now) }
+    {
+        RareText::new(self.text.allocator(), self.as_str())
+    }
+}
