@@ -4,6 +4,7 @@
 #[cfg(test)]
 mod change_tests;
 pub mod gap;
+pub mod indexes;
 pub mod iters;
 pub mod laws;
 pub mod ops;

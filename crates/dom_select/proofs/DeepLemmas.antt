@@ -37,7 +37,7 @@ module _ (depth : ℕ) where
       (λ m grows. let a = compound_keeps m grows (SpellsInner depth) (inner_keeps m grows depth) first text after h in
       let b = many_keeps m grows (SpellsStep (SpellsInner depth)) (step_keeps m grows (SpellsInner depth) (inner_keeps m grows depth)) steps after mid each in omega arith)
 
-  pub within_list : (text after mid : List ℕ) (one : CompoundSelector × Steps) (more : List (CompoundSelector × Steps)) → SpellsSelector (SpellsInner depth) one text after →
+  pub within_list : (text after mid : List ℕ) (one : Combinator × CompoundSelector × Steps) (more : List (Combinator × CompoundSelector × Steps)) → SpellsSelector (SpellsInner depth) one text after →
       Many (SpellsLater (SpellsInner depth)) more after mid → IsWithin mid text
   within_list text after mid one more h each = within mid text
       (λ m grows. let a = selector_keeps m grows (SpellsInner depth) (inner_keeps m grows depth) one text after h in

@@ -30,7 +30,7 @@ precedes_then forest a b c (inl p) (inr q) = inl (let e = q.0 in omega arith)
 precedes_then forest a b c (inr p) (inl q) = inl (let e = p.0 in omega arith)
 precedes_then forest a b c (inr p) (inr q) = inr (p.0 ∙ q.0, let x = p.1 in let y = q.1 in omega arith)
 
-apart : (forest : Forest) (v n : ℕ) → Precedes forest v n → v ≡ n → ⊥
+pub apart : (forest : Forest) (v n : ℕ) → Precedes forest v n → v ≡ n → ⊥
 apart forest v n (inl p) e = let same = ap (λ m. length (ancestors forest m)) e in omega arith
 apart forest v n (inr p) e = let same = ap (λ m. length (earlier forest m)) e in let less = p.1 in omega arith
 
@@ -179,7 +179,7 @@ module _ (forest : Forest) (spared : ℕ) where
   leads_join [] p a w n e h = subst (λ m. Leads (steps_of p) forest spared m n) (sym e) h
   leads_join (s ∷ f) p a w n l h = (l.0, l.1, l.2, leads_join f p l.0 w n l.3 h)
 
-  reaches_cut : (first : CompoundSelector) (ss f p : Chain) (n : ℕ) → ss ≡ f ++ p → Reaches first (steps_of ss) forest spared n →
+  reaches_cut : (first : ℕ → Type 0) (ss f p : Chain) (n : ℕ) → ss ≡ f ++ p → Reaches first (steps_of ss) forest spared n →
       (w : ℕ) × Reaches first (steps_of f) forest spared w × Leads (steps_of p) forest spared w n
   reaches_cut first ss f p n e r =
       let s = subst (λ z. Reaches first (steps_of z) forest spared n) e r in
@@ -187,14 +187,14 @@ module _ (forest : Forest) (spared : ℕ) where
       (c.0, (s.0, s.1, c.1), c.2)
 
 -- what is reached where the last compound holds
-module _ (forest : Forest) (spared : ℕ) (first : CompoundSelector) where
+module _ (forest : Forest) (spared : ℕ) (first : ℕ → Type 0) where
   pub reaches_end : (ss : Chain) (n : ℕ) → Reaches first (steps_of ss) forest spared n → EndHolds forest spared first ss n
   reaches_end ss n r = record {
-    alone = λ e. let only = subst (λ z. Reaches first (steps_of z) forest spared n) e r in subst (Holds first forest) only.2 only.1;
+    alone = λ e. let only = subst (λ z. Reaches first (steps_of z) forest spared n) e r in subst first only.2 only.1;
     behind = λ front last e. let ends = (reaches_by_last forest spared first ss front last n e).0 r in (ends.0, ends.1);
   }
 
-  pub ends_alone : (ss : Chain) (n : ℕ) → ss ≡ [] → Holds first forest n → EndHolds forest spared first ss n
+  pub ends_alone : (ss : Chain) (n : ℕ) → ss ≡ [] → first n → EndHolds forest spared first ss n
   ends_alone ss n e h = record { alone = λ _. h; behind = λ front last so. absurd (none_last front last (sym e ∙ so)) }
 
   pub ends_behind : (ss front : Chain) (last : Combinator × CompoundSelector) (n : ℕ) → ss ≡ front ++ last ∷ [] → MayBeside forest spared last.0 n → Holds last.1 forest n → EndHolds forest spared first ss n
@@ -250,7 +250,7 @@ module _ (forest : Forest) (spared : ℕ) (first : CompoundSelector) where
         moved_over left w x held (λ front last u is b. stands_up forest spared lines last.0 (suc far.0) u w x (loose front last is) above) r
 
 -- the chain was followed from the nearest node: a node that is farther, but where the combinator still holds, does no better
-module _ (forest : Forest) (spared : ℕ) (first : CompoundSelector) (lines : AreLines forest) where
+module _ (forest : Forest) (spared : ℕ) (first : ℕ → Type 0) (lines : AreLines forest) where
   abbrev Meant : Chain → Combinator → ℕ → Type 0
   Meant ss k = IsMeant forest spared first (steps_of ss) k
 
@@ -281,7 +281,7 @@ module _ (forest : Forest) (spared : ℕ) (first : CompoundSelector) (lines : Ar
   nearest_will_do NextSibling ss left v w at b followed (inr h) = absurd (h.0 (beside_element forest spared lines v at b))
 
 -- a chain that is being followed
-pub record Following (forest : Forest) (spared : ℕ) (first : CompoundSelector) (tight loose : ℕ) (steps left : Chain) (n w : ℕ) : Type 0 where
+pub record Following (forest : Forest) (spared : ℕ) (first : ℕ → Type 0) (tight loose : ℕ) (steps left : Chain) (n w : ℕ) : Type 0 where
   pub passed : Chain
   pub split : steps ≡ left ++ passed
   pub tighter : AreTighter tight passed
@@ -290,7 +290,7 @@ pub record Following (forest : Forest) (spared : ℕ) (first : CompoundSelector)
   pub held : EndHolds forest spared first left w
   pub whole : Reaches first (steps_of steps) forest spared n → Reaches first (steps_of left) forest spared w
 
-module _ (forest : Forest) (spared : ℕ) (first : CompoundSelector) where
+module _ (forest : Forest) (spared : ℕ) (first : ℕ → Type 0) where
   pub follows_none : (level : ℕ) (ss : Chain) (n : ℕ) → level ≤ 1 → EndHolds forest spared first ss n → Followed forest spared first level ss ss n n
   follows_none level ss n low held = record {
     passed = [];
@@ -361,7 +361,7 @@ module _ (forest : Forest) (spared : ℕ) (first : CompoundSelector) where
   pub following_at : (level : ℕ) (ss left : Chain) (n w : ℕ) → AreLines forest → IsOrPrecedes forest n spared → Following forest spared first level (level - 1) ss left n w → IsOrPrecedes forest w spared
   following_at level ss left n w lines at f = led_at forest spared lines f.passed w n at f.led
 
-  pub reaches_alone : (ss : Chain) (n : ℕ) (b : Bool) → ss ≡ [] → (IsTrue b ↔ Holds first forest n) → IsTrue b ↔ Reaches first (steps_of ss) forest spared n
+  pub reaches_alone : (ss : Chain) (n : ℕ) (b : Bool) → ss ≡ [] → (IsTrue b ↔ first n) → IsTrue b ↔ Reaches first (steps_of ss) forest spared n
   reaches_alone ss n b e h = ((λ t. subst (λ z. Reaches first (steps_of z) forest spared n) (sym e) (n, h.0 t, refl)), λ r. h.1 ((reaches_end forest spared first ss n r).alone e))
 
   -- all steps were followed
@@ -387,7 +387,7 @@ module _ (forest : Forest) (spared : ℕ) (first : CompoundSelector) where
 pub stands_on_line : (forest : Forest) (lines : AreLines forest) (k : Combinator) (n v : ℕ) → SomeOnLine (ends_at forest k) (λ m. m ≡ v) (line forest k n) → Stands forest k v n
 stands_on_line forest lines k n v s = let found = from_line (λ m. m ≡ v) forest k n lines s in subst (λ m. Stands forest k m n) found.2 found.1
 
-module _ (forest : Forest) (spared : ℕ) (first : CompoundSelector) (lines : AreLines forest) (k : Combinator) (ss : Chain) where
+module _ (forest : Forest) (spared : ℕ) (first : ℕ → Type 0) (lines : AreLines forest) (k : Combinator) (ss : Chain) where
   abbrev OnLine : (ℕ → Type 0) → ℕ → Type 0
   OnLine Q n = SomeOnLine (ends_at forest k) Q (line forest k n)
 

@@ -212,7 +212,7 @@ module _ (m : List ℕ → ℕ) (grows : Grows m) where
 
     pub selector_keeps : Keeps (SpellsSelector Inner)
     selector_keeps v text r h =
-        let a = compound_keeps v.0 text h.after h.first in
+        let a = compound_keeps v.1 text h.after h.first in
         let b = many_keeps (SpellsStep Inner) step_keeps h.steps h.after r h.run.each in
         omega arith
 

@@ -21,3 +21,4 @@ pub mod SelectorLemmas
 pub mod StepLemmas
 pub mod StringLemmas
 pub mod Weights
+pub mod HasLemmas

@@ -1,17 +1,35 @@
 -- When the parts of a compound hold of a node that was looked up.
-use Rattle.std.proofs.Common.{◌≡◌, ◌≤◌, ℕ, Bool, true, false, List, Some, length, slice_get, sym, ap, ◌∙◌, true≢false, MatchBool}
-use Rattle.std.proofs.lemmas.Option.{slice_get_past, same_Some}
+use Rattle.std.proofs.Common.{◌≡◌, ◌≤◌, ◌↔◌, ℕ, Bool, true, false, List, [], ◌∷◌, Some, length, slice_get, sym, ap, ◌∙◌, refl, true≢false, MatchBool, IsTrue, arith}
+use Rattle.std.specs.Option.{option_map_or}
+use Rattle.std.proofs.lemmas.Option.{slice_get_within}
 use Rattle.dom_nodes.specs.declared.node_data.NodeData.{NodeData}
 use Rattle.dom_links.specs.Forest.{Forest}
 use Rattle.dom_select.specs.declared.selector.Part.{Part}
 use Rattle.dom_select.specs.Meaning.{PartsHold}
-use Rattle.dom_select.specs.Parts.{all_hold}
+use Rattle.dom_select.specs.Parts.{EachHolds, PartHolds, node_passes, passes_at}
 
-pub parts_known : (parts : List Part) (forest : Forest) (n : ℕ) (node : NodeData) → slice_get forest.content n ≡ Some node → (b : Bool) → b ≡ all_hold parts node → MatchBool b (PartsHold parts forest n) (PartsHold parts forest n → ⊥)
+-- a test as a decision, and back
+pub decided : (b : Bool) (P : Type 0) → MatchBool b P (P → ⊥) → IsTrue b ↔ P
+decided true P h = ((λ t. h), λ p. refl)
+decided false P h = ((λ t. absurd (true≢false (sym t))), λ p. absurd (h p))
+
+pub decides : (b : Bool) (P : Type 0) → (IsTrue b ↔ P) → MatchBool b P (P → ⊥)
+decides true P h = h.0 refl
+decides false P h = λ p. true≢false (sym (h.1 p))
+
+-- a part that asks what the node is
+pub passes_known : (part : Part) (forest : Forest) (n : ℕ) (node : NodeData) (b : Bool) → slice_get forest.content n ≡ Some node → b ≡ node_passes part node → IsTrue b ↔ passes_at part forest n
+passes_known part forest n node b e h =
+    let is : option_map_or (node_passes part) (slice_get forest.content n) false ≡ b = ap (λ o. option_map_or (node_passes part) o false) e ∙ sym h in
+    ((λ t. is ∙ t), λ p. sym is ∙ p)
+
+pub parts_known : (parts : List Part) (forest : Forest) (n : ℕ) (node : NodeData) → slice_get forest.content n ≡ Some node → (b : Bool) → (IsTrue b ↔ EachHolds parts forest n) → MatchBool b (PartsHold parts forest n) (PartsHold parts forest n → ⊥)
 unfolding PartsHold
-parts_known parts forest n node e true h = (node, e, sym h)
-parts_known parts forest n node e false h = λ held. let same = same_Some held.0 node (sym held.1 ∙ e) in true≢false (sym held.2 ∙ ap (all_hold parts) same ∙ sym h)
+parts_known parts forest n node e b h = decides b (PartsHold parts forest n) ((λ t. (slice_get_within forest.content n node e, h.0 t)), λ held. h.1 held.1)
 
 pub parts_unknown : (parts : List Part) (forest : Forest) (n : ℕ) → length forest.content ≤ n → PartsHold parts forest n → ⊥
 unfolding PartsHold
-parts_unknown parts forest n past held = let none = slice_get_past forest.content n past in let some = held.1 in cc
+parts_unknown parts forest n past held = let known = held.0 in omega arith
+
+pub one_part : (part : Part) (forest : Forest) (n : ℕ) (b : Bool) → (IsTrue b ↔ PartHolds part forest n) → IsTrue b ↔ EachHolds (part ∷ []) forest n
+one_part part forest n b h = ((λ t. (h.0 t, tt)), λ held. h.1 held.0)

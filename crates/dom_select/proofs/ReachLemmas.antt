@@ -107,30 +107,30 @@ module _ (forest : Forest) (spared : ℕ) where
   leads_more (t ∷ ss) s w v x l j h = (l.0, l.1, l.2, leads_more ss s l.0 v x l.3 j h)
 
   -- what a chain of compounds asks of its last node, and of some node on the left
-  abbrev pub LastStep : CompoundSelector → List (Combinator × CompoundSelector) → Combinator × CompoundSelector → ℕ → Type 0
+  abbrev pub LastStep : (ℕ → Type 0) → List (Combinator × CompoundSelector) → Combinator × CompoundSelector → ℕ → Type 0
   LastStep first ss s x = MayBeside forest spared s.0 x × Holds s.1 forest x
       × ((v : ℕ) × Stands forest s.0 v x × (MayBeside forest spared s.0 v × Reaches first (steps_of ss) forest spared v))
 
-  pub from_reaches : (first : CompoundSelector) (ss : List (Combinator × CompoundSelector)) (s : Combinator × CompoundSelector) (x : ℕ) →
+  pub from_reaches : (first : ℕ → Type 0) (ss : List (Combinator × CompoundSelector)) (s : Combinator × CompoundSelector) (x : ℕ) →
       Reaches first (steps_of (ss ++ s ∷ [])) forest spared x → LastStep first ss s x
   from_reaches first ss s x r =
       let l = leads_last ss s r.0 x r.2 in
       (l.2.2, l.3, (l.0, l.2.0, (l.2.1, (r.0, r.1, l.1))))
 
-  pub to_reaches : (first : CompoundSelector) (ss : List (Combinator × CompoundSelector)) (s : Combinator × CompoundSelector) (x : ℕ) →
+  pub to_reaches : (first : ℕ → Type 0) (ss : List (Combinator × CompoundSelector)) (s : Combinator × CompoundSelector) (x : ℕ) →
       LastStep first ss s x → Reaches first (steps_of (ss ++ s ∷ [])) forest spared x
   to_reaches first ss s x h =
       let r = h.2.2.1 in
       (r.0, r.1, leads_more ss s r.0 h.2.0 x r.2 (h.2.1, h.2.2.0, h.0) h.1)
 
-  pub reaches_by_last : (first : CompoundSelector) (ss front : List (Combinator × CompoundSelector)) (s : Combinator × CompoundSelector) (x : ℕ) →
+  pub reaches_by_last : (first : ℕ → Type 0) (ss front : List (Combinator × CompoundSelector)) (s : Combinator × CompoundSelector) (x : ℕ) →
       ss ≡ front ++ s ∷ [] → Reaches first (steps_of ss) forest spared x ↔ LastStep first front s x
   reaches_by_last first ss front s x e =
       let P : List (Combinator × CompoundSelector) → Type 0 = λ z. Reaches first (steps_of z) forest spared x in
       (λ r. from_reaches first front s x (subst P e r), λ h. subst P (sym e) (to_reaches first front s x h))
 
   -- the forest on the way that the steps lead to
-  abbrev pub IsMeant : CompoundSelector → Steps → Combinator → ℕ → Type 0
+  abbrev pub IsMeant : (ℕ → Type 0) → Steps → Combinator → ℕ → Type 0
   IsMeant first steps k v = MayBeside forest spared k v × Reaches first steps forest spared v
 
 -- what a test that failed says

@@ -97,19 +97,19 @@ module _ (Inner : SelectorList → List ℕ → List ℕ → Type 0) (inner_once
       none v.1 rest (subst (λ t. SpellsCompound Inner v.1 t rest) (sym same.1) h.compound)
 
   pub selector_no_first : (text : List ℕ) → SpellsNone (SpellsCompound Inner) text → SpellsNone (SpellsSelector Inner) text
-  selector_no_first text none v rest h = none v.0 h.after h.first
+  selector_no_first text none v rest h = none v.1 h.after h.first
 
   pub selector_no_step : (text after mid : List ℕ) (first : CompoundSelector) (steps : List (Combinator × CompoundSelector)) → SpellsCompound Inner first text after → Many (SpellsStep Inner) steps after mid →
       begins_step mid ≡ true → SpellsNone (SpellsStep Inner) mid → SpellsNone (SpellsSelector Inner) text
   selector_no_step text after mid first steps h many on none v rest k =
-      let same = compound_once Inner inner_once first v.0 text after k.after h k.first in
+      let same = compound_once Inner inner_once first v.1 text after k.after h k.first in
       run_none (SpellsStep Inner) (step_once Inner inner_once) begins_step (step_goes_on Inner inner_once) steps after mid many on none k.steps rest
       (subst (λ t. Run (SpellsStep Inner) begins_step k.steps t rest) (sym same.1) k.run)
 
   pub list_no_first : (text : List ℕ) → SpellsNone (SpellsSelector Inner) text → SpellsNone (SpellsList Inner) text
   list_no_first text none v rest h = none h.one h.after h.first
 
-  pub list_no_later : (text after mid : List ℕ) (one : CompoundSelector × Steps) (more : List (CompoundSelector × Steps)) → SpellsSelector Inner one text after → Many (SpellsLater Inner) more after mid →
+  pub list_no_later : (text after mid : List ℕ) (one : Combinator × CompoundSelector × Steps) (more : List (Combinator × CompoundSelector × Steps)) → SpellsSelector Inner one text after → Many (SpellsLater Inner) more after mid →
       begins_comma mid ≡ true → SpellsNone (SpellsLater Inner) mid → SpellsNone (SpellsList Inner) text
   list_no_later text after mid one more h many on none v rest k =
       let same = selector_once Inner inner_once one k.one text after k.after h k.first in
@@ -159,7 +159,7 @@ pub comma_stands : (text rest : List ℕ) → after_white text ≡ 44 ∷ rest �
 comma_stands text rest e = (ap (λ t. begins (λ c. nat_eq c 44) t) e, ap (λ t. drop 1 t) e)
 
 module _ (Inner : SelectorList → List ℕ → List ℕ → Type 0) (text rest : List ℕ) (comma : after_white text ≡ 44 ∷ rest) where
-  pub later_from_selector : (v : CompoundSelector × Steps) (end : List ℕ) → SpellsSelector Inner v (after_white rest) end → SpellsLater Inner v text end
+  pub later_from_selector : (v : Combinator × CompoundSelector × Steps) (end : List ℕ) → SpellsSelector Inner v (after_white rest) end → SpellsLater Inner v text end
   later_from_selector v end h =
       let stands = comma_stands text rest comma in
       record { comma = stands.0; selector = subst (λ t. SpellsSelector Inner v (after_white t) end) (sym stands.1) h }

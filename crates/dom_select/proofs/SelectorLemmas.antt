@@ -96,11 +96,11 @@ module _ (Inner : SelectorList → List ℕ → List ℕ → Type 0) (inner_once
 
   pub selector_once : IsOnce (SpellsSelector Inner)
   selector_once v w text r s h k =
-      let first = compound_once v.0 w.0 text h.after k.after h.first k.first in
+      let first = compound_once v.1 w.1 text h.after k.after h.first k.first in
       let run : Run (SpellsStep Inner) begins_step k.steps h.after s = subst (λ t. Run (SpellsStep Inner) begins_step k.steps t s) (sym first.1) k.run in
       let steps = run_once (SpellsStep Inner) step_once begins_step step_goes_on h.steps k.steps h.after r s h.run run in
-      let of : CompoundSelector → Steps → CompoundSelector × Steps = λ a b. (a, b) in
-      (ap (λ a. of a v.1) first.0 ∙ ap (λ b. of w.0 b) (h.is ∙ ap steps_of steps.0 ∙ sym k.is), steps.1)
+      let of : Combinator → CompoundSelector → Steps → Combinator × CompoundSelector × Steps = λ l a b. (l, a, b) in
+      (ap (λ l. of l v.1 v.2) (h.lead ∙ sym k.lead) ∙ ap (λ a. of w.0 a v.2) first.0 ∙ ap (λ b. of w.0 w.1 b) (h.is ∙ ap steps_of steps.0 ∙ sym k.is), steps.1)
 
   pub later_once : IsOnce (SpellsLater Inner)
   later_once v w text r s h k = selector_once v w (after_white (drop 1 (after_white text))) r s h.selector k.selector

@@ -27,7 +27,7 @@ pub weight_front_and_last : (steps front : List Step) (last : Step) → steps �
 weight_front_and_last steps front last e = ap (λ ss. steps_weight (steps_of ss)) (read_front_and_last steps front last e) ∙ weight_last _ _
 
 -- what the steps ask of their last node, and of some node on the left of it
-pub reaches_by_last_step : (forest : Forest) (spared : ℕ) (first : CompoundSelector) (steps front : List Step) (last : Step) (x : ℕ) → steps ≡ front ++ last ∷ [] →
+pub reaches_by_last_step : (forest : Forest) (spared : ℕ) (first : ℕ → Type 0) (steps front : List Step) (last : Step) (x : ℕ) → steps ≡ front ++ last ∷ [] →
     Reaches first (steps_of (map read_step steps)) forest spared x
     ↔ LastStep forest spared first (map read_step front) (last.combinator, read_compound last.compound) x
 reaches_by_last_step forest spared first steps front last x e =

@@ -1,6 +1,6 @@
 -- A number that falls from a selector to its parts.
 use Rattle.std.proofs.Common.{ℕ, ◌+◌}
-use Rattle.dom_select.specs.Syntax.{CompoundSelector, compound, NestedLists, no_lists, nested, NestedList, is_some, is_none, SelectorList, no_selectors, alternative, Steps, no_steps, step}
+use Rattle.dom_select.specs.Syntax.{CompoundSelector, compound, NestedLists, no_lists, nested, NestedList, is_some, is_none, leads_on, SelectorList, no_selectors, alternative, Steps, no_steps, step}
 
 abbrev mutual
   pub compound_weight : CompoundSelector → ℕ
@@ -13,10 +13,11 @@ abbrev mutual
   pub list_weight : NestedList → ℕ
   list_weight (is_some list) = 1 + selectors_weight list
   list_weight (is_none list) = 1 + selectors_weight list
+  list_weight (leads_on list) = 1 + selectors_weight list
 
   pub selectors_weight : SelectorList → ℕ
   selectors_weight no_selectors = 0
-  selectors_weight (alternative first rest more) = 9 + compound_weight first + steps_weight rest + selectors_weight more
+  selectors_weight (alternative lead first rest more) = 12 + compound_weight first + steps_weight rest + selectors_weight more
 
   pub steps_weight : Steps → ℕ
   steps_weight no_steps = 0

@@ -109,24 +109,25 @@ module _ (Inner : SelectorList → List ℕ → List ℕ → Type 0) where
     pub compound : SpellsCompound v.1 mid rest
 
   -- compounds with a combinator between each two
-  pub record SpellsSelector (v : CompoundSelector × Steps) (text rest : List ℕ) : Type 0 where
+  pub record SpellsSelector (v : Combinator × CompoundSelector × Steps) (text rest : List ℕ) : Type 0 where
     pub after : List ℕ
-    pub first : SpellsCompound v.0 text after
+    pub lead : v.0 ≡ Descendant
+    pub first : SpellsCompound v.1 text after
     pub steps : List (Combinator × CompoundSelector)
     pub run : Run SpellsStep begins_step steps after rest
-    pub is : v.1 ≡ steps_of steps
+    pub is : v.2 ≡ steps_of steps
 
   -- a comma with whitespace round it, and a selector
-  pub record SpellsLater (v : CompoundSelector × Steps) (text rest : List ℕ) : Type 0 where
+  pub record SpellsLater (v : Combinator × CompoundSelector × Steps) (text rest : List ℕ) : Type 0 where
     pub comma : begins_comma text ≡ true
     pub selector : SpellsSelector v (after_white (drop 1 (after_white text))) rest
 
   -- a selector, and others behind commas
   pub record SpellsList (v : SelectorList) (text rest : List ℕ) : Type 0 where
-    pub one : CompoundSelector × Steps
+    pub one : Combinator × CompoundSelector × Steps
     pub after : List ℕ
     pub first : SpellsSelector one text after
-    pub more : List (CompoundSelector × Steps)
+    pub more : List (Combinator × CompoundSelector × Steps)
     pub run : Run SpellsLater begins_comma more after rest
     pub is : v ≡ selector_list (one ∷ more)
 

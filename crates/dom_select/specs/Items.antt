@@ -28,6 +28,6 @@ abbrev pub steps_of : List (Combinator × CompoundSelector) → Steps
 steps_of [] = no_steps
 steps_of (s ∷ ss) = step s.0 s.1 (steps_of ss)
 
-abbrev pub selector_list : List (CompoundSelector × Steps) → SelectorList
+abbrev pub selector_list : List (Combinator × CompoundSelector × Steps) → SelectorList
 selector_list [] = no_selectors
-selector_list (s ∷ ss) = alternative s.0 s.1 (selector_list ss)
+selector_list (s ∷ ss) = alternative s.0 s.1 s.2 (selector_list ss)

@@ -16,5 +16,6 @@ pub mod Selection
 pub mod Spelling
 pub mod Strings
 pub mod Syntax
+pub mod Texts
 pub mod Tokens
 pub mod Ways

@@ -1,6 +1,5 @@
 -- What a selector means: of which nodes it holds.
-use Rattle.std.specs.Prelude.{◌≡◌, ℕ, List, [], ◌∷◌, Some, true, ◌⊎◌, slice_get}
-use Rattle.dom_nodes.specs.declared.node_data.NodeData.{NodeData}
+use Rattle.std.specs.Prelude.{◌≡◌, ◌<◌, length, ℕ, List, [], ◌∷◌, Some, true, ◌⊎◌}
 use Rattle.dom_links.specs.Forest.{Forest, parent}
 use Rattle.dom_links.specs.Lists.{stands_in}
 use Rattle.dom_links.specs.Trees.{ancestors}
@@ -8,12 +7,12 @@ use Rattle.dom_select.specs.declared.selector.Combinator.{Combinator}
 use Rattle.dom_select.specs.declared.selector.Combinator.TheVariants.{Descendant, Child, NextSibling, LaterSibling}
 use Rattle.dom_select.specs.declared.selector.Part.{Part}
 use Rattle.dom_select.specs.Lines.{element_at, earlier}
-use Rattle.dom_select.specs.Parts.{all_hold}
-use Rattle.dom_select.specs.Syntax.{CompoundSelector, compound, NestedLists, no_lists, nested, NestedList, is_some, is_none, SelectorList, no_selectors, alternative, Steps, no_steps, step}
+use Rattle.dom_select.specs.Parts.{EachHolds}
+use Rattle.dom_select.specs.Syntax.{CompoundSelector, compound, NestedLists, no_lists, nested, NestedList, is_some, is_none, leads_on, SelectorList, no_selectors, alternative, Steps, no_steps, step}
 
 -- n is a node of the forest of which each part holds
 unfoldable pub PartsHold : List Part → Forest → ℕ → Type 0
-PartsHold parts forest n = (node : NodeData) × (slice_get forest.content n ≡ Some node) × (all_hold parts node ≡ true)
+PartsHold parts forest n = (n < length forest.content) × EachHolds parts forest n
 
 -- w comes in the list, and no element before it
 abbrev pub ComesFirst : Forest → ℕ → List ℕ → Type 0
@@ -50,13 +49,22 @@ abbrev mutual
   pub ListHolds : NestedList → Forest → ℕ → Type 0
   ListHolds (is_some list) forest n = Means list forest n
   ListHolds (is_none list) forest n = Means list forest n → ⊥
+  ListHolds (leads_on list) forest n = LeadsOn list forest n
 
   -- One of the selectors means n: there are nodes for its compounds, from the left to n itself, each of which
   -- holds its compound and stands to the next as the combinator says.
   pub Means : SelectorList → Forest → ℕ → Type 0
   Means no_selectors forest n = ⊥
-  Means (alternative first rest more) forest n =
+  Means (alternative lead first rest more) forest n =
       ((w : ℕ) × Holds first forest w × Leads rest forest n w n) ⊎ Means more forest n
+
+  -- One of the selectors leads from n to an element: there are nodes for its compounds, each of which holds its compound, the
+  -- first of them stands to the right of n as the selector's leading combinator says, each other one to the right of the one
+  -- before, and the last is an element
+  pub LeadsOn : SelectorList → Forest → ℕ → Type 0
+  LeadsOn no_selectors forest n = ⊥
+  LeadsOn (alternative lead first rest more) forest n =
+      ((w : ℕ) × (y : ℕ) × IsJoined forest n lead n w × Holds first forest w × Leads rest forest n w y × (element_at forest y ≡ true)) ⊎ LeadsOn more forest n
 
   -- there are nodes for the compounds of the steps, from w on, the last of them n
   pub Leads : Steps → Forest → ℕ → ℕ → ℕ → Type 0
@@ -64,6 +72,11 @@ abbrev mutual
   Leads (step k c more) forest spared w n =
       (v : ℕ) × IsJoined forest spared k w v × Holds c forest v × Leads more forest spared v n
 
--- there are nodes for the first compound and for those of the steps, the last of them n
-abbrev pub Reaches : CompoundSelector → Steps → Forest → ℕ → ℕ → Type 0
-Reaches first steps forest spared n = (w : ℕ) × Holds first forest w × Leads steps forest spared w n
+-- there are a first node, as is asked, and nodes for the compounds of the steps, the last of them n
+abbrev pub Reaches : (ℕ → Type 0) → Steps → Forest → ℕ → ℕ → Type 0
+Reaches first steps forest spared n = (w : ℕ) × first w × Leads steps forest spared w n
+
+-- the selector leads from x to an element
+abbrev pub LeadsToSome : Combinator → CompoundSelector → Steps → Forest → ℕ → Type 0
+LeadsToSome lead first rest forest x =
+    (w : ℕ) × (y : ℕ) × IsJoined forest x lead x w × Holds first forest w × Leads rest forest x w y × (element_at forest y ≡ true)

@@ -1,7 +1,7 @@
 -- When a part of a compound holds of a node.
-use Rattle.std.specs.Prelude.{ℕ, Bool, true, false, ◌&&◌, ◌||◌, List, Option, None, Some, codes}
-use Rattle.std.specs.List.{list_all, list_any}
-use Rattle.std.specs.Option.{is_some}
+use Rattle.std.specs.Prelude.{◌≡◌, [], ◌∷◌, slice_get, ℕ, Bool, true, false, ◌&&◌, ◌||◌, List, Option, None, Some, codes}
+use Rattle.std.specs.List.{list_any}
+use Rattle.std.specs.Option.{is_some, option_map_or}
 use Rattle.std.specs.Str.{bytes_eq, str_to_ascii_lowercase}
 use Rattle.dom_nodes.specs.Attrs.{attr_of}
 use Rattle.dom_nodes.specs.declared.name.Attr.{Attr}
@@ -11,11 +11,14 @@ use Rattle.dom_nodes.specs.declared.node_data.Element.{Element}
 use Rattle.dom_nodes.specs.declared.node_data.NodeData.{NodeData}
 use Rattle.dom_nodes.specs.declared.node_data.NodeData.TheVariants.{Element as AnElement, Document}
 use Rattle.dom_nodes.specs.Words.{class_words, is_among}
+use Rattle.dom_links.specs.Forest.{Forest}
+use Rattle.dom_links.specs.Indexes.{IsNth, index_at}
 use Rattle.dom_select.specs.Comparisons.{passes}
+use Rattle.dom_select.specs.Texts.{empty_at, has_text_at, only_text_at}
 use Rattle.dom_select.specs.declared.selector.Attribute as attributes
 use Rattle.dom_select.specs.declared.selector.Comparison.{Comparison}
 use Rattle.dom_select.specs.declared.selector.Part.{Part}
-use Rattle.dom_select.specs.declared.selector.Part.TheVariants.{Universal, Id, Class, Attribute, Root, Link, Never}
+use Rattle.dom_select.specs.declared.selector.Part.TheVariants.{Universal, Id, Class, Attribute, Root, Link, Never, Position, Empty, OnlyText, HasText}
 
 -- a name of a selector as the elements of a namespace bear it: with A to Z folded in HTML, as written in others
 abbrev pub name_within : Namespace → List ℕ → List ℕ
@@ -52,13 +55,38 @@ element_passes (Attribute asked) element = list_any (attr_passes element.name.ns
 element_passes Root element = false
 element_passes Link element = is_link element
 element_passes Never element = false
+element_passes Empty element = false
+element_passes OnlyText element = false
+element_passes (HasText text) element = false
+element_passes (Position position) element = false
 
 -- `*` holds of every node, `:root` of documents, any other part of elements alone
-abbrev pub part_holds : Part → NodeData → Bool
-part_holds Universal node = true
-part_holds Root Document = true
-part_holds part (AnElement element) = element_passes part element
-part_holds part _ = false
+abbrev pub node_passes : Part → NodeData → Bool
+node_passes Universal node = true
+node_passes Root Document = true
+node_passes part (AnElement element) = element_passes part element
+node_passes part _ = false
 
-abbrev pub all_hold : List Part → NodeData → Bool
-all_hold parts node = list_all (λ part. part_holds part node) parts
+-- the same of a node by its number
+abbrev pub passes_at : Part → Forest → ℕ → Type 0
+passes_at part forest n = option_map_or (node_passes part) (slice_get forest.content n) false ≡ true
+
+-- the part holds of the node of that number: by where it stands among its siblings, or by what it is
+abbrev pub PartHolds : Part → Forest → ℕ → Type 0
+PartHolds (Position position) forest n = IsNth position.nth (index_at position.kind forest n)
+PartHolds Empty forest n = empty_at forest n ≡ true
+PartHolds OnlyText forest n = only_text_at forest n ≡ true
+PartHolds (HasText text) forest n = has_text_at forest text n ≡ true
+PartHolds Universal forest n = passes_at Universal forest n
+PartHolds (Part.«Type» name) forest n = passes_at (Part.«Type» name) forest n
+PartHolds (Id value) forest n = passes_at (Id value) forest n
+PartHolds (Class word) forest n = passes_at (Class word) forest n
+PartHolds (Attribute asked) forest n = passes_at (Attribute asked) forest n
+PartHolds Root forest n = passes_at Root forest n
+PartHolds Link forest n = passes_at Link forest n
+PartHolds Never forest n = passes_at Never forest n
+
+-- each of the parts holds
+abbrev pub EachHolds : List Part → Forest → ℕ → Type 0
+EachHolds [] forest n = Unit {0}
+EachHolds (part ∷ parts) forest n = PartHolds part forest n × EachHolds parts forest n

@@ -8,21 +8,22 @@ use Rattle.dom_select.specs.declared.selector.Compound.{Compound, Compound-F, fo
 use Rattle.dom_select.specs.declared.selector.Nested.{Nested, Nested-F, fold-Nested}
 use Rattle.dom_select.specs.declared.selector.Selector.{Selector, Selector-F, fold-Selector}
 use Rattle.dom_select.specs.declared.selector.Step.{Step, Step-F, fold-Step}
-use Rattle.dom_select.specs.Syntax.{CompoundSelector, compound, NestedLists, no_lists, nested, NestedList, is_some, is_none, SelectorList, Steps}
+use Rattle.dom_select.specs.Syntax.{CompoundSelector, compound, NestedLists, no_lists, nested, NestedList, is_some, is_none, leads_on, SelectorList, Steps}
 use Rattle.dom_select.specs.Items.{Item, simple, listed, lists_of, steps_of, selector_list}
 
 -- one layer of a value, with what its children stand for in their place
-abbrev pub nested_layer : Nested-F NestedList CompoundSelector (CompoundSelector × Steps) (Combinator × CompoundSelector) → NestedList
+abbrev pub nested_layer : Nested-F NestedList CompoundSelector (Combinator × CompoundSelector × Steps) (Combinator × CompoundSelector) → NestedList
 nested_layer (Nested-F.Is list) = is_some (selector_list list.items)
 nested_layer (Nested-F.Not list) = is_none (selector_list list.items)
+nested_layer (Nested-F.Has list) = leads_on (selector_list list.items)
 
-abbrev pub compound_layer : Compound-F NestedList CompoundSelector (CompoundSelector × Steps) (Combinator × CompoundSelector) → CompoundSelector
+abbrev pub compound_layer : Compound-F NestedList CompoundSelector (Combinator × CompoundSelector × Steps) (Combinator × CompoundSelector) → CompoundSelector
 compound_layer c = compound c.parts.items (lists_of c.nested.items)
 
-abbrev pub selector_layer : Selector-F NestedList CompoundSelector (CompoundSelector × Steps) (Combinator × CompoundSelector) → CompoundSelector × Steps
-selector_layer s = (s.first, steps_of s.rest.items)
+abbrev pub selector_layer : Selector-F NestedList CompoundSelector (Combinator × CompoundSelector × Steps) (Combinator × CompoundSelector) → Combinator × CompoundSelector × Steps
+selector_layer s = (s.lead, s.first, steps_of s.rest.items)
 
-abbrev pub step_layer : Step-F NestedList CompoundSelector (CompoundSelector × Steps) (Combinator × CompoundSelector) → Combinator × CompoundSelector
+abbrev pub step_layer : Step-F NestedList CompoundSelector (Combinator × CompoundSelector × Steps) (Combinator × CompoundSelector) → Combinator × CompoundSelector
 step_layer s = (s.combinator, s.compound)
 
 abbrev pub read_nested : Nested → NestedList
@@ -31,7 +32,7 @@ read_nested = fold-Nested _ _ _ _ nested_layer compound_layer selector_layer ste
 abbrev pub read_compound : Compound → CompoundSelector
 read_compound = fold-Compound _ _ _ _ nested_layer compound_layer selector_layer step_layer
 
-abbrev pub read_selector : Selector → CompoundSelector × Steps
+abbrev pub read_selector : Selector → Combinator × CompoundSelector × Steps
 read_selector = fold-Selector _ _ _ _ nested_layer compound_layer selector_layer step_layer
 
 abbrev pub read_step : Step → Combinator × CompoundSelector

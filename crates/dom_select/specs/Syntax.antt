@@ -17,10 +17,13 @@ mutual
     -- `:is` and `:where`, `:not`
     is_some : SelectorList → NestedList
     is_none : SelectorList → NestedList
+    -- `:has`
+    leads_on : SelectorList → NestedList
 
   pub data SelectorList : Type 0 where
     no_selectors : SelectorList
-    alternative : CompoundSelector → Steps → SelectorList → SelectorList
+    -- a selector, with the combinator before its first compound; it counts in `:has` alone
+    alternative : Combinator → CompoundSelector → Steps → SelectorList → SelectorList
 
   -- compounds to the right of another, each with the combinator on its left
   pub data Steps : Type 0 where

@@ -3,7 +3,7 @@ use Rattle.std.specs.Prelude.{◌≡◌, List, [], ◌∷◌, refl}
 use Rattle.std.proofs.Common.{ap, ◌∙◌}
 use Rattle.dom_select.specs.declared.selector.Combinator.{Combinator}
 use Rattle.dom_select.specs.declared.selector.Part.{Part}
-use Rattle.dom_select.specs.Syntax.{CompoundSelector, compound, NestedLists, no_lists, nested, NestedList, is_some, is_none, SelectorList, no_selectors, alternative, Steps, no_steps, step}
+use Rattle.dom_select.specs.Syntax.{CompoundSelector, compound, NestedLists, no_lists, nested, NestedList, is_some, is_none, leads_on, SelectorList, no_selectors, alternative, Steps, no_steps, step}
 
 pub data Token : Type 0 where
   a_compound : List Part → Token
@@ -11,8 +11,9 @@ pub data Token : Type 0 where
   a_list : Token
   some_of : Token
   none_of : Token
+  leads_of : Token
   last_selector : Token
-  a_selector : Token
+  a_selector : Combinator → Token
   last_step : Token
   a_step : Combinator → Token
 
@@ -30,8 +31,9 @@ with_token last_list pieces = of_lists no_lists ∷ pieces
 with_token a_list (of_lists lists ∷ of_list list ∷ pieces) = of_lists (nested list lists) ∷ pieces
 with_token some_of (of_selectors list ∷ pieces) = of_list (is_some list) ∷ pieces
 with_token none_of (of_selectors list ∷ pieces) = of_list (is_none list) ∷ pieces
+with_token leads_of (of_selectors list ∷ pieces) = of_list (leads_on list) ∷ pieces
 with_token last_selector pieces = of_selectors no_selectors ∷ pieces
-with_token a_selector (of_selectors list ∷ of_steps steps ∷ of_compound first ∷ pieces) = of_selectors (alternative first steps list) ∷ pieces
+with_token (a_selector lead) (of_selectors list ∷ of_steps steps ∷ of_compound first ∷ pieces) = of_selectors (alternative lead first steps list) ∷ pieces
 with_token last_step pieces = of_steps no_steps ∷ pieces
 with_token (a_step k) (of_steps steps ∷ of_compound c ∷ pieces) = of_steps (step k c steps) ∷ pieces
 with_token token pieces = pieces
@@ -52,10 +54,11 @@ abbrev mutual
   pub list_tokens : NestedList → List Token → List Token
   list_tokens (is_some list) tokens = selectors_tokens list (some_of ∷ tokens)
   list_tokens (is_none list) tokens = selectors_tokens list (none_of ∷ tokens)
+  list_tokens (leads_on list) tokens = selectors_tokens list (leads_of ∷ tokens)
 
   pub selectors_tokens : SelectorList → List Token → List Token
   selectors_tokens no_selectors tokens = last_selector ∷ tokens
-  selectors_tokens (alternative first rest more) tokens = compound_tokens first (steps_tokens rest (selectors_tokens more (a_selector ∷ tokens)))
+  selectors_tokens (alternative lead first rest more) tokens = compound_tokens first (steps_tokens rest (selectors_tokens more (a_selector lead ∷ tokens)))
 
   pub steps_tokens : Steps → List Token → List Token
   steps_tokens no_steps tokens = last_step ∷ tokens
@@ -72,13 +75,14 @@ mutual
   list_back : (list : NestedList) (tokens : List Token) (pieces : List Piece) → put_together (list_tokens list tokens) pieces ≡ put_together tokens (of_list list ∷ pieces)
   list_back (is_some list) tokens pieces = selectors_back list (some_of ∷ tokens) pieces
   list_back (is_none list) tokens pieces = selectors_back list (none_of ∷ tokens) pieces
+  list_back (leads_on list) tokens pieces = selectors_back list (leads_of ∷ tokens) pieces
 
   selectors_back : (list : SelectorList) (tokens : List Token) (pieces : List Piece) → put_together (selectors_tokens list tokens) pieces ≡ put_together tokens (of_selectors list ∷ pieces)
   selectors_back no_selectors tokens pieces = refl
-  selectors_back (alternative first rest more) tokens pieces =
-      compound_back first (steps_tokens rest (selectors_tokens more (a_selector ∷ tokens))) pieces
-      ∙ steps_back rest (selectors_tokens more (a_selector ∷ tokens)) (of_compound first ∷ pieces)
-      ∙ selectors_back more (a_selector ∷ tokens) (of_steps rest ∷ of_compound first ∷ pieces)
+  selectors_back (alternative lead first rest more) tokens pieces =
+      compound_back first (steps_tokens rest (selectors_tokens more (a_selector lead ∷ tokens))) pieces
+      ∙ steps_back rest (selectors_tokens more (a_selector lead ∷ tokens)) (of_compound first ∷ pieces)
+      ∙ selectors_back more (a_selector lead ∷ tokens) (of_steps rest ∷ of_compound first ∷ pieces)
 
   steps_back : (steps : Steps) (tokens : List Token) (pieces : List Piece) → put_together (steps_tokens steps tokens) pieces ≡ put_together tokens (of_steps steps ∷ pieces)
   steps_back no_steps tokens pieces = refl

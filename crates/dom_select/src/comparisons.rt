@@ -103,7 +103,7 @@ fn ends_with(case: CaseSensitivity, text: &[u8], end: &[u8]) -> bool
     same_text(case, &text[text.len().saturating_sub(end.len())..], end)
 }
 
-fn has_within(case: CaseSensitivity, text: &[u8], inner: &[u8]) -> bool
+pub(crate) fn has_within(case: CaseSensitivity, text: &[u8], inner: &[u8]) -> bool
     ensures { result ≡ has_within case text.now inner.now }
 {
     let mut n = 0;

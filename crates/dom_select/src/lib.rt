@@ -17,3 +17,4 @@ pub mod selector;
 mod strings;
 #[cfg(test)]
 mod tests;
+mod texts;

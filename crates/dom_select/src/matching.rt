@@ -2,18 +2,18 @@
 //! then `~`, then `>`, then whitespace. Where a combinator leaves a choice, the nearest node from which they can be followed
 //! is taken and never given up: what stands on the left of a farther one stands on the left of that one too.
 
-ghost use Rattle.std.specs.Prelude.{◌≡◌, ◌↔◌, ◌∷◌, [], ℕ, map, IfSome, IsTrue, MatchBool, MatchOption};
+ghost use Rattle.std.specs.Prelude.{◌≡◌, ◌↔◌, ◌∷◌, [], ℕ, map, IfSome, Some, IsTrue, MatchBool, MatchOption};
 ghost use Rattle.dom_links.specs.Laws.{AreLines};
 ghost use Rattle.dom_select.specs.Items.{lists_of, steps_of};
 ghost use Rattle.dom_select.specs.Lines.{ends_at, left_of};
-ghost use Rattle.dom_select.specs.Meaning.{Holds, ListsHold, ListHolds, MayBeside, Means, PartsHold, Reaches};
+ghost use Rattle.dom_select.specs.Meaning.{Holds, IsJoined, LeadsOn, LeadsToSome, ListsHold, ListHolds, MayBeside, Means, PartsHold, Reaches, Stands};
 ghost use Rattle.dom_select.specs.Reading.{read_compound, read_list, read_nested, read_step};
 ghost use Rattle.dom_select.specs.Syntax.{no_lists, compound as the_compound};
-ghost use Rattle.dom_select.specs.Ways.{EndHolds, Followed, FollowedFrom, IsOrPrecedes, ReachesSome, looseness};
+ghost use Rattle.dom_select.specs.Ways.{Begins, EndHolds, Followed, FollowedFrom, IsOrPrecedes, IsReached, ReachesSome, ReachesWithin, is_sideways, looseness, may_end, tops, tops_on};
 
 use crate::parts::{is_element, is_named_node, parts_hold};
 use crate::selector::{Combinator, Compound, Nested, Part, Selector, Step};
-use dom_links::iters::{parent_id, prev_sibling_id};
+use dom_links::iters::{next_sibling_id, parent_id, prev_sibling_id};
 use dom_links::laws::lines_of_a_forest;
 use dom_nodes::node_id::NodeId;
 use dom_nodes::text::Text;
@@ -78,6 +78,82 @@ fn looseness(combinator: Combinator) -> usize
 /// Looser than every combinator.
 const ALL: usize = 5;
 
+/// What a first node is asked besides its compound: nothing, or to stand to the right of a node as a combinator says.
+#[derive(Clone, Copy)]
+enum Start {
+    Anywhere,
+    From(Combinator, NodeId),
+}
+
+/// Whether the first node stands to the other one as the combinator between them says.
+fn stands(tree: &Tree, combinator: Combinator, first: NodeId, id: NodeId) -> bool
+    ensures { IsTrue result ↔ Stands tree.now combinator first id }
+{
+    let mut at = id;
+    while let Some(left) = on_the_left(tree, combinator, at) {
+        if left == first {
+            return true;
+        }
+        if ends_at(tree, combinator, left) {
+            return false;
+        }
+        at = left;
+    }
+    false
+}
+
+/// Whether the node stands to the right of another as the combinator says, which may stand there.
+fn is_led(tree: &Tree, lead: Combinator, from: NodeId, id: NodeId) -> bool
+    ensures { IsTrue result ↔ IsJoined tree.now from lead from id }
+{
+    if !may_beside(tree, from, lead, id) {
+        return false;
+    }
+    stands(tree, lead, from, id)
+}
+
+/// Whether the node may be what is reached: from a start, an element.
+fn may_end(start: &Start, tree: &Tree, id: NodeId) -> bool
+    ensures { result ≡ may_end start.now tree.now id }
+{
+    match start {
+        Start::Anywhere => true,
+        Start::From(_, _) => is_element(tree, &id),
+    }
+}
+
+/// Whether the combinator leads to nodes in the same list.
+fn is_sideways(combinator: Combinator) -> bool
+    ensures { result ≡ is_sideways combinator }
+{
+    match combinator {
+        Combinator::Descendant | Combinator::Child => false,
+        Combinator::NextSibling | Combinator::LaterSibling => true,
+    }
+}
+
+/// The first node at or below which a selector with that lead can lead.
+fn first_top(tree: &Tree, lead: Combinator, id: NodeId) -> Option<NodeId>
+    ensures { tops_on tree.now lead result ≡ tops tree.now lead id }
+{
+    know_lines(tree);
+    if is_sideways(lead) {
+        return next_sibling_id(tree.nodes(), &id);
+    }
+    Some(id)
+}
+
+/// The next one.
+fn next_top(tree: &Tree, lead: Combinator, at: NodeId) -> Option<NodeId>
+    ensures { tops_on tree.now lead (Some at) ≡ at ∷ tops_on tree.now lead result }
+{
+    know_lines(tree);
+    if is_sideways(lead) {
+        return next_sibling_id(tree.nodes(), &at);
+    }
+    None
+}
+
 /// The name, where the compound is a type and nothing else.
 fn bare_type(compound: &Compound) -> Option<&Text>
     ensures { IfSome result (λ name. read_compound compound.now ≡ the_compound (Part.«Type» name.now ∷ []) no_lists) }
@@ -132,6 +208,7 @@ fn list_holds(list: &Nested, tree: &Tree, id: NodeId) -> bool
     match list {
         Nested::Is(selectors) => means(selectors, tree, id),
         Nested::Not(selectors) => !means(selectors, tree, id),
+        Nested::Has(selectors) => leads_on(selectors, tree, id),
     }
 }
 
@@ -140,8 +217,62 @@ fn list_holds(list: &Nested, tree: &Tree, id: NodeId) -> bool
 pub(crate) fn means(selectors: &[Selector], tree: &Tree, id: NodeId) -> bool
     ensures { IsTrue result ↔ Means (read_list selectors.now) tree.now id }
 {
+    let start = Start::Anywhere;
     for selector in selectors {
-        if reaches(&selector.first, &selector.rest, tree, id) {
+        if reaches(&start, &selector.first, &selector.rest, tree, id) {
+            return true;
+        }
+    }
+    false
+}
+
+/// Whether one of the selectors leads from the node to an element.
+#[cycle(matching)]
+fn leads_on(selectors: &[Selector], tree: &Tree, id: NodeId) -> bool
+    ensures { IsTrue result ↔ LeadsOn (read_list selectors.now) tree.now id }
+{
+    for selector in selectors {
+        if leads_to_some(selector.lead, &selector.first, &selector.rest, tree, id) {
+            return true;
+        }
+    }
+    false
+}
+
+/// Whether a selector leads from the node to an element: it is followed from each node that it could lead to.
+#[cycle(matching)]
+fn leads_to_some(
+    lead: Combinator,
+    first: &Compound,
+    steps: &[Step],
+    tree: &Tree,
+    id: NodeId,
+) -> bool
+    ensures { IsTrue result ↔ LeadsToSome lead (read_compound first.now) (steps_of (map read_step steps.now)) tree.now id }
+{
+    know_lines(tree);
+    let start = Start::From(lead, id);
+    let mut top = first_top(tree, lead, id);
+    while let Some(at) = top {
+        if leads_within(&start, first, steps, tree, at) {
+            return true;
+        }
+        top = next_top(tree, lead, at);
+    }
+    false
+}
+
+/// Whether the compounds lead from the start to this node or to one below it.
+#[cycle(matching)]
+fn leads_within(start: &Start, first: &Compound, steps: &[Step], tree: &Tree, top: NodeId) -> bool
+    ensures { MatchBool result (ReachesWithin start.now (read_compound first.now) (steps_of (map read_step steps.now)) tree.now top)
+        (ReachesWithin start.now (read_compound first.now) (steps_of (map read_step steps.now)) tree.now top → ⊥) }
+{
+    if reaches(start, first, steps, tree, top) {
+        return true;
+    }
+    for y in tree.descendant_ids_of_it(&top) {
+        if reaches(start, first, steps, tree, y) {
             return true;
         }
     }
@@ -150,23 +281,49 @@ pub(crate) fn means(selectors: &[Selector], tree: &Tree, id: NodeId) -> bool
 
 /// Whether there are nodes for the first compound and for those of the steps, the last of them this one.
 #[cycle(matching)]
-fn reaches(first: &Compound, steps: &[Step], tree: &Tree, id: NodeId) -> bool
-    ensures { IsTrue result ↔ Reaches (read_compound first.now) (steps_of (map read_step steps.now)) tree.now id id }
+fn reaches(start: &Start, first: &Compound, steps: &[Step], tree: &Tree, id: NodeId) -> bool
+    ensures { IsTrue result ↔ IsReached start.now (read_compound first.now) (steps_of (map read_step steps.now)) tree.now id }
 {
-    if steps.is_empty() {
-        return holds(first, tree, id);
+    if !may_end(start, tree, id) {
+        return false;
     }
-    follow(ALL, first, steps, tree, id, id).is_some()
+    if steps.is_empty() {
+        return begins(start, first, tree, id);
+    }
+    follow(ALL, start, first, steps, tree, id, id).is_some()
+}
+
+/// Whether the node may be the first.
+#[cycle(matching)]
+fn begins(start: &Start, first: &Compound, tree: &Tree, id: NodeId) -> bool
+    ensures { IsTrue result ↔ Begins start.now (read_compound first.now) tree.now id }
+{
+    match start {
+        Start::Anywhere => holds(first, tree, id),
+        Start::From(lead, from) => {
+            if !is_led(tree, *lead, *from, id) {
+                return false;
+            }
+            holds(first, tree, id)
+        }
+    }
 }
 
 /// Whether the last compound holds of the node, which may stand as the combinator on its left asks.
 #[cycle(matching)]
-fn end_holds(first: &Compound, steps: &[Step], tree: &Tree, spared: NodeId, id: NodeId) -> bool
-    ensures { MatchBool result (EndHolds tree.now spared (read_compound first.now) (map read_step steps.now) id)
-        (EndHolds tree.now spared (read_compound first.now) (map read_step steps.now) id → ⊥) }
+fn end_holds(
+    start: &Start,
+    first: &Compound,
+    steps: &[Step],
+    tree: &Tree,
+    spared: NodeId,
+    id: NodeId,
+) -> bool
+    ensures { MatchBool result (EndHolds tree.now spared (Begins start.now (read_compound first.now) tree.now) (map read_step steps.now) id)
+        (EndHolds tree.now spared (Begins start.now (read_compound first.now) tree.now) (map read_step steps.now) id → ⊥) }
 {
     match steps.split_last() {
-        None => holds(first, tree, id),
+        None => begins(start, first, tree, id),
         Some((last, _)) => {
             if !may_beside(tree, spared, last.combinator, id) {
                 return false;
@@ -187,6 +344,7 @@ struct Place<'a> {
 #[cycle(matching)]
 fn follow<'a>(
     level: usize,
+    start: &Start,
     first: &Compound,
     steps: &'a [Step],
     tree: &Tree,
@@ -194,11 +352,11 @@ fn follow<'a>(
     id: NodeId,
 ) -> Option<Place<'a>>
     requires { IsOrPrecedes tree.now id spared }
-    ensures { MatchOption result (Reaches (read_compound first.now) (steps_of (map read_step steps.now)) tree.now spared id → ⊥)
-        (λ place. Followed tree.now spared (read_compound first.now) level (map read_step steps.now) (map read_step place.left.now) id place.at) }
+    ensures { MatchOption result (Reaches (Begins start.now (read_compound first.now) tree.now) (steps_of (map read_step steps.now)) tree.now spared id → ⊥)
+        (λ place. Followed tree.now spared (Begins start.now (read_compound first.now) tree.now) level (map read_step steps.now) (map read_step place.left.now) id place.at) }
 {
     if level <= 1 {
-        if !end_holds(first, steps, tree, spared, id) {
+        if !end_holds(start, first, steps, tree, spared, id) {
             return None;
         }
         return Some(Place {
@@ -207,14 +365,15 @@ fn follow<'a>(
         });
     }
     know_lines(tree);
-    let Some(mut place) = follow(level - 1, first, steps, tree, spared, id) else {
+    let Some(mut place) = follow(level - 1, start, first, steps, tree, spared, id) else {
         return None;
     };
     while let Some((last, front)) = place.left.split_last() {
         if looseness(last.combinator) >= level {
             return Some(place);
         }
-        let Some(next) = follow_from(first, front, last.combinator, tree, spared, place.at) else {
+        let Some(next) = follow_from(start, first, front, last.combinator, tree, spared, place.at)
+        else {
             return None;
         };
         place = next;
@@ -226,6 +385,7 @@ fn follow<'a>(
 /// says.
 #[cycle(matching)]
 fn follow_from<'a>(
+    start: &Start,
     first: &Compound,
     steps: &'a [Step],
     combinator: Combinator,
@@ -234,14 +394,14 @@ fn follow_from<'a>(
     id: NodeId,
 ) -> Option<Place<'a>>
     requires { IsOrPrecedes tree.now id spared }
-    ensures { MatchOption result (ReachesSome tree.now spared (read_compound first.now) (map read_step steps.now) combinator id → ⊥)
-        (λ place. FollowedFrom tree.now spared (read_compound first.now) combinator (map read_step steps.now) (map read_step place.left.now) id place.at) }
+    ensures { MatchOption result (ReachesSome tree.now spared (Begins start.now (read_compound first.now) tree.now) (map read_step steps.now) combinator id → ⊥)
+        (λ place. FollowedFrom tree.now spared (Begins start.now (read_compound first.now) tree.now) combinator (map read_step steps.now) (map read_step place.left.now) id place.at) }
 {
     let mut at = id;
     while let Some(v) = on_the_left(tree, combinator, at) {
         if may_beside(tree, spared, combinator, v) {
             let level = looseness(combinator);
-            if let Some(place) = follow(level, first, steps, tree, spared, v) {
+            if let Some(place) = follow(level, start, first, steps, tree, spared, v) {
                 return Some(place);
             }
         }

@@ -345,7 +345,15 @@ fn take_selector(
         steps.push(step)?;
         rest = more;
     }
-    Ok((Selector { first, rest: steps }, rest))
+    let lead = Combinator::Descendant;
+    Ok((
+        Selector {
+            lead,
+            first,
+            rest: steps,
+        },
+        rest,
+    ))
 }
 
 fn begins_comma(text: &[char]) -> bool

@@ -1,14 +1,17 @@
 //! Whether a part of a compound holds of a node.
 
-ghost use Rattle.std.specs.Prelude.{◌≡◌, ◌||◌, ◌∷◌, [], codes, MatchBool};
+ghost use Rattle.std.specs.Prelude.{◌≡◌, ◌↔◌, ◌||◌, Some, slice_get, codes, IsTrue, MatchBool};
 ghost use Rattle.std.specs.List.{list_any};
 ghost use Rattle.std.specs.Str.{bytes_eq, str_to_ascii_lowercase};
+ghost use Rattle.dom_links.specs.Indexes.{IsNth, index_at};
 ghost use Rattle.dom_select.specs.Lines.{element_at};
 ghost use Rattle.dom_select.specs.Meaning.{PartsHold};
-ghost use Rattle.dom_select.specs.Parts.{all_hold, attr_passes, element_passes, is_attr, is_link, is_without, name_within, part_holds, asked_passes};
+ghost use Rattle.dom_select.specs.Parts.{EachHolds, PartHolds, attr_passes, element_passes, is_attr, is_link, is_without, name_within, node_passes, asked_passes};
 
 use crate::comparisons::passes;
-use crate::selector::{Attribute, Comparison, Part};
+use crate::selector::{Attribute, Comparison, Part, Position};
+use crate::texts::{has_text, is_empty, is_only_text};
+use dom_links::indexes::{index_at, is_nth};
 use dom_nodes::name::{Attr, Namespace};
 use dom_nodes::node_data::{Element, NodeData};
 use dom_nodes::node_id::NodeId;
@@ -19,14 +22,14 @@ pub(crate) fn parts_hold(parts: &[Part], tree: &Tree, id: &NodeId) -> bool
     ensures { MatchBool result (PartsHold parts.now tree.now id.now) (PartsHold parts.now tree.now id.now → ⊥) }
 {
     match tree.get(id) {
-        Some(found) => all_hold(parts, &found.content),
+        Some(found) => each_holds(parts, tree, id, &found.content),
         None => false,
     }
 }
 
 /// Whether the node is an element that bears the name as a type.
 pub(crate) fn is_named_node(node: &NodeData, name: &str) -> bool
-    ensures { result ≡ all_hold (Part.«Type» name.now ∷ []) node.now }
+    ensures { result ≡ node_passes (Part.«Type» name.now) node.now }
 {
     match node {
         NodeData::Element(element) => is_named(&element.name.ns, element.node_name(), name),
@@ -43,14 +46,42 @@ pub(crate) fn is_element(tree: &Tree, id: &NodeId) -> bool
     node.content.as_element().is_some()
 }
 
-fn all_hold(parts: &[Part], node: &NodeData) -> bool
-    ensures { result ≡ all_hold parts.now node.now }
+fn each_holds(parts: &[Part], tree: &Tree, id: &NodeId, node: &NodeData) -> bool
+    requires { slice_get tree.now.content id.now ≡ Some node.now }
+    ensures { IsTrue result ↔ EachHolds parts.now tree.now id.now }
 {
-    parts.iter().all(|part| part_holds(part, node))
+    for part in parts {
+        if !part_holds(part, tree, id, node) {
+            return false;
+        }
+    }
+    true
 }
 
-fn part_holds(part: &Part, node: &NodeData) -> bool
-    ensures { result ≡ part_holds part.now node.now }
+/// Whether the part holds of the node, which is the tree's of that number.
+fn part_holds(part: &Part, tree: &Tree, id: &NodeId, node: &NodeData) -> bool
+    requires { slice_get tree.now.content id.now ≡ Some node.now }
+    ensures { IsTrue result ↔ PartHolds part.now tree.now id.now }
+{
+    match part {
+        Part::Position(position) => has_position(*position, tree, id),
+        Part::Empty => is_empty(tree, id),
+        Part::OnlyText => is_only_text(tree, id),
+        Part::HasText(text) => has_text(tree, id, text.as_str()),
+        _ => node_passes(part, node),
+    }
+}
+
+/// Whether the node has one of the indexes.
+fn has_position(position: Position, tree: &Tree, id: &NodeId) -> bool
+    ensures { MatchBool result (IsNth position.nth (index_at position.kind tree.now id.now)) (IsNth position.nth (index_at position.kind tree.now id.now) → ⊥) }
+{
+    let index = index_at(tree.nodes(), id, position.kind);
+    is_nth(position.nth, index)
+}
+
+fn node_passes(part: &Part, node: &NodeData) -> bool
+    ensures { result ≡ node_passes part.now node.now }
 {
     match part {
         Part::Universal => true,
@@ -74,6 +105,10 @@ fn element_passes(part: &Part, element: &Element) -> bool
         Part::Root => false,
         Part::Link => is_link(element),
         Part::Never => false,
+        Part::Empty => false,
+        Part::OnlyText => false,
+        Part::HasText(_) => false,
+        Part::Position(_) => false,
     }
 }
 

@@ -1,5 +1,6 @@
 //! What a selector's text stands for.
 
+use dom_links::indexes::{IndexKind, Nth};
 use dom_nodes::text::Text;
 
 /// How an attribute's value is compared.
@@ -54,6 +55,13 @@ pub enum Combinator {
     LaterSibling,
 }
 
+/// The indexes that a node may have among its siblings.
+#[derive(Clone, Copy, PartialEq, Eq, Debug, Drop)]
+pub struct Position {
+    pub kind: IndexKind,
+    pub nth: Nth,
+}
+
 /// A part of a compound that has no selectors in it.
 #[derive(Drop)]
 pub enum Part {
@@ -73,6 +81,14 @@ pub enum Part {
     Link,
     /// `:hover` and other states that no node of a tree is in.
     Never,
+    /// `:empty`: an element without elements and without a text that isn't blank.
+    Empty,
+    /// `:only-text`: exactly one child, a text that isn't blank.
+    OnlyText,
+    /// `:has-text(..)`: a text at or below the node contains this one.
+    HasText(Text),
+    /// `:nth-child(..)` and its kin: an index among the siblings.
+    Position(Position),
 }
 
 /// A list of selectors in a compound.
@@ -83,6 +99,8 @@ pub enum Nested {
     Is(Vec<Selector>),
     /// `:not`: none of them does.
     Not(Vec<Selector>),
+    /// `:has`: one of them leads from the node to an element.
+    Has(Vec<Selector>),
 }
 
 /// What is asked of one node: each part, and each nested list.
@@ -101,10 +119,12 @@ pub struct Step {
     pub compound: Compound,
 }
 
-/// Compounds with a combinator between each two.
+/// Compounds with a combinator between each two. In `:has` a combinator stands before the first too; elsewhere it counts for
+/// nothing.
 #[cycle(selectors)]
 #[derive(Drop)]
 pub struct Selector {
+    pub lead: Combinator,
     pub first: Compound,
     pub rest: Vec<Step>,
 }

@@ -1,4 +1,5 @@
 use Rattle.std.proofs.Common.{◌≡◌, ◌+◌, ◌*◌, ◌++◌, ◌∷◌, List, ℕ, map, true, length}
+use Rattle.dom_select.specs.declared.selector.Combinator.{Combinator}
 use Rattle.dom_select.specs.Spelling.{Many}
 use Rattle.dom_select.specs.declared.selector.Part.{Part}
 use Rattle.dom_select.specs.Items.{Item, lists_of, parts_among, lists_among}
@@ -53,7 +54,7 @@ abbrev pub decreases-take_selector-loop-alloc : goal.decreases-take_selector-loo
 decreases-take_selector-loop-alloc l = length l.rest
 
 abbrev pub invariant-take_list-loop-alloc : goal.invariant-take_list-loop-alloc
-invariant-take_list-loop-alloc l = (one : CompoundSelector × Steps) × (after : List ℕ) × (more : List (CompoundSelector × Steps)) × SpellsSelector (SpellsInner l.depth) one l.text after ×
+invariant-take_list-loop-alloc l = (one : Combinator × CompoundSelector × Steps) × (after : List ℕ) × (more : List (Combinator × CompoundSelector × Steps)) × SpellsSelector (SpellsInner l.depth) one l.text after ×
     (map read_selector l.list.items ≡ one ∷ more) × Many (SpellsLater (SpellsInner l.depth)) more after l.rest
 
 abbrev pub decreases-take_list-loop-alloc : goal.decreases-take_list-loop-alloc

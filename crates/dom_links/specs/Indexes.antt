@@ -1,0 +1,59 @@
+-- The index of a node among its siblings, and the indexes that `an+b` stands for.
+use Rattle.std.specs.Prelude.{ℕ, ◌≡◌, ◌+◌, ◌*◌, Bool, true, false, slice_get, count_by, if◌then◌else◌}
+use Rattle.std.specs.Option.{option_map_or}
+use Rattle.dom_nodes.specs.declared.node_data.NodeData.{NodeData}
+use Rattle.dom_nodes.specs.declared.node_data.NodeData.TheVariants.{Element}
+use Rattle.dom_nodes.specs.Kinds.{is_element}
+use Rattle.dom_nodes.specs.Names.{same_name}
+use Rattle.dom_links.specs.declared.indexes.IndexKind.{IndexKind}
+use Rattle.dom_links.specs.declared.indexes.IndexKind.TheVariants.{Child, LastChild, OfType, LastOfType}
+use Rattle.dom_links.specs.declared.indexes.Nth.{Nth}
+use Rattle.dom_links.specs.declared.indexes.Signed.{Signed}
+use Rattle.dom_links.specs.Forest.{Forest}
+use Rattle.dom_links.specs.ListMoves.{element_at}
+use Rattle.dom_links.specs.Walk.{later}
+
+abbrev pub of_one_type : NodeData → NodeData → Bool
+of_one_type (Element element) (Element other) = same_name element.name other.name
+of_one_type _ _ = false
+
+-- both are elements, of equal qualified names
+abbrev pub same_type : Forest → ℕ → ℕ → Bool
+same_type forest n m = option_map_or (λ node. option_map_or (of_one_type node) (slice_get forest.content m) false) (slice_get forest.content n) false
+
+-- counted from the first sibling, backwards, or from the last
+abbrev pub is_from_first : IndexKind → Bool
+is_from_first Child = true
+is_from_first LastChild = false
+is_from_first OfType = true
+is_from_first LastOfType = false
+
+-- the same of two nodes' data
+abbrev pub passes : IndexKind → NodeData → NodeData → Bool
+passes Child node other = is_element other
+passes LastChild node other = is_element other
+passes OfType node other = of_one_type node other
+passes LastOfType node other = of_one_type node other
+
+-- m counts for the index of its sibling n: as an element, or as one of the same type
+abbrev pub counts : IndexKind → Forest → ℕ → ℕ → Bool
+counts Child forest n m = element_at forest m
+counts LastChild forest n m = element_at forest m
+counts OfType forest n m = same_type forest n m
+counts LastOfType forest n m = same_type forest n m
+
+-- One more than how many of the siblings before the node count, or of those after it. The siblings are its parent's kids, or
+-- its run
+abbrev pub index_at : IndexKind → Forest → ℕ → ℕ
+index_at kind forest n = 1 + count_by (counts kind forest n) (later forest (is_from_first kind) n)
+
+-- how far a number is above 0, and how far below
+abbrev pub above_zero : Signed → ℕ
+above_zero number = if number.is_negative then 0 else number.magnitude
+
+abbrev pub below_zero : Signed → ℕ
+below_zero number = if number.is_negative then number.magnitude else 0
+
+-- some whole k from 0 on has a * k + b = index; what is below zero stands on the other side
+abbrev pub IsNth : Nth → ℕ → Type 0
+IsNth nth index = (k : ℕ) × (above_zero nth.a * k + above_zero nth.b ≡ index + below_zero nth.a * k + below_zero nth.b)

@@ -1,0 +1,148 @@
+//! Where a node stands among its siblings.
+
+ghost use Rattle.std.specs.Prelude.{◌≡◌, ◌≤◌, ◌+◌, ◌*◌, ℕ, MatchBool, if◌then◌else◌};
+ghost use Rattle.dom_links.specs.Forest.{forest_of};
+ghost use Rattle.dom_links.specs.Indexes.{IsNth, above_zero, below_zero, index_at, is_from_first, of_one_type, passes};
+ghost use Rattle.dom_links.specs.Sound.{IsSoundArena};
+
+use crate::iters::{find_node, node_at};
+use dom_nodes::node_data::{NodeData, TreeNode};
+use dom_nodes::node_id::NodeId;
+
+/// How a node's siblings are counted.
+#[derive(Clone, Copy, PartialEq, Eq, Debug, Drop)]
+pub enum IndexKind {
+    /// The elements before it.
+    Child,
+    /// The elements after it.
+    LastChild,
+    /// The elements of its name before it.
+    OfType,
+    /// The elements of its name after it.
+    LastOfType,
+}
+
+/// A whole number by its sign.
+#[derive(Clone, Copy, PartialEq, Eq, Debug, Drop)]
+pub struct Signed {
+    pub is_negative: bool,
+    pub magnitude: u32,
+}
+
+/// The indexes `a * k + b`, for each whole k from 0 on.
+#[derive(Clone, Copy, PartialEq, Eq, Debug, Drop)]
+pub struct Nth {
+    pub a: Signed,
+    pub b: Signed,
+}
+
+/// One more than how many of the siblings on one side of the node count. An unknown number has index 1.
+pub fn index_at(nodes: &[TreeNode], id: &NodeId, kind: IndexKind) -> u64
+    requires { IsSoundArena nodes.now }
+    ensures is { result ≡ index_at kind (forest_of nodes.now) id.now }
+    ensures few { result ≤ 4294967295 }
+{
+    let Some(node) = find_node(nodes, *id) else {
+        return 1;
+    };
+    let backwards = is_from_first(kind);
+    let mut next = neighbour(node, backwards);
+    let mut index = 1;
+    while let Some(at) = next {
+        let other = node_at(nodes, at);
+        if counts(kind, &node.content, &other.content) {
+            index += 1;
+        }
+        next = neighbour(other, backwards);
+    }
+    index
+}
+
+fn is_from_first(kind: IndexKind) -> bool
+    ensures { result ≡ is_from_first kind }
+{
+    match kind {
+        IndexKind::Child | IndexKind::OfType => true,
+        IndexKind::LastChild | IndexKind::LastOfType => false,
+    }
+}
+
+/// Whether a sibling counts for the index of a node.
+fn counts(kind: IndexKind, node: &NodeData, other: &NodeData) -> bool
+    ensures { result ≡ passes kind node.now other.now }
+{
+    match kind {
+        IndexKind::Child | IndexKind::LastChild => other.is_element(),
+        IndexKind::OfType | IndexKind::LastOfType => are_of_one_type(node, other),
+    }
+}
+
+fn are_of_one_type(node: &NodeData, other: &NodeData) -> bool
+    ensures { result ≡ of_one_type node.now other.now }
+{
+    match node {
+        NodeData::Element(element) => match other {
+            NodeData::Element(also) => element.name.is_same(&also.name),
+            _ => false,
+        },
+        _ => false,
+    }
+}
+
+/// The sibling before a node, or the one after it.
+fn neighbour(node: &TreeNode, backwards: bool) -> Option<NodeId>
+    ensures { result ≡ (if backwards then node.now.prev_sibling else node.now.next_sibling) }
+{
+    if backwards {
+        node.prev_sibling
+    } else {
+        node.next_sibling
+    }
+}
+
+/// Whether the index is one of those.
+pub fn is_nth(nth: Nth, index: u64) -> bool
+    requires { index ≤ 4294967296 }
+    ensures { MatchBool result (IsNth nth index) (IsNth nth index → ⊥) }
+{
+    let up = above_zero(nth.b);
+    let down = index + below_zero(nth.b);
+    let step = u64::from(nth.a.magnitude);
+    if nth.a.is_negative {
+        return is_reached(step, down, up);
+    }
+    is_reached(step, up, down)
+}
+
+/// Whether steps of this size lead from one number to the other.
+fn is_reached(step: u64, from: u64, to: u64) -> bool
+    ensures { MatchBool result ((k : ℕ) × (from + step * k ≡ to)) ((k : ℕ) → from + step * k ≡ to → ⊥) }
+{
+    if to < from {
+        return false;
+    }
+    if step == 0 {
+        return from == to;
+    }
+    (to - from) % step == 0
+}
+
+fn above_zero(number: Signed) -> u64
+    ensures is { result ≡ above_zero number }
+    ensures few { result ≤ 4294967295 }
+{
+    if number.is_negative {
+        return 0;
+    }
+    u64::from(number.magnitude)
+}
+
+fn below_zero(number: Signed) -> u64
+    ensures is { result ≡ below_zero number }
+    ensures few { result ≤ 4294967295 }
+{
+    if number.is_negative {
+        return u64::from(number.magnitude);
+    }
+    0
+}

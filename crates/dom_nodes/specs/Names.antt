@@ -1,0 +1,26 @@
+-- When two names are the same.
+use Rattle.std.specs.Prelude.{ℕ, Bool, true, false, ◌&&◌, List, Option, Some}
+use Rattle.std.specs.Str.{bytes_eq}
+use Rattle.dom_nodes.specs.declared.name.Namespace.{Namespace}
+use Rattle.dom_nodes.specs.declared.name.Namespace.TheVariants.{Html, Svg, MathMl, XLink, Xml, XmlNs, Other}
+use Rattle.dom_nodes.specs.declared.name.QualName.{QualName}
+
+abbrev pub same_namespace : Namespace → Namespace → Bool
+same_namespace Namespace.None Namespace.None = true
+same_namespace Html Html = true
+same_namespace Svg Svg = true
+same_namespace MathMl MathMl = true
+same_namespace XLink XLink = true
+same_namespace Xml Xml = true
+same_namespace XmlNs XmlNs = true
+same_namespace (Other name) (Other other) = bytes_eq name other
+same_namespace _ _ = false
+
+abbrev pub same_prefix : Option (List ℕ) → Option (List ℕ) → Bool
+same_prefix Option.None Option.None = true
+same_prefix (Some prefix) (Some other) = bytes_eq prefix other
+same_prefix _ _ = false
+
+-- prefix, namespace and local name are the same
+abbrev pub same_name : QualName → QualName → Bool
+same_name name other = same_prefix name.prefix other.prefix && same_namespace name.ns other.ns && bytes_eq name.local other.local
