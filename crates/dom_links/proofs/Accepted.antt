@@ -8,10 +8,10 @@ use Rattle.std.proofs.lemmas.Option.{slice_get_past}
 use Rattle.dom_nodes.specs.declared.node_data.TreeNode.{TreeNode}
 use Rattle.dom_nodes.specs.Kinds.{contents_named, is_fragment, is_top, may_bear}
 use Rattle.dom_links.specs.Lists.{stands_in, IsDistinct, first, last, after, before}
-use Rattle.dom_links.specs.Forest.{StandsOnce, AreLinks, forest_of, kids_of, run_of, parent, siblings, parent_link, prev_link, next_link, first_link, last_link, contents_of, chain, kids_in, row_in, run_under}
+use Rattle.dom_links.specs.Forest.{StandsOnce, AreLinks, forest_of, children_of, run_of, parent, siblings, parent_link, prev_link, next_link, first_link, last_link, contents_of, chain, children_in, row_in, run_under}
 use Rattle.dom_links.specs.Sound.{IsSoundArena, IsForest, Reaches, one_step, then_step, Step, contents_at}
 use Rattle.dom_links.specs.Validation.{Way, one_link, Ends, LinksHold, LinksKnown, Agrees, IsLinked, ContentsHold, link_at, step_up, contents_link}
-use Rattle.dom_links.proofs.Places.{cases_Option, siblings_kid, siblings_run}
+use Rattle.dom_links.proofs.Places.{cases_Option, siblings_child, siblings_run}
 use Rattle.dom_links.proofs.Fills.{owner_found, owner_none}
 use Rattle.dom_links.proofs.Grown.{within}
 use Rattle.dom_links.proofs.Climbs.{fragment_is_top}
@@ -100,9 +100,9 @@ stands_by nodes n m ties h s =
       row_same = row_is nodes m (row_in nodes n) its.0 s;
     }
 
--- the kids of a parent are the row of each
-kids_are : (nodes : List TreeNode) (n p : ℕ) → AreTied nodes → parent_link nodes n ≡ Some p → (first_link nodes p ≡ first (row_in nodes n)) × (last_link nodes p ≡ last (row_in nodes n)) × (kids_in nodes p ≡ row_in nodes n)
-kids_are nodes n p ties e =
+-- the children of a parent are the row of each
+children_are : (nodes : List TreeNode) (n p : ℕ) → AreTied nodes → parent_link nodes n ≡ Some p → (first_link nodes p ≡ first (row_in nodes n)) × (last_link nodes p ≡ last (row_in nodes n)) × (children_in nodes p ≡ row_in nodes n)
+children_are nodes n p ties e =
     let h = (ties.parent_known n p e).0 in
     let its = own_row nodes n ties h in
     let head = head_of (prev_link nodes) (next_link nodes) (length nodes) n (row_in nodes n) its.0 its.1 in
@@ -115,8 +115,8 @@ chain_empty : (link : ℕ → Option ℕ) (most : ℕ) → chain link most None 
 chain_empty link zero = refl
 chain_empty link (suc most) = refl
 
-kids_none : (nodes : List TreeNode) (p : ℕ) → first_link nodes p ≡ None → kids_in nodes p ≡ []
-kids_none nodes p e = ap (chain (next_link nodes) (length nodes)) e ∙ chain_empty (next_link nodes) (length nodes)
+children_none : (nodes : List TreeNode) (p : ℕ) → first_link nodes p ≡ None → children_in nodes p ≡ []
+children_none nodes p e = ap (chain (next_link nodes) (length nodes)) e ∙ chain_empty (next_link nodes) (length nodes)
 
 -- What the forest that the links tell has
 
@@ -127,17 +127,17 @@ contents_are nodes = refl
 long : (nodes : List TreeNode) → length (forest_of nodes).content ≡ length nodes
 long nodes = ap length (contents_are nodes) ∙ length-map nodes (λ node. node.content)
 
-kids_long : (nodes : List TreeNode) → length (forest_of nodes).kids ≡ length nodes
+children_long : (nodes : List TreeNode) → length (forest_of nodes).children ≡ length nodes
 unfolding forest_of
-kids_long nodes = length-numbered 0 (λ n node. kids_in nodes n) nodes
+children_long nodes = length-numbered 0 (λ n node. children_in nodes n) nodes
 
 runs_long : (nodes : List TreeNode) → length (forest_of nodes).runs ≡ length nodes
 unfolding forest_of
 runs_long nodes = length-numbered 0 (λ n node. run_under (parent_link nodes n) (row_in nodes n)) nodes
 
-kids_at : (nodes : List TreeNode) (p : ℕ) → p < length nodes → kids_of (forest_of nodes) p ≡ kids_in nodes p
+children_at : (nodes : List TreeNode) (p : ℕ) → p < length nodes → children_of (forest_of nodes) p ≡ children_in nodes p
 unfolding forest_of
-kids_at nodes p h = numbered 0 (λ n node. kids_in nodes n) nodes p h (kids_in nodes) (λ k node. refl) ∙ ap (kids_in nodes) (omega arith)
+children_at nodes p h = numbered 0 (λ n node. children_in nodes n) nodes p h (children_in nodes) (λ k node. refl) ∙ ap (children_in nodes) (omega arith)
 
 run_at : (nodes : List TreeNode) (n : ℕ) → n < length nodes → run_of (forest_of nodes) n ≡ run_under (parent_link nodes n) (row_in nodes n)
 unfolding forest_of
@@ -145,45 +145,45 @@ run_at nodes n h =
     numbered 0 (λ k node. run_under (parent_link nodes k) (row_in nodes k)) nodes n h (λ k. run_under (parent_link nodes k) (row_in nodes k)) (λ k node. refl)
     ∙ ap (λ (k : ℕ). run_under (parent_link nodes k) (row_in nodes k)) (omega arith)
 
-kids_past : (nodes : List TreeNode) (p : ℕ) → length nodes ≤ p → kids_of (forest_of nodes) p ≡ []
-kids_past nodes p past = get_or_past (forest_of nodes).kids p [] (omega (arith, kids_long nodes))
+children_past : (nodes : List TreeNode) (p : ℕ) → length nodes ≤ p → children_of (forest_of nodes) p ≡ []
+children_past nodes p past = get_or_past (forest_of nodes).children p [] (omega (arith, children_long nodes))
 
 run_past : (nodes : List TreeNode) (n : ℕ) → length nodes ≤ n → run_of (forest_of nodes) n ≡ []
 run_past nodes n past = get_or_past (forest_of nodes).runs n [] (omega (arith, runs_long nodes))
 
--- the kids of p, where there are any
-kid_facts : (nodes : List TreeNode) (p m : ℕ) → AreTied nodes → stands_in m (kids_of (forest_of nodes) p) ≡ true → (m < length nodes) × (parent_link nodes m ≡ Some p)
-kid_facts nodes p m ties s = elim (cases_lt p (length nodes)) [
-  | inr past ↦ absurd (true≢false (sym s ∙ ap (stands_in m) (kids_past nodes p past)))
+-- the children of p, where there are any
+child_facts : (nodes : List TreeNode) (p m : ℕ) → AreTied nodes → stands_in m (children_of (forest_of nodes) p) ≡ true → (m < length nodes) × (parent_link nodes m ≡ Some p)
+child_facts nodes p m ties s = elim (cases_lt p (length nodes)) [
+  | inr past ↦ absurd (true≢false (sym s ∙ ap (stands_in m) (children_past nodes p past)))
   | inl h ↦ (elim (cases_Option (first_link nodes p)) [
-    | inl none ↦ absurd (true≢false (sym s ∙ ap (stands_in m) (kids_at nodes p h ∙ kids_none nodes p none)))
+    | inl none ↦ absurd (true≢false (sym s ∙ ap (stands_in m) (children_at nodes p h ∙ children_none nodes p none)))
     | inr (c, some) ↦ (let it = ties.first_is p c some in
-        let kids = kids_are nodes c p ties it.1 in
-        let by = stands_by nodes c m ties it.0 (ap (stands_in m) (sym kids.2 ∙ sym (kids_at nodes p h)) ∙ s) in
+        let children = children_are nodes c p ties it.1 in
+        let by = stands_by nodes c m ties it.0 (ap (stands_in m) (sym children.2 ∙ sym (children_at nodes p h)) ∙ s) in
         (StandsBy.here by, StandsBy.parent_same by ∙ it.1))
   ])
 ]
 
-stands_kid : (nodes : List TreeNode) (n p : ℕ) → AreTied nodes → parent_link nodes n ≡ Some p → kids_of (forest_of nodes) p ≡ row_in nodes n
-stands_kid nodes n p ties e = kids_at nodes p (ties.parent_known n p e).1 ∙ (kids_are nodes n p ties e).2
+stands_child : (nodes : List TreeNode) (n p : ℕ) → AreTied nodes → parent_link nodes n ≡ Some p → children_of (forest_of nodes) p ≡ row_in nodes n
+stands_child nodes n p ties e = children_at nodes p (ties.parent_known n p e).1 ∙ (children_are nodes n p ties e).2
 
 parent_is : (nodes : List TreeNode) (n : ℕ) → AreTied nodes → parent (forest_of nodes) n ≡ parent_link nodes n
 parent_is nodes n ties = elim (cases_Option (parent_link nodes n)) [
-  | inl none ↦ owner_none 0 (forest_of nodes).kids n (λ q. elim (cases_Bool (stands_in n (kids_of (forest_of nodes) q))) [
+  | inl none ↦ owner_none 0 (forest_of nodes).children n (λ q. elim (cases_Bool (stands_in n (children_of (forest_of nodes) q))) [
     | inr f ↦ f
-    | inl t ↦ absurd (let two = sym none ∙ (kid_facts nodes q n ties t).1 in (cc))
+    | inl t ↦ absurd (let two = sym none ∙ (child_facts nodes q n ties t).1 in (cc))
   ]) ∙ sym none
   | inr (p, some) ↦ (let its = own_row nodes n ties (ties.parent_known n p some).0 in
-      owner_found 0 (forest_of nodes).kids p n (ap (stands_in n) (stands_kid nodes n p ties some) ∙ its.1) (λ q ne. elim (cases_Bool (stands_in n (kids_of (forest_of nodes) q))) [
+      owner_found 0 (forest_of nodes).children p n (ap (stands_in n) (stands_child nodes n p ties some) ∙ its.1) (λ q ne. elim (cases_Bool (stands_in n (children_of (forest_of nodes) q))) [
         | inr f ↦ f
-        | inl t ↦ absurd (let two = sym (kid_facts nodes q n ties t).1 ∙ some in ne (cc))
+        | inl t ↦ absurd (let two = sym (child_facts nodes q n ties t).1 ∙ some in ne (cc))
       ]) ∙ ap Some (omega arith) ∙ sym some)
 ]
 
 siblings_are : (nodes : List TreeNode) (n : ℕ) → AreTied nodes → n < length nodes → siblings (forest_of nodes) n ≡ row_in nodes n
 siblings_are nodes n ties h = elim (cases_Option (parent_link nodes n)) [
   | inl none ↦ siblings_run (forest_of nodes) n (parent_is nodes n ties ∙ none) ∙ run_at nodes n h ∙ ap (λ o. run_under o (row_in nodes n)) none
-  | inr (p, some) ↦ siblings_kid (forest_of nodes) n p (parent_is nodes n ties ∙ some) ∙ stands_kid nodes n p ties some
+  | inr (p, some) ↦ siblings_child (forest_of nodes) n p (parent_is nodes n ties ∙ some) ∙ stands_child nodes n p ties some
 ]
 
 -- a run that isn't empty
@@ -198,10 +198,10 @@ run_facts nodes m n ties s = elim (cases_lt m (length nodes)) [
 
 once : (nodes : List TreeNode) → AreTied nodes → StandsOnce (forest_of nodes)
 once nodes ties = record {
-  kids_each = kids_long nodes ∙ sym (long nodes);
+  children_each = children_long nodes ∙ sym (long nodes);
   runs_each = runs_long nodes ∙ sym (long nodes);
   placed = λ n h. (let here : n < length nodes = omega (arith, long nodes) in ap (stands_in n) (siblings_are nodes n ties here) ∙ (own_row nodes n ties here).1);
-  in_kids = λ p n s. (let kid = kid_facts nodes p n ties s in (omega (arith, long nodes, kid.0), parent_is nodes n ties ∙ kid.1));
+  in_children = λ p n s. (let child = child_facts nodes p n ties s in (omega (arith, long nodes, child.0), parent_is nodes n ties ∙ child.1));
   in_run = λ m n s. (let run = run_facts nodes m n ties s in
       let by = stands_by nodes m n ties run.0 (ap (stands_in n) (sym run.2) ∙ s) in
       let none : parent_link nodes n ≡ None = StandsBy.parent_same by ∙ run.1 in (
@@ -209,12 +209,12 @@ once nodes ties = record {
         parent_is nodes n ties ∙ none,
         run_at nodes n (StandsBy.here by) ∙ ap (λ o. run_under o (row_in nodes n)) none ∙ StandsBy.row_same by ∙ sym run.2,
       ));
-  kids_once = λ p. elim (cases_lt p (length nodes)) [
-    | inr past ↦ subst IsDistinct (sym (kids_past nodes p past)) tt
+  children_once = λ p. elim (cases_lt p (length nodes)) [
+    | inr past ↦ subst IsDistinct (sym (children_past nodes p past)) tt
     | inl h ↦ (elim (cases_Option (first_link nodes p)) [
-      | inl none ↦ subst IsDistinct (sym (kids_at nodes p h ∙ kids_none nodes p none)) tt
+      | inl none ↦ subst IsDistinct (sym (children_at nodes p h ∙ children_none nodes p none)) tt
       | inr (c, some) ↦ (let it = ties.first_is p c some in
-          subst IsDistinct (sym (stands_kid nodes c p ties it.1)) (IsRow.once (own_row nodes c ties it.0).0))
+          subst IsDistinct (sym (stands_child nodes c p ties it.1)) (IsRow.once (own_row nodes c ties it.0).0))
     ])
   ];
   run_once = λ n. elim (cases_lt n (length nodes)) [
@@ -236,14 +236,14 @@ are_links nodes links ties = record {
   prevs = λ n h. (let its = own_row nodes n ties h in IsRow.prevs its.0 n its.1 ∙ ap (λ ks. before ks n) (sym (siblings_are nodes n ties h)));
   nexts = λ n h. (let its = own_row nodes n ties h in IsRow.nexts its.0 n its.1 ∙ ap (λ ks. after ks n) (sym (siblings_are nodes n ties h)));
   firsts = λ n h. elim (cases_Option (first_link nodes n)) [
-    | inl none ↦ none ∙ ap first (sym (kids_at nodes n h ∙ kids_none nodes n none))
-    | inr (c, some) ↦ (let it = ties.first_is n c some in (kids_are nodes c n ties it.1).0 ∙ ap first (sym (stands_kid nodes c n ties it.1)))
+    | inl none ↦ none ∙ ap first (sym (children_at nodes n h ∙ children_none nodes n none))
+    | inr (c, some) ↦ (let it = ties.first_is n c some in (children_are nodes c n ties it.1).0 ∙ ap first (sym (stands_child nodes c n ties it.1)))
   ];
   lasts = λ n h. elim (cases_Option (last_link nodes n)) [
-    | inr (c, some) ↦ (let it = ties.last_is n c some in (kids_are nodes c n ties it.1).1 ∙ ap last (sym (stands_kid nodes c n ties it.1)))
+    | inr (c, some) ↦ (let it = ties.last_is n c some in (children_are nodes c n ties it.1).1 ∙ ap last (sym (stands_child nodes c n ties it.1)))
     | inl none ↦ (elim (cases_Option (first_link nodes n)) [
-      | inl no_first ↦ none ∙ ap last (sym (kids_at nodes n h ∙ kids_none nodes n no_first))
-      | inr (c, some) ↦ (let it = ties.first_is n c some in (kids_are nodes c n ties it.1).1 ∙ ap last (sym (stands_kid nodes c n ties it.1)))
+      | inl no_first ↦ none ∙ ap last (sym (children_at nodes n h ∙ children_none nodes n no_first))
+      | inr (c, some) ↦ (let it = ties.first_is n c some in (children_are nodes c n ties it.1).1 ∙ ap last (sym (stands_child nodes c n ties it.1)))
     ])
   ];
 }

@@ -6,13 +6,13 @@ use Rattle.std.proofs.lemmas.List.{length-map}
 use Rattle.std.proofs.lemmas.Bool.{cases_Bool, true≢false, and_parts, not-true, cases_lt, cond-false}
 use Rattle.dom_nodes.specs.declared.node_data.TreeNode.{TreeNode}
 use Rattle.dom_links.specs.Lists.{stands_in, IsDistinct, first, last, after, before, without, names}
-use Rattle.dom_links.specs.Forest.{Forest, StandsOnce, AreLinks, IsArenaOf, kids_of, run_of, parent, siblings, next_link, chain}
+use Rattle.dom_links.specs.Forest.{Forest, StandsOnce, AreLinks, IsArenaOf, children_of, run_of, parent, siblings, next_link, chain}
 use Rattle.dom_links.specs.Moves.{cut}
 use Rattle.dom_links.specs.Writes.{Joined}
 use Rattle.dom_links.specs.ListWrites.{ParentsSet, following}
 use Rattle.dom_links.proofs.Neighbours.{stands_in-append, stands_in-without, distinct-without, distinct_parts, names-true, names-same, first-stands, last-stands}
-use Rattle.dom_links.proofs.Places.{cases_Option, siblings_kid, siblings_run, siblings_once, Beside, beside, length-map_from}
-use Rattle.dom_links.proofs.Cuts.{kids-cut, parent-cut, run-cut, run-cut_past, length-contents}
+use Rattle.dom_links.proofs.Places.{cases_Option, siblings_child, siblings_run, siblings_once, Beside, beside, length-map_from}
+use Rattle.dom_links.proofs.Cuts.{children-cut, parent-cut, run-cut, run-cut_past, length-contents}
 use Rattle.dom_links.proofs.Chains.{chain_all}
 use Rattle.dom_links.proofs.BlockLists.{Apart, apart_back, without_none, without_end, after-cut_end, after-end, before-cut_end, before-end, first-cut_end}
 
@@ -29,7 +29,7 @@ siblings-cut_out forest moved n once h e =
     let here : n < length forest.runs = omega (arith, once.runs_each) in
     elim (cases_Option (parent forest n)) [
       | inl none ↦ siblings_run (cut moved forest) n (same ∙ none) ∙ run-cut moved forest n here ∙ rw e (ap (without moved) (sym (siblings_run forest n none)))
-      | inr (p, some) ↦ siblings_kid (cut moved forest) n p (same ∙ some) ∙ kids-cut moved forest p ∙ ap (without moved) (sym (siblings_kid forest n p some))
+      | inr (p, some) ↦ siblings_child (cut moved forest) n p (same ∙ some) ∙ children-cut moved forest p ∙ ap (without moved) (sym (siblings_child forest n p some))
     ]
 
 pub siblings-cut_in : (forest : Forest) (moved : List ℕ) (n : ℕ) → StandsOnce forest → n < length forest.content → stands_in n moved ≡ true → siblings (cut moved forest) n ≡ moved
@@ -74,20 +74,20 @@ once-cut_list forest moved once are =
     let after_it = cut moved forest in
     let long : length after_it.runs ≡ length forest.runs = length-map_from 0 (λ k run. cond (stands_in k moved) moved (without moved run)) forest.runs in
     record {
-      kids_each = length-map forest.kids (without moved) ∙ once.kids_each;
+      children_each = length-map forest.children (without moved) ∙ once.children_each;
       runs_each = long ∙ once.runs_each;
       placed = λ n h. elim (cases_Bool (stands_in n moved)) [
         | inl t ↦ rw (siblings-cut_in forest moved n once h t) t
         | inr f ↦ rw (siblings-cut_out forest moved n once h f, stands_in-without moved (siblings forest n) n, once.placed n h, f) refl
       ];
-      in_kids = λ p n h.
-          let kept : (stands_in n (kids_of forest p) && not (stands_in n moved)) ≡ true = sym (stands_in-without moved (kids_of forest p) n) ∙ ap (stands_in n) (sym (kids-cut moved forest p)) ∙ h in
-          let both = and_parts (stands_in n (kids_of forest p)) (not (stands_in n moved)) kept in
+      in_children = λ p n h.
+          let kept : (stands_in n (children_of forest p) && not (stands_in n moved)) ≡ true = sym (stands_in-without moved (children_of forest p) n) ∙ ap (stands_in n) (sym (children-cut moved forest p)) ∙ h in
+          let both = and_parts (stands_in n (children_of forest p)) (not (stands_in n moved)) kept in
           let other : stands_in n moved ≡ false = not-true (stands_in n moved) both.1 in
-          let facts = once.in_kids p n both.0 in
+          let facts = once.in_children p n both.0 in
           (facts.0, rw (parent-cut moved forest n, other) facts.1);
       in_run = λ m n h. in_run-cut forest moved once are m n h;
-      kids_once = λ p. rw (kids-cut moved forest p) (distinct-without moved (kids_of forest p) (once.kids_once p));
+      children_once = λ p. rw (children-cut moved forest p) (distinct-without moved (children_of forest p) (once.children_once p));
       run_once = λ n. elim (cases_lt n (length forest.runs)) [
         | inl here ↦ rw (run-cut moved forest n here)
             (elim (stands_in n moved) as (λ t. IsDistinct (cond t moved (without moved (run_of forest n)))) [
@@ -182,33 +182,33 @@ before-cut_list forest x n front moved once tail h =
           ])
     ]
 
--- the kids of a node once the moved ones are cut out
-kids-cut_list : (forest : Forest) (x p : ℕ) (front moved : List ℕ) → StandsOnce forest → IsTail forest x front moved →
-    kids_of (cut moved forest) p ≡ cond (names (parent forest x) p) front (kids_of forest p)
-kids-cut_list forest x p front moved once tail =
+-- the children of a node once the moved ones are cut out
+children-cut_list : (forest : Forest) (x p : ℕ) (front moved : List ℕ) → StandsOnce forest → IsTail forest x front moved →
+    children_of (cut moved forest) p ≡ cond (names (parent forest x) p) front (children_of forest p)
+children-cut_list forest x p front moved once tail =
     let facts = tail_facts forest x front moved once tail in
     elim (cases_Bool (names (parent forest x) p)) [
-      | inl t ↦ rw (t, kids-cut moved forest p) (ap (without moved) (sym (siblings_kid forest x p (names-true (parent forest x) p t)) ∙ tail.row) ∙ without_end moved front facts.apart)
-      | inr f ↦ rw (f, kids-cut moved forest p) (without_none moved (kids_of forest p) (λ n s. elim (cases_Bool (stands_in n moved)) [
+      | inl t ↦ rw (t, children-cut moved forest p) (ap (without moved) (sym (siblings_child forest x p (names-true (parent forest x) p t)) ∙ tail.row) ∙ without_end moved front facts.apart)
+      | inr f ↦ rw (f, children-cut moved forest p) (without_none moved (children_of forest p) (λ n s. elim (cases_Bool (stands_in n moved)) [
         | inr g ↦ g
-        | inl t ↦ (let some : parent forest x ≡ Some p = sym (Beside.same_parent (facts.inside n t)) ∙ (once.in_kids p n s).1 in
+        | inl t ↦ (let some : parent forest x ≡ Some p = sym (Beside.same_parent (facts.inside n t)) ∙ (once.in_children p n s).1 in
             absurd (true≢false (sym (ap (λ o. names o p) some ∙ names-same p) ∙ f)))
       ]))
     ]
 
 pub first-cut_list : (forest : Forest) (x p : ℕ) (front moved : List ℕ) → StandsOnce forest → IsTail forest x front moved →
-    first (kids_of (cut moved forest) p) ≡ cond (is_none (last front) && names (parent forest x) p) None (first (kids_of forest p))
-first-cut_list forest x p front moved once tail = ap first (kids-cut_list forest x p front moved once tail) ∙
+    first (children_of (cut moved forest) p) ≡ cond (is_none (last front) && names (parent forest x) p) None (first (children_of forest p))
+first-cut_list forest x p front moved once tail = ap first (children-cut_list forest x p front moved once tail) ∙
     (elim (cases_Bool (names (parent forest x) p)) [
-      | inl t ↦ rw (t, sym (siblings_kid forest x p (names-true (parent forest x) p t)) ∙ tail.row)
+      | inl t ↦ rw (t, sym (siblings_child forest x p (names-true (parent forest x) p t)) ∙ tail.row)
           (first-cut_end front moved ∙ (elim (is_none (last front)) as (λ u. cond u None (first (front ++ moved)) ≡ cond (u && true) None (first (front ++ moved))) [ true ↦ refl | false ↦ refl ]))
-      | inr f ↦ rw f (elim (is_none (last front)) as (λ u. first (kids_of forest p) ≡ cond (u && false) None (first (kids_of forest p))) [ true ↦ refl | false ↦ refl ])
+      | inr f ↦ rw f (elim (is_none (last front)) as (λ u. first (children_of forest p) ≡ cond (u && false) None (first (children_of forest p))) [ true ↦ refl | false ↦ refl ])
     ])
 
 pub last-cut_list : (forest : Forest) (x p : ℕ) (front moved : List ℕ) → StandsOnce forest → IsTail forest x front moved →
-    last (kids_of (cut moved forest) p) ≡ cond (names (parent forest x) p) (last front) (last (kids_of forest p))
-last-cut_list forest x p front moved once tail = ap last (kids-cut_list forest x p front moved once tail) ∙
-    (elim (names (parent forest x) p) as (λ t. last (cond t front (kids_of forest p)) ≡ cond t (last front) (last (kids_of forest p))) [ true ↦ refl | false ↦ refl ])
+    last (children_of (cut moved forest) p) ≡ cond (names (parent forest x) p) (last front) (last (children_of forest p))
+last-cut_list forest x p front moved once tail = ap last (children-cut_list forest x p front moved once tail) ∙
+    (elim (names (parent forest x) p) as (λ t. last (cond t front (children_of forest p)) ≡ cond t (last front) (last (children_of forest p))) [ true ↦ refl | false ↦ refl ])
 
 -- the writes of a cut: the one before x is the last of its list, nothing stands before x, and the moved ones name no parent
 pub record Freed (old new : List TreeNode) (x : ℕ) (owner left : Option ℕ) : Type 0 where

@@ -6,12 +6,12 @@ use Rattle.std.proofs.lemmas.List.{get_or_past}
 use Rattle.std.proofs.lemmas.Bool.{cases_Bool, true≢false, ne_eqb, cases_lt, or_parts}
 use Rattle.dom_nodes.specs.declared.node_data.TreeNode.{TreeNode}
 use Rattle.dom_links.specs.Lists.{stands_in, IsDistinct, first, last, after, before, names}
-use Rattle.dom_links.specs.Forest.{Forest, StandsOnce, AreLinks, IsArenaOf, kids_of, run_of, parent, siblings, run_under, next_link, chain}
+use Rattle.dom_links.specs.Forest.{Forest, StandsOnce, AreLinks, IsArenaOf, children_of, run_of, parent, siblings, run_under, next_link, chain}
 use Rattle.dom_links.specs.ListWrites.{RunAttached, following}
 use Rattle.dom_links.proofs.Neighbours.{distinct_parts, names-true, names-same, first-stands, last-stands}
-use Rattle.dom_links.proofs.Places.{cases_Option, siblings_kid, siblings_run}
+use Rattle.dom_links.proofs.Places.{cases_Option, siblings_child, siblings_run}
 use Rattle.dom_links.proofs.Cuts.{length-contents}
-use Rattle.dom_links.proofs.Fills.{owner_same, owner_none, owner_found, no_kid, in_own_run}
+use Rattle.dom_links.proofs.Fills.{owner_same, owner_none, owner_found, no_child, in_own_run}
 use Rattle.dom_links.proofs.Chains.{chain_all}
 use Rattle.dom_links.proofs.BlockLists.{Apart, stands_in-block, distinct-block, not_front, not_back, after-inside, after-outside, before-inside, before-outside, first-block, last-block}
 use Rattle.dom_links.proofs.BlockCuts.{AreNodes}
@@ -24,21 +24,21 @@ pub record AreAlone (forest : Forest) (moved : List ℕ) : Type 0 where
 
 pub record FilledList (forest filled : Forest) (moved : List ℕ) (owner : Option ℕ) (front back : List ℕ) : Type 0 where
   pub content : filled.content ≡ forest.content
-  pub kids_long : length filled.kids ≡ length forest.kids
+  pub children_long : length filled.children ≡ length forest.children
   pub runs_long : length filled.runs ≡ length forest.runs
   pub lone : AreAlone forest moved
   pub owner_known : (p : ℕ) → owner ≡ Some p → p < length forest.content
   pub not_inside : Apart moved (front ++ back)
   pub row_once : IsDistinct (front ++ back)
   pub row_is : (m : ℕ) → stands_in m (front ++ back) ≡ true → (m < length forest.content) × (parent forest m ≡ owner) × (siblings forest m ≡ front ++ back)
-  pub owned : (p : ℕ) → owner ≡ Some p → kids_of forest p ≡ front ++ back
-  pub kids : (p : ℕ) → kids_of filled p ≡ cond (names owner p) (front ++ (moved ++ back)) (kids_of forest p)
+  pub owned : (p : ℕ) → owner ≡ Some p → children_of forest p ≡ front ++ back
+  pub children : (p : ℕ) → children_of filled p ≡ cond (names owner p) (front ++ (moved ++ back)) (children_of forest p)
   pub runs : (m : ℕ) → m < length forest.content → run_of filled m ≡ cond (stands_in m moved || stands_in m (front ++ back)) (run_under owner (front ++ (moved ++ back))) (run_of forest m)
 
 pub parent-put_out : (forest filled : Forest) (moved : List ℕ) (owner : Option ℕ) (front back : List ℕ) (n : ℕ) → FilledList forest filled moved owner front back → stands_in n moved ≡ false →
     parent filled n ≡ parent forest n
 parent-put_out forest filled moved owner front back n fill e =
-    owner_same 0 filled.kids forest.kids n fill.kids_long (λ q. ap (stands_in n) (fill.kids q) ∙
+    owner_same 0 filled.children forest.children n fill.children_long (λ q. ap (stands_in n) (fill.children q) ∙
     (elim (cases_Bool (names owner q)) [
       | inl t ↦ rw (t, stands_in-block front moved back n, e) (sym (ap (stands_in n) (fill.owned q (names-true owner q t))))
       | inr f ↦ rw f refl
@@ -48,16 +48,16 @@ pub parent-put_in : (forest filled : Forest) (moved : List ℕ) (owner : Option 
 parent-put_in forest filled moved owner front back n once fill s =
     let none_before = fill.lone.no_parent n s in
     elim (cases_Option owner) [
-      | inl none ↦ owner_none 0 filled.kids n (λ q. ap (stands_in n) (fill.kids q) ∙ rw none (no_kid forest n q once none_before)) ∙ sym none
+      | inl none ↦ owner_none 0 filled.children n (λ q. ap (stands_in n) (fill.children q) ∙ rw none (no_child forest n q once none_before)) ∙ sym none
       | inr (p, some) ↦ (let z : 0 + p ≡ p = omega arith in
-          owner_found 0 filled.kids p n
-          (ap (stands_in n) (fill.kids p) ∙ rw (some, names-same p, stands_in-block front moved back n, s) refl)
-          (λ q ne. ap (stands_in n) (fill.kids q) ∙ (let other : names owner q ≡ false = ap (λ o. names o q) some ∙ ne_eqb p q (λ e. ne (sym e)) in rw other (no_kid forest n q once none_before)))
+          owner_found 0 filled.children p n
+          (ap (stands_in n) (fill.children p) ∙ rw (some, names-same p, stands_in-block front moved back n, s) refl)
+          (λ q ne. ap (stands_in n) (fill.children q) ∙ (let other : names owner q ≡ false = ap (λ o. names o q) some ∙ ne_eqb p q (λ e. ne (sym e)) in rw other (no_child forest n q once none_before)))
           ∙ ap Some z ∙ sym some)
     ]
 
-kids-owner : (forest filled : Forest) (moved : List ℕ) (owner : Option ℕ) (front back : List ℕ) (p : ℕ) → FilledList forest filled moved owner front back → owner ≡ Some p → kids_of filled p ≡ front ++ (moved ++ back)
-kids-owner forest filled moved owner front back p fill some = let named : names owner p ≡ true = ap (λ o. names o p) some ∙ names-same p in fill.kids p ∙ rw named refl
+children-owner : (forest filled : Forest) (moved : List ℕ) (owner : Option ℕ) (front back : List ℕ) (p : ℕ) → FilledList forest filled moved owner front back → owner ≡ Some p → children_of filled p ≡ front ++ (moved ++ back)
+children-owner forest filled moved owner front back p fill some = let named : names owner p ≡ true = ap (λ o. names o p) some ∙ names-same p in fill.children p ∙ rw named refl
 
 pub siblings-put_in : (forest filled : Forest) (moved : List ℕ) (owner : Option ℕ) (front back : List ℕ) (n : ℕ) → StandsOnce forest → FilledList forest filled moved owner front back → stands_in n moved ≡ true →
     siblings filled n ≡ front ++ (moved ++ back)
@@ -65,7 +65,7 @@ siblings-put_in forest filled moved owner front back n once fill s =
     let its = parent-put_in forest filled moved owner front back n once fill s in
     elim (cases_Option owner) [
       | inl none ↦ siblings_run filled n (its ∙ none) ∙ fill.runs n (fill.lone.are.known n s) ∙ rw (s, none) refl
-      | inr (p, some) ↦ siblings_kid filled n p (its ∙ some) ∙ kids-owner forest filled moved owner front back p fill some
+      | inr (p, some) ↦ siblings_child filled n p (its ∙ some) ∙ children-owner forest filled moved owner front back p fill some
     ]
 
 pub siblings-put_out : (forest filled : Forest) (moved : List ℕ) (owner : Option ℕ) (front back : List ℕ) (n : ℕ) → StandsOnce forest → FilledList forest filled moved owner front back → n < length forest.content → stands_in n moved ≡ false →
@@ -76,14 +76,14 @@ siblings-put_out forest filled moved owner front back n once fill h e =
       | inl t ↦ (let above = (fill.row_is n t).1 in
           elim (cases_Option owner) [
             | inl none ↦ siblings_run filled n (its ∙ above ∙ none) ∙ fill.runs n h ∙ rw (e, t, none) refl
-            | inr (p, some) ↦ siblings_kid filled n p (its ∙ above ∙ some) ∙ kids-owner forest filled moved owner front back p fill some ∙ rw t refl
+            | inr (p, some) ↦ siblings_child filled n p (its ∙ above ∙ some) ∙ children-owner forest filled moved owner front back p fill some ∙ rw t refl
           ])
       | inr f ↦ elim (cases_Option (parent forest n)) [
         | inl none ↦ siblings_run filled n (its ∙ none) ∙ fill.runs n h ∙ rw (e, f) (sym (siblings_run forest n none))
-        | inr (p, some) ↦ siblings_kid filled n p (its ∙ some) ∙ fill.kids p ∙
+        | inr (p, some) ↦ siblings_child filled n p (its ∙ some) ∙ fill.children p ∙
             (elim (cases_Bool (names owner p)) [
-              | inl t ↦ absurd (true≢false (sym (once.placed n h) ∙ ap (stands_in n) (siblings_kid forest n p some ∙ fill.owned p (names-true owner p t)) ∙ f))
-              | inr g ↦ rw (f, g) (sym (siblings_kid forest n p some))
+              | inl t ↦ absurd (true≢false (sym (once.placed n h) ∙ ap (stands_in n) (siblings_child forest n p some ∙ fill.owned p (names-true owner p t)) ∙ f))
+              | inr g ↦ rw (f, g) (sym (siblings_child forest n p some))
             ])
       ]
     ]
@@ -143,19 +143,19 @@ before-put forest filled moved owner front back x y n once fill starts ends h =
     ]
 
 pub first-put : (forest filled : Forest) (moved : List ℕ) (owner : Option ℕ) (front back : List ℕ) (x p : ℕ) → FilledList forest filled moved owner front back → first moved ≡ Some x →
-    first (kids_of filled p) ≡ cond (is_none (last front) && names owner p) (Some x) (first (kids_of forest p))
-first-put forest filled moved owner front back x p fill starts = ap first (fill.kids p) ∙
+    first (children_of filled p) ≡ cond (is_none (last front) && names owner p) (Some x) (first (children_of forest p))
+first-put forest filled moved owner front back x p fill starts = ap first (fill.children p) ∙
     (elim (cases_Bool (names owner p)) [
       | inl t ↦ rw (t, fill.owned p (names-true owner p t)) (first-block front moved back x starts ∙ (elim (is_none (last front)) as (λ u. cond u (Some x) (first (front ++ back)) ≡ cond (u && true) (Some x) (first (front ++ back))) [ true ↦ refl | false ↦ refl ]))
-      | inr f ↦ rw f (elim (is_none (last front)) as (λ u. first (kids_of forest p) ≡ cond (u && false) (Some x) (first (kids_of forest p))) [ true ↦ refl | false ↦ refl ])
+      | inr f ↦ rw f (elim (is_none (last front)) as (λ u. first (children_of forest p) ≡ cond (u && false) (Some x) (first (children_of forest p))) [ true ↦ refl | false ↦ refl ])
     ])
 
 pub last-put : (forest filled : Forest) (moved : List ℕ) (owner : Option ℕ) (front back : List ℕ) (y p : ℕ) → FilledList forest filled moved owner front back → last moved ≡ Some y →
-    last (kids_of filled p) ≡ cond (is_none (first back) && names owner p) (Some y) (last (kids_of forest p))
-last-put forest filled moved owner front back y p fill ends = ap last (fill.kids p) ∙
+    last (children_of filled p) ≡ cond (is_none (first back) && names owner p) (Some y) (last (children_of forest p))
+last-put forest filled moved owner front back y p fill ends = ap last (fill.children p) ∙
     (elim (cases_Bool (names owner p)) [
       | inl t ↦ rw (t, fill.owned p (names-true owner p t)) (last-block front moved back y ends ∙ (elim (is_none (first back)) as (λ u. cond u (Some y) (last (front ++ back)) ≡ cond (u && true) (Some y) (last (front ++ back))) [ true ↦ refl | false ↦ refl ]))
-      | inr f ↦ rw f (elim (is_none (first back)) as (λ u. last (kids_of forest p) ≡ cond (u && false) (Some y) (last (kids_of forest p))) [ true ↦ refl | false ↦ refl ])
+      | inr f ↦ rw f (elim (is_none (first back)) as (λ u. last (children_of forest p) ≡ cond (u && false) (Some y) (last (children_of forest p))) [ true ↦ refl | false ↦ refl ])
     ])
 
 -- by next links the first of the nodes leads to all of them
@@ -194,22 +194,22 @@ links-put forest filled old new moved x owner left right front back once links f
       lasts = λ n h. rw (join'.lasts n, join.lasts n, set.lasts n, links.lasts n (omega arith), last-put forest filled moved owner front back y n fill ends, r) refl;
     }
 
-in_kids-put : (forest filled : Forest) (moved : List ℕ) (owner : Option ℕ) (front back : List ℕ) → StandsOnce forest → FilledList forest filled moved owner front back →
-    (p n : ℕ) → stands_in n (kids_of filled p) ≡ true → (n < length forest.content) × (parent filled n ≡ Some p)
-in_kids-put forest filled moved owner front back once fill p n h = elim (cases_Bool (names owner p)) [
+in_children-put : (forest filled : Forest) (moved : List ℕ) (owner : Option ℕ) (front back : List ℕ) → StandsOnce forest → FilledList forest filled moved owner front back →
+    (p n : ℕ) → stands_in n (children_of filled p) ≡ true → (n < length forest.content) × (parent filled n ≡ Some p)
+in_children-put forest filled moved owner front back once fill p n h = elim (cases_Bool (names owner p)) [
   | inl t ↦ (let some : owner ≡ Some p = names-true owner p t in
-      let inside : (stands_in n moved || stands_in n (front ++ back)) ≡ true = sym (stands_in-block front moved back n) ∙ ap (stands_in n) (sym (kids-owner forest filled moved owner front back p fill some)) ∙ h in
+      let inside : (stands_in n moved || stands_in n (front ++ back)) ≡ true = sym (stands_in-block front moved back n) ∙ ap (stands_in n) (sym (children-owner forest filled moved owner front back p fill some)) ∙ h in
       elim (cases_Bool (stands_in n moved)) [
         | inl u ↦ (fill.lone.are.known n u, parent-put_in forest filled moved owner front back n once fill u ∙ some)
         | inr f ↦ (let there : stands_in n (front ++ back) ≡ true = (rw f at inside) in
             let facts = fill.row_is n there in
             (facts.0, parent-put_out forest filled moved owner front back n fill f ∙ facts.1 ∙ some))
       ])
-  | inr g ↦ (let before' : stands_in n (kids_of forest p) ≡ true = sym (ap (stands_in n) (fill.kids p ∙ rw g refl)) ∙ h in
-      let facts = once.in_kids p n before' in
+  | inr g ↦ (let before' : stands_in n (children_of forest p) ≡ true = sym (ap (stands_in n) (fill.children p ∙ rw g refl)) ∙ h in
+      let facts = once.in_children p n before' in
       let out : stands_in n moved ≡ false = elim (cases_Bool (stands_in n moved)) [
         | inr f ↦ f
-        | inl t ↦ absurd (true≢false (sym before' ∙ no_kid forest n p once (fill.lone.no_parent n t)))
+        | inl t ↦ absurd (true≢false (sym before' ∙ no_child forest n p once (fill.lone.no_parent n t)))
       ] in
       (facts.0, parent-put_out forest filled moved owner front back n fill out ∙ facts.1))
 ]
@@ -274,7 +274,7 @@ once-put forest filled moved owner front back once fill =
     let row = distinct-block front moved back fill.row_once fill.lone.are.once fill.not_inside in
     let long : length filled.content ≡ length forest.content = ap length fill.content in
     record {
-      kids_each = fill.kids_long ∙ once.kids_each ∙ sym long;
+      children_each = fill.children_long ∙ once.children_each ∙ sym long;
       runs_each = fill.runs_long ∙ once.runs_each ∙ sym long;
       placed = λ n h. elim (cases_Bool (stands_in n moved)) [
         | inl t ↦ rw (siblings-put_in forest filled moved owner front back n once fill t) (stands_in-block front moved back n ∙ rw t refl)
@@ -284,9 +284,9 @@ once-put forest filled moved owner front back once fill =
               | inr g ↦ rw g (once.placed n (omega arith))
             ])
       ];
-      in_kids = λ p n h. rw fill.content (in_kids-put forest filled moved owner front back once fill p n h);
+      in_children = λ p n h. rw fill.content (in_children-put forest filled moved owner front back once fill p n h);
       in_run = λ m n h. rw fill.content (in_run-put forest filled moved owner front back once fill m n h);
-      kids_once = λ p. subst IsDistinct (sym (fill.kids p)) (elim (names owner p) as (λ t. IsDistinct (cond t (front ++ (moved ++ back)) (kids_of forest p))) [ true ↦ row | false ↦ once.kids_once p ]);
+      children_once = λ p. subst IsDistinct (sym (fill.children p)) (elim (names owner p) as (λ t. IsDistinct (cond t (front ++ (moved ++ back)) (children_of forest p))) [ true ↦ row | false ↦ once.children_once p ]);
       run_once = λ n. elim (cases_lt n (length forest.content)) [
         | inr past ↦ subst IsDistinct (sym (run_past forest filled moved owner front back once fill n past)) tt
         | inl here ↦ subst IsDistinct (sym (fill.runs n here)) (elim (stands_in n moved || stands_in n (front ++ back)) as (λ t. IsDistinct (cond t (run_under owner (front ++ (moved ++ back))) (run_of forest n))) [

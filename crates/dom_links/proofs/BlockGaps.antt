@@ -4,11 +4,11 @@ use Rattle.std.specs.Prelude.{◌==◌, ◌||◌}
 use Rattle.std.proofs.lemmas.List.{get_or_past, append-nil}
 use Rattle.std.proofs.lemmas.Bool.{cases_Bool, true≢false, eq-eqb, ne_eqb, eqb-true, eqb-false, cases_lt, or_parts}
 use Rattle.dom_links.specs.Lists.{stands_in, IsDistinct, names, put_before, put_after}
-use Rattle.dom_links.specs.Forest.{Forest, StandsOnce, kids_of, run_of, parent, siblings, run_under}
-use Rattle.dom_links.specs.Moves.{Gap, end_of, front_of, before_node, after_node, kids_with, run_with, put}
+use Rattle.dom_links.specs.Forest.{Forest, StandsOnce, children_of, run_of, parent, siblings, run_under}
+use Rattle.dom_links.specs.Moves.{Gap, end_of, front_of, before_node, after_node, children_with, run_with, put}
 use Rattle.dom_links.proofs.Neighbours.{names-true, names-same, Around}
-use Rattle.dom_links.proofs.Places.{cases_Option, siblings_kid, siblings_run, siblings_once, Beside, beside, get_or-map_all, get_or-map_past, length-map_from}
-use Rattle.dom_links.proofs.Fills.{in_own_run, no_kid}
+use Rattle.dom_links.proofs.Places.{cases_Option, siblings_child, siblings_run, siblings_once, Beside, beside, get_or-map_all, get_or-map_past, length-map_from}
+use Rattle.dom_links.proofs.Fills.{in_own_run, no_child}
 use Rattle.dom_links.proofs.BlockFills.{AreAlone, FilledList}
 
 pub before_split_list : (front back : List ℕ) (t : ℕ) (moved : List ℕ) → stands_in t front ≡ false → put_before t moved (front ++ t ∷ back) ≡ front ++ (moved ++ t ∷ back)
@@ -47,21 +47,21 @@ not_beside forest moved t n once lone out h s = elim (cases_Bool (stands_in n (s
       absurd (true≢false (sym (once.placed t h) ∙ ap (stands_in t) whole ∙ out)))
 ]
 
-filled_kids : (forest : Forest) (gap : Gap) (f : List ℕ → List ℕ) (moved : List ℕ) (t : ℕ) (front back : List ℕ) (p : ℕ) → StandsOnce forest → t < length forest.content →
-    ((p : ℕ) (ns : List ℕ) → kids_with gap moved p ns ≡ f ns) → siblings forest t ≡ front ++ back → f (front ++ back) ≡ front ++ (moved ++ back) → f [] ≡ [] → ((ns : List ℕ) → stands_in t ns ≡ false → f ns ≡ ns) →
-    kids_of (put gap moved forest) p ≡ cond (names (parent forest t) p) (front ++ (moved ++ back)) (kids_of forest p)
-filled_kids forest gap f moved t front back p once h kids_are row filling empty off =
-    let its : kids_of (put gap moved forest) p ≡ f (kids_of forest p) = elim (cases_lt p (length forest.kids)) [
-      | inl here ↦ get_or-map_all (kids_with gap moved) forest.kids p here ∙ kids_are p (kids_of forest p)
-      | inr past ↦ get_or-map_past (kids_with gap moved) forest.kids p past ∙ sym empty ∙ ap f (sym (get_or_past forest.kids p [] past))
+filled_children : (forest : Forest) (gap : Gap) (f : List ℕ → List ℕ) (moved : List ℕ) (t : ℕ) (front back : List ℕ) (p : ℕ) → StandsOnce forest → t < length forest.content →
+    ((p : ℕ) (ns : List ℕ) → children_with gap moved p ns ≡ f ns) → siblings forest t ≡ front ++ back → f (front ++ back) ≡ front ++ (moved ++ back) → f [] ≡ [] → ((ns : List ℕ) → stands_in t ns ≡ false → f ns ≡ ns) →
+    children_of (put gap moved forest) p ≡ cond (names (parent forest t) p) (front ++ (moved ++ back)) (children_of forest p)
+filled_children forest gap f moved t front back p once h children_are row filling empty off =
+    let its : children_of (put gap moved forest) p ≡ f (children_of forest p) = elim (cases_lt p (length forest.children)) [
+      | inl here ↦ get_or-map_all (children_with gap moved) forest.children p here ∙ children_are p (children_of forest p)
+      | inr past ↦ get_or-map_past (children_with gap moved) forest.children p past ∙ sym empty ∙ ap f (sym (get_or_past forest.children p [] past))
     ] in
     its ∙ (elim (cases_Bool (names (parent forest t) p)) [
-      | inl u ↦ rw u (ap f (sym (siblings_kid forest t p (names-true (parent forest t) p u)) ∙ row) ∙ filling)
-      | inr g ↦ (let absent : stands_in t (kids_of forest p) ≡ false = elim (cases_Bool (stands_in t (kids_of forest p))) [
+      | inl u ↦ rw u (ap f (sym (siblings_child forest t p (names-true (parent forest t) p u)) ∙ row) ∙ filling)
+      | inr g ↦ (let absent : stands_in t (children_of forest p) ≡ false = elim (cases_Bool (stands_in t (children_of forest p))) [
         | inr f' ↦ f'
-        | inl s ↦ absurd (true≢false (sym (ap (λ o. names o p) (once.in_kids p t s).1 ∙ names-same p) ∙ g))
+        | inl s ↦ absurd (true≢false (sym (ap (λ o. names o p) (once.in_children p t s).1 ∙ names-same p) ∙ g))
       ] in
-          rw g (off (kids_of forest p) absent))
+          rw g (off (children_of forest p) absent))
     ])
 
 filled_runs : (forest : Forest) (f : List ℕ → List ℕ) (moved : List ℕ) (t : ℕ) (front back : List ℕ) (m : ℕ) → StandsOnce forest → t < length forest.content → m < length forest.content →
@@ -87,72 +87,72 @@ filled_runs forest f moved t front back m once ht h row filling empty off =
 
 -- a gap beside t, where f puts the nodes beside t
 pub filled_beside_list : (forest : Forest) (gap : Gap) (f : List ℕ → List ℕ) (moved : List ℕ) (t : ℕ) (front back : List ℕ) → StandsOnce forest → AreAlone forest moved → stands_in t moved ≡ false → t < length forest.content →
-    ((p : ℕ) (ns : List ℕ) → kids_with gap moved p ns ≡ f ns) → ((n : ℕ) → run_with gap moved forest n ≡ f (run_of forest (cond (stands_in n moved) t n))) →
+    ((p : ℕ) (ns : List ℕ) → children_with gap moved p ns ≡ f ns) → ((n : ℕ) → run_with gap moved forest n ≡ f (run_of forest (cond (stands_in n moved) t n))) →
     siblings forest t ≡ front ++ back → f (front ++ back) ≡ front ++ (moved ++ back) → f [] ≡ [] → ((ns : List ℕ) → stands_in t ns ≡ false → f ns ≡ ns) →
     FilledList forest (put gap moved forest) moved (parent forest t) front back
-filled_beside_list forest gap f moved t front back once lone out h kids_are runs_are row filling empty off =
+filled_beside_list forest gap f moved t front back once lone out h children_are runs_are row filling empty off =
     let here : stands_in t (front ++ back) ≡ true = ap (stands_in t) (sym row) ∙ once.placed t h in
     record {
       content = refl;
-      kids_long = length-map_from 0 (kids_with gap moved) forest.kids;
+      children_long = length-map_from 0 (children_with gap moved) forest.children;
       runs_long = length-map_from 0 (λ n run. run_with gap moved forest n) forest.runs;
       lone = lone;
-      owner_known = λ p some. elim (cases_lt p (length forest.kids)) [
-        | inl here' ↦ omega (arith, once.kids_each)
-        | inr past ↦ absurd (true≢false (sym (once.placed t h) ∙ ap (stands_in t) (siblings_kid forest t p some ∙ get_or_past forest.kids p [] past)))
+      owner_known = λ p some. elim (cases_lt p (length forest.children)) [
+        | inl here' ↦ omega (arith, once.children_each)
+        | inr past ↦ absurd (true≢false (sym (once.placed t h) ∙ ap (stands_in t) (siblings_child forest t p some ∙ get_or_past forest.children p [] past)))
       ];
       not_inside = λ n s. ap (stands_in n) (sym row) ∙ not_beside forest moved t n once lone out h s;
       row_once = subst IsDistinct row (siblings_once forest t once);
       row_is = λ m s. (let there = beside forest t m once (ap (stands_in m) row ∙ s) in (there.known, there.same_parent, there.same_siblings ∙ row));
-      owned = λ p some. sym (siblings_kid forest t p some) ∙ row;
-      kids = λ p. filled_kids forest gap f moved t front back p once h kids_are row filling empty off;
+      owned = λ p some. sym (siblings_child forest t p some) ∙ row;
+      children = λ p. filled_children forest gap f moved t front back p once h children_are row filling empty off;
       runs = λ m hm. get_or-map_all (λ n run. run_with gap moved forest n) forest.runs m (omega (arith, once.runs_each)) ∙ runs_are m ∙
           filled_runs forest f moved t front back m once h hm row filling empty off;
     }
 
--- a gap at an end of the kids of t
-pub filled_kids_of_list : (forest : Forest) (gap : Gap) (moved : List ℕ) (t : ℕ) (front back : List ℕ) → StandsOnce forest → AreAlone forest moved → t < length forest.content →
-    ((p : ℕ) (ns : List ℕ) → kids_with gap moved p ns ≡ cond (p == t) (kids_with gap moved t ns) ns) → ((n : ℕ) → run_with gap moved forest n ≡ cond (stands_in n moved) [] (run_of forest n)) →
-    kids_of forest t ≡ front ++ back → kids_with gap moved t (kids_of forest t) ≡ front ++ (moved ++ back) →
+-- a gap at an end of the children of t
+pub filled_children_of_list : (forest : Forest) (gap : Gap) (moved : List ℕ) (t : ℕ) (front back : List ℕ) → StandsOnce forest → AreAlone forest moved → t < length forest.content →
+    ((p : ℕ) (ns : List ℕ) → children_with gap moved p ns ≡ cond (p == t) (children_with gap moved t ns) ns) → ((n : ℕ) → run_with gap moved forest n ≡ cond (stands_in n moved) [] (run_of forest n)) →
+    children_of forest t ≡ front ++ back → children_with gap moved t (children_of forest t) ≡ front ++ (moved ++ back) →
     FilledList forest (put gap moved forest) moved (Some t) front back
-filled_kids_of_list forest gap moved t front back once lone h kids_are runs_are row filling = record {
+filled_children_of_list forest gap moved t front back once lone h children_are runs_are row filling = record {
   content = refl;
-  kids_long = length-map_from 0 (kids_with gap moved) forest.kids;
+  children_long = length-map_from 0 (children_with gap moved) forest.children;
   runs_long = length-map_from 0 (λ n run. run_with gap moved forest n) forest.runs;
   lone = lone;
   owner_known = λ p some. (let e : t ≡ p = cc in subst (λ (k : ℕ). k < length forest.content) e h);
-  not_inside = λ n s. ap (stands_in n) (sym row) ∙ no_kid forest n t once (lone.no_parent n s);
-  row_once = subst IsDistinct row (once.kids_once t);
-  row_is = λ m s. (let facts = once.in_kids t m (ap (stands_in m) row ∙ s) in (facts.0, facts.1, siblings_kid forest m t facts.1 ∙ row));
-  owned = λ p some. (let e : p ≡ t = cc in ap (kids_of forest) e ∙ row);
-  kids = λ p. elim (cases_lt p (length forest.kids)) [
-    | inl here ↦ get_or-map_all (kids_with gap moved) forest.kids p here ∙ kids_are p (kids_of forest p) ∙
+  not_inside = λ n s. ap (stands_in n) (sym row) ∙ no_child forest n t once (lone.no_parent n s);
+  row_once = subst IsDistinct row (once.children_once t);
+  row_is = λ m s. (let facts = once.in_children t m (ap (stands_in m) row ∙ s) in (facts.0, facts.1, siblings_child forest m t facts.1 ∙ row));
+  owned = λ p some. (let e : p ≡ t = cc in ap (children_of forest) e ∙ row);
+  children = λ p. elim (cases_lt p (length forest.children)) [
+    | inl here ↦ get_or-map_all (children_with gap moved) forest.children p here ∙ children_are p (children_of forest p) ∙
         (elim (cases_Bool (p == t)) [
-          | inl u ↦ (let e : p ≡ t = eqb-true p t u in let v : (t == p) ≡ true = eq-eqb t p (sym e) in rw (u, v) (ap (λ (k : ℕ). kids_with gap moved t (kids_of forest k)) e ∙ filling))
+          | inl u ↦ (let e : p ≡ t = eqb-true p t u in let v : (t == p) ≡ true = eq-eqb t p (sym e) in rw (u, v) (ap (λ (k : ℕ). children_with gap moved t (children_of forest k)) e ∙ filling))
           | inr g ↦ (let v : (t == p) ≡ false = ne_eqb t p (λ e. eqb-false p t g (sym e)) in rw (g, v) refl)
         ])
-    | inr past ↦ (let v : (t == p) ≡ false = ne_eqb t p (λ e. omega (arith, once.kids_each)) in
-        rw v (get_or-map_past (kids_with gap moved) forest.kids p past ∙ sym (get_or_past forest.kids p [] past)))
+    | inr past ↦ (let v : (t == p) ≡ false = ne_eqb t p (λ e. omega (arith, once.children_each)) in
+        rw v (get_or-map_past (children_with gap moved) forest.children p past ∙ sym (get_or_past forest.children p [] past)))
   ];
   runs = λ m hm. get_or-map_all (λ n run. run_with gap moved forest n) forest.runs m (omega (arith, once.runs_each)) ∙ runs_are m ∙
       (elim (cases_Bool (stands_in m moved)) [
         | inl u ↦ rw u refl
         | inr g ↦ rw g (elim (cases_Bool (stands_in m (front ++ back))) [
-          | inl s ↦ rw s (once.no_run t m (once.in_kids t m (ap (stands_in m) row ∙ s)).1)
+          | inl s ↦ rw s (once.no_run t m (once.in_children t m (ap (stands_in m) row ∙ s)).1)
           | inr k ↦ rw k refl
         ])
       ]);
 }
 
-pub put-end_of : (forest : Forest) (moved : List ℕ) (t : ℕ) → StandsOnce forest → AreAlone forest moved → t < length forest.content → FilledList forest (put (end_of t) moved forest) moved (Some t) (kids_of forest t) []
+pub put-end_of : (forest : Forest) (moved : List ℕ) (t : ℕ) → StandsOnce forest → AreAlone forest moved → t < length forest.content → FilledList forest (put (end_of t) moved forest) moved (Some t) (children_of forest t) []
 put-end_of forest moved t once lone h =
     let here : (t == t) ≡ true = eq-eqb t t refl in
-    filled_kids_of_list forest (end_of t) moved t (kids_of forest t) [] once lone h (λ p ns. rw here refl) (λ n. refl) (sym (append-nil (kids_of forest t))) (rw (here, append-nil moved) refl)
+    filled_children_of_list forest (end_of t) moved t (children_of forest t) [] once lone h (λ p ns. rw here refl) (λ n. refl) (sym (append-nil (children_of forest t))) (rw (here, append-nil moved) refl)
 
-pub put-front_of : (forest : Forest) (moved : List ℕ) (t : ℕ) → StandsOnce forest → AreAlone forest moved → t < length forest.content → FilledList forest (put (front_of t) moved forest) moved (Some t) [] (kids_of forest t)
+pub put-front_of : (forest : Forest) (moved : List ℕ) (t : ℕ) → StandsOnce forest → AreAlone forest moved → t < length forest.content → FilledList forest (put (front_of t) moved forest) moved (Some t) [] (children_of forest t)
 put-front_of forest moved t once lone h =
     let here : (t == t) ≡ true = eq-eqb t t refl in
-    filled_kids_of_list forest (front_of t) moved t [] (kids_of forest t) once lone h (λ p ns. rw here refl) (λ n. refl) refl (rw here refl)
+    filled_children_of_list forest (front_of t) moved t [] (children_of forest t) once lone h (λ p ns. rw here refl) (λ n. refl) refl (rw here refl)
 
 pub put-before : (forest : Forest) (moved : List ℕ) (t : ℕ) (once : StandsOnce forest) → AreAlone forest moved → stands_in t moved ≡ false → (h : t < length forest.content) → (around : Around t (siblings forest t)) →
     FilledList forest (put (before_node t) moved forest) moved (parent forest t) around.front (t ∷ around.back)

@@ -4,10 +4,10 @@ use Rattle.std.specs.Prelude.{◌==◌}
 use Rattle.std.proofs.lemmas.Bool.{cases_Bool, cond-false, cond-true, true≢false, not-true, eqb-true}
 use Rattle.dom_nodes.specs.declared.node_data.TreeNode.{TreeNode}
 use Rattle.dom_links.specs.Lists.{stands_in}
-use Rattle.dom_links.specs.Forest.{Forest, StandsOnce, IsArenaOf, forest_of, parent, siblings, run_of, kids_of}
+use Rattle.dom_links.specs.Forest.{Forest, StandsOnce, IsArenaOf, forest_of, parent, siblings, run_of, children_of}
 use Rattle.dom_links.specs.Moves.{Gap, end_of, front_of, before_node, after_node, put, cut, moved_to}
 use Rattle.dom_links.specs.Sound.{Step, Reaches, one_step, then_step, AtOrBelow, contents_at, stays, bears, is_open, target, IsForest, MayPlace}
-use Rattle.dom_links.specs.ListMoves.{EachOf, SomeOf, AllowedList, MovedList, KidsRemoved}
+use Rattle.dom_links.specs.ListMoves.{EachOf, SomeOf, AllowedList, MovedList, ChildrenRemoved}
 use Rattle.dom_links.proofs.Neighbours.{around}
 use Rattle.dom_links.proofs.Places.{cases_Option, siblings_run, siblings_once}
 use Rattle.dom_links.proofs.Cuts.{parent-cut, run-cut, one-stands}
@@ -80,7 +80,7 @@ pub record FillingList (forest : Forest) (gap : Gap) (moved : List ℕ) : Type 0
 filling_list : (forest : Forest) (gap : Gap) (moved : List ℕ) → StandsOnce forest → AreAlone forest moved → stands_in (target gap) moved ≡ false → target gap < length forest.content → is_open gap forest ≡ true → FillingList forest gap moved
 filling_list forest (end_of t) moved once lone out h open' = record {
   owner = Some t;
-  front = kids_of forest t;
+  front = children_of forest t;
   back = [];
   fill = put-end_of forest moved t once lone h;
   above = λ o some. (let e : o ≡ t = cc in inl (e, subst (λ (k : ℕ). bears forest k ≡ true) (sym e) open'));
@@ -89,7 +89,7 @@ filling_list forest (end_of t) moved once lone out h open' = record {
 filling_list forest (front_of t) moved once lone out h open' = record {
   owner = Some t;
   front = [];
-  back = kids_of forest t;
+  back = children_of forest t;
   fill = put-front_of forest moved t once lone h;
   above = λ o some. (let e : o ≡ t = cc in inl (e, subst (λ (k : ℕ). bears forest k ≡ true) (sym e) open'));
   beside_target = λ none. cc;
@@ -222,24 +222,24 @@ forest-cut_list forest moved good are moves = record {
   no_circle = no_circle_list forest (cut moved forest) moved None (cut_parents forest moved) good.no_circle (λ o is x s below. cc);
 }
 
--- kids don't stay where they are
-pub kids_move : (forest : Forest) (x : ℕ) → IsForest forest → EachOf (kids_of forest x) (λ n. stays forest n ≡ false)
-kids_move forest x good n s = elim (cases_Bool (stays forest n)) [
+-- children don't stay where they are
+pub children_move : (forest : Forest) (x : ℕ) → IsForest forest → EachOf (children_of forest x) (λ n. stays forest n ≡ false)
+children_move forest x good n s = elim (cases_Bool (stays forest n)) [
   | inr f ↦ f
-  | inl t ↦ (let facts = good.once.in_kids x n s in
+  | inl t ↦ (let facts = good.once.in_children x n s in
       let none = (good.alone n facts.0 t).0 in
       let some = facts.1 in
       cc)
 ]
 
-pub kids_are : (forest : Forest) (x : ℕ) → StandsOnce forest → AreNodes forest (kids_of forest x)
-kids_are forest x once = record { once = once.kids_once x; known = λ n s. (once.in_kids x n s).0 }
+pub children_are : (forest : Forest) (x : ℕ) → StandsOnce forest → AreNodes forest (children_of forest x)
+children_are forest x once = record { once = once.children_once x; known = λ n s. (once.in_children x n s).0 }
 
-pub kids_removed : (old new : List TreeNode) (x : ℕ) → IsArenaOf (forest_of old) old → IsArenaOf (cut (kids_of (forest_of old) x) (forest_of old)) new → KidsRemoved old new x
-kids_removed old new x before arena =
-    let is : forest_of new ≡ cut (kids_of (forest_of old) x) (forest_of old) = forest_of-arena (cut (kids_of (forest_of old) x) (forest_of old)) new arena in
+pub children_removed : (old new : List TreeNode) (x : ℕ) → IsArenaOf (forest_of old) old → IsArenaOf (cut (children_of (forest_of old) x) (forest_of old)) new → ChildrenRemoved old new x
+children_removed old new x before arena =
+    let is : forest_of new ≡ cut (children_of (forest_of old) x) (forest_of old) = forest_of-arena (cut (children_of (forest_of old) x) (forest_of old)) new arena in
     record {
       made = is;
       linked = subst (λ (forest : Forest). IsArenaOf forest new) (sym is) arena;
-      kept = λ good. subst IsForest (sym is) (forest-cut_list (forest_of old) (kids_of (forest_of old) x) good (kids_are (forest_of old) x good.once) (kids_move (forest_of old) x good));
+      kept = λ good. subst IsForest (sym is) (forest-cut_list (forest_of old) (children_of (forest_of old) x) good (children_are (forest_of old) x good.once) (children_move (forest_of old) x good));
     }

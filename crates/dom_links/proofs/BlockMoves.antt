@@ -5,14 +5,14 @@ use Rattle.std.specs.Option.{IfSome}
 use Rattle.std.proofs.lemmas.Bool.{eq-eqb, or_parts}
 use Rattle.dom_nodes.specs.declared.node_data.TreeNode.{TreeNode}
 use Rattle.dom_links.specs.Lists.{stands_in, first, last, after, before, names}
-use Rattle.dom_links.specs.Forest.{Forest, StandsOnce, IsArenaOf, forest_of, kids_of, parent, siblings, next_link}
+use Rattle.dom_links.specs.Forest.{Forest, StandsOnce, IsArenaOf, forest_of, children_of, parent, siblings, next_link}
 use Rattle.dom_links.specs.Moves.{end_of, front_of, before_node, after_node, put, cut}
 use Rattle.dom_links.specs.Walk.{rest_after}
 use Rattle.dom_links.specs.Writes.{Joined}
 use Rattle.dom_links.specs.ListMoves.{with_later, MovedList}
 use Rattle.dom_links.specs.ListWrites.{NextsKnown, ParentsSet, RunAttached, following}
 use Rattle.dom_links.proofs.Neighbours.{around, before_here, after_here, last-append}
-use Rattle.dom_links.proofs.Places.{siblings_kid, siblings_once, Beside}
+use Rattle.dom_links.proofs.Places.{siblings_child, siblings_once, Beside}
 use Rattle.dom_links.proofs.Cuts.{length-contents, next_known}
 use Rattle.dom_links.proofs.BlockCuts.{AreNodes, IsTail, TailFacts, tail_facts, arena-cut_list}
 use Rattle.dom_links.proofs.BlockFills.{AreAlone, arena-put}
@@ -71,21 +71,21 @@ cut_are_alone : (old : List TreeNode) (moved : List ℕ) → IsArenaOf (forest_o
 cut_are_alone old moved arena are = alone-cut_list (forest_of old) moved arena.once are
 
 pub moved-end_of : (old middle new : List TreeNode) (moved : List ℕ) (x t : ℕ) (left : Option ℕ) → IsArenaOf (forest_of old) old → AreNodes (forest_of old) moved → first moved ≡ Some x → t < length old →
-    IsArenaOf (cut moved (forest_of old)) middle → left ≡ last (kids_of (cut moved (forest_of old)) t) → RunAttached middle new x (Some t) left None → MovedList old new (end_of t) moved
+    IsArenaOf (cut moved (forest_of old)) middle → left ≡ last (children_of (cut moved (forest_of old)) t) → RunAttached middle new x (Some t) left None → MovedList old new (end_of t) moved
 moved-end_of old middle new moved x t left arena are starts h cut_out l run =
     let forest = cut moved (forest_of old) in
     let long : length old ≡ length forest.content = length-contents (forest_of old) old arena.links in
     list_moved old new (end_of t) moved are
-    (arena-put forest (put (end_of t) moved forest) middle new moved x (Some t) left None (kids_of forest t) [] cut_out
+    (arena-put forest (put (end_of t) moved forest) middle new moved x (Some t) left None (children_of forest t) [] cut_out
     (put-end_of forest moved t cut_out.once (cut_are_alone old moved arena are) (omega arith)) starts l refl run)
 
 pub moved-front_of : (old middle new : List TreeNode) (moved : List ℕ) (x t : ℕ) (right : Option ℕ) → IsArenaOf (forest_of old) old → AreNodes (forest_of old) moved → first moved ≡ Some x → t < length old →
-    IsArenaOf (cut moved (forest_of old)) middle → right ≡ first (kids_of (cut moved (forest_of old)) t) → RunAttached middle new x (Some t) None right → MovedList old new (front_of t) moved
+    IsArenaOf (cut moved (forest_of old)) middle → right ≡ first (children_of (cut moved (forest_of old)) t) → RunAttached middle new x (Some t) None right → MovedList old new (front_of t) moved
 moved-front_of old middle new moved x t right arena are starts h cut_out r run =
     let forest = cut moved (forest_of old) in
     let long : length old ≡ length forest.content = length-contents (forest_of old) old arena.links in
     list_moved old new (front_of t) moved are
-    (arena-put forest (put (front_of t) moved forest) middle new moved x (Some t) None right [] (kids_of forest t) cut_out
+    (arena-put forest (put (front_of t) moved forest) middle new moved x (Some t) None right [] (children_of forest t) cut_out
     (put-front_of forest moved t cut_out.once (cut_are_alone old moved arena are) (omega arith)) starts refl r run)
 
 pub moved-before : (old middle new : List TreeNode) (moved : List ℕ) (x t : ℕ) (owner left : Option ℕ) → IsArenaOf (forest_of old) old → AreNodes (forest_of old) moved → first moved ≡ Some x → t < length old → stands_in t moved ≡ false →
@@ -122,8 +122,8 @@ first_rest (n ∷ ns) x e =
 pub all_siblings : (forest : Forest) (n x : ℕ) → StandsOnce forest → first (siblings forest n) ≡ Some x → Beside forest n x → with_later forest x ≡ siblings forest n
 all_siblings forest n x once starts there = ap (λ ns. x ∷ rest_after ns x) there.same_siblings ∙ sym (first_rest (siblings forest n) x starts)
 
-pub all_kids : (forest : Forest) (p x : ℕ) → StandsOnce forest → first (kids_of forest p) ≡ Some x → parent forest x ≡ Some p → with_later forest x ≡ kids_of forest p
-all_kids forest p x once starts above = ap (λ ns. x ∷ rest_after ns x) (siblings_kid forest x p above) ∙ sym (first_rest (kids_of forest p) x starts)
+pub all_children : (forest : Forest) (p x : ℕ) → StandsOnce forest → first (children_of forest p) ≡ Some x → parent forest x ≡ Some p → with_later forest x ≡ children_of forest p
+all_children forest p x once starts above = ap (λ ns. x ∷ rest_after ns x) (siblings_child forest x p above) ∙ sym (first_rest (children_of forest p) x starts)
 
 pub known_inside : (forest : Forest) (nodes : List TreeNode) (x : ℕ) → IsArenaOf forest nodes → x < length nodes → x < length forest.content
 known_inside forest nodes x arena h =

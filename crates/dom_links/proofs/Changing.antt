@@ -76,12 +76,12 @@ once-changed : (x : ℕ) (change : NodeData → NodeData) (forest : Forest) → 
 once-changed x change forest once =
     let same : length (with_content x change forest).content ≡ length forest.content = length-changed change forest.content x in
     record {
-      kids_each = once.kids_each ∙ sym same;
+      children_each = once.children_each ∙ sym same;
       runs_each = once.runs_each ∙ sym same;
       placed = λ n known. once.placed n (subst (λ (k : ℕ). n < k) same known);
-      in_kids = λ p n stands. (let facts = once.in_kids p n stands in (subst (λ (k : ℕ). n < k) (sym same) facts.0, facts.1));
+      in_children = λ p n stands. (let facts = once.in_children p n stands in (subst (λ (k : ℕ). n < k) (sym same) facts.0, facts.1));
       in_run = λ m n stands. (let facts = once.in_run m n stands in (subst (λ (k : ℕ). n < k) (sym same) facts.0, facts.1, facts.2));
-      kids_once = once.kids_once;
+      children_once = once.children_once;
       run_once = once.run_once;
       no_run = once.no_run;
     }

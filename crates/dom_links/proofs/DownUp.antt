@@ -3,12 +3,12 @@ use Rattle.std.proofs.Common.{ℕ, zero, suc, ◌≡◌, ◌<◌, ◌≤◌, Boo
 use Rattle.std.specs.Prelude.{◌==◌, ◌||◌}
 use Rattle.std.proofs.lemmas.Bool.{cases_Bool, eqb-true, eq-eqb, true≢false, or_right, or_left, or_cases}
 use Rattle.dom_links.specs.Lists.{stands_in, IsDistinct}
-use Rattle.dom_links.specs.Forest.{Forest, kids_of, parent, siblings}
+use Rattle.dom_links.specs.Forest.{Forest, children_of, parent, siblings}
 use Rattle.dom_links.specs.Sound.{IsForest}
 use Rattle.dom_links.specs.Trees.{trees_to, trees, walk, walk_below, ancestors, upward, in_order}
 use Rattle.dom_links.specs.Walk.{later, rest_after}
 use Rattle.dom_links.proofs.Neighbours.{reverse_cons, stands_in-append, stands_in-reverse}
-use Rattle.dom_links.proofs.Places.{cases_Option, siblings_kid}
+use Rattle.dom_links.proofs.Places.{cases_Option, siblings_child}
 use Rattle.dom_links.proofs.Apart.{Under, itself, over, walk_under}
 use Rattle.dom_links.proofs.Depth.{here_stands, later_stands, parent_inside, start_down, step_inside, trees_stay, upward-none}
 use Rattle.std.proofs.lemmas.Bool.{or_parts}
@@ -33,49 +33,49 @@ module _ (forest : Forest) (good : IsForest forest) where
   walk_above : (n x : ℕ) → stands_in x (walk_below forest n) ≡ true → stands_in n (ancestors forest x) ≡ true
   unfolding trees
   walk_above n x s =
-      let kid = walk_under forest (length forest.content) (kids_of forest n) x good s in
-      under_above kid.0 x n kid.2 (good.once.in_kids n kid.0 kid.1).1
+      let child = walk_under forest (length forest.content) (children_of forest n) x good s in
+      under_above child.0 x n child.2 (good.once.in_children n child.0 child.1).1
 
   -- each root stands in the walk
   roots_stand : (most : ℕ) (ns : List ℕ) (x : ℕ) → stands_in x ns ≡ true → stands_in x (walk (trees_to forest (suc most) ns)) ≡ true
   roots_stand most [] x s = cc
   roots_stand most (n ∷ ns) x s = elim (or_cases (n == x) (stands_in x ns) s) [
     | inl t ↦ or_left (n == x) _ t
-    | inr there ↦ or_right (n == x) _ (stands_in-append (walk (trees_to forest most (kids_of forest n))) (walk (trees_to forest (suc most) ns)) x
-        ∙ or_right (stands_in x (walk (trees_to forest most (kids_of forest n)))) _ (roots_stand most ns x there))
+    | inr there ↦ or_right (n == x) _ (stands_in-append (walk (trees_to forest most (children_of forest n))) (walk (trees_to forest (suc most) ns)) x
+        ∙ or_right (stands_in x (walk (trees_to forest most (children_of forest n)))) _ (roots_stand most ns x there))
   ]
 
-  -- the kids of who stands in a walk stand in it, one step further down
-  kids_stand : (most : ℕ) (ns : List ℕ) (p x : ℕ) → stands_in p (walk (trees_to forest most ns)) ≡ true → stands_in x (kids_of forest p) ≡ true → stands_in x (walk (trees_to forest (suc most) ns)) ≡ true
-  kids_stand most [] p x s kid = cc
-  kids_stand zero (n ∷ ns) p x s kid = cc
-  kids_stand (suc most) (n ∷ ns) p x s kid =
-      let inner = walk (trees_to forest most (kids_of forest n)) in
+  -- the children of who stands in a walk stand in it, one step further down
+  children_stand : (most : ℕ) (ns : List ℕ) (p x : ℕ) → stands_in p (walk (trees_to forest most ns)) ≡ true → stands_in x (children_of forest p) ≡ true → stands_in x (walk (trees_to forest (suc most) ns)) ≡ true
+  children_stand most [] p x s child = cc
+  children_stand zero (n ∷ ns) p x s child = cc
+  children_stand (suc most) (n ∷ ns) p x s child =
+      let inner = walk (trees_to forest most (children_of forest n)) in
       let others = walk (trees_to forest (suc most) ns) in
-      let inside : stands_in x (walk (trees_to forest (suc most) (kids_of forest n))) ≡ true → stands_in x (walk (trees_to forest (suc (suc most)) (n ∷ ns))) ≡ true =
-      λ t. or_right (n == x) _ (stands_in-append (walk (trees_to forest (suc most) (kids_of forest n))) (walk (trees_to forest (suc (suc most)) ns)) x ∙ or_left _ (stands_in x (walk (trees_to forest (suc (suc most)) ns))) t) in
+      let inside : stands_in x (walk (trees_to forest (suc most) (children_of forest n))) ≡ true → stands_in x (walk (trees_to forest (suc (suc most)) (n ∷ ns))) ≡ true =
+      λ t. or_right (n == x) _ (stands_in-append (walk (trees_to forest (suc most) (children_of forest n))) (walk (trees_to forest (suc (suc most)) ns)) x ∙ or_left _ (stands_in x (walk (trees_to forest (suc (suc most)) ns))) t) in
       elim (or_cases (n == p) (stands_in p (inner ++ others)) s) [
-        | inl here ↦ inside (roots_stand most (kids_of forest n) x (ap (λ m. stands_in x (kids_of forest m)) (eqb-true n p here) ∙ kid))
+        | inl here ↦ inside (roots_stand most (children_of forest n) x (ap (λ m. stands_in x (children_of forest m)) (eqb-true n p here) ∙ child))
         | inr below ↦ elim (or_cases (stands_in p inner) (stands_in p others) (sym (stands_in-append inner others p) ∙ below)) [
-          | inl t ↦ inside (kids_stand most (kids_of forest n) p x t kid)
-          | inr t ↦ or_right (n == x) _ (stands_in-append (walk (trees_to forest (suc most) (kids_of forest n))) (walk (trees_to forest (suc (suc most)) ns)) x
-              ∙ or_right (stands_in x (walk (trees_to forest (suc most) (kids_of forest n)))) _ (kids_stand (suc most) ns p x t kid))
+          | inl t ↦ inside (children_stand most (children_of forest n) p x t child)
+          | inr t ↦ or_right (n == x) _ (stands_in-append (walk (trees_to forest (suc most) (children_of forest n))) (walk (trees_to forest (suc (suc most)) ns)) x
+              ∙ or_right (stands_in x (walk (trees_to forest (suc most) (children_of forest n)))) _ (children_stand (suc most) ns p x t child))
         ]
       ]
 
-  kid_of : (x p : ℕ) → parent forest x ≡ Some p → stands_in x (kids_of forest p) ≡ true
-  kid_of x p is = ap (stands_in x) (sym (siblings_kid forest x p is)) ∙ good.once.placed x (step_inside forest p x good (inl is))
+  child_of : (x p : ℕ) → parent forest x ≡ Some p → stands_in x (children_of forest p) ≡ true
+  child_of x p is = ap (stands_in x) (sym (siblings_child forest x p is)) ∙ good.once.placed x (step_inside forest p x good (inl is))
 
   -- one step more adds nothing
-  deeper_same : (n x : ℕ) → stands_in x (walk (trees_to forest (suc (length forest.content)) (kids_of forest n))) ≡ true → stands_in x (walk_below forest n) ≡ true
+  deeper_same : (n x : ℕ) → stands_in x (walk (trees_to forest (suc (length forest.content)) (children_of forest n))) ≡ true → stands_in x (walk_below forest n) ≡ true
   unfolding trees
   deeper_same n x s =
-      ap (λ t. stands_in x (walk t)) (sym (trees_stay forest (length forest.content) [] (kids_of forest n) good (start_down forest (kids_of forest n) (λ m t. (good.once.in_kids n m t).0)) (omega arith))) ∙ s
+      ap (λ t. stands_in x (walk t)) (sym (trees_stay forest (length forest.content) [] (children_of forest n) good (start_down forest (children_of forest n) (λ m t. (good.once.in_children n m t).0)) (omega arith))) ∙ s
 
-  kid_walks : (n p x : ℕ) → (n ≡ p) ⊎ (stands_in p (walk_below forest n) ≡ true) → stands_in x (kids_of forest p) ≡ true → stands_in x (walk_below forest n) ≡ true
+  child_walks : (n p x : ℕ) → (n ≡ p) ⊎ (stands_in p (walk_below forest n) ≡ true) → stands_in x (children_of forest p) ≡ true → stands_in x (walk_below forest n) ≡ true
   unfolding trees
-  kid_walks n p x (inl e) kid = deeper_same n x (roots_stand (length forest.content) (kids_of forest n) x (ap (λ m. stands_in x (kids_of forest m)) e ∙ kid))
-  kid_walks n p x (inr s) kid = deeper_same n x (kids_stand (length forest.content) (kids_of forest n) p x s kid)
+  child_walks n p x (inl e) child = deeper_same n x (roots_stand (length forest.content) (children_of forest n) x (ap (λ m. stands_in x (children_of forest m)) e ∙ child))
+  child_walks n p x (inr s) child = deeper_same n x (children_stand (length forest.content) (children_of forest n) p x s child)
 
   above_walks : (ns : List ℕ) (n x : ℕ) → ancestors forest x ≡ ns → stands_in n ns ≡ true → stands_in x (walk_below forest n) ≡ true
   above_walks [] n x e s = cc
@@ -85,8 +85,8 @@ module _ (forest : Forest) (good : IsForest forest) where
         let same : m ≡ p = cc in
         let rest : ancestors forest p ≡ ms = cc in
         elim (or_cases (m == n) (stands_in n ms) s) [
-          | inl here ↦ kid_walks n p x (inl (sym (eqb-true m n here) ∙ same)) (kid_of x p is)
-          | inr there ↦ kid_walks n p x (inr (above_walks ms n p rest there)) (kid_of x p is)
+          | inl here ↦ child_walks n p x (inl (sym (eqb-true m n here) ∙ same)) (child_of x p is)
+          | inr there ↦ child_walks n p x (inr (above_walks ms n p rest there)) (child_of x p is)
         ])
   ]
 

@@ -8,11 +8,11 @@ use Rattle.std.proofs.lemmas.Option.{slice_get_past}
 use Rattle.dom_nodes.specs.declared.node_data.TreeNode.{TreeNode}
 use Rattle.dom_nodes.specs.Kinds.{contents_named, is_fragment}
 use Rattle.dom_links.specs.Lists.{stands_in, IsDistinct, first, last, after, before, names}
-use Rattle.dom_links.specs.Forest.{forest_of, kids_of, parent, siblings, parent_link, prev_link, next_link, first_link, last_link, contents_of}
+use Rattle.dom_links.specs.Forest.{forest_of, children_of, parent, siblings, parent_link, prev_link, next_link, first_link, last_link, contents_of}
 use Rattle.dom_links.specs.Sound.{IsSoundArena, Reaches, one_step, Step, contents_at}
 use Rattle.dom_links.specs.Validation.{Way, one_link, then_link, HasRing, LinksKnown, Agrees, IsLinked, HoldsAlone, HoldsContents, IsAbove, Climbs, one_up, then_up, AreHolders, LinksAstray, link_at, step_up, contents_link}
 use Rattle.dom_links.proofs.Neighbours.{stands_in-append, after-append, after-stands, before-stands, before_here, after_with, first-stands, last-stands, last_names, last-reverse, names-true, names-same, around, distinct-reverse, distinct_parts, stands_in-reverse}
-use Rattle.dom_links.proofs.Places.{cases_Option, siblings_kid, siblings_once, beside}
+use Rattle.dom_links.proofs.Places.{cases_Option, siblings_child, siblings_once, beside}
 use Rattle.dom_links.proofs.Cuts.{length-contents, if_some, parent_known, prev_known, next_known}
 use Rattle.dom_links.proofs.Circles.{onward}
 use Rattle.dom_links.proofs.Grown.{within}
@@ -63,10 +63,10 @@ linked nodes n sound h = (let long = length-contents (forest_of nodes) nodes sou
 node_of : (nodes : List TreeNode) (n : ℕ) → IsSoundArena nodes → n < length (forest_of nodes).content → n < length nodes
 node_of nodes n sound h = (let long = length-contents (forest_of nodes) nodes sound.arena.links in omega arith)
 
--- a kid of n
-kid : (nodes : List TreeNode) (n c : ℕ) → IsSoundArena nodes → stands_in c (kids_of (forest_of nodes) n) ≡ true → (c < length nodes) × (parent_link nodes c ≡ Some n)
-kid nodes n c sound s =
-    let facts = sound.arena.once.in_kids n c s in
+-- a child of n
+child : (nodes : List TreeNode) (n c : ℕ) → IsSoundArena nodes → stands_in c (children_of (forest_of nodes) n) ≡ true → (c < length nodes) × (parent_link nodes c ≡ Some n)
+child nodes n c sound s =
+    let facts = sound.arena.once.in_children n c s in
     let here = node_of nodes c sound facts.0 in
     (here, sound.arena.links.parents c here ∙ facts.1)
 
@@ -75,8 +75,8 @@ sound_known nodes n sound h = record {
   parent_known = parent_known (forest_of nodes) nodes n (parent_link nodes n) sound.arena h (sound.arena.links.parents n h);
   prev_known = prev_known (forest_of nodes) nodes n (prev_link nodes n) sound.arena h (sound.arena.links.prevs n h);
   next_known = next_known (forest_of nodes) nodes n (next_link nodes n) sound.arena h (sound.arena.links.nexts n h);
-  first_known = if_some (first_link nodes n) (λ m. m < length nodes) (λ c e. (kid nodes n c sound (first-stands (kids_of (forest_of nodes) n) c (sym (sound.arena.links.firsts n h) ∙ e))).0);
-  last_known = if_some (last_link nodes n) (λ m. m < length nodes) (λ c e. (kid nodes n c sound (last-stands (kids_of (forest_of nodes) n) c (sym (sound.arena.links.lasts n h) ∙ e))).0);
+  first_known = if_some (first_link nodes n) (λ m. m < length nodes) (λ c e. (child nodes n c sound (first-stands (children_of (forest_of nodes) n) c (sym (sound.arena.links.firsts n h) ∙ e))).0);
+  last_known = if_some (last_link nodes n) (λ m. m < length nodes) (λ c e. (child nodes n c sound (last-stands (children_of (forest_of nodes) n) c (sym (sound.arena.links.lasts n h) ∙ e))).0);
 }
 
 pub sound_not_astray : (nodes : List TreeNode) (n : ℕ) → IsSoundArena nodes → n < length nodes → LinksAstray nodes n → ⊥
@@ -125,16 +125,16 @@ sound_linked nodes n sound h =
           let is : before (siblings (forest_of nodes) n) n ≡ Some m = sym (sound.arena.links.prevs n h) ∙ e in
           let by = beside (forest_of nodes) n m sound.arena.once (before-stands (siblings (forest_of nodes) n) n m is) in
           sound.arena.links.parents m (node_of nodes m sound by.known) ∙ by.same_parent ∙ sym (sound.arena.links.parents n h));
-      first_here = if_some (first_link nodes n) (λ c. parent_link nodes c ≡ Some n) (λ c e. (kid nodes n c sound (first-stands (kids_of (forest_of nodes) n) c (sym (sound.arena.links.firsts n h) ∙ e))).1);
-      last_here = if_some (last_link nodes n) (λ c. parent_link nodes c ≡ Some n) (λ c e. (kid nodes n c sound (last-stands (kids_of (forest_of nodes) n) c (sym (sound.arena.links.lasts n h) ∙ e))).1);
+      first_here = if_some (first_link nodes n) (λ c. parent_link nodes c ≡ Some n) (λ c e. (child nodes n c sound (first-stands (children_of (forest_of nodes) n) c (sym (sound.arena.links.firsts n h) ∙ e))).1);
+      last_here = if_some (last_link nodes n) (λ c. parent_link nodes c ≡ Some n) (λ c e. (child nodes n c sound (last-stands (children_of (forest_of nodes) n) c (sym (sound.arena.links.lasts n h) ∙ e))).1);
       at_front = if_some (parent_link nodes n) (λ p. prev_link nodes n ≡ None → first_link nodes p ≡ Some n) (λ p e none.
           let up = above nodes n p sound h e in
-          let kids = siblings_kid (forest_of nodes) n p up.1 in
-          sound.arena.links.firsts p up.0 ∙ ap first (sym kids) ∙ is_first_one (siblings (forest_of nodes) n) n its.0 its.1 (sym (sound.arena.links.prevs n h) ∙ none));
+          let children = siblings_child (forest_of nodes) n p up.1 in
+          sound.arena.links.firsts p up.0 ∙ ap first (sym children) ∙ is_first_one (siblings (forest_of nodes) n) n its.0 its.1 (sym (sound.arena.links.prevs n h) ∙ none));
       at_back = if_some (parent_link nodes n) (λ p. next_link nodes n ≡ None → last_link nodes p ≡ Some n) (λ p e none.
           let up = above nodes n p sound h e in
-          let kids = siblings_kid (forest_of nodes) n p up.1 in
-          sound.arena.links.lasts p up.0 ∙ ap last (sym kids) ∙ is_last_one (siblings (forest_of nodes) n) n its.0 its.1 (sym (sound.arena.links.nexts n h) ∙ none));
+          let children = siblings_child (forest_of nodes) n p up.1 in
+          sound.arena.links.lasts p up.0 ∙ ap last (sym children) ∙ is_last_one (siblings (forest_of nodes) n) n its.0 its.1 (sym (sound.arena.links.nexts n h) ∙ none));
     }
 
 named_at : (nodes : List TreeNode) (n c : ℕ) → IsSoundArena nodes → contents_link nodes n ≡ Some c → contents_at (forest_of nodes) n ≡ Some c

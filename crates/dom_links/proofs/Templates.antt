@@ -1,4 +1,4 @@
--- A node is made as the last kid of another, and then a fragment, for its contents.
+-- A node is made as the last child of another, and then a fragment, for its contents.
 use Rattle.std.proofs.Common.{ℕ, zero, suc, ◌≡◌, ◌≢◌, ◌<◌, ◌≤◌, ◌+◌, Bool, true, false, List, [], ◌∷◌, ◌++◌, Some, refl, sym, ap, ◌∙◌, subst, arith, cond, inl, inr, ◌⊎◌, length, get_or, append_assoc}
 use Rattle.std.specs.Prelude.{◌==◌, ◌||◌, slice_get, option_and_then}
 use Rattle.std.specs.Option.{option_map_or}
@@ -10,7 +10,7 @@ use Rattle.dom_nodes.specs.declared.node_data.TreeNode.{TreeNode}
 use Rattle.dom_nodes.specs.Kinds.{contents_named, is_fragment, is_top, may_bear}
 use Rattle.dom_links.specs.Lists.{stands_in, map_from}
 use Rattle.dom_links.specs.Forest.{Forest, StandsOnce, IsArenaOf, forest_of}
-use Rattle.dom_links.specs.Moves.{end_of, kids_with, run_with, put, moved_to}
+use Rattle.dom_links.specs.Moves.{end_of, children_with, run_with, put, moved_to}
 use Rattle.dom_links.specs.Sound.{Step, Reaches, one_step, then_step, contents_at, stays, IsForest, Moved}
 use Rattle.dom_links.specs.Growth.{with_node, with_child, with_template, Created, MayAppend, MayAppendTemplate, AppendedTemplate}
 use Rattle.dom_links.proofs.Places.{get_or-map_all, length-map_from}
@@ -27,33 +27,33 @@ use Rattle.dom_links.proofs.Appends.{cut-alone, new_alone, may_place_new}
 put-more : (new : NodeData) (forest : Forest) (t n : ℕ) → StandsOnce forest → t < length forest.content → n < length forest.content →
     put (end_of t) (n ∷ []) (with_node new forest) ≡ with_node new (put (end_of t) (n ∷ []) forest)
 put-more new forest t n once ht hn =
-    let f : ℕ → List ℕ → List ℕ = kids_with (end_of t) (n ∷ []) in
+    let f : ℕ → List ℕ → List ℕ = children_with (end_of t) (n ∷ []) in
     let g : ℕ → List ℕ → List ℕ = λ m run. run_with (end_of t) (n ∷ []) (with_node new forest) m in
     let h : ℕ → List ℕ → List ℕ = λ m run. run_with (end_of t) (n ∷ []) forest m in
     let own : List ℕ = length forest.content ∷ [] in
-    let kids : map_from 0 f (forest.kids ++ [] ∷ []) ≡ map_from 0 f forest.kids ++ [] ∷ [] =
-    same_lists _ _ (length-map_from 0 f (forest.kids ++ [] ∷ []) ∙ length_push forest.kids [] ∙ sym (length_push (map_from 0 f forest.kids) [] ∙ ap (λ (k : ℕ). k + 1) (length-map_from 0 f forest.kids)))
-    (λ k d l. let within : k < length (forest.kids ++ [] ∷ []) = omega (arith, l, length-map_from 0 f (forest.kids ++ [] ∷ [])) in
-    let more = length_push forest.kids [] in
-    get_or_default (map_from 0 f (forest.kids ++ [] ∷ [])) k d [] l ∙ get_or-map_all f (forest.kids ++ [] ∷ []) k within ∙ kid k (omega arith)
-    ∙ get_or_default (map_from 0 f forest.kids ++ [] ∷ []) k [] d (omega (arith, length_push (map_from 0 f forest.kids) [], length-map_from 0 f forest.kids))) in
+    let children : map_from 0 f (forest.children ++ [] ∷ []) ≡ map_from 0 f forest.children ++ [] ∷ [] =
+    same_lists _ _ (length-map_from 0 f (forest.children ++ [] ∷ []) ∙ length_push forest.children [] ∙ sym (length_push (map_from 0 f forest.children) [] ∙ ap (λ (k : ℕ). k + 1) (length-map_from 0 f forest.children)))
+    (λ k d l. let within : k < length (forest.children ++ [] ∷ []) = omega (arith, l, length-map_from 0 f (forest.children ++ [] ∷ [])) in
+    let more = length_push forest.children [] in
+    get_or_default (map_from 0 f (forest.children ++ [] ∷ [])) k d [] l ∙ get_or-map_all f (forest.children ++ [] ∷ []) k within ∙ child k (omega arith)
+    ∙ get_or_default (map_from 0 f forest.children ++ [] ∷ []) k [] d (omega (arith, length_push (map_from 0 f forest.children) [], length-map_from 0 f forest.children))) in
     let runs : map_from 0 g (forest.runs ++ own ∷ []) ≡ map_from 0 h forest.runs ++ own ∷ [] =
     same_lists _ _ (length-map_from 0 g (forest.runs ++ own ∷ []) ∙ length_push forest.runs own ∙ sym (length_push (map_from 0 h forest.runs) own ∙ ap (λ (k : ℕ). k + 1) (length-map_from 0 h forest.runs)))
     (λ k d l. let within : k < length (forest.runs ++ own ∷ []) = omega (arith, l, length-map_from 0 g (forest.runs ++ own ∷ [])) in
     let more = length_push forest.runs own in
     get_or_default (map_from 0 g (forest.runs ++ own ∷ [])) k d [] l ∙ get_or-map_all g (forest.runs ++ own ∷ []) k within ∙ run k (omega arith)
     ∙ get_or_default (map_from 0 h forest.runs ++ own ∷ []) k [] d (omega (arith, length_push (map_from 0 h forest.runs) own, length-map_from 0 h forest.runs))) in
-    rw (kids, runs) refl
+    rw (children, runs) refl
   where
-    kid : (k : ℕ) → k ≤ length forest.kids → kids_with (end_of t) (n ∷ []) k (get_or (forest.kids ++ [] ∷ []) k []) ≡ get_or (map_from 0 (kids_with (end_of t) (n ∷ [])) forest.kids ++ [] ∷ []) k []
-    kid k l =
-        let f : ℕ → List ℕ → List ℕ = kids_with (end_of t) (n ∷ []) in
-        let long = length-map_from 0 f forest.kids in
-        elim (cases_lt k (length forest.kids)) [
-          | inl here ↦ ap (f k) (get_or-before forest.kids [] k here) ∙ sym (get_or-before (map_from 0 f forest.kids) [] k (omega (arith, long)) ∙ get_or-map_all f forest.kids k here)
+    child : (k : ℕ) → k ≤ length forest.children → children_with (end_of t) (n ∷ []) k (get_or (forest.children ++ [] ∷ []) k []) ≡ get_or (map_from 0 (children_with (end_of t) (n ∷ [])) forest.children ++ [] ∷ []) k []
+    child k l =
+        let f : ℕ → List ℕ → List ℕ = children_with (end_of t) (n ∷ []) in
+        let long = length-map_from 0 f forest.children in
+        elim (cases_lt k (length forest.children)) [
+          | inl here ↦ ap (f k) (get_or-before forest.children [] k here) ∙ sym (get_or-before (map_from 0 f forest.children) [] k (omega (arith, long)) ∙ get_or-map_all f forest.children k here)
           | inr past ↦
-              (let other : (k == t) ≡ false = ne_eqb k t (λ e. omega (arith, e, once.kids_each)) in
-              ap (f k) (get_or-there forest.kids [] k (omega arith)) ∙ ap (λ (b : Bool). cond b ([] ++ n ∷ []) []) other ∙ sym (get_or-there (map_from 0 f forest.kids) [] k (omega (arith, long))))
+              (let other : (k == t) ≡ false = ne_eqb k t (λ e. omega (arith, e, once.children_each)) in
+              ap (f k) (get_or-there forest.children [] k (omega arith)) ∙ ap (λ (b : Bool). cond b ([] ++ n ∷ []) []) other ∙ sym (get_or-there (map_from 0 f forest.children) [] k (omega (arith, long))))
         ]
 
     run : (k : ℕ) → k ≤ length forest.runs → run_with (end_of t) (n ∷ []) (with_node new forest) k ≡ get_or (map_from 0 (λ m run. run_with (end_of t) (n ∷ []) forest m) forest.runs ++ (length forest.content ∷ []) ∷ []) k []
@@ -90,7 +90,7 @@ record Held (content : List NodeData) (forest : Forest) (data' : NodeData) (n c 
   pub apart : n ≢ c
 
 abbrev changed : List NodeData → Forest → Forest
-changed content forest = record { content = content; kids = forest.kids; runs = forest.runs }
+changed content forest = record { content = content; children = forest.children; runs = forest.runs }
 
 held_contents : (content : List NodeData) (forest : Forest) (a : NodeData) (n c : ℕ) → Held content forest a n c → (m d : ℕ) → contents_at (changed content forest) m ≡ Some d → (contents_at forest m ≡ Some d) ⊎ ((m ≡ n) × (d ≡ c))
 held_contents content forest a n c h m d e = elim (h.same m) [
@@ -133,12 +133,12 @@ held_stays content forest a n c h m s = elim (h.same m) [
 
 once-changed : (content : List NodeData) (forest : Forest) → StandsOnce forest → length content ≡ length forest.content → StandsOnce (changed content forest)
 once-changed content forest once long = record {
-  kids_each = once.kids_each ∙ sym long;
+  children_each = once.children_each ∙ sym long;
   runs_each = once.runs_each ∙ sym long;
   placed = λ n h. once.placed n (omega (arith, h, long));
-  in_kids = λ p n s. (let facts = once.in_kids p n s in (omega (arith, facts.0, long), facts.1));
+  in_children = λ p n s. (let facts = once.in_children p n s in (omega (arith, facts.0, long), facts.1));
   in_run = λ m n s. (let facts = once.in_run m n s in (omega (arith, facts.0, long), facts.1, facts.2));
-  kids_once = once.kids_once;
+  children_once = once.children_once;
   run_once = once.run_once;
   no_run = once.no_run;
 }
@@ -223,7 +223,7 @@ template_kept forest t content good may =
       apart = λ e. absurd (omega (arith, e));
     } in
     let same : length (forest.content ++ plain ∷ []) ≡ length (forest.content ++ content ∷ []) = more ∙ sym other in
-    let build : ℕ → Forest = λ k. record { content = all; kids = outer.kids; runs = inner.runs ++ (k ∷ []) ∷ [] } in
+    let build : ℕ → Forest = λ k. record { content = all; children = outer.children; runs = inner.runs ++ (k ∷ []) ∷ [] } in
     subst IsForest (ap build same) (held_forest all outer content n (n + 1) whole held)
 
 pub appended_template : (old mid one new : List TreeNode) (t x : ℕ) (content : NodeData) → IsArenaOf (forest_of old) old → x ≡ length old → t < length old → Created old mid content → Created mid one Fragment → Moved one new (end_of t) x →

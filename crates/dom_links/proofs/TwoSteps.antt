@@ -1,14 +1,14 @@
--- Moves of the kids of a node, and moves in two steps.
+-- Moves of the children of a node, and moves in two steps.
 use Rattle.std.proofs.Common.{ℕ, suc, ◌≡◌, ◌<◌, ◌+◌, true, false, List, [], ◌∷◌, ◌++◌, Option, Some, None, refl, sym, ap, ◌∙◌, subst, arith, cond, inl, inr, length, map, get_or}
 use Rattle.std.specs.Prelude.{◌==◌, MatchOption, option_and_then}
 use Rattle.std.proofs.lemmas.List.{append-nil}
 use Rattle.std.proofs.lemmas.Bool.{cases_Bool, not-true}
 use Rattle.dom_nodes.specs.declared.node_data.TreeNode.{TreeNode}
 use Rattle.dom_links.specs.Lists.{stands_in, first, without, map_from}
-use Rattle.dom_links.specs.Forest.{Forest, StandsOnce, IsArenaOf, forest_of, kids_of, run_of, parent, siblings}
-use Rattle.dom_links.specs.Moves.{end_of, front_of, before_node, kids_with, put, cut, moved_to}
+use Rattle.dom_links.specs.Forest.{Forest, StandsOnce, IsArenaOf, forest_of, children_of, run_of, parent, siblings}
+use Rattle.dom_links.specs.Moves.{end_of, front_of, before_node, children_with, put, cut, moved_to}
 use Rattle.dom_links.specs.Sound.{one_step, then_step, Allowed, IsForest, MayPlace, Moved, Removed, stays}
-use Rattle.dom_links.specs.ListMoves.{AllowedList, MovedList, KidsRemoved, Reparents, MayWrap, Wrapped, Unwrapped, element_at, element_above, wrapper, without_wrapper, with_later}
+use Rattle.dom_links.specs.ListMoves.{AllowedList, MovedList, ChildrenRemoved, Reparents, MayWrap, Wrapped, Unwrapped, element_at, element_above, wrapper, without_wrapper, with_later}
 use Rattle.dom_links.specs.ListWrites.{RunAttached}
 use Rattle.dom_links.proofs.Neighbours.{around, first-stands}
 use Rattle.dom_links.proofs.Places.{cases_Option, siblings_once}
@@ -18,8 +18,8 @@ use Rattle.dom_links.proofs.Fills.{parent-filled_same, parent-filled_other}
 use Rattle.dom_links.proofs.Gaps.{filled-before}
 use Rattle.dom_links.proofs.Depth.{parent_inside}
 use Rattle.dom_links.proofs.SiblingWalks.{not_beside_below}
-use Rattle.dom_links.proofs.BlockKept.{kids_are, kids_move, kids_removed, list_moved}
-use Rattle.dom_links.proofs.BlockMoves.{all_kids, later_are, known_inside, moved-front_of}
+use Rattle.dom_links.proofs.BlockKept.{children_are, children_move, children_removed, list_moved}
+use Rattle.dom_links.proofs.BlockMoves.{all_children, later_are, known_inside, moved-front_of}
 
 -- no node at all is cut out or put anywhere
 
@@ -42,45 +42,45 @@ map_without_nothing (ns ∷ lists) = rw (without_nothing ns, map_without_nothing
 pub cut_nothing : (forest : Forest) → cut [] forest ≡ forest
 cut_nothing forest =
     let runs : map_from 0 (λ n run. without [] run) forest.runs ≡ forest.runs = map_from_same 0 (λ n run. without [] run) forest.runs (λ n h. without_nothing (get_or forest.runs n [])) in
-    rw (map_without_nothing forest.kids, runs) refl
+    rw (map_without_nothing forest.children, runs) refl
 
 put_nothing : (forest : Forest) (t : ℕ) → put (end_of t) [] forest ≡ forest
 put_nothing forest t =
-    let kids : map_from 0 (kids_with (end_of t) []) forest.kids ≡ forest.kids = map_from_same 0 (kids_with (end_of t) []) forest.kids (λ n h.
-    elim ((0 + n) == t) as (λ u. cond u (get_or forest.kids n [] ++ []) (get_or forest.kids n []) ≡ get_or forest.kids n []) [ true ↦ append-nil (get_or forest.kids n []) | false ↦ refl ]) in
+    let children : map_from 0 (children_with (end_of t) []) forest.children ≡ forest.children = map_from_same 0 (children_with (end_of t) []) forest.children (λ n h.
+    elim ((0 + n) == t) as (λ u. cond u (get_or forest.children n [] ++ []) (get_or forest.children n []) ≡ get_or forest.children n []) [ true ↦ append-nil (get_or forest.children n []) | false ↦ refl ]) in
     let runs : map_from 0 (λ n run. run_of forest n) forest.runs ≡ forest.runs = map_from_same 0 (λ n run. run_of forest n) forest.runs (λ n h. (let z : 0 + n ≡ n = omega arith in ap (λ (k : ℕ). get_or forest.runs k []) z)) in
-    rw (kids, runs) refl
+    rw (children, runs) refl
 
 pub none_first : (ns : List ℕ) → first ns ≡ None → ns ≡ []
 none_first [] e = refl
 none_first (n ∷ ns) e = cc
 
-pub no_kids_removed : (old : List TreeNode) (x : ℕ) → IsArenaOf (forest_of old) old → kids_of (forest_of old) x ≡ [] → KidsRemoved old old x
-no_kids_removed old x arena none =
-    kids_removed old old x arena (subst (λ (forest : Forest). IsArenaOf forest old) (sym (ap (λ moved. cut moved (forest_of old)) none ∙ cut_nothing (forest_of old))) arena)
+pub no_children_removed : (old : List TreeNode) (x : ℕ) → IsArenaOf (forest_of old) old → children_of (forest_of old) x ≡ [] → ChildrenRemoved old old x
+no_children_removed old x arena none =
+    children_removed old old x arena (subst (λ (forest : Forest). IsArenaOf forest old) (sym (ap (λ moved. cut moved (forest_of old)) none ∙ cut_nothing (forest_of old))) arena)
 
-pub kids_cut_out : (old new : List TreeNode) (x first_kid : ℕ) → IsArenaOf (forest_of old) old → with_later (forest_of old) first_kid ≡ kids_of (forest_of old) x → IsArenaOf (cut (with_later (forest_of old) first_kid) (forest_of old)) new → KidsRemoved old new x
-kids_cut_out old new x first_kid arena all cut_out = kids_removed old new x arena (subst (λ moved. IsArenaOf (cut moved (forest_of old)) new) all cut_out)
+pub children_cut_out : (old new : List TreeNode) (x first_child : ℕ) → IsArenaOf (forest_of old) old → with_later (forest_of old) first_child ≡ children_of (forest_of old) x → IsArenaOf (cut (with_later (forest_of old) first_child) (forest_of old)) new → ChildrenRemoved old new x
+children_cut_out old new x first_child arena all cut_out = children_removed old new x arena (subst (λ moved. IsArenaOf (cut moved (forest_of old)) new) all cut_out)
 
-pub first_kid_told : (nodes : List TreeNode) (x : ℕ) (o : Option ℕ) → IsArenaOf (forest_of nodes) nodes → o ≡ first (kids_of (forest_of nodes) x) →
-    MatchOption o (kids_of (forest_of nodes) x ≡ []) (λ kid. with_later (forest_of nodes) kid ≡ kids_of (forest_of nodes) x)
-first_kid_told nodes x None arena e = none_first (kids_of (forest_of nodes) x) (sym e)
-first_kid_told nodes x (Some k) arena e = all_kids (forest_of nodes) x k arena.once (sym e) (arena.once.in_kids x k (first-stands (kids_of (forest_of nodes) x) k (sym e))).1
+pub first_child_told : (nodes : List TreeNode) (x : ℕ) (o : Option ℕ) → IsArenaOf (forest_of nodes) nodes → o ≡ first (children_of (forest_of nodes) x) →
+    MatchOption o (children_of (forest_of nodes) x ≡ []) (λ child. with_later (forest_of nodes) child ≡ children_of (forest_of nodes) x)
+first_child_told nodes x None arena e = none_first (children_of (forest_of nodes) x) (sym e)
+first_child_told nodes x (Some k) arena e = all_children (forest_of nodes) x k arena.once (sym e) (arena.once.in_children x k (first-stands (children_of (forest_of nodes) x) k (sym e))).1
 
--- the kids of a node are moved to the end of those of another
+-- the children of a node are moved to the end of those of another
 
-pub no_kids_moved : (old : List TreeNode) (x t : ℕ) → IsArenaOf (forest_of old) old → kids_of (forest_of old) x ≡ [] → MovedList old old (end_of t) (kids_of (forest_of old) x)
-no_kids_moved old x t arena none =
-    list_moved old old (end_of t) (kids_of (forest_of old) x) (kids_are (forest_of old) x arena.once)
+pub no_children_moved : (old : List TreeNode) (x t : ℕ) → IsArenaOf (forest_of old) old → children_of (forest_of old) x ≡ [] → MovedList old old (end_of t) (children_of (forest_of old) x)
+no_children_moved old x t arena none =
+    list_moved old old (end_of t) (children_of (forest_of old) x) (children_are (forest_of old) x arena.once)
     (subst (λ (forest : Forest). IsArenaOf forest old) (sym (ap (λ moved. moved_to moved (end_of t) (forest_of old)) none ∙ ap (put (end_of t) []) (cut_nothing (forest_of old)) ∙ put_nothing (forest_of old) t)) arena)
 
-pub reparents_to : (old new : List TreeNode) (x t : ℕ) (p : Option ℕ) → p ≡ Some t → MovedList old new (end_of t) (kids_of (forest_of old) x) → Reparents old new x p
+pub reparents_to : (old new : List TreeNode) (x t : ℕ) (p : Option ℕ) → p ≡ Some t → MovedList old new (end_of t) (children_of (forest_of old) x) → Reparents old new x p
 reparents_to old new x t p some moved = subst (Reparents old new x) (sym some) (record { made = moved.made; linked = moved.linked; kept = moved.kept })
 
 -- the whole list of a node
 
 pub list_to_front : (old middle new : List TreeNode) (x start t : ℕ) (right : Option ℕ) → IsArenaOf (forest_of old) old → start < length old → with_later (forest_of old) start ≡ siblings (forest_of old) x → t < length old → IsArenaOf (cut (with_later (forest_of old) start) (forest_of old)) middle →
-    right ≡ first (kids_of (cut (with_later (forest_of old) start) (forest_of old)) t) → RunAttached middle new start (Some t) None right → MovedList old new (front_of t) (siblings (forest_of old) x)
+    right ≡ first (children_of (cut (with_later (forest_of old) start) (forest_of old)) t) → RunAttached middle new start (Some t) None right → MovedList old new (front_of t) (siblings (forest_of old) x)
 list_to_front old middle new x start t right arena known all h cut_out r run =
     subst (MovedList old new (front_of t)) all
     (moved-front_of old middle new (with_later (forest_of old) start) start t right arena
@@ -171,32 +171,32 @@ wrapper_is forest x p e = elim (cases_Option (element_above forest x)) [
   ]
 ]
 
--- the kids of a wrapper may be put before it
+-- the children of a wrapper may be put before it
 
-pub wrapper_apart : (forest : Forest) (p : ℕ) → IsForest forest → stands_in p (kids_of forest p) ≡ false
-wrapper_apart forest p good = elim (cases_Bool (stands_in p (kids_of forest p))) [
+pub wrapper_apart : (forest : Forest) (p : ℕ) → IsForest forest → stands_in p (children_of forest p) ≡ false
+wrapper_apart forest p good = elim (cases_Bool (stands_in p (children_of forest p))) [
   | inr f ↦ f
-  | inl s ↦ absurd (good.no_circle p (one_step p p (inl (good.once.in_kids p p s).1)))
+  | inl s ↦ absurd (good.no_circle p (one_step p p (inl (good.once.in_children p p s).1)))
 ]
 
-pub kids_before : (forest : Forest) (x p : ℕ) → IsForest forest → IsWrapper forest x p → AllowedList forest (before_node p) (kids_of forest p)
-kids_before forest x p good is = record {
+pub children_before : (forest : Forest) (x p : ℕ) → IsForest forest → IsWrapper forest x p → AllowedList forest (before_node p) (children_of forest p)
+children_before forest x p good is = record {
   target_known = parent_inside forest x p good is.parent_is;
   open_here = elim (cases_Bool (stays forest p)) [
     | inr f ↦ rw f refl
     | inl t ↦ (let none = (good.alone p (parent_inside forest x p good is.parent_is) t).0 in let some = is.grandparent_is in cc)
   ];
-  may = λ k s. (let above = (good.once.in_kids p k s).1 in
+  may = λ k s. (let above = (good.once.in_children p k s).1 in
       record {
-        moves = kids_move forest p good k s;
+        moves = children_move forest p good k s;
         apart = λ e. good.no_circle p (one_step p p (inl (ap (parent forest) (sym e) ∙ above)));
         free = λ way. good.no_circle k (then_step k p k way (inl above));
       });
 }
 
-pub unwraps : (old middle new : List TreeNode) (x p : ℕ) → wrapper (forest_of old) x ≡ Some p → MovedList old middle (before_node p) (kids_of (forest_of old) p) → Removed middle new p → Unwrapped old new x
+pub unwraps : (old middle new : List TreeNode) (x p : ℕ) → wrapper (forest_of old) x ≡ Some p → MovedList old middle (before_node p) (children_of (forest_of old) p) → Removed middle new p → Unwrapped old new x
 unwraps old middle new x p some moved removed = record {
   made = removed.made ∙ ap (cut (p ∷ [])) moved.made ∙ sym (ap (λ o. without_wrapper o (forest_of old)) some);
   linked = removed.linked;
-  kept = λ good. removed.kept (moved.kept good (kids_before (forest_of old) x p good (wrapper_is (forest_of old) x p some)));
+  kept = λ good. removed.kept (moved.kept good (children_before (forest_of old) x p good (wrapper_is (forest_of old) x p some)));
 }

@@ -5,16 +5,16 @@ use Rattle.std.proofs.lemmas.List.{get_or_past, get_or_default, same_lists, leng
 use Rattle.std.proofs.lemmas.Bool.{cases_Bool, cases_lt, eq-eqb, ne_eqb, eqb-true, eqb-false, or_parts}
 use Rattle.dom_nodes.specs.declared.node_data.NodeData.{NodeData}
 use Rattle.dom_links.specs.Lists.{stands_in, IsDistinct, without, put_before}
-use Rattle.dom_links.specs.Forest.{Forest, kids_of, run_of, parent, siblings}
-use Rattle.dom_links.specs.Moves.{Gap, end_of, before_node, kids_with, run_with, cut, moved_to}
+use Rattle.dom_links.specs.Forest.{Forest, children_of, run_of, parent, siblings}
+use Rattle.dom_links.specs.Moves.{Gap, end_of, before_node, children_with, run_with, cut, moved_to}
 use Rattle.dom_links.specs.Sound.{IsForest}
 use Rattle.dom_nodes.specs.Kinds.{is_element}
 use Rattle.dom_links.specs.ListMoves.{IsBare, element_at, wrapper, wrapped, unwrapped, without_wrapper}
 use Rattle.dom_links.proofs.Neighbours.{around, stands_in-append, without-append, without_one-none}
 use Rattle.dom_links.proofs.Places.{siblings_once, get_or-map_all, get_or-map_past, length-map_from}
-use Rattle.dom_links.proofs.Cuts.{kids-cut, parent-cut, run-cut, one-stands, once-cut}
+use Rattle.dom_links.proofs.Cuts.{children-cut, parent-cut, run-cut, one-stands, once-cut}
 use Rattle.dom_links.proofs.Attach.{alone-cut}
-use Rattle.dom_links.proofs.Fills.{parent-filled_same, parent-filled_other, once-filled, only_one, no_kid}
+use Rattle.dom_links.proofs.Fills.{parent-filled_same, parent-filled_other, once-filled, only_one, no_child}
 use Rattle.dom_links.proofs.Gaps.{before_split, before_none, filled-before, filled-end_of}
 use Rattle.dom_links.proofs.Grown.{within}
 use Rattle.dom_links.proofs.Depth.{step_inside}
@@ -23,19 +23,19 @@ use Rattle.dom_links.proofs.TwoSteps.{element_named, wrapper_found}
 
 -- what one-node moves make of each list
 
-kids_beside : (forest : Forest) (t y q : ℕ) → kids_of (moved_to (y ∷ []) (before_node t) forest) q ≡ put_before t (y ∷ []) (without (y ∷ []) (kids_of forest q))
-kids_beside forest t y q =
+children_beside : (forest : Forest) (t y q : ℕ) → children_of (moved_to (y ∷ []) (before_node t) forest) q ≡ put_before t (y ∷ []) (without (y ∷ []) (children_of forest q))
+children_beside forest t y q =
     let middle = cut (y ∷ []) forest in
-    (elim (cases_lt q (length middle.kids)) [
-      | inl here ↦ get_or-map_all (kids_with (before_node t) (y ∷ [])) middle.kids q here
-      | inr past ↦ get_or-map_past (kids_with (before_node t) (y ∷ [])) middle.kids q past ∙ ap (put_before t (y ∷ [])) (sym (get_or_past middle.kids q [] past))
-    ]) ∙ ap (put_before t (y ∷ [])) (kids-cut (y ∷ []) forest q)
+    (elim (cases_lt q (length middle.children)) [
+      | inl here ↦ get_or-map_all (children_with (before_node t) (y ∷ [])) middle.children q here
+      | inr past ↦ get_or-map_past (children_with (before_node t) (y ∷ [])) middle.children q past ∙ ap (put_before t (y ∷ [])) (sym (get_or_past middle.children q [] past))
+    ]) ∙ ap (put_before t (y ∷ [])) (children-cut (y ∷ []) forest q)
 
-kids_into : (forest : Forest) (t y q : ℕ) → q < length forest.kids → kids_of (moved_to (y ∷ []) (end_of t) forest) q ≡ cond (q == t) (without (y ∷ []) (kids_of forest q) ++ y ∷ []) (without (y ∷ []) (kids_of forest q))
-kids_into forest t y q h =
+children_into : (forest : Forest) (t y q : ℕ) → q < length forest.children → children_of (moved_to (y ∷ []) (end_of t) forest) q ≡ cond (q == t) (without (y ∷ []) (children_of forest q) ++ y ∷ []) (without (y ∷ []) (children_of forest q))
+children_into forest t y q h =
     let middle = cut (y ∷ []) forest in
-    let long : length middle.kids ≡ length forest.kids = length-map forest.kids (without (y ∷ [])) in
-    get_or-map_all (kids_with (end_of t) (y ∷ [])) middle.kids q (omega arith) ∙ ap (λ ns. cond (q == t) (ns ++ y ∷ []) ns) (kids-cut (y ∷ []) forest q)
+    let long : length middle.children ≡ length forest.children = length-map forest.children (without (y ∷ [])) in
+    get_or-map_all (children_with (end_of t) (y ∷ [])) middle.children q (omega arith) ∙ ap (λ ns. cond (q == t) (ns ++ y ∷ []) ns) (children-cut (y ∷ []) forest q)
 
 runs_count : (forest : Forest) (gap : Gap) (y : ℕ) → length ((moved_to (y ∷ []) gap forest).runs) ≡ length forest.runs
 runs_count forest gap y =
@@ -43,11 +43,11 @@ runs_count forest gap y =
     let one : length ((moved_to (y ∷ []) gap forest).runs) ≡ length middle.runs = length-map_from 0 (λ n run. run_with gap (y ∷ []) middle n) middle.runs in
     one ∙ length-map_from 0 (λ k run. cond (stands_in k (y ∷ [])) (y ∷ []) (without (y ∷ []) run)) forest.runs
 
-kids_count : (forest : Forest) (gap : Gap) (y : ℕ) → length ((moved_to (y ∷ []) gap forest).kids) ≡ length forest.kids
-kids_count forest gap y =
+children_count : (forest : Forest) (gap : Gap) (y : ℕ) → length ((moved_to (y ∷ []) gap forest).children) ≡ length forest.children
+children_count forest gap y =
     let middle = cut (y ∷ []) forest in
-    let one : length ((moved_to (y ∷ []) gap forest).kids) ≡ length middle.kids = length-map_from 0 (kids_with gap (y ∷ [])) middle.kids in
-    one ∙ length-map forest.kids (without (y ∷ []))
+    let one : length ((moved_to (y ∷ []) gap forest).children) ≡ length middle.children = length-map_from 0 (children_with gap (y ∷ [])) middle.children in
+    one ∙ length-map forest.children (without (y ∷ []))
 
 run_put : (forest : Forest) (gap : Gap) (y n : ℕ) → n < length forest.runs → run_of (moved_to (y ∷ []) gap forest) n ≡ run_with gap (y ∷ []) (cut (y ∷ []) forest) n
 run_put forest gap y n h =
@@ -115,10 +115,10 @@ both_absent : (x w : ℕ) (ns : List ℕ) → stands_in x ns ≡ false → stand
     without (w ∷ []) (put_before w (x ∷ []) (without (x ∷ []) (without (x ∷ []) (put_before x (w ∷ []) (without (w ∷ []) ns))))) ≡ ns
 both_absent x w ns f out = rw (without_one-none ns w out, before_none ns x w f, without_one-none ns x f, without_one-none ns x f, before_none ns w x out, without_one-none ns w out) refl
 
-same_forest : (one two : Forest) → one.content ≡ two.content → one.kids ≡ two.kids → one.runs ≡ two.runs → one ≡ two
+same_forest : (one two : Forest) → one.content ≡ two.content → one.children ≡ two.children → one.runs ≡ two.runs → one ≡ two
 same_forest one two e f g =
-    let of : List NodeData → List (List ℕ) → List (List ℕ) → Forest = λ contents kids runs. record { content = contents; kids = kids; runs = runs } in
-    ap (λ contents. of contents one.kids one.runs) e ∙ ap (λ kids. of two.content kids one.runs) f ∙ ap (λ runs. of two.content two.kids runs) g
+    let of : List NodeData → List (List ℕ) → List (List ℕ) → Forest = λ contents children runs. record { content = contents; children = children; runs = runs } in
+    ap (λ contents. of contents one.children one.runs) e ∙ ap (λ children. of two.content children one.runs) f ∙ ap (λ runs. of two.content two.children runs) g
 
 by_place : (lists others : List (List ℕ)) → length lists ≡ length others → ((n : ℕ) → n < length others → get_or lists n [] ≡ get_or others n []) → lists ≡ others
 by_place lists others long each = same_lists lists others long (λ k d h. get_or_default lists k d [] h ∙ each k (omega (arith, long)) ∙ get_or_default others k [] d (omega (arith, long)))
@@ -166,8 +166,8 @@ parents_wrapped forest x p w b =
     let fill' = filled-end_of between x w cut_once (alone-cut beside x once'' b.x_known) b.w_known in
     let out' : stands_in w (x ∷ []) ≡ false = one-stands x w ∙ ne_eqb x w b.differ in
     record {
-      of_x = parent-filled_same between inside x (Some w) (kids_of between w) [] cut_once fill';
-      of_w = parent-filled_other between inside x (Some w) (kids_of between w) [] w fill' b.differ ∙ parent-cut (x ∷ []) beside w ∙ rw out' beside_w;
+      of_x = parent-filled_same between inside x (Some w) (children_of between w) [] cut_once fill';
+      of_w = parent-filled_other between inside x (Some w) (children_of between w) [] w fill' b.differ ∙ parent-cut (x ∷ []) beside w ∙ rw out' beside_w;
     }
 
 wrapper_wrapped : (forest : Forest) (x p w : ℕ) → Bare forest x p w → wrapper (wrapped x w forest) x ≡ Some w
@@ -176,13 +176,13 @@ wrapper_wrapped forest x p w b =
     let inside = wrapped x w forest in
     wrapper_found inside x w p (element_named inside x w up.of_x b.bare.element) (element_named inside w p up.of_w b.element)
 
--- the kids of w are x alone
-kids_wrapped : (forest : Forest) (x p w : ℕ) → Bare forest x p w → kids_of (wrapped x w forest) w ≡ x ∷ []
-kids_wrapped forest x p w b =
+-- the children of w are x alone
+children_wrapped : (forest : Forest) (x p w : ℕ) → Bare forest x p w → children_of (wrapped x w forest) w ≡ x ∷ []
+children_wrapped forest x p w b =
     let beside = moved_to (w ∷ []) (before_node x) forest in
-    let none : kids_of beside w ≡ [] = kids_beside forest x w w ∙ ap (λ ns. put_before x (w ∷ []) (without (w ∷ []) ns)) b.bare.no_kids in
+    let none : children_of beside w ≡ [] = children_beside forest x w w ∙ ap (λ ns. put_before x (w ∷ []) (without (w ∷ []) ns)) b.bare.no_children in
     let here : (w == w) ≡ true = eq-eqb w w refl in
-    kids_into beside w x w (omega (arith, kids_count forest (before_node x) w, b.good.once.kids_each, b.w_known)) ∙ rw (here, none) refl
+    children_into beside w x w (omega (arith, children_count forest (before_node x) w, b.good.once.children_each, b.w_known)) ∙ rw (here, none) refl
 
 -- the forest after both
 back : (x w : ℕ) (forest : Forest) → Forest
@@ -192,27 +192,27 @@ unwrapped_is : (forest : Forest) (x p w : ℕ) → Bare forest x p w → unwrapp
 unfolding back
 unwrapped_is forest x p w b =
     ap (λ o. without_wrapper o (wrapped x w forest)) (wrapper_wrapped forest x p w b)
-    ∙ ap (λ ns. cut (w ∷ []) (moved_to ns (before_node w) (wrapped x w forest))) (kids_wrapped forest x p w b)
+    ∙ ap (λ ns. cut (w ∷ []) (moved_to ns (before_node w) (wrapped x w forest))) (children_wrapped forest x p w b)
 
-kids_back : (forest : Forest) (x p w q : ℕ) → Bare forest x p w → q < length forest.kids → kids_of (back x w forest) q ≡ kids_of forest q
+children_back : (forest : Forest) (x p w q : ℕ) → Bare forest x p w → q < length forest.children → children_of (back x w forest) q ≡ children_of forest q
 unfolding back
-kids_back forest x p w q b h =
+children_back forest x p w q b h =
     let once = b.good.once in
     let beside = moved_to (w ∷ []) (before_node x) forest in
     let inside = wrapped x w forest in
-    let all : kids_of (back x w forest) q ≡ without (w ∷ []) (put_before w (x ∷ []) (without (x ∷ []) (kids_of inside q))) =
-    kids-cut (w ∷ []) (moved_to (x ∷ []) (before_node w) inside) q ∙ ap (without (w ∷ [])) (kids_beside inside w x q) in
-    let into = kids_into beside w x q (omega (arith, kids_count forest (before_node x) w)) in
-    let was = kids_beside forest x w q in
+    let all : children_of (back x w forest) q ≡ without (w ∷ []) (put_before w (x ∷ []) (without (x ∷ []) (children_of inside q))) =
+    children-cut (w ∷ []) (moved_to (x ∷ []) (before_node w) inside) q ∙ ap (without (w ∷ [])) (children_beside inside w x q) in
+    let into = children_into beside w x q (omega (arith, children_count forest (before_node x) w)) in
+    let was = children_beside forest x w q in
     elim (cases_Bool (q == w)) [
       | inl t ↦ (let is : q ≡ w = eqb-true q w t in
-          let empty : kids_of forest q ≡ [] = ap (kids_of forest) is ∙ b.bare.no_kids in
+          let empty : children_of forest q ≡ [] = ap (children_of forest) is ∙ b.bare.no_children in
           let here : (x == x) ≡ true = eq-eqb x x refl in
-          let now : kids_of inside q ≡ x ∷ [] = into ∙ rw (t, was, empty) refl in
+          let now : children_of inside q ≡ x ∷ [] = into ∙ rw (t, was, empty) refl in
           all ∙ ap (λ ns. without (w ∷ []) (put_before w (x ∷ []) (without (x ∷ []) ns))) now ∙ rw (here, empty) refl)
-      | inr f ↦ (let now : kids_of inside q ≡ without (x ∷ []) (put_before x (w ∷ []) (without (w ∷ []) (kids_of forest q))) = into ∙ rw (f, was) refl in
+      | inr f ↦ (let now : children_of inside q ≡ without (x ∷ []) (put_before x (w ∷ []) (without (w ∷ []) (children_of forest q))) = into ∙ rw (f, was) refl in
           all ∙ ap (λ ns. without (w ∷ []) (put_before w (x ∷ []) (without (x ∷ []) ns))) now
-          ∙ there_and_back x w (kids_of forest q) b.differ (once.kids_once q) (no_kid forest w q once b.bare.no_parent))
+          ∙ there_and_back x w (children_of forest q) b.differ (once.children_once q) (no_child forest w q once b.bare.no_parent))
     ]
 
 run_back : (forest : Forest) (x p w n : ℕ) → Bare forest x p w → n < length forest.runs → run_of (back x w forest) n ≡ run_of forest n
@@ -258,12 +258,12 @@ run_back forest x p w n b h =
           ])
     ]
 
-kids_count_back : (x w : ℕ) (forest : Forest) → length ((back x w forest).kids) ≡ length forest.kids
+children_count_back : (x w : ℕ) (forest : Forest) → length ((back x w forest).children) ≡ length forest.children
 unfolding back
-kids_count_back x w forest =
+children_count_back x w forest =
     let inside = wrapped x w forest in
     let after' = moved_to (x ∷ []) (before_node w) inside in
-    length-map after'.kids (without (w ∷ [])) ∙ kids_count inside (before_node w) x ∙ kids_count (moved_to (w ∷ []) (before_node x) forest) (end_of w) x ∙ kids_count forest (before_node x) w
+    length-map after'.children (without (w ∷ [])) ∙ children_count inside (before_node w) x ∙ children_count (moved_to (w ∷ []) (before_node x) forest) (end_of w) x ∙ children_count forest (before_node x) w
 
 runs_count_back : (x w : ℕ) (forest : Forest) → length ((back x w forest).runs) ≡ length forest.runs
 unfolding back
@@ -281,5 +281,5 @@ unwrapped-wrapped forest x p w good above element bare =
     let b = known_bare forest x p w good above element bare in
     let it = back x w forest in
     unwrapped_is forest x p w b ∙ same_forest it forest (content_back x w forest)
-    (by_place it.kids forest.kids (kids_count_back x w forest) (λ q h. kids_back forest x p w q b h))
+    (by_place it.children forest.children (children_count_back x w forest) (λ q h. children_back forest x p w q b h))
     (by_place it.runs forest.runs (runs_count_back x w forest) (λ n h. run_back forest x p w n b h))

@@ -17,7 +17,7 @@ changed_at x change [] = []
 changed_at zero change (y ∷ ys) = change y ∷ ys
 changed_at (suc x) change (y ∷ ys) = y ∷ changed_at x change ys
 
--- the forest with the data of x changed; kids and runs stay
+-- the forest with the data of x changed; children and runs stay
 abbrev pub with_content : ℕ → (NodeData → NodeData) → Forest → Forest
 with_content x change forest = record forest { content = changed_at x change forest.content }
 

@@ -1,4 +1,4 @@
--- Worked moves and walks of a small forest: the root 0 has the kid 1, which has the kids 2, 3, 4; 5 and 6 stand alone.
+-- Worked moves and walks of a small forest: the root 0 has the child 1, which has the children 2, 3, 4; 5 and 6 stand alone.
 use Rattle.std.specs.Prelude.{ℕ, ◌≡◌, true, List, [], ◌∷◌, Some, None}
 use Rattle.dom_nodes.specs.declared.node_data.NodeData.{NodeData}
 use Rattle.dom_links.specs.Forest.{Forest, parent, siblings}
@@ -12,25 +12,25 @@ one n = n ∷ []
 abbrev pub small : List NodeData → Forest
 small content = record {
   content = content;
-  kids = one 1 ∷ (2 ∷ 3 ∷ 4 ∷ []) ∷ [] ∷ [] ∷ [] ∷ [] ∷ [] ∷ [];
+  children = one 1 ∷ (2 ∷ 3 ∷ 4 ∷ []) ∷ [] ∷ [] ∷ [] ∷ [] ∷ [] ∷ [];
   runs = one 0 ∷ [] ∷ [] ∷ [] ∷ [] ∷ one 5 ∷ one 6 ∷ [];
 }
 
 pub record WorkedMoves (content : List NodeData) : Type 0 where
-  -- a node and its later sibling to the end of the kids of 5
-  pub appended : moved_to (3 ∷ 4 ∷ []) (end_of 5) (small content) ≡ record (small content) { kids = one 1 ∷ one 2 ∷ [] ∷ [] ∷ [] ∷ (3 ∷ 4 ∷ []) ∷ [] ∷ [] }
-  -- a whole list to the front of the kids of 5
-  pub prepended : moved_to (2 ∷ 3 ∷ 4 ∷ []) (front_of 5) (small content) ≡ record (small content) { kids = one 1 ∷ [] ∷ [] ∷ [] ∷ [] ∷ (2 ∷ 3 ∷ 4 ∷ []) ∷ [] ∷ [] }
+  -- a node and its later sibling to the end of the children of 5
+  pub appended : moved_to (3 ∷ 4 ∷ []) (end_of 5) (small content) ≡ record (small content) { children = one 1 ∷ one 2 ∷ [] ∷ [] ∷ [] ∷ (3 ∷ 4 ∷ []) ∷ [] ∷ [] }
+  -- a whole list to the front of the children of 5
+  pub prepended : moved_to (2 ∷ 3 ∷ 4 ∷ []) (front_of 5) (small content) ≡ record (small content) { children = one 1 ∷ [] ∷ [] ∷ [] ∷ [] ∷ (2 ∷ 3 ∷ 4 ∷ []) ∷ [] ∷ [] }
   -- a list before 5, which stands in a run: the run grows
   pub run_grown : moved_to (2 ∷ 3 ∷ 4 ∷ []) (before_node 5) (small content) ≡
-      record (small content) { kids = one 1 ∷ [] ∷ [] ∷ [] ∷ [] ∷ [] ∷ [] ∷ []; runs = one 0 ∷ [] ∷ (2 ∷ 3 ∷ 4 ∷ 5 ∷ []) ∷ (2 ∷ 3 ∷ 4 ∷ 5 ∷ []) ∷ (2 ∷ 3 ∷ 4 ∷ 5 ∷ []) ∷ (2 ∷ 3 ∷ 4 ∷ 5 ∷ []) ∷ one 6 ∷ [] }
-  pub after_two : moved_to (one 4) (after_node 2) (small content) ≡ record (small content) { kids = one 1 ∷ (2 ∷ 4 ∷ 3 ∷ []) ∷ [] ∷ [] ∷ [] ∷ [] ∷ [] ∷ [] }
+      record (small content) { children = one 1 ∷ [] ∷ [] ∷ [] ∷ [] ∷ [] ∷ [] ∷ []; runs = one 0 ∷ [] ∷ (2 ∷ 3 ∷ 4 ∷ 5 ∷ []) ∷ (2 ∷ 3 ∷ 4 ∷ 5 ∷ []) ∷ (2 ∷ 3 ∷ 4 ∷ 5 ∷ []) ∷ (2 ∷ 3 ∷ 4 ∷ 5 ∷ []) ∷ one 6 ∷ [] }
+  pub after_two : moved_to (one 4) (after_node 2) (small content) ≡ record (small content) { children = one 1 ∷ (2 ∷ 4 ∷ 3 ∷ []) ∷ [] ∷ [] ∷ [] ∷ [] ∷ [] ∷ [] }
   -- to where it stands already
   pub before_four : moved_to (one 3) (before_node 4) (small content) ≡ small content
-  pub below_two : moved_to (one 4) (end_of 2) (small content) ≡ record (small content) { kids = one 1 ∷ (2 ∷ 3 ∷ []) ∷ one 4 ∷ [] ∷ [] ∷ [] ∷ [] ∷ [] }
-  -- the kids of 1 become one run, and then 5 goes before 3
+  pub below_two : moved_to (one 4) (end_of 2) (small content) ≡ record (small content) { children = one 1 ∷ (2 ∷ 3 ∷ []) ∷ one 4 ∷ [] ∷ [] ∷ [] ∷ [] ∷ [] }
+  -- the children of 1 become one run, and then 5 goes before 3
   pub run_split : moved_to (one 5) (before_node 3) (cut (2 ∷ 3 ∷ 4 ∷ []) (small content)) ≡
-      record (small content) { kids = one 1 ∷ [] ∷ [] ∷ [] ∷ [] ∷ [] ∷ [] ∷ []; runs = one 0 ∷ [] ∷ (2 ∷ 5 ∷ 3 ∷ 4 ∷ []) ∷ (2 ∷ 5 ∷ 3 ∷ 4 ∷ []) ∷ (2 ∷ 5 ∷ 3 ∷ 4 ∷ []) ∷ (2 ∷ 5 ∷ 3 ∷ 4 ∷ []) ∷ one 6 ∷ [] }
+      record (small content) { children = one 1 ∷ [] ∷ [] ∷ [] ∷ [] ∷ [] ∷ [] ∷ []; runs = one 0 ∷ [] ∷ (2 ∷ 5 ∷ 3 ∷ 4 ∷ []) ∷ (2 ∷ 5 ∷ 3 ∷ 4 ∷ []) ∷ (2 ∷ 5 ∷ 3 ∷ 4 ∷ []) ∷ (2 ∷ 5 ∷ 3 ∷ 4 ∷ []) ∷ one 6 ∷ [] }
   -- cutting out a node that stands alone changes nothing
   pub alone_stays : cut (one 5) (small content) ≡ small content
 

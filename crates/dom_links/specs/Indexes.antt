@@ -42,7 +42,7 @@ counts LastChild forest n m = element_at forest m
 counts OfType forest n m = same_type forest n m
 counts LastOfType forest n m = same_type forest n m
 
--- One more than how many of the siblings before the node count, or of those after it. The siblings are its parent's kids, or
+-- One more than how many of the siblings before the node count, or of those after it. The siblings are its parent's children, or
 -- its run
 abbrev pub index_at : IndexKind → Forest → ℕ → ℕ
 index_at kind forest n = 1 + count_by (counts kind forest n) (later forest (is_from_first kind) n)

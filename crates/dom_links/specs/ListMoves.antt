@@ -4,7 +4,7 @@ use Rattle.std.specs.Option.{option_map_or}
 use Rattle.dom_nodes.specs.declared.node_data.TreeNode.{TreeNode}
 use Rattle.dom_nodes.specs.Kinds.{is_element}
 use Rattle.dom_links.specs.Lists.{stands_in}
-use Rattle.dom_links.specs.Forest.{Forest, IsArenaOf, forest_of, kids_of, parent, run_of}
+use Rattle.dom_links.specs.Forest.{Forest, IsArenaOf, forest_of, children_of, parent, run_of}
 use Rattle.dom_links.specs.Moves.{Gap, end_of, before_node, cut, moved_to}
 use Rattle.dom_links.specs.Sound.{Allowed, AtOrBelow, IsForest, MayPlace, bears, is_open, stays, target}
 use Rattle.dom_links.specs.Walk.{later}
@@ -38,20 +38,20 @@ pub record MovedList (old new : List TreeNode) (gap : Gap) (moved : List ℕ) : 
   pub linked : IsArenaOf (forest_of new) new
   pub kept : IsForest (forest_of old) → AllowedList (forest_of old) gap moved → IsForest (forest_of new)
 
--- the kids of a node were cut out, and are a run of their own
-pub record KidsRemoved (old new : List TreeNode) (x : ℕ) : Type 0 where
-  pub made : forest_of new ≡ cut (kids_of (forest_of old) x) (forest_of old)
+-- the children of a node were cut out, and are a run of their own
+pub record ChildrenRemoved (old new : List TreeNode) (x : ℕ) : Type 0 where
+  pub made : forest_of new ≡ cut (children_of (forest_of old) x) (forest_of old)
   pub linked : IsArenaOf (forest_of new) new
   pub kept : IsForest (forest_of old) → IsForest (forest_of new)
 
--- the kids of x go to the end of the kids of p, or are a run of their own
+-- the children of x go to the end of the children of p, or are a run of their own
 abbrev pub reparented : ℕ → Option ℕ → Forest → Forest
-reparented x None forest = cut (kids_of forest x) forest
-reparented x (Some p) forest = moved_to (kids_of forest x) (end_of p) forest
+reparented x None forest = cut (children_of forest x) forest
+reparented x (Some p) forest = moved_to (children_of forest x) (end_of p) forest
 
 abbrev pub MayReparent : Forest → ℕ → Option ℕ → Type 0
 MayReparent forest x None = Unit {0}
-MayReparent forest x (Some p) = AllowedList forest (end_of p) (kids_of forest x)
+MayReparent forest x (Some p) = AllowedList forest (end_of p) (children_of forest x)
 
 pub record Reparents (old new : List TreeNode) (x : ℕ) (p : Option ℕ) : Type 0 where
   pub made : forest_of new ≡ reparented x p (forest_of old)
@@ -67,7 +67,7 @@ pub record Replaced (old new : List TreeNode) (t x : ℕ) : Type 0 where
   pub linked : IsArenaOf (forest_of new) new
   pub kept : IsForest (forest_of old) → Allowed (forest_of old) (before_node t) x → IsForest (forest_of new)
 
--- w is put right before x, and then x to the end of the kids of w
+-- w is put right before x, and then x to the end of the children of w
 abbrev pub wrapped : ℕ → ℕ → Forest → Forest
 wrapped x w forest = moved_to (x ∷ []) (end_of w) (moved_to (w ∷ []) (before_node x) forest)
 
@@ -92,10 +92,10 @@ element_above forest n = option_and_then (λ p. if element_at forest p then Some
 abbrev pub wrapper : Forest → ℕ → Option ℕ
 wrapper forest x = option_and_then (λ p. option_and_then (λ above. Some p) (element_above forest p)) (element_above forest x)
 
--- the kids of a wrapper are put right before it, and then it is cut out
+-- the children of a wrapper are put right before it, and then it is cut out
 abbrev pub without_wrapper : Option ℕ → Forest → Forest
 without_wrapper None forest = forest
-without_wrapper (Some p) forest = cut (p ∷ []) (moved_to (kids_of forest p) (before_node p) forest)
+without_wrapper (Some p) forest = cut (p ∷ []) (moved_to (children_of forest p) (before_node p) forest)
 
 abbrev pub unwrapped : ℕ → Forest → Forest
 unwrapped x forest = without_wrapper (wrapper forest x) forest
@@ -105,9 +105,9 @@ pub record Unwrapped (old new : List TreeNode) (x : ℕ) : Type 0 where
   pub linked : IsArenaOf (forest_of new) new
   pub kept : IsForest (forest_of old) → IsForest (forest_of new)
 
--- an element without parent, siblings and kids
+-- an element without parent, siblings and children
 pub record IsBare (forest : Forest) (w : ℕ) : Type 0 where
   pub element : element_at forest w ≡ true
   pub no_parent : parent forest w ≡ None
   pub alone : run_of forest w ≡ w ∷ []
-  pub no_kids : kids_of forest w ≡ []
+  pub no_children : children_of forest w ≡ []

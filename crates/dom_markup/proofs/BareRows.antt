@@ -34,23 +34,23 @@ bare_trees p n (text_node contents later) bare = bare_trees p (n + 1) later (bar
 bare_trees p n (comment_node contents later) bare = bare_trees p (n + 1) later (bare_tail (child_row p (Comment contents)) _ bare)
 bare_trees p n (doctype_node name public system later) bare =
     let here = bare 0 name public system refl in (here.0, here.1, bare_trees p (n + 1) later (bare_tail (child_row p (Doctype name public system)) _ bare))
-bare_trees p n (element_node name attributes kids later) bare =
-    by_name (is_template name) refl (bare_trees (n + 1) (n + 2) kids) (bare_trees p (n + 2 + size kids) later) (bare_trees n (n + 1) kids) (bare_trees p (n + 1 + size kids) later)
+bare_trees p n (element_node name attributes children later) bare =
+    by_name (is_template name) refl (bare_trees (n + 1) (n + 2) children) (bare_trees p (n + 2 + size children) later) (bare_trees n (n + 1) children) (bare_trees p (n + 1 + size children) later)
   where
     by_name : (t : Bool) → is_template name ≡ t →
-        (AreBare (rows_from (n + 1) (n + 2) kids) → HaveNoIdentifiers kids) → (AreBare (rows_from p (n + 2 + size kids) later) → HaveNoIdentifiers later) →
-        (AreBare (rows_from n (n + 1) kids) → HaveNoIdentifiers kids) → (AreBare (rows_from p (n + 1 + size kids) later) → HaveNoIdentifiers later) →
-        HaveNoIdentifiers kids × HaveNoIdentifiers later
+        (AreBare (rows_from (n + 1) (n + 2) children) → HaveNoIdentifiers children) → (AreBare (rows_from p (n + 2 + size children) later) → HaveNoIdentifiers later) →
+        (AreBare (rows_from n (n + 1) children) → HaveNoIdentifiers children) → (AreBare (rows_from p (n + 1 + size children) later) → HaveNoIdentifiers later) →
+        HaveNoIdentifiers children × HaveNoIdentifiers later
     by_name true t a b c d =
-        let first = rows_from (n + 1) (n + 2) kids in
-        let rest = rows_from p (n + 2 + size kids) later in
+        let first = rows_from (n + 1) (n + 2) children in
+        let rest = rows_from p (n + 2 + size children) later in
         let row = child_row p (read_element name attributes (Some (n + 1))) in
         let whole : AreBare (row ∷ (fragment_row ∷ (first ++ rest))) = rw t at bare in
         let inner = bare_tail fragment_row (first ++ rest) (bare_tail row (fragment_row ∷ (first ++ rest)) whole) in
         (a (bare_front first rest inner), b (bare_back first rest inner))
     by_name false t a b c d =
-        let first = rows_from n (n + 1) kids in
-        let rest = rows_from p (n + 1 + size kids) later in
+        let first = rows_from n (n + 1) children in
+        let rest = rows_from p (n + 1 + size children) later in
         let row = child_row p (read_element name attributes None) in
         let whole : AreBare (row ∷ (first ++ rest)) = rw t at bare in
         let inner = bare_tail row (first ++ rest) whole in

@@ -15,7 +15,7 @@ use Rattle.dom_markup.proofs.PlainRows.{HasRows, child_row, document_rows, first
 use Rattle.dom_markup.proofs.RowsForest.{AreInOrder, IsInOrder, contents_of_rows}
 use Rattle.dom_markup.proofs.RowsSound.{rows_forest}
 
--- a row that is no element with contents, below one that bears kids
+-- a row that is no element with contents, below one that bears children
 plain_row : (forest : Forest) (p n : ℕ) (content : NodeData) → p < n → bears forest p ≡ true → is_top content ≡ false → contents_named content ≡ None → IsInOrder forest.content n (child_row p content)
 plain_row forest p n content low bearing top none = record {
   below = λ q e. (let is : p ≡ q = cc in (omega (arith, is, low), subst (λ (k : ℕ). bears forest k ≡ true) is bearing));
@@ -38,37 +38,37 @@ trees_in_order forest p n (comment_node contents later) low bearing has =
     (plain_row forest p n (Comment contents) low bearing refl refl, trees_in_order forest p (n + 1) later (omega (arith, low)) bearing (rows_after forest p n (Comment contents) (rows_from p (n + 1) later) low has))
 trees_in_order forest p n (doctype_node name public system later) low bearing has =
     (plain_row forest p n (Doctype name public system) low bearing refl refl, trees_in_order forest p (n + 1) later (omega (arith, low)) bearing (rows_after forest p n (Doctype name public system) (rows_from p (n + 1) later) low has))
-trees_in_order forest p n (element_node name attributes kids later) low bearing has =
-    by_name (is_template name) refl (trees_in_order forest (n + 1) (n + 2) kids) (trees_in_order forest p (n + 2 + size kids) later) (trees_in_order forest n (n + 1) kids) (trees_in_order forest p (n + 1 + size kids) later)
+trees_in_order forest p n (element_node name attributes children later) low bearing has =
+    by_name (is_template name) refl (trees_in_order forest (n + 1) (n + 2) children) (trees_in_order forest p (n + 2 + size children) later) (trees_in_order forest n (n + 1) children) (trees_in_order forest p (n + 1 + size children) later)
   where
     by_name : (t : Bool) → is_template name ≡ t →
-        (n + 1 < n + 2 → bears forest (n + 1) ≡ true → HasRows forest (n + 2) (rows_from (n + 1) (n + 2) kids) → AreInOrder forest.content (n + 2) (rows_from (n + 1) (n + 2) kids)) →
-        (p < n + 2 + size kids → bears forest p ≡ true → HasRows forest (n + 2 + size kids) (rows_from p (n + 2 + size kids) later) → AreInOrder forest.content (n + 2 + size kids) (rows_from p (n + 2 + size kids) later)) →
-        (n < n + 1 → bears forest n ≡ true → HasRows forest (n + 1) (rows_from n (n + 1) kids) → AreInOrder forest.content (n + 1) (rows_from n (n + 1) kids)) →
-        (p < n + 1 + size kids → bears forest p ≡ true → HasRows forest (n + 1 + size kids) (rows_from p (n + 1 + size kids) later) → AreInOrder forest.content (n + 1 + size kids) (rows_from p (n + 1 + size kids) later)) →
-        AreInOrder forest.content n (rows_from p n (element_node name attributes kids later))
+        (n + 1 < n + 2 → bears forest (n + 1) ≡ true → HasRows forest (n + 2) (rows_from (n + 1) (n + 2) children) → AreInOrder forest.content (n + 2) (rows_from (n + 1) (n + 2) children)) →
+        (p < n + 2 + size children → bears forest p ≡ true → HasRows forest (n + 2 + size children) (rows_from p (n + 2 + size children) later) → AreInOrder forest.content (n + 2 + size children) (rows_from p (n + 2 + size children) later)) →
+        (n < n + 1 → bears forest n ≡ true → HasRows forest (n + 1) (rows_from n (n + 1) children) → AreInOrder forest.content (n + 1) (rows_from n (n + 1) children)) →
+        (p < n + 1 + size children → bears forest p ≡ true → HasRows forest (n + 1 + size children) (rows_from p (n + 1 + size children) later) → AreInOrder forest.content (n + 1 + size children) (rows_from p (n + 1 + size children) later)) →
+        AreInOrder forest.content n (rows_from p n (element_node name attributes children later))
     by_name false t a b c d =
-        let first = rows_from n (n + 1) kids in
-        let rest = rows_from p (n + 1 + size kids) later in
+        let first = rows_from n (n + 1) children in
+        let rest = rows_from p (n + 1 + size children) later in
         let content = read_element name attributes None in
         let whole : HasRows forest n (child_row p content ∷ (first ++ rest)) = rw t at has in
-        let parts = parts_of forest p n (n + 1) kids later low (omega arith) (rows_after forest p n content (first ++ rest) low whole) in
+        let parts = parts_of forest p n (n + 1) children later low (omega arith) (rows_after forest p n content (first ++ rest) low whole) in
         let here : bears forest n ≡ true = ap (λ o. option_map_or may_bear o false) (first_content forest n (child_row p content) (first ++ rest) whole) in
         rw t (
           plain_row forest p n content low bearing refl refl,
-          in_order-append forest.content (n + 1) (n + 1 + size kids) first rest (omega (arith, rows-size n (n + 1) kids)) (c (omega arith) here parts.inner) (d (omega (arith, low)) bearing parts.outer),
+          in_order-append forest.content (n + 1) (n + 1 + size children) first rest (omega (arith, rows-size n (n + 1) children)) (c (omega arith) here parts.inner) (d (omega (arith, low)) bearing parts.outer),
         )
     by_name true t a b c d =
-        let first = rows_from (n + 1) (n + 2) kids in
-        let rest = rows_from p (n + 2 + size kids) later in
+        let first = rows_from (n + 1) (n + 2) children in
+        let rest = rows_from p (n + 2 + size children) later in
         let content = read_element name attributes (Some (n + 1)) in
         let whole : HasRows forest n (child_row p content ∷ (fragment_row ∷ (first ++ rest))) = rw t at has in
         let after : HasRows forest (n + 2) (first ++ rest) = rows_back forest n (n + 2) (child_row p content ∷ fragment_row ∷ []) (first ++ rest) (omega arith) whole (λ q under. skip_two p n q content [] (omega (arith, under, low))) in
-        let parts = parts_of forest p (n + 1) (n + 2) kids later (omega (arith, low)) (omega arith) after in
+        let parts = parts_of forest p (n + 1) (n + 2) children later (omega (arith, low)) (omega arith) after in
         let fragment : slice_get forest.content (n + 1) ≡ Some Fragment = whole.content 1 (omega arith) in
         let here : bears forest (n + 1) ≡ true = ap (λ o. option_map_or may_bear o false) fragment in
         let many : n + 1 + 1 ≡ n + 2 = omega arith in
-        let inner = in_order-append forest.content (n + 2) (n + 2 + size kids) first rest (omega (arith, rows-size (n + 1) (n + 2) kids)) (a (omega arith) here parts.inner) (b (omega (arith, low)) bearing parts.outer) in
+        let inner = in_order-append forest.content (n + 2) (n + 2 + size children) first rest (omega (arith, rows-size (n + 1) (n + 2) children)) (a (omega arith) here parts.inner) (b (omega (arith, low)) bearing parts.outer) in
         rw t (
           record {
             below = λ q e. (let is : p ≡ q = cc in (omega (arith, is, low), subst (λ (k : ℕ). bears forest k ≡ true) is bearing));

@@ -20,7 +20,7 @@ use Rattle.dom_links.specs.Sound.{bears}
 use Rattle.dom_markup.specs.Numbered.{Row, read_element, rows_of, rows_from, size, forest_of_rows, document_of}
 use Rattle.dom_markup.specs.Refusals.{nodes_begun, LeavesOpen, LeavesSomeOpen, EndsAnother, EndsNothing, IsInside}
 use Rattle.dom_markup.proofs.NumberedLemmas.{child_row, lone_row, IsSmaller, ParentsBelow, forest_of_rows-child, forest_of_rows-lone}
-use Rattle.dom_markup.specs.Frames.{Frame, ◌then◌, opened_items, closed, opened_size, Opened, opened, HasRead, FramesInPlace, is_top, with_element, kids_place}
+use Rattle.dom_markup.specs.Frames.{Frame, ◌then◌, opened_items, closed, opened_size, Opened, opened, HasRead, FramesInPlace, is_top, with_element, children_place}
 use Rattle.dom_markup.proofs.Nesting.{nests, is_none, nests-items_of, nests-element, void_items, element_items, bytes_eq-differs}
 
 items_of-then : (a b : ValueTrees) → items_of (a then b) ≡ items_of a ++ items_of b
@@ -41,7 +41,7 @@ in_place-then top no_trees b h k = k
 in_place-then top (text_node c t) b h k = in_place-then top t b h k
 in_place-then top (comment_node c t) b h k = in_place-then top t b h k
 in_place-then top (doctype_node n p s t) b h k = (h.0, in_place-then top t b h.1 k)
-in_place-then top (element_node n s kids t) b h k = (h.0, h.1, in_place-then top t b h.2 k)
+in_place-then top (element_node n s children t) b h k = (h.0, h.1, in_place-then top t b h.2 k)
 
 -- ---- rows
 
@@ -49,7 +49,7 @@ in_place-then top (element_node n s kids t) b h k = (h.0, h.1, in_place-then top
 abbrev start_size : List ℕ → ℕ
 start_size name = if is_template name then 2 else 1
 
--- the number of the node below which the kids stand of an element whose number is n
+-- the number of the node below which the children stand of an element whose number is n
 abbrev place_below : ℕ → List ℕ → ℕ
 place_below n name = if is_template name then n + 1 else n
 
@@ -315,7 +315,7 @@ bears-innermost fs done =
     ∙ ap (λ (n : ℕ). option_map_or may_bear (slice_get (map (λ (r : Row). r.content) (i.front ++ i.row ∷ rows_from (opened_size fs) (opened_size fs + 1) done)) n) false) (sym i.place)
     ∙ bears-there i.front i.row _ i.bearing
 
--- the innermost element is known, and may have kids
+-- the innermost element is known, and may have children
 pub parent_known : (items : List Item) (forest : Forest) (stack : List Opened) (h : HasRead items forest stack) → opened_size h.frames < length forest.content
 parent_known items forest stack h =
     omega (arith, ap (λ (f : Forest). length f.content) h.forest_is, length-document_of (closed h.frames h.done), size-closed h.frames h.done)
@@ -384,7 +384,7 @@ top_where_none (f ∷ fs) e = absurd (nonempty (opened fs) _ (sym e))
 
 -- a start tag
 pub reads_start : (items : List Item) (forest : Forest) (stack : List Opened) (n : List ℕ) (a : List Attribute) (h : HasRead items forest stack) → is_among n void_names ≡ false →
-    HasRead (items ++ start_tag n a ∷ []) (with_element (opened_size h.frames) n a forest) (stack ++ record { number = kids_place n forest; name = n } ∷ [])
+    HasRead (items ++ start_tag n a ∷ []) (with_element (opened_size h.frames) n a forest) (stack ++ record { number = children_place n forest; name = n } ∷ [])
 reads_start items forest stack n a h v =
     let p = opened_size h.frames in
     let f : Frame = record { before = h.done; name = n; attributes = a } in
@@ -396,7 +396,7 @@ reads_start items forest stack n a h v =
     ∙ append-nil (open_rows (f ∷ h.frames))
     ∙ sym (append_assoc (open_rows h.frames) _ _)
     ∙ ap (λ (x : List Row). x ++ start_rows p (p + 1 + size h.done) n a) (sym (rows_of-closed h.frames h.done)) in
-    let place : kids_place n forest ≡ opened_size (f ∷ h.frames) = elim (cases_Bool (is_template n)) [
+    let place : children_place n forest ≡ opened_size (f ∷ h.frames) = elim (cases_Bool (is_template n)) [
       | inl t ↦ rw t (omega (arith, count))
       | inr e ↦ rw e (omega (arith, count))
     ] in
@@ -418,7 +418,7 @@ reads_start items forest stack n a h v =
       done = no_trees;
       items_are = rw h.items_are (simp (append_assoc, append-nil));
       forest_is = sym made;
-      stack_is = ap (λ (x : List Opened). x ++ record { number = kids_place n forest; name = n } ∷ []) h.stack_is ∙ ap (λ (i : ℕ). opened h.frames ++ record { number = i; name = n } ∷ []) place;
+      stack_is = ap (λ (x : List Opened). x ++ record { number = children_place n forest; name = n } ∷ []) h.stack_is ∙ ap (λ (i : ℕ). opened h.frames ++ record { number = i; name = n } ∷ []) place;
       open_in_place = (h.in_place, v, h.open_in_place);
       in_place = tt;
     }

@@ -29,11 +29,11 @@ pub bytes_eq-refl : (xs : List ℕ) → bytes_eq xs xs ≡ true
 bytes_eq-refl xs = (bytes_eq-Decides xs xs).1 refl
 
 -- the items of an element that is void, and of another
-pub void_items : (name : List ℕ) (attributes : List Attribute) (kids later : ValueTrees) → is_among name void_names ≡ true → items_of (element_node name attributes kids later) ≡ start_tag name attributes ∷ items_of later
-void_items name attributes kids later v = rw v refl
+pub void_items : (name : List ℕ) (attributes : List Attribute) (children later : ValueTrees) → is_among name void_names ≡ true → items_of (element_node name attributes children later) ≡ start_tag name attributes ∷ items_of later
+void_items name attributes children later v = rw v refl
 
-pub element_items : (name : List ℕ) (attributes : List Attribute) (kids later : ValueTrees) → is_among name void_names ≡ false → items_of (element_node name attributes kids later) ≡ start_tag name attributes ∷ (items_of kids ++ end_tag name ∷ items_of later)
-element_items name attributes kids later v = rw v refl
+pub element_items : (name : List ℕ) (attributes : List Attribute) (children later : ValueTrees) → is_among name void_names ≡ false → items_of (element_node name attributes children later) ≡ start_tag name attributes ∷ (items_of children ++ end_tag name ∷ items_of later)
+element_items name attributes children later v = rw v refl
 
 pub nests-void : (ns : List (List ℕ)) (name : List ℕ) (attributes : List Attribute) (items : List Item) → is_among name void_names ≡ true → nests ns (start_tag name attributes ∷ items) ≡ nests ns items
 nests-void [] name attributes items v = rw v refl
@@ -61,13 +61,13 @@ nests-items_of ns no_trees items h = refl
 nests-items_of ns (text_node contents after) items h = nests-characters ns contents (items_of after ++ items) ∙ nests-items_of ns after items h
 nests-items_of ns (comment_node contents after) items h = nests-comment ns contents (items_of after ++ items) ∙ nests-items_of ns after items h
 nests-items_of ns (doctype_node n p s after) items h = nests-doctype ns n p s (items_of after ++ items) h.0 ∙ nests-items_of ns after items h.1
-nests-items_of ns (element_node name attributes kids after) items h = elim (cases_Bool (is_among name void_names)) [
-  | inl v ↦ ap (λ (x : List Item). nests ns (x ++ items)) (void_items name attributes kids after v)
+nests-items_of ns (element_node name attributes children after) items h = elim (cases_Bool (is_among name void_names)) [
+  | inl v ↦ ap (λ (x : List Item). nests ns (x ++ items)) (void_items name attributes children after v)
       ∙ nests-void ns name attributes (items_of after ++ items) v ∙ nests-items_of ns after items h.2
-  | inr v ↦ ap (λ (x : List Item). nests ns (x ++ items)) (element_items name attributes kids after v)
-      ∙ nests-element ns name attributes ((items_of kids ++ end_tag name ∷ items_of after) ++ items) v
-      ∙ ap (nests (name ∷ ns)) (append_assoc (items_of kids) (end_tag name ∷ items_of after) items)
-      ∙ nests-items_of (name ∷ ns) kids (end_tag name ∷ (items_of after ++ items)) h.1
+  | inr v ↦ ap (λ (x : List Item). nests ns (x ++ items)) (element_items name attributes children after v)
+      ∙ nests-element ns name attributes ((items_of children ++ end_tag name ∷ items_of after) ++ items) v
+      ∙ ap (nests (name ∷ ns)) (append_assoc (items_of children) (end_tag name ∷ items_of after) items)
+      ∙ nests-items_of (name ∷ ns) children (end_tag name ∷ (items_of after ++ items)) h.1
       ∙ ap (λ b. b && nests ns (items_of after ++ items)) (bytes_eq-refl name)
       ∙ nests-items_of ns after items h.2
 ]
@@ -134,8 +134,8 @@ items_of-same top up (element_node n c k t) (element_node m d v u) x y a b p q e
           ap (λ (z : List Item). z ++ x) (sym (void_items n c k t w)) ∙ e ∙ ap (λ (z : List Item). z ++ y) (void_items m d v u w') in
           let behind : items_of t ++ x ≡ items_of u ++ y = cc (whole) in
           let more = items_of-same top up t u x y a.2 b.2 p q behind in
-          let kids : k ≡ v = a.0 w ∙ sym (b.0 w') in
-          (cc (name, attributes, kids, more.0), more.1))
+          let children : k ≡ v = a.0 w ∙ sym (b.0 w') in
+          (cc (name, attributes, children, more.0), more.1))
       | inr w ↦
           (let w' : is_among m void_names ≡ false = ap (λ (z : List ℕ). is_among z void_names) (sym name) ∙ w in
           let whole : start_tag n c ∷ ((items_of k ++ end_tag n ∷ items_of t) ++ x) ≡ start_tag m d ∷ ((items_of v ++ end_tag m ∷ items_of u) ++ y) =
@@ -143,10 +143,10 @@ items_of-same top up (element_node n c k t) (element_node m d v u) x y a b p q e
           let inside : (items_of k ++ end_tag n ∷ items_of t) ++ x ≡ (items_of v ++ end_tag m ∷ items_of u) ++ y = cc (whole) in
           let regrouped : items_of k ++ (end_tag n ∷ (items_of t ++ x)) ≡ items_of v ++ (end_tag m ∷ (items_of u ++ y)) =
           sym (append_assoc (items_of k) (end_tag n ∷ items_of t) x) ∙ inside ∙ append_assoc (items_of v) (end_tag m ∷ items_of u) y in
-          let kids = items_of-same false false k v (end_tag n ∷ (items_of t ++ x)) (end_tag m ∷ (items_of u ++ y)) a.1 b.1 tt tt regrouped in
-          let behind : items_of t ++ x ≡ items_of u ++ y = cc (kids.1) in
+          let children = items_of-same false false k v (end_tag n ∷ (items_of t ++ x)) (end_tag m ∷ (items_of u ++ y)) a.1 b.1 tt tt regrouped in
+          let behind : items_of t ++ x ≡ items_of u ++ y = cc (children.1) in
           let more = items_of-same top up t u x y a.2 b.2 p q behind in
-          (cc (name, attributes, kids.0, more.0), more.1))
+          (cc (name, attributes, children.0, more.0), more.1))
     ]
 
 pub bytes_eq-differs : (xs ys : List ℕ) → (xs ≡ ys → ⊥) → bytes_eq xs ys ≡ false

@@ -8,9 +8,9 @@ use Rattle.dom_nodes.specs.declared.node_data.NodeData.{NodeData}
 use Rattle.dom_links.specs.Forest.{Forest}
 use Rattle.dom_links.specs.Growth.{with_node, with_child}
 use Rattle.dom_links.specs.Lists.{map_from, names}
-use Rattle.dom_links.specs.Moves.{kids_with, run_with}
+use Rattle.dom_links.specs.Moves.{children_with, run_with}
 use Rattle.dom_links.specs.declared.gap.Gap.TheVariants.{EndOf as end_of}
-use Rattle.dom_markup.specs.Numbered.{Row, kids_among, run_among, forest_of_rows}
+use Rattle.dom_markup.specs.Numbered.{Row, children_among, run_among, forest_of_rows}
 
 -- ---- lists made by place
 
@@ -42,7 +42,7 @@ map_from-itself f i (x ∷ xs) same =
     (let sum : (i + 1) + k ≡ i + suc k = omega arith in ap (λ (m : ℕ). f m (get_or xs k [])) sum ∙ same (suc k) (omega arith)) in
     ap (λ y. y ∷ map_from (i + 1) f xs) here ∙ ap (λ t. x ∷ t) (map_from-itself f (i + 1) xs later)
 
--- ---- kids
+-- ---- children
 
 eq-swapped : (m n : ℕ) → (m == n) ≡ (n == m)
 eq-swapped m n = elim (cases_Bool (m == n)) [
@@ -60,15 +60,15 @@ put_in false false i xs ys = refl
 abbrev pub child_row : ℕ → NodeData → Row
 child_row p content = record { parent = Some p; content = content }
 
-kids_among-child : (p : ℕ) (content : NodeData) (q i : ℕ) (rows : List Row) →
-    kids_among i (rows ++ child_row p content ∷ []) q ≡ kids_with (end_of p) ((i + length rows) ∷ []) q (kids_among i rows q)
-kids_among-child p content q i [] = rw (eq-swapped p q, add-zero) refl
-kids_among-child p content q i (row ∷ rows) =
-    let inner = kids_among-child p content q (i + 1) rows in
+children_among-child : (p : ℕ) (content : NodeData) (q i : ℕ) (rows : List Row) →
+    children_among i (rows ++ child_row p content ∷ []) q ≡ children_with (end_of p) ((i + length rows) ∷ []) q (children_among i rows q)
+children_among-child p content q i [] = rw (eq-swapped p q, add-zero) refl
+children_among-child p content q i (row ∷ rows) =
+    let inner = children_among-child p content q (i + 1) rows in
     let sum : (i + 1) + length rows ≡ i + length (row ∷ rows) = omega arith in
-    let kids = kids_among (i + 1) rows q in
-    ap (λ (ks : List ℕ). cond (names row.parent q) (i ∷ ks) ks) (inner ∙ ap (λ (n : ℕ). cond (q == p) (kids ++ n ∷ []) kids) sum)
-    ∙ put_in (names row.parent q) (q == p) i kids ((i + length (row ∷ rows)) ∷ [])
+    let children = children_among (i + 1) rows q in
+    ap (λ (ks : List ℕ). cond (names row.parent q) (i ∷ ks) ks) (inner ∙ ap (λ (n : ℕ). cond (q == p) (children ++ n ∷ []) children) sum)
+    ∙ put_in (names row.parent q) (q == p) i children ((i + length (row ∷ rows)) ∷ [])
 
 -- the parent, if there is one, has a smaller number
 abbrev pub IsSmaller : ℕ → Option ℕ → Type 0
@@ -83,28 +83,28 @@ names_not : (n : ℕ) (parent : Option ℕ) → IsSmaller n parent → names par
 names_not n None h = refl
 names_not n (Some p) h = ne_eqb p n (λ e. omega (arith, e))
 
-kids_among-none : (n i : ℕ) (rows : List Row) → ParentsBelow n rows → kids_among i rows n ≡ []
-kids_among-none n i [] h = refl
-kids_among-none n i (row ∷ rows) h = rw (names_not n row.parent h.0) (kids_among-none n (i + 1) rows h.1)
+children_among-none : (n i : ℕ) (rows : List Row) → ParentsBelow n rows → children_among i rows n ≡ []
+children_among-none n i [] h = refl
+children_among-none n i (row ∷ rows) h = rw (names_not n row.parent h.0) (children_among-none n (i + 1) rows h.1)
 
-kids_more : (p n : ℕ) (content : NodeData) (rows : List Row) → length rows ≡ n → ParentsBelow n rows →
-    map_from 0 (λ q row. kids_among 0 (rows ++ child_row p content ∷ []) q) (rows ++ child_row p content ∷ [])
-    ≡ map_from 0 (kids_with (end_of p) (n ∷ [])) (map_from 0 (λ q row. kids_among 0 rows q) rows ++ [] ∷ [])
-kids_more p n content rows long below =
+children_more : (p n : ℕ) (content : NodeData) (rows : List Row) → length rows ≡ n → ParentsBelow n rows →
+    map_from 0 (λ q row. children_among 0 (rows ++ child_row p content ∷ []) q) (rows ++ child_row p content ∷ [])
+    ≡ map_from 0 (children_with (end_of p) (n ∷ [])) (map_from 0 (λ q row. children_among 0 rows q) rows ++ [] ∷ [])
+children_more p n content rows long below =
     let row = child_row p content in
     let all : List Row = rows ++ row ∷ [] in
-    let old : List (List ℕ) = map_from 0 (λ q r. kids_among 0 rows q) rows in
-    let each : (q : ℕ) (r : Row) → kids_among 0 all q ≡ kids_with (end_of p) (n ∷ []) q (kids_among 0 rows q) = λ q r.
-    kids_among-child p content q 0 rows ∙ ap (λ (m : ℕ). cond (q == p) (kids_among 0 rows q ++ m ∷ []) (kids_among 0 rows q)) (omega (arith, long)) in
-    let last : kids_among 0 all (0 + length rows) ≡ kids_with (end_of p) (n ∷ []) (0 + length old) [] =
-    ap (kids_among 0 all) (omega (arith, long)) ∙ each n row
-    ∙ ap (λ (ks : List ℕ). kids_with (end_of p) (n ∷ []) n ks) (kids_among-none n 0 rows below)
-    ∙ ap (λ (m : ℕ). kids_with (end_of p) (n ∷ []) m []) (omega (arith, long, length-map_from (λ q r. kids_among 0 rows q) 0 rows)) in
-    map_from-append (λ q r. kids_among 0 all q) 0 rows (row ∷ [])
-    ∙ ap (λ (t : List (List ℕ)). t ++ kids_among 0 all (0 + length rows) ∷ []) (map_from-same (λ q r. kids_among 0 all q) (λ q r. kids_with (end_of p) (n ∷ []) q (kids_among 0 rows q)) 0 rows each
-    ∙ sym (map_from-map_from (λ q r. kids_among 0 rows q) (kids_with (end_of p) (n ∷ [])) 0 rows))
-    ∙ ap (λ (ks : List ℕ). map_from 0 (kids_with (end_of p) (n ∷ [])) old ++ ks ∷ []) last
-    ∙ sym (map_from-append (kids_with (end_of p) (n ∷ [])) 0 old ([] ∷ []))
+    let old : List (List ℕ) = map_from 0 (λ q r. children_among 0 rows q) rows in
+    let each : (q : ℕ) (r : Row) → children_among 0 all q ≡ children_with (end_of p) (n ∷ []) q (children_among 0 rows q) = λ q r.
+    children_among-child p content q 0 rows ∙ ap (λ (m : ℕ). cond (q == p) (children_among 0 rows q ++ m ∷ []) (children_among 0 rows q)) (omega (arith, long)) in
+    let last : children_among 0 all (0 + length rows) ≡ children_with (end_of p) (n ∷ []) (0 + length old) [] =
+    ap (children_among 0 all) (omega (arith, long)) ∙ each n row
+    ∙ ap (λ (ks : List ℕ). children_with (end_of p) (n ∷ []) n ks) (children_among-none n 0 rows below)
+    ∙ ap (λ (m : ℕ). children_with (end_of p) (n ∷ []) m []) (omega (arith, long, length-map_from (λ q r. children_among 0 rows q) 0 rows)) in
+    map_from-append (λ q r. children_among 0 all q) 0 rows (row ∷ [])
+    ∙ ap (λ (t : List (List ℕ)). t ++ children_among 0 all (0 + length rows) ∷ []) (map_from-same (λ q r. children_among 0 all q) (λ q r. children_with (end_of p) (n ∷ []) q (children_among 0 rows q)) 0 rows each
+    ∙ sym (map_from-map_from (λ q r. children_among 0 rows q) (children_with (end_of p) (n ∷ [])) 0 rows))
+    ∙ ap (λ (ks : List ℕ). map_from 0 (children_with (end_of p) (n ∷ [])) old ++ ks ∷ []) last
+    ∙ sym (map_from-append (children_with (end_of p) (n ∷ [])) 0 old ([] ∷ []))
 
 -- ---- runs
 
@@ -125,7 +125,7 @@ runs_more p n forest old is long =
 -- ---- the forest
 
 forest_same : (c c' : List NodeData) (k k' r r' : List (List ℕ)) → c ≡ c' → k ≡ k' → r ≡ r' →
-    (let one : Forest = record { content = c; kids = k; runs = r } in one) ≡ record { content = c'; kids = k'; runs = r' }
+    (let one : Forest = record { content = c; children = k; runs = r } in one) ≡ record { content = c'; children = k'; runs = r' }
 forest_same c c' k k' r r' x y z = cc
 
 pub forest_of_rows-child : (p : ℕ) (content : NodeData) (rows : List Row) → ParentsBelow (length rows) rows →
@@ -139,7 +139,7 @@ forest_of_rows-child p content rows below =
     let old_long : length old ≡ n = length-map_from (λ m (r : Row). run_among m r.parent) 0 rows ∙ long in
     forest_same _ _ _ _ _ _
     (map-append (λ (r : Row). r.content) rows (row ∷ []))
-    (kids_more p n content rows long (rw (← long) below))
+    (children_more p n content rows long (rw (← long) below))
     (map_from-append (λ m (r : Row). run_among m r.parent) 0 rows (row ∷ []) ∙ sym (runs_more p n (with_node content forest) old refl old_long))
 
 -- ---- a node more that stands alone
@@ -147,9 +147,9 @@ forest_of_rows-child p content rows below =
 abbrev pub lone_row : NodeData → Row
 lone_row content = record { parent = None; content = content }
 
-kids_among-lone : (content : NodeData) (q i : ℕ) (rows : List Row) → kids_among i (rows ++ lone_row content ∷ []) q ≡ kids_among i rows q
-kids_among-lone content q i [] = refl
-kids_among-lone content q i (row ∷ rows) = ap (λ (ks : List ℕ). cond (names row.parent q) (i ∷ ks) ks) (kids_among-lone content q (i + 1) rows)
+children_among-lone : (content : NodeData) (q i : ℕ) (rows : List Row) → children_among i (rows ++ lone_row content ∷ []) q ≡ children_among i rows q
+children_among-lone content q i [] = refl
+children_among-lone content q i (row ∷ rows) = ap (λ (ks : List ℕ). cond (names row.parent q) (i ∷ ks) ks) (children_among-lone content q (i + 1) rows)
 
 pub forest_of_rows-lone : (content : NodeData) (rows : List Row) → ParentsBelow (length rows) rows → forest_of_rows (rows ++ lone_row content ∷ []) ≡ with_node content (forest_of_rows rows)
 forest_of_rows-lone content rows below =
@@ -157,14 +157,14 @@ forest_of_rows-lone content rows below =
     let row = lone_row content in
     let all : List Row = rows ++ row ∷ [] in
     let long : length rows ≡ length forest.content = sym (length-map rows (λ (r : Row). r.content)) in
-    let last : kids_among 0 all (0 + length rows) ≡ [] =
-    kids_among-lone content (0 + length rows) 0 rows ∙ ap (kids_among 0 rows) (omega arith) ∙ kids_among-none (length rows) 0 rows below in
-    let kids : map_from 0 (λ q r. kids_among 0 all q) all ≡ map_from 0 (λ q r. kids_among 0 rows q) rows ++ [] ∷ [] =
-    map_from-append (λ q r. kids_among 0 all q) 0 rows (row ∷ [])
-    ∙ ap (λ (t : List (List ℕ)). t ++ kids_among 0 all (0 + length rows) ∷ []) (map_from-same (λ q r. kids_among 0 all q) (λ q r. kids_among 0 rows q) 0 rows (λ q r. kids_among-lone content q 0 rows))
-    ∙ ap (λ (ks : List ℕ). map_from 0 (λ q (r : Row). kids_among 0 rows q) rows ++ ks ∷ []) last in
+    let last : children_among 0 all (0 + length rows) ≡ [] =
+    children_among-lone content (0 + length rows) 0 rows ∙ ap (children_among 0 rows) (omega arith) ∙ children_among-none (length rows) 0 rows below in
+    let children : map_from 0 (λ q r. children_among 0 all q) all ≡ map_from 0 (λ q r. children_among 0 rows q) rows ++ [] ∷ [] =
+    map_from-append (λ q r. children_among 0 all q) 0 rows (row ∷ [])
+    ∙ ap (λ (t : List (List ℕ)). t ++ children_among 0 all (0 + length rows) ∷ []) (map_from-same (λ q r. children_among 0 all q) (λ q r. children_among 0 rows q) 0 rows (λ q r. children_among-lone content q 0 rows))
+    ∙ ap (λ (ks : List ℕ). map_from 0 (λ q (r : Row). children_among 0 rows q) rows ++ ks ∷ []) last in
     let place : 0 + length rows ≡ length forest.content = omega (arith, long) in
     forest_same _ _ _ _ _ _
     (map-append (λ (r : Row). r.content) rows (row ∷ []))
-    kids
+    children
     (map_from-append (λ m (r : Row). run_among m r.parent) 0 rows (row ∷ []) ∙ ap (λ (n : ℕ). map_from 0 (λ m (r : Row). run_among m r.parent) rows ++ (n ∷ []) ∷ []) place)

@@ -4,7 +4,7 @@ use Rattle.dom_nodes.specs.declared.node_data.Element.{Element}
 use Rattle.dom_nodes.specs.declared.node_data.NodeData.{NodeData}
 use Rattle.dom_nodes.specs.declared.node_data.NodeData.TheVariants.{Element as AnElement}
 use Rattle.dom_nodes.specs.declared.node_data.TreeNode.{TreeNode}
-use Rattle.dom_links.specs.Forest.{Forest, kids_of}
+use Rattle.dom_links.specs.Forest.{Forest, children_of}
 use Rattle.dom_links.specs.Sound.{IsForest}
 use Rattle.dom_links.specs.Trees.{contents_list, trees}
 use Rattle.dom_links.specs.Walk.{IsNodeOf, IsWithin, row_on}
@@ -134,17 +134,17 @@ opened-weight forest good n node is known old one new first second = omega (arit
 
 -- ---- what follows a node's opening
 
-pub kids-within : (forest : Forest) → IsForest forest → (n : ℕ) (node : TreeNode) → IsNodeOf forest n node → IsWithin forest node.first_child
-kids-within forest good n node is = (begins forest false n node.first_child good is.first_is).within
+pub children-within : (forest : Forest) → IsForest forest → (n : ℕ) (node : TreeNode) → IsNodeOf forest n node → IsWithin forest node.first_child
+children-within forest good n node is = (begins forest false n node.first_child good is.first_is).within
 
-pub kids-row : (forest : Forest) → IsForest forest → (n : ℕ) (node : TreeNode) → IsNodeOf forest n node → kids_of forest n ≡ row_on forest false node.first_child
-kids-row forest good n node is = (begins forest false n node.first_child good is.first_is).all
+pub children-row : (forest : Forest) → IsForest forest → (n : ℕ) (node : TreeNode) → IsNodeOf forest n node → children_of forest n ≡ row_on forest false node.first_child
+children-row forest good n node is = (begins forest false n node.first_child good is.first_is).all
 
 -- what follows the opening of a document or a fragment
-pub top-below : (forest : Forest) → IsForest forest → (n : ℕ) (node : TreeNode) → IsNodeOf forest n node → (raw : Bool) → text_below forest n node.content ≡ trees_text forest raw (trees forest (kids_of forest n)) →
+pub top-below : (forest : Forest) → IsForest forest → (n : ℕ) (node : TreeNode) → IsNodeOf forest n node → (raw : Bool) → text_below forest n node.content ≡ trees_text forest raw (trees forest (children_of forest n)) →
     (old new : List ℕ) → new ≡ row_text forest raw node.first_child ++ old → new ≡ text_below forest n node.content ++ old
 top-below forest good n node is raw follows old new wrote =
-    wrote ∙ ap (λ ns. trees_text forest raw (trees forest ns) ++ old) (sym (kids-row forest good n node is)) ∙ ap (λ t. t ++ old) (sym follows)
+    wrote ∙ ap (λ ns. trees_text forest raw (trees forest ns) ++ old) (sym (children-row forest good n node is)) ∙ ap (λ t. t ++ old) (sym follows)
 
 -- what follows the opening of an element that isn't void
 pub element-below : (forest : Forest) → IsForest forest → (n : ℕ) (node : TreeNode) (e : Element) → IsNodeOf forest n node → node.content ≡ AnElement e → is_void_node node.content ≡ false → (raw : Bool) → raw ≡ keeps_texts node.content →
@@ -152,31 +152,31 @@ pub element-below : (forest : Forest) → IsForest forest → (n : ℕ) (node : 
     all ≡ text_below forest n node.content ++ rest
 element-below forest good n node e is shape void raw keeps rest closed opened all one two three =
     let read = is.content_is ∙ ap Some shape in
-    let kids_are = kids-row forest good n node is in
+    let children_are = children-row forest good n node is in
     let contents_are = contents_row forest good n e read in
     let not_void : is_void e ≡ false = rw shape at void in
     let kept : raw ≡ is_raw e = rw shape at keeps in
     let inner = trees_text forest false (trees forest (contents_list forest n)) in
-    let kids = trees_text forest (is_raw e) (trees forest (kids_of forest n)) in
+    let children = trees_text forest (is_raw e) (trees forest (children_of forest n)) in
     let tag = end_tag e.name.local in
     let ends : op_text forest (Close n) ≡ tag = rw read refl in
-    let follows : text_below forest n node.content ≡ inner ++ (kids ++ tag) = rw (shape, not_void) refl in
-    let second : opened ≡ kids ++ closed = two ∙ rw (kids_are, kept) refl in
+    let follows : text_below forest n node.content ≡ inner ++ (children ++ tag) = rw (shape, not_void) refl in
+    let second : opened ≡ children ++ closed = two ∙ rw (children_are, kept) refl in
     let third : all ≡ inner ++ opened = three ∙ rw contents_are refl in
-    let joined : all ≡ inner ++ (kids ++ (tag ++ rest)) = third ∙ ap (λ t. inner ++ t) (second ∙ ap (λ t. kids ++ t) (one ∙ ap (λ t. t ++ rest) ends)) in
-    joined ∙ (ap (λ t. inner ++ t) (sym (append_assoc kids tag rest)) ∙ (sym (append_assoc inner (kids ++ tag) rest) ∙ ap (λ t. t ++ rest) (sym follows)))
+    let joined : all ≡ inner ++ (children ++ (tag ++ rest)) = third ∙ ap (λ t. inner ++ t) (second ∙ ap (λ t. children ++ t) (one ∙ ap (λ t. t ++ rest) ends)) in
+    joined ∙ (ap (λ t. inner ++ t) (sym (append_assoc children tag rest)) ∙ (sym (append_assoc inner (children ++ tag) rest) ∙ ap (λ t. t ++ rest) (sym follows)))
 
 pub top-weight : (forest : Forest) → IsForest forest → (n : ℕ) (node : TreeNode) → IsNodeOf forest n node → (old new : ℕ) → new ≡ row_weight forest node.first_child + old → new ≤ 1 + weight_below forest n + old
 top-weight forest good n node is old new wrote =
-    let kids = ap (λ ns. trees_weight (trees forest ns)) (kids-row forest good n node is) in
-    omega (arith, wrote, kids)
+    let children = ap (λ ns. trees_weight (trees forest ns)) (children-row forest good n node is) in
+    omega (arith, wrote, children)
 
 pub element-weight : (forest : Forest) → IsForest forest → (n : ℕ) (node : TreeNode) (e : Element) → IsNodeOf forest n node → node.content ≡ AnElement e → (old closed opened new : ℕ) →
     closed ≡ 1 + old → opened ≡ row_weight forest node.first_child + closed → new ≡ row_weight forest e.template_contents + opened → new ≤ 1 + weight_below forest n + old
 element-weight forest good n node e is shape old closed opened new one two three =
-    let kids = ap (λ ns. trees_weight (trees forest ns)) (kids-row forest good n node is) in
+    let children = ap (λ ns. trees_weight (trees forest ns)) (children-row forest good n node is) in
     let contents = ap (λ ns. trees_weight (trees forest ns)) (contents_row forest good n e (is.content_is ∙ ap Some shape)) in
-    omega (arith, one, two, three, kids, contents)
+    omega (arith, one, two, three, children, contents)
 
 -- ---- results
 

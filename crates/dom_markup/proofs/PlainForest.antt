@@ -11,7 +11,7 @@ use Rattle.dom_nodes.specs.Kinds.{is_fragment}
 use Rattle.dom_nodes.specs.declared.node_data.NodeData.{NodeData}
 use Rattle.dom_nodes.specs.declared.node_data.NodeData.TheVariants.{Document, Fragment, Doctype, Text, Comment, Element as AnElement, ProcessingInstruction}
 use Rattle.dom_links.specs.Lists.{stands_in}
-use Rattle.dom_links.specs.Forest.{Forest, kids_of}
+use Rattle.dom_links.specs.Forest.{Forest, children_of}
 use Rattle.dom_links.specs.Sound.{IsForest}
 use Rattle.dom_links.specs.Trees.{contents_list, trees}
 use Rattle.dom_links.specs.Laws.{AreTrees}
@@ -45,25 +45,25 @@ known_all forest ns no_trees r m s = absurd (true≢false (sym s ∙ ap (stands_
 known_all forest ns (text_node contents later) r m s = known_more forest ns r.1 r.0 r.2 (slice_get_within _ r.0 _ r.3) (known_all forest r.1 later r.4) m s
 known_all forest ns (comment_node contents later) r m s = known_more forest ns r.1 r.0 r.2 (slice_get_within _ r.0 _ r.3) (known_all forest r.1 later r.4) m s
 known_all forest ns (doctype_node name public system later) r m s = known_more forest ns r.1 r.0 r.2 (slice_get_within _ r.0 _ r.3) (known_all forest r.1 later r.4) m s
-known_all forest ns (element_node name attributes kids later) r m s = known_more forest ns r.1 r.0 r.3 (slice_get_within _ r.0 _ r.4.read) (known_all forest r.1 later r.6) m s
+known_all forest ns (element_node name attributes children later) r m s = known_more forest ns r.1 r.0 r.3 (slice_get_within _ r.0 _ r.4.read) (known_all forest r.1 later r.6) m s
 
 -- the text of a node and of those after it
 node-text : (forest : Forest) → AreTrees forest → (raw : Bool) (ns others : List ℕ) (n : ℕ) (content : NodeData) → ns ≡ n ∷ others → ((m : ℕ) → stands_in m ns ≡ true → m < length forest.content) → slice_get forest.content n ≡ Some content →
-    trees_text forest raw (trees forest ns) ≡ node_text content raw (trees_text forest false (trees forest (contents_list forest n))) (trees_text forest (keeps_texts content) (trees forest (kids_of forest n))) ++ trees_text forest raw (trees forest others)
+    trees_text forest raw (trees forest ns) ≡ node_text content raw (trees_text forest false (trees forest (contents_list forest n))) (trees_text forest (keeps_texts content) (trees forest (children_of forest n))) ++ trees_text forest raw (trees forest others)
 node-text forest are raw ns others n content is known read =
     let unfolded = are.a_tree n others (subst (λ (l : List ℕ). (m : ℕ) → stands_in m l ≡ true → m < length forest.content) is known) in
     ap (λ l. trees_text forest raw (trees forest l)) is ∙ (ap (trees_text forest raw) unfolded
-    ∙ ap (λ o. option_map_or (λ content. node_text content raw (trees_text forest false (trees forest (contents_list forest n))) (trees_text forest (keeps_texts content) (trees forest (kids_of forest n)))) o [] ++ trees_text forest raw (trees forest others)) read)
+    ∙ ap (λ o. option_map_or (λ content. node_text content raw (trees_text forest false (trees forest (contents_list forest n))) (trees_text forest (keeps_texts content) (trees forest (children_of forest n)))) o [] ++ trees_text forest raw (trees forest others)) read)
 
--- the text of a fragment alone is that of its kids
-fragment-text : (forest : Forest) → AreTrees forest → (c : ℕ) → option_map_or is_fragment (slice_get forest.content c) false ≡ true → trees_text forest false (trees forest (c ∷ [])) ≡ trees_text forest false (trees forest (kids_of forest c))
+-- the text of a fragment alone is that of its children
+fragment-text : (forest : Forest) → AreTrees forest → (c : ℕ) → option_map_or is_fragment (slice_get forest.content c) false ≡ true → trees_text forest false (trees forest (c ∷ [])) ≡ trees_text forest false (trees forest (children_of forest c))
 fragment-text forest are c is = by_content (slice_get forest.content c) refl
   where
     known : (content : NodeData) → slice_get forest.content c ≡ Some content → (m : ℕ) → stands_in m (c ∷ []) ≡ true → m < length forest.content
     known content read = known_more forest (c ∷ []) [] c refl (slice_get_within _ c content read) (λ m s. absurd (true≢false (sym s)))
 
-    by_content : (o : Option NodeData) → slice_get forest.content c ≡ o → trees_text forest false (trees forest (c ∷ [])) ≡ trees_text forest false (trees forest (kids_of forest c))
-    by_content (Some Fragment) read = node-text forest are false (c ∷ []) [] c Fragment refl (known Fragment read) read ∙ (ap (λ t. trees_text forest false (trees forest (kids_of forest c)) ++ trees_text forest false t) are.no_trees ∙ append-nil _)
+    by_content : (o : Option NodeData) → slice_get forest.content c ≡ o → trees_text forest false (trees forest (c ∷ [])) ≡ trees_text forest false (trees forest (children_of forest c))
+    by_content (Some Fragment) read = node-text forest are false (c ∷ []) [] c Fragment refl (known Fragment read) read ∙ (ap (λ t. trees_text forest false (trees forest (children_of forest c)) ++ trees_text forest false t) are.no_trees ∙ append-nil _)
     by_content None read = absurd (true≢false (sym is ∙ ap (λ o. option_map_or is_fragment o false) read))
     by_content (Some Document) read = absurd (true≢false (sym is ∙ ap (λ o. option_map_or is_fragment o false) read))
     by_content (Some (Doctype a b d)) read = absurd (true≢false (sym is ∙ ap (λ o. option_map_or is_fragment o false) read))
@@ -85,31 +85,31 @@ pub contents_none : (forest : Forest) (n : ℕ) (name : List ℕ) (attrs : List 
 contents_none forest n name attrs contents flag read none = rw (read, none) refl
 
 -- what is written in an element is the text of what is below it
-inside-text : (forest : Forest) → IsForest forest → AreTrees forest → (n : ℕ) (name : List ℕ) (attributes : List Attribute) (below : List ℕ) (kids : ValueTrees) → IsElement forest n name attributes below →
-    ((raw : Bool) → trees_text forest raw (trees forest below) ≡ text_of_trees raw kids) →
-    trees_text forest false (trees forest (contents_list forest n)) ++ (trees_text forest (is_among name raw_names) (trees forest (kids_of forest n)) ++ end_tag name) ≡ text_of_trees (is_among name raw_names) kids ++ end_tag name
-inside-text forest good are n name attributes below kids is text = by_name (is_template name) is.contents refl refl
+inside-text : (forest : Forest) → IsForest forest → AreTrees forest → (n : ℕ) (name : List ℕ) (attributes : List Attribute) (below : List ℕ) (children : ValueTrees) → IsElement forest n name attributes below →
+    ((raw : Bool) → trees_text forest raw (trees forest below) ≡ text_of_trees raw children) →
+    trees_text forest false (trees forest (contents_list forest n)) ++ (trees_text forest (is_among name raw_names) (trees forest (children_of forest n)) ++ end_tag name) ≡ text_of_trees (is_among name raw_names) children ++ end_tag name
+inside-text forest good are n name attributes below children is text = by_name (is_template name) is.contents refl refl
   where
     empty : (raw : Bool) (ns : List ℕ) → ns ≡ [] → trees_text forest raw (trees forest ns) ≡ []
     empty raw ns none = ap (λ l. trees_text forest raw (trees forest l)) none ∙ ap (trees_text forest raw) are.no_trees
 
     by_name : (t : Bool) (contents : Option ℕ) → is_template name ≡ t → is.contents ≡ contents →
-        trees_text forest false (trees forest (contents_list forest n)) ++ (trees_text forest (is_among name raw_names) (trees forest (kids_of forest n)) ++ end_tag name) ≡ text_of_trees (is_among name raw_names) kids ++ end_tag name
+        trees_text forest false (trees forest (contents_list forest n)) ++ (trees_text forest (is_among name raw_names) (trees forest (children_of forest n)) ++ end_tag name) ≡ text_of_trees (is_among name raw_names) children ++ end_tag name
     by_name true None t some = absurd (rw some at (when_true _ _ t is.holds))
     by_name true (Some c) t some =
-        let holds : (kids_of forest n ≡ []) × (below ≡ kids_of forest c) = rw some at (when_true _ _ t is.holds) in
+        let holds : (children_of forest n ≡ []) × (below ≡ children_of forest c) = rw some at (when_true _ _ t is.holds) in
         let list : contents_list forest n ≡ c ∷ [] = contents_are forest n name is.attrs is.contents is.flag is.read c some in
         let named = good.contents_known n c (rw (is.read, some) refl) in
-        let inner : trees_text forest false (trees forest (contents_list forest n)) ≡ text_of_trees false kids =
+        let inner : trees_text forest false (trees forest (contents_list forest n)) ≡ text_of_trees false children =
         ap (λ l. trees_text forest false (trees forest l)) list ∙ (fragment-text forest are c named.1 ∙ (ap (λ l. trees_text forest false (trees forest l)) (sym holds.1) ∙ text false)) in
         let raw = template_not_raw name t in
-        ap (λ x. x ++ (trees_text forest (is_among name raw_names) (trees forest (kids_of forest n)) ++ end_tag name)) inner
-        ∙ (ap (λ x. text_of_trees false kids ++ (x ++ end_tag name)) (empty (is_among name raw_names) (kids_of forest n) holds.0)
-        ∙ ap (λ r. text_of_trees r kids ++ end_tag name) (sym raw))
+        ap (λ x. x ++ (trees_text forest (is_among name raw_names) (trees forest (children_of forest n)) ++ end_tag name)) inner
+        ∙ (ap (λ x. text_of_trees false children ++ (x ++ end_tag name)) (empty (is_among name raw_names) (children_of forest n) holds.0)
+        ∙ ap (λ r. text_of_trees r children ++ end_tag name) (sym raw))
     by_name false contents t some =
         let holds = when_false _ _ t is.holds in
         let list : contents_list forest n ≡ [] = contents_none forest n name is.attrs is.contents is.flag is.read holds.0 in
-        ap (λ x. x ++ (trees_text forest (is_among name raw_names) (trees forest (kids_of forest n)) ++ end_tag name)) (empty false (contents_list forest n) list)
+        ap (λ x. x ++ (trees_text forest (is_among name raw_names) (trees forest (children_of forest n)) ++ end_tag name)) (empty false (contents_list forest n) list)
         ∙ ap (λ x. x ++ end_tag name) (ap (λ l. trees_text forest (is_among name raw_names) (trees forest l)) (sym holds.1) ∙ text (is_among name raw_names))
 
 -- attributes that stand for others are written as they are
@@ -137,34 +137,34 @@ represented-text forest good are raw ns (doctype_node name public system later) 
     node-text forest are raw ns r.1 r.0 _ r.2 (known_all forest ns (doctype_node name public system later) r) r.3
     ∙ (ap (λ x. x ++ trees_text forest raw (trees forest r.1)) (append-nil (codes "<!DOCTYPE " ++ (name ++ codes ">")))
     ∙ (ap (λ x. codes "<!DOCTYPE " ++ x) (append_assoc name (codes ">") (trees_text forest raw (trees forest r.1))) ∙ ap (λ x. codes "<!DOCTYPE " ++ (name ++ (codes ">" ++ x))) (represented-text forest good are raw r.1 later r.4)))
-represented-text forest good are raw ns (element_node name attributes kids later) r =
+represented-text forest good are raw ns (element_node name attributes children later) r =
     let tag = start_text name attributes in
     let behind = trees_text forest raw (trees forest r.1) in
     let written : List ℕ → List ℕ = λ x. if is_among name void_names then [] else x in
-    let inner = trees_text forest false (trees forest (contents_list forest r.0)) ++ (trees_text forest (is_among name raw_names) (trees forest (kids_of forest r.0)) ++ end_tag name) in
-    node-text forest are raw ns r.1 r.0 _ r.3 (known_all forest ns (element_node name attributes kids later) r) r.4.read
+    let inner = trees_text forest false (trees forest (contents_list forest r.0)) ++ (trees_text forest (is_among name raw_names) (trees forest (children_of forest r.0)) ++ end_tag name) in
+    node-text forest are raw ns r.1 r.0 _ r.3 (known_all forest ns (element_node name attributes children later) r) r.4.read
     ∙ (ap (λ x. ((codes "<" ++ (name ++ (x ++ codes ">"))) ++ written inner) ++ behind) (attrs-text r.4.attrs attributes r.4.named)
-    ∙ (ap (λ x. (tag ++ written x) ++ behind) (inside-text forest good are r.0 name attributes r.2 kids r.4 (λ raw. represented-text forest good are raw r.2 kids r.5))
-    ∙ (append_assoc tag (written (text_of_trees (is_among name raw_names) kids ++ end_tag name)) behind
-    ∙ ap (λ x. tag ++ (written (text_of_trees (is_among name raw_names) kids ++ end_tag name) ++ x)) (represented-text forest good are raw r.1 later r.6))))
+    ∙ (ap (λ x. (tag ++ written x) ++ behind) (inside-text forest good are r.0 name attributes r.2 children r.4 (λ raw. represented-text forest good are raw r.2 children r.5))
+    ∙ (append_assoc tag (written (text_of_trees (is_among name raw_names) children ++ end_tag name)) behind
+    ∙ ap (λ x. tag ++ (written (text_of_trees (is_among name raw_names) children ++ end_tag name) ++ x)) (represented-text forest good are raw r.1 later r.6))))
 
 -- the HTML of a document is that of the trees below its root
-pub document-text : (forest : Forest) → IsForest forest → AreTrees forest → slice_get forest.content 0 ≡ Some Document → (values : ValueTrees) → Represents forest (kids_of forest 0) values → html_of forest 0 ≡ text_of_trees false values
+pub document-text : (forest : Forest) → IsForest forest → AreTrees forest → slice_get forest.content 0 ≡ Some Document → (values : ValueTrees) → Represents forest (children_of forest 0) values → html_of forest 0 ≡ text_of_trees false values
 unfolding html_of
 document-text forest good are root values r =
     let known : (m : ℕ) → stands_in m (0 ∷ []) ≡ true → m < length forest.content = known_more forest (0 ∷ []) [] 0 refl good.rooted (λ m s. absurd (true≢false (sym s))) in
     node-text forest are (is_kept forest 0) (0 ∷ []) [] 0 Document refl known root
-    ∙ (ap (λ t. trees_text forest false (trees forest (kids_of forest 0)) ++ trees_text forest (is_kept forest 0) t) are.no_trees
-    ∙ (append-nil _ ∙ represented-text forest good are false (kids_of forest 0) values r))
+    ∙ (ap (λ t. trees_text forest false (trees forest (children_of forest 0)) ++ trees_text forest (is_kept forest 0) t) are.no_trees
+    ∙ (append-nil _ ∙ represented-text forest good are false (children_of forest 0) values r))
 
 pub plain_document_spells : (forest : Forest) → IsForest forest → AreTrees forest → (plain : IsPlain forest) → Spells (html_of forest 0) plain.trees
 plain_document_spells forest good are plain =
     subst (λ (t : List ℕ). Spells t plain.trees) (sym (document-text forest good are plain.root plain.trees plain.below)) (plain_spells plain.trees plain.plain)
 
--- the HTML of a document's kids is that of the document
-inside-text-same : (forest : Forest) → IsForest forest → AreTrees forest → slice_get forest.content 0 ≡ Some Document → (values : ValueTrees) → Represents forest (kids_of forest 0) values → inner_html_of forest 0 ≡ text_of_trees false values
+-- the HTML of a document's children is that of the document
+inside-text-same : (forest : Forest) → IsForest forest → AreTrees forest → slice_get forest.content 0 ≡ Some Document → (values : ValueTrees) → Represents forest (children_of forest 0) values → inner_html_of forest 0 ≡ text_of_trees false values
 unfolding inner_html_of
-inside-text-same forest good are root values r = rw root (represented-text forest good are false (kids_of forest 0) values r)
+inside-text-same forest good are root values r = rw root (represented-text forest good are false (children_of forest 0) values r)
 
 pub plain_document_inside_spells : (forest : Forest) → IsForest forest → AreTrees forest → (plain : IsPlain forest) → Spells (inner_html_of forest 0) plain.trees
 plain_document_inside_spells forest good are plain =

@@ -6,7 +6,7 @@ use Rattle.dom_nodes.specs.declared.name.Attr.{Attr}
 use Rattle.dom_nodes.specs.declared.node_data.NodeData.{NodeData}
 use Rattle.dom_nodes.specs.declared.node_data.NodeData.TheVariants.{Element as AnElement}
 use Rattle.dom_nodes.specs.declared.node_data.Element.{Element as ElementData}
-use Rattle.dom_links.specs.Forest.{Forest, kids_of}
+use Rattle.dom_links.specs.Forest.{Forest, children_of}
 use Rattle.dom_markup.specs.Names.{is_template}
 use Rattle.dom_markup.specs.ValueTrees.{Attribute, ValueTrees}
 use Rattle.dom_markup.specs.ValueTrees.ValueTrees.{no_trees, text_node, comment_node, doctype_node, element_node}
@@ -61,13 +61,13 @@ below_of : (forest : Forest) (n m : ℕ) (name other : List ℕ) (xs ys : List A
 below_of forest n m name other xs ys below under number names p q same = by_name (is_template name) p.contents q.contents refl refl refl same
   where
     by_name : (t : Bool) (c d : Option ℕ) → is_template name ≡ t → p.contents ≡ c → q.contents ≡ d → c ≡ d → below ≡ under
-    by_name false c d t a b e = (when_false _ _ t p.holds).1 ∙ (ap (kids_of forest) number ∙ sym (when_false _ _ (ap is_template (sym names) ∙ t) q.holds).1)
+    by_name false c d t a b e = (when_false _ _ t p.holds).1 ∙ (ap (children_of forest) number ∙ sym (when_false _ _ (ap is_template (sym names) ∙ t) q.holds).1)
     by_name true None d t a b e = absurd (rw a at (when_true _ _ t p.holds))
     by_name true (Some c) None t a b e = absurd (rw b at (when_true _ _ (ap is_template (sym names) ∙ t) q.holds))
     by_name true (Some c) (Some d) t a b e =
-        let one : (kids_of forest n ≡ []) × (below ≡ kids_of forest c) = rw a at (when_true _ _ t p.holds) in
-        let two : (kids_of forest m ≡ []) × (under ≡ kids_of forest d) = rw b at (when_true _ _ (ap is_template (sym names) ∙ t) q.holds) in
-        one.1 ∙ (ap (kids_of forest) (same_Some c d e) ∙ sym two.1)
+        let one : (children_of forest n ≡ []) × (below ≡ children_of forest c) = rw a at (when_true _ _ t p.holds) in
+        let two : (children_of forest m ≡ []) × (under ≡ children_of forest d) = rw b at (when_true _ _ (ap is_template (sym names) ∙ t) q.holds) in
+        one.1 ∙ (ap (children_of forest) (same_Some c d e) ∙ sym two.1)
 
 -- nodes stand for one list of trees at most
 pub represents_same : (forest : Forest) (ns : List ℕ) (t u : ValueTrees) → Represents forest ns t → Represents forest ns u → t ≡ u
@@ -105,16 +105,16 @@ represents_same forest ns (doctype_node c p s later) (doctype_node d q r after) 
     let system : s ≡ r = cc (first.holds) in
     cc
 represents_same forest ns (doctype_node c p s later) (element_node m ys below after) a b = let is = (same_first forest ns a.0 b.0 a.1 b.1 _ _ a.2 b.3 a.3 b.4.read).holds in absurd (cc)
-represents_same forest ns (element_node n xs kids later) no_trees a b = absurd (not_empty ns a.0 a.1 b a.3)
-represents_same forest ns (element_node n xs kids later) (text_node d after) a b = let is = (same_first forest ns a.0 b.0 a.1 b.1 _ _ a.3 b.2 a.4.read b.3).holds in absurd (cc)
-represents_same forest ns (element_node n xs kids later) (comment_node d after) a b = let is = (same_first forest ns a.0 b.0 a.1 b.1 _ _ a.3 b.2 a.4.read b.3).holds in absurd (cc)
-represents_same forest ns (element_node n xs kids later) (doctype_node d q r after) a b = let is = (same_first forest ns a.0 b.0 a.1 b.1 _ _ a.3 b.2 a.4.read b.3).holds in absurd (cc)
-represents_same forest ns (element_node n xs kids later) (element_node m ys below after) a b =
+represents_same forest ns (element_node n xs children later) no_trees a b = absurd (not_empty ns a.0 a.1 b a.3)
+represents_same forest ns (element_node n xs children later) (text_node d after) a b = let is = (same_first forest ns a.0 b.0 a.1 b.1 _ _ a.3 b.2 a.4.read b.3).holds in absurd (cc)
+represents_same forest ns (element_node n xs children later) (comment_node d after) a b = let is = (same_first forest ns a.0 b.0 a.1 b.1 _ _ a.3 b.2 a.4.read b.3).holds in absurd (cc)
+represents_same forest ns (element_node n xs children later) (doctype_node d q r after) a b = let is = (same_first forest ns a.0 b.0 a.1 b.1 _ _ a.3 b.2 a.4.read b.3).holds in absurd (cc)
+represents_same forest ns (element_node n xs children later) (element_node m ys below after) a b =
     let first = same_first forest ns a.0 b.0 a.1 b.1 _ _ a.3 b.3 a.4.read b.4.read in
     let parts = element_parts n m a.4.attrs b.4.attrs a.4.contents b.4.contents a.4.flag b.4.flag first.holds in
     let number : a.0 ≡ b.0 = first_number ns a.0 b.0 a.1 b.1 a.3 b.3 in
     let attributes : xs ≡ ys = attributes_same b.4.attrs xs ys (subst (λ k. StandForAttributes k xs) parts.attributes a.4.named) b.4.named in
     let under : a.2 ≡ b.2 = below_of forest a.0 b.0 n m xs ys a.2 b.2 number parts.names a.4 b.4 parts.same_contents in
-    let inner = represents_same forest a.2 kids below a.5 (subst (λ (l : List ℕ). Represents forest l below) (sym under) b.5) in
+    let inner = represents_same forest a.2 children below a.5 (subst (λ (l : List ℕ). Represents forest l below) (sym under) b.5) in
     let more = represents_same forest a.1 later after a.6 (subst (λ (l : List ℕ). Represents forest l after) (sym first.others) b.6) in
-    ap (λ x. element_node x xs kids later) parts.names ∙ (ap (λ x. element_node m x kids later) attributes ∙ (ap (λ x. element_node m ys x later) inner ∙ ap (λ x. element_node m ys below x) more))
+    ap (λ x. element_node x xs children later) parts.names ∙ (ap (λ x. element_node m x children later) attributes ∙ (ap (λ x. element_node m ys x later) inner ∙ ap (λ x. element_node m ys below x) more))

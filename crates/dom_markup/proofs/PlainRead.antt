@@ -29,7 +29,7 @@ TextsAreUtf8 no_trees = Unit {0}
 TextsAreUtf8 (text_node contents later) = IsUtf8 contents × TextsAreUtf8 later
 TextsAreUtf8 (comment_node contents later) = TextsAreUtf8 later
 TextsAreUtf8 (doctype_node name public system later) = TextsAreUtf8 later
-TextsAreUtf8 (element_node name attributes kids later) = ValuesAreUtf8 attributes × TextsAreUtf8 kids × TextsAreUtf8 later
+TextsAreUtf8 (element_node name attributes children later) = ValuesAreUtf8 attributes × TextsAreUtf8 children × TextsAreUtf8 later
 
 -- ---- names in lower case
 
@@ -135,7 +135,7 @@ no_text_next no_trees text items last stops spelled = refl
 no_text_next (text_node contents later) text items last stops spelled = absurd (spelled.1.0 stops)
 no_text_next (comment_node contents later) text items last stops spelled = refl
 no_text_next (doctype_node name public system later) text items last stops spelled = refl
-no_text_next (element_node name attributes kids later) text items last stops spelled = refl
+no_text_next (element_node name attributes children later) text items last stops spelled = refl
 
 -- ---- comments and raw texts
 
@@ -192,13 +192,13 @@ decoded-some (b ∷ rest) some none = by_byte (b == 38) (reference rest) refl re
 
 -- ---- trees
 
--- the kids of an element and what follows its end tag, where the kids are read as markup or as a text
+-- the children of an element and what follows its end tag, where the children are read as markup or as a text
 abbrev pub IsReadAs : List ℕ → ValueTrees → List Item → List ℕ → Type 0
-IsReadAs name kids items last = IsPlainIn (mode_in name) kids × IsPlainTrees false kids × ((rest : List ℕ) × SpellsItemsUpTo markup rest items last)
+IsReadAs name children items last = IsPlainIn (mode_in name) children × IsPlainTrees false children × ((rest : List ℕ) × SpellsItemsUpTo markup rest items last)
 
-raw_read : (name : List ℕ) (kids : ValueTrees) (text : List ℕ) (items : List Item) (last : List ℕ) → TextsAreUtf8 kids →
-    SpellsItemsUpTo (raw_text_of name) text (items_of kids ++ (the_end name ∷ items)) last →
-    IsPlainIn (raw_text_of name) kids × IsPlainTrees false kids × ((rest : List ℕ) × SpellsItemsUpTo markup rest items last)
+raw_read : (name : List ℕ) (children : ValueTrees) (text : List ℕ) (items : List Item) (last : List ℕ) → TextsAreUtf8 children →
+    SpellsItemsUpTo (raw_text_of name) text (items_of children ++ (the_end name ∷ items)) last →
+    IsPlainIn (raw_text_of name) children × IsPlainTrees false children × ((rest : List ℕ) × SpellsItemsUpTo markup rest items last)
 raw_read name no_trees text items last utf8 spelled = (tt, tt, (spelled.0, spelled.2))
 raw_read name (text_node contents no_trees) text items last utf8 spelled =
     (no_end name text contents spelled.0 spelled.1.1, (spelled.1.0, utf8.0, refl, tt), (spelled.2.0, spelled.2.2))
@@ -210,9 +210,9 @@ raw_read name (comment_node second later) text items last utf8 spelled = absurd 
 raw_read name (doctype_node a b c later) text items last utf8 spelled = absurd spelled.1
 raw_read name (element_node a b c later) text items last utf8 spelled = absurd spelled.1
 
-text_read : (name : List ℕ) (kids : ValueTrees) (text : List ℕ) (items : List Item) (last : List ℕ) → TextsAreUtf8 kids →
-    SpellsItemsUpTo (text_of name) text (items_of kids ++ (the_end name ∷ items)) last →
-    IsPlainIn (text_of name) kids × IsPlainTrees false kids × ((rest : List ℕ) × SpellsItemsUpTo markup rest items last)
+text_read : (name : List ℕ) (children : ValueTrees) (text : List ℕ) (items : List Item) (last : List ℕ) → TextsAreUtf8 children →
+    SpellsItemsUpTo (text_of name) text (items_of children ++ (the_end name ∷ items)) last →
+    IsPlainIn (text_of name) children × IsPlainTrees false children × ((rest : List ℕ) × SpellsItemsUpTo markup rest items last)
 text_read name no_trees text items last utf8 spelled = (tt, tt, (spelled.0, spelled.2))
 text_read name (text_node contents no_trees) text items last utf8 spelled =
     let begins = spelled.1 in
@@ -226,37 +226,37 @@ text_read name (comment_node second later) text items last utf8 spelled = absurd
 text_read name (doctype_node a b c later) text items last utf8 spelled = absurd spelled.1
 text_read name (element_node a b c later) text items last utf8 spelled = absurd spelled.1
 
-kids_read : (name : List ℕ) (kids : ValueTrees) (text : List ℕ) (items : List Item) (last : List ℕ) → TextsAreUtf8 kids →
-    ((items : List Item) → SpellsItemsUpTo markup text (items_of kids ++ items) last → IsPlainTrees false kids × ((rest : List ℕ) × SpellsItemsUpTo markup rest items last)) →
-    SpellsItemsUpTo (mode_in name) text (items_of kids ++ (the_end name ∷ items)) last → IsReadAs name kids items last
-kids_read name kids text items last utf8 read spelled = by_name (is_among name raw_names) (is_among name text_names) refl refl
+children_read : (name : List ℕ) (children : ValueTrees) (text : List ℕ) (items : List Item) (last : List ℕ) → TextsAreUtf8 children →
+    ((items : List Item) → SpellsItemsUpTo markup text (items_of children ++ items) last → IsPlainTrees false children × ((rest : List ℕ) × SpellsItemsUpTo markup rest items last)) →
+    SpellsItemsUpTo (mode_in name) text (items_of children ++ (the_end name ∷ items)) last → IsReadAs name children items last
+children_read name children text items last utf8 read spelled = by_name (is_among name raw_names) (is_among name text_names) refl refl
   where
-    by_name : (r t : Bool) → is_among name raw_names ≡ r → is_among name text_names ≡ t → IsReadAs name kids items last
-    by_name true t p q = rw p (raw_read name kids text items last utf8 (rw p at spelled))
-    by_name false true p q = rw (p, q) (text_read name kids text items last utf8 (rw (p, q) at spelled))
+    by_name : (r t : Bool) → is_among name raw_names ≡ r → is_among name text_names ≡ t → IsReadAs name children items last
+    by_name true t p q = rw p (raw_read name children text items last utf8 (rw p at spelled))
+    by_name false true p q = rw (p, q) (text_read name children text items last utf8 (rw (p, q) at spelled))
     by_name false false p q =
         let inner = read (the_end name ∷ items) (rw (p, q) at spelled) in
         rw (p, q) (tt, inner.0, (inner.1.1.0, inner.1.1.2))
 
-element_read : (top : Bool) (name : List ℕ) (attributes : List Attribute) (kids later : ValueTrees) (text : List ℕ) (items : List Item) (last : List ℕ) →
-    AreInPlace top (element_node name attributes kids later) → TextsAreUtf8 (element_node name attributes kids later) →
-    ((text : List ℕ) (items : List Item) → SpellsItemsUpTo markup text (items_of kids ++ items) last → IsPlainTrees false kids × ((rest : List ℕ) × SpellsItemsUpTo markup rest items last)) →
+element_read : (top : Bool) (name : List ℕ) (attributes : List Attribute) (children later : ValueTrees) (text : List ℕ) (items : List Item) (last : List ℕ) →
+    AreInPlace top (element_node name attributes children later) → TextsAreUtf8 (element_node name attributes children later) →
+    ((text : List ℕ) (items : List Item) → SpellsItemsUpTo markup text (items_of children ++ items) last → IsPlainTrees false children × ((rest : List ℕ) × SpellsItemsUpTo markup rest items last)) →
     ((text : List ℕ) → SpellsItemsUpTo markup text (items_of later ++ items) last → IsPlainTrees top later × ((rest : List ℕ) × SpellsItemsUpTo markup rest items last)) →
     (void : Bool) → is_among name void_names ≡ void →
-    SpellsItemsUpTo markup text (items_of (element_node name attributes kids later) ++ items) last →
-    IsPlainTrees top (element_node name attributes kids later) × ((rest : List ℕ) × SpellsItemsUpTo markup rest items last)
-element_read top name attributes kids later text items last placed utf8 inner outer true void spelled =
+    SpellsItemsUpTo markup text (items_of (element_node name attributes children later) ++ items) last →
+    IsPlainTrees top (element_node name attributes children later) × ((rest : List ℕ) × SpellsItemsUpTo markup rest items last)
+element_read top name attributes children later text items last placed utf8 inner outer true void spelled =
     let tag = start_plain text name attributes spelled.0 spelled.1 utf8.0 in
     let mode : mode_in name ≡ markup = rw (void_not_raw name void, void_not_text name void) refl in
     let more : SpellsItemsUpTo (mode_in name) spelled.0 (items_of later ++ items) last = rw void at spelled.2 in
     let after = outer spelled.0 (subst (λ m. SpellsItemsUpTo m spelled.0 (items_of later ++ items) last) mode more) in
-    let none : kids ≡ no_trees = placed.0 void in
-    ((tag.0, tag.1, tag.2, placed.0, subst (λ m. IsPlainIn m kids) (sym mode) tt, subst (IsPlainTrees false) (sym none) tt, after.0), after.1)
-element_read top name attributes kids later text items last placed utf8 inner outer false void spelled =
+    let none : children ≡ no_trees = placed.0 void in
+    ((tag.0, tag.1, tag.2, placed.0, subst (λ m. IsPlainIn m children) (sym mode) tt, subst (IsPlainTrees false) (sym none) tt, after.0), after.1)
+element_read top name attributes children later text items last placed utf8 inner outer false void spelled =
     let tag = start_plain text name attributes spelled.0 spelled.1 utf8.0 in
-    let more : SpellsItemsUpTo (mode_in name) spelled.0 ((items_of kids ++ the_end name ∷ items_of later) ++ items) last = rw void at spelled.2 in
-    let grouped = subst (λ (is : List Item). SpellsItemsUpTo (mode_in name) spelled.0 is last) (append_assoc (items_of kids) (the_end name ∷ items_of later) items) more in
-    let below = kids_read name kids spelled.0 (items_of later ++ items) last utf8.1 (λ i. inner spelled.0 i) grouped in
+    let more : SpellsItemsUpTo (mode_in name) spelled.0 ((items_of children ++ the_end name ∷ items_of later) ++ items) last = rw void at spelled.2 in
+    let grouped = subst (λ (is : List Item). SpellsItemsUpTo (mode_in name) spelled.0 is last) (append_assoc (items_of children) (the_end name ∷ items_of later) items) more in
+    let below = children_read name children spelled.0 (items_of later ++ items) last utf8.1 (λ i. inner spelled.0 i) grouped in
     let after = outer below.2.0 below.2.1 in
     ((tag.0, tag.1, tag.2, placed.0, below.0, below.1, after.0), after.1)
 
@@ -275,9 +275,9 @@ trees_read top (doctype_node name public system later) last text items placed ba
     let begins = spelled.1 in
     let more = trees_read top later last spelled.0 items placed.1 bare.2 utf8 spelled.2 in
     ((placed.0, plain_name begins.written name begins.folds begins.some_name begins.is_name, bare.0, bare.1, more.0), more.1)
-trees_read top (element_node name attributes kids later) last text items placed bare utf8 spelled =
-    element_read top name attributes kids later text items last placed utf8
-    (λ t i s. trees_read false kids last t i placed.1 bare.0 utf8.1 s) (λ t s. trees_read top later last t items placed.2 bare.1 utf8.2 s)
+trees_read top (element_node name attributes children later) last text items placed bare utf8 spelled =
+    element_read top name attributes children later text items last placed utf8
+    (λ t i s. trees_read false children last t i placed.1 bare.0 utf8.1 s) (λ t s. trees_read top later last t items placed.2 bare.1 utf8.2 s)
     (is_among name void_names) refl spelled
 
 pub read_plain : (text : List ℕ) (trees : ValueTrees) → Spells text trees → HaveNoIdentifiers trees → TextsAreUtf8 trees → IsPlainTrees true trees

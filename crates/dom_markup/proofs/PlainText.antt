@@ -300,8 +300,8 @@ stops_before top no_trees rest other plain stops = stops
 stops_before top (text_node contents later) rest other plain stops = absurd (true≢false other)
 stops_before top (comment_node contents later) rest other plain stops = refl
 stops_before top (doctype_node name public system later) rest other plain stops = refl
-stops_before top (element_node [] attributes kids later) rest other plain stops = absurd plain.0
-stops_before top (element_node (b ∷ bs) attributes kids later) rest other plain stops = rw plain.0.0 refl
+stops_before top (element_node [] attributes children later) rest other plain stops = absurd plain.0
+stops_before top (element_node (b ∷ bs) attributes children later) rest other plain stops = rw plain.0.0 refl
 
 -- names of one list, none of which is among others
 apart : (name : List ℕ) (known others : List (List ℕ)) → list_all (λ k. not (is_among k others)) known ≡ true → is_among name known ≡ true → is_among name others ≡ false
@@ -321,42 +321,42 @@ pub void_not_text : (name : List ℕ) → is_among name void_names ≡ true → 
 unfolding void_names text_names
 void_not_text name void = apart name void_names text_names refl void
 
--- what follows the end tag of an element, and the element's kids before it
-kids_spell : (name : List ℕ) (kids : ValueTrees) (rest : List ℕ) (items : List Item) (last : List ℕ) → IsTagName name → folded name ≡ name → IsPlainIn (mode_in name) kids → IsPlainTrees false kids →
-    ((rest : List ℕ) (items : List Item) → text_front rest ≡ [] → SpellsItemsUpTo markup rest items last → SpellsItemsUpTo markup (text_of_trees false kids ++ rest) (items_of kids ++ items) last) →
+-- what follows the end tag of an element, and the element's children before it
+children_spell : (name : List ℕ) (children : ValueTrees) (rest : List ℕ) (items : List Item) (last : List ℕ) → IsTagName name → folded name ≡ name → IsPlainIn (mode_in name) children → IsPlainTrees false children →
+    ((rest : List ℕ) (items : List Item) → text_front rest ≡ [] → SpellsItemsUpTo markup rest items last → SpellsItemsUpTo markup (text_of_trees false children ++ rest) (items_of children ++ items) last) →
     SpellsItemsUpTo markup rest items last →
-    SpellsItemsUpTo (mode_in name) (text_of_trees (is_among name raw_names) kids ++ (end_tag name ++ rest)) (items_of kids ++ (the_end name ∷ items)) last
-kids_spell name kids rest items last is folds fits plain spell more =
+    SpellsItemsUpTo (mode_in name) (text_of_trees (is_among name raw_names) children ++ (end_tag name ++ rest)) (items_of children ++ (the_end name ∷ items)) last
+children_spell name children rest items last is folds fits plain spell more =
     by_name (is_among name raw_names) (is_among name text_names) refl refl
   where
-    raw_kids : (kids : ValueTrees) → IsPlainIn (raw_text_of name) kids → IsPlainTrees false kids →
-        SpellsItemsUpTo (raw_text_of name) (text_of_trees true kids ++ (end_tag name ++ rest)) (items_of kids ++ (the_end name ∷ items)) last
-    raw_kids no_trees fits plain = (rest, (refl, end_begins name rest is folds), more)
-    raw_kids (text_node contents no_trees) fits plain = (end_tag name ++ rest, (plain.0, subst (λ (t : List ℕ). EndsAtTag name (t ++ (end_tag name ++ rest)) contents (end_tag name ++ rest)) (sym (append-nil contents)) (ends_at_tag name contents rest is folds fits)), (rest, (refl, end_begins name rest is folds), more))
-    raw_kids _ fits plain = absurd fits
+    raw_children : (children : ValueTrees) → IsPlainIn (raw_text_of name) children → IsPlainTrees false children →
+        SpellsItemsUpTo (raw_text_of name) (text_of_trees true children ++ (end_tag name ++ rest)) (items_of children ++ (the_end name ∷ items)) last
+    raw_children no_trees fits plain = (rest, (refl, end_begins name rest is folds), more)
+    raw_children (text_node contents no_trees) fits plain = (end_tag name ++ rest, (plain.0, subst (λ (t : List ℕ). EndsAtTag name (t ++ (end_tag name ++ rest)) contents (end_tag name ++ rest)) (sym (append-nil contents)) (ends_at_tag name contents rest is folds fits)), (rest, (refl, end_begins name rest is folds), more))
+    raw_children _ fits plain = absurd fits
 
-    text_kids : (kids : ValueTrees) → IsPlainIn (text_of name) kids → IsPlainTrees false kids →
-        SpellsItemsUpTo (text_of name) (text_of_trees false kids ++ (end_tag name ++ rest)) (items_of kids ++ (the_end name ∷ items)) last
-    text_kids no_trees fits plain = (rest, (refl, end_begins name rest is folds), more)
-    text_kids (text_node contents no_trees) fits plain =
+    text_children : (children : ValueTrees) → IsPlainIn (text_of name) children → IsPlainTrees false children →
+        SpellsItemsUpTo (text_of name) (text_of_trees false children ++ (end_tag name ++ rest)) (items_of children ++ (the_end name ∷ items)) last
+    text_children no_trees fits plain = (rest, (refl, end_begins name rest is folds), more)
+    text_children (text_node contents no_trees) fits plain =
         let front = escaped_text contents in
         (end_tag name ++ rest, (front, escaped-some contents plain.1 plain.0, subst (λ (t : List ℕ). EndsAtTag name (t ++ (end_tag name ++ rest)) front (end_tag name ++ rest)) (sym (append-nil front)) (ends_at_tag name front rest is folds (no_end-lacks name front (no_less contents))), sym (text_reads_back contents plain.1)), (rest, (refl, end_begins name rest is folds), more))
-    text_kids _ fits plain = absurd fits
+    text_children _ fits plain = absurd fits
 
     by_name : (r t : Bool) → is_among name raw_names ≡ r → is_among name text_names ≡ t →
-        SpellsItemsUpTo (mode_in name) (text_of_trees (is_among name raw_names) kids ++ (end_tag name ++ rest)) (items_of kids ++ (the_end name ∷ items)) last
-    by_name true t p q = rw p (raw_kids kids (rw p at fits) plain)
-    by_name false true p q = rw (p, q) (text_kids kids (rw (p, q) at fits) plain)
+        SpellsItemsUpTo (mode_in name) (text_of_trees (is_among name raw_names) children ++ (end_tag name ++ rest)) (items_of children ++ (the_end name ∷ items)) last
+    by_name true t p q = rw p (raw_children children (rw p at fits) plain)
+    by_name false true p q = rw (p, q) (text_children children (rw (p, q) at fits) plain)
     by_name false false p q = rw (p, q) (spell (end_tag name ++ rest) (the_end name ∷ items) refl (rest, end_begins name rest is folds, more))
 
--- an element, where its kids and what follows it are spelled
-element_spells : (name : List ℕ) (attributes : List Attribute) (kids later : ValueTrees) (rest : List ℕ) (items : List Item) (last : List ℕ) →
-    IsTagName name → folded name ≡ name → ArePlain attributes → IsPlainIn (mode_in name) kids → IsPlainTrees false kids →
-    ((rest : List ℕ) (items : List Item) → text_front rest ≡ [] → SpellsItemsUpTo markup rest items last → SpellsItemsUpTo markup (text_of_trees false kids ++ rest) (items_of kids ++ items) last) →
+-- an element, where its children and what follows it are spelled
+element_spells : (name : List ℕ) (attributes : List Attribute) (children later : ValueTrees) (rest : List ℕ) (items : List Item) (last : List ℕ) →
+    IsTagName name → folded name ≡ name → ArePlain attributes → IsPlainIn (mode_in name) children → IsPlainTrees false children →
+    ((rest : List ℕ) (items : List Item) → text_front rest ≡ [] → SpellsItemsUpTo markup rest items last → SpellsItemsUpTo markup (text_of_trees false children ++ rest) (items_of children ++ items) last) →
     SpellsItemsUpTo markup (text_of_trees false later ++ rest) (items_of later ++ items) last →
     (void : Bool) → is_among name void_names ≡ void →
-    SpellsItemsUpTo markup (text_of_trees false (element_node name attributes kids later) ++ rest) (items_of (element_node name attributes kids later) ++ items) last
-element_spells name attributes kids later rest items last is folds attrs fits plain spell more true void =
+    SpellsItemsUpTo markup (text_of_trees false (element_node name attributes children later) ++ rest) (items_of (element_node name attributes children later) ++ items) last
+element_spells name attributes children later rest items last is folds attrs fits plain spell more true void =
     let tag = start_text name attributes in
     let behind = text_of_trees false later ++ rest in
     let mode : mode_in name ≡ markup = rw (void_not_raw name void, void_not_text name void) refl in
@@ -365,18 +365,18 @@ element_spells name attributes kids later rest items last is folds attrs fits pl
       subst (λ (t : List ℕ). BeginsStart t name attributes behind) (sym (assoc tag (text_of_trees false later) rest)) (start_begins name attributes behind is folds attrs),
       subst (λ m. SpellsItemsUpTo m behind (items_of later ++ items) last) (sym mode) more,
     )
-element_spells name attributes kids later rest items last is folds attrs fits plain spell more false void =
+element_spells name attributes children later rest items last is folds attrs fits plain spell more false void =
     let tag = start_text name attributes in
-    let inner = text_of_trees (is_among name raw_names) kids in
+    let inner = text_of_trees (is_among name raw_names) children in
     let behind = text_of_trees false later ++ rest in
     let after = inner ++ (end_tag name ++ behind) in
     let grouped : (tag ++ ((inner ++ end_tag name) ++ text_of_trees false later)) ++ rest ≡ tag ++ after =
     assoc tag ((inner ++ end_tag name) ++ text_of_trees false later) rest ∙ ap (λ t. tag ++ t) (assoc (inner ++ end_tag name) (text_of_trees false later) rest ∙ assoc inner (end_tag name) behind) in
-    let below : SpellsItemsUpTo (mode_in name) after (items_of kids ++ (the_end name ∷ (items_of later ++ items))) last = kids_spell name kids behind (items_of later ++ items) last is folds fits plain spell more in
+    let below : SpellsItemsUpTo (mode_in name) after (items_of children ++ (the_end name ∷ (items_of later ++ items))) last = children_spell name children behind (items_of later ++ items) last is folds fits plain spell more in
     rw void (
       after,
       subst (λ (t : List ℕ). BeginsStart t name attributes after) (sym grouped) (start_begins name attributes after is folds attrs),
-      subst (λ (is : List Item). SpellsItemsUpTo (mode_in name) after is last) (sym (append_assoc (items_of kids) (the_end name ∷ items_of later) items)) below,
+      subst (λ (is : List Item). SpellsItemsUpTo (mode_in name) after is last) (sym (append_assoc (items_of children) (the_end name ∷ items_of later) items)) below,
     )
 
 -- plain trees, where what follows them begins no text and is spelled
@@ -403,16 +403,16 @@ trees_spell top (doctype_node name public system later) last rest items plain st
           (subst (λ (t : List ℕ). BeginsDoctype (codes "<!DOCTYPE " ++ (name ++ (codes ">" ++ behind))) name [] t behind) (sym plain.3) (doctype_begins name behind plain.1))),
       trees_spell top later last rest items plain.4 stops more,
     )
-trees_spell top (element_node name attributes kids later) last rest items plain stops more =
-    element_spells name attributes kids later rest items last plain.0 plain.1 plain.2 plain.4 plain.5
-    (λ r i s m. trees_spell false kids last r i plain.5 s m) (trees_spell top later last rest items plain.6 stops more) (is_among name void_names) refl
+trees_spell top (element_node name attributes children later) last rest items plain stops more =
+    element_spells name attributes children later rest items last plain.0 plain.1 plain.2 plain.4 plain.5
+    (λ r i s m. trees_spell false children last r i plain.5 s m) (trees_spell top later last rest items plain.6 stops more) (is_among name void_names) refl
 
 plain_in_place : (top : Bool) (trees : ValueTrees) → IsPlainTrees top trees → AreInPlace top trees
 plain_in_place top no_trees plain = tt
 plain_in_place top (text_node contents later) plain = plain_in_place top later plain.3
 plain_in_place top (comment_node contents later) plain = plain_in_place top later plain.1
 plain_in_place top (doctype_node name public system later) plain = (plain.0, plain_in_place top later plain.4)
-plain_in_place top (element_node name attributes kids later) plain = (plain.3, plain_in_place false kids plain.5, plain_in_place top later plain.6)
+plain_in_place top (element_node name attributes children later) plain = (plain.3, plain_in_place false children plain.5, plain_in_place top later plain.6)
 
 pub plain_spells : (trees : ValueTrees) → IsPlainTrees true trees → Spells (text_of_trees false trees) trees
 plain_spells trees plain = record {

@@ -349,8 +349,8 @@ Goes items last = (rest : List ℕ) × IsUtf8 rest × SpellsItemsUpTo markup res
 utf8_at_tag : (name text front rest : List ℕ) → EndsAtTag name text front rest → IsUtf8 text → IsUtf8 front × IsUtf8 rest
 utf8_at_tag name text front rest at utf8 = utf8_cut front rest (subst IsUtf8 at.is utf8) (subst AsciiFirst (sym at.ends.is) (omega arith))
 
-raw_utf8 : (name : List ℕ) (kids : ValueTrees) (text : List ℕ) (items : List Item) (last : List ℕ) → IsUtf8 text →
-    SpellsItemsUpTo (raw_text_of name) text (items_of kids ++ (the_end name ∷ items)) last → TextsAreUtf8 kids × Goes items last
+raw_utf8 : (name : List ℕ) (children : ValueTrees) (text : List ℕ) (items : List Item) (last : List ℕ) → IsUtf8 text →
+    SpellsItemsUpTo (raw_text_of name) text (items_of children ++ (the_end name ∷ items)) last → TextsAreUtf8 children × Goes items last
 raw_utf8 name no_trees text items last utf8 spelled = (tt, (spelled.0, utf8_end text name spelled.0 spelled.1.1 utf8, spelled.2))
 raw_utf8 name (text_node contents no_trees) text items last utf8 spelled =
     let parts = utf8_at_tag name text contents spelled.0 spelled.1.1 utf8 in
@@ -363,8 +363,8 @@ raw_utf8 name (comment_node second later) text items last utf8 spelled = absurd 
 raw_utf8 name (doctype_node a b c later) text items last utf8 spelled = absurd spelled.1
 raw_utf8 name (element_node a b c later) text items last utf8 spelled = absurd spelled.1
 
-text_utf8 : (name : List ℕ) (kids : ValueTrees) (text : List ℕ) (items : List Item) (last : List ℕ) → IsUtf8 text →
-    SpellsItemsUpTo (text_of name) text (items_of kids ++ (the_end name ∷ items)) last → TextsAreUtf8 kids × Goes items last
+text_utf8 : (name : List ℕ) (children : ValueTrees) (text : List ℕ) (items : List Item) (last : List ℕ) → IsUtf8 text →
+    SpellsItemsUpTo (text_of name) text (items_of children ++ (the_end name ∷ items)) last → TextsAreUtf8 children × Goes items last
 text_utf8 name no_trees text items last utf8 spelled = (tt, (spelled.0, utf8_end text name spelled.0 spelled.1.1 utf8, spelled.2))
 text_utf8 name (text_node contents no_trees) text items last utf8 spelled =
     let begins = spelled.1 in
@@ -379,37 +379,37 @@ text_utf8 name (comment_node second later) text items last utf8 spelled = absurd
 text_utf8 name (doctype_node a b c later) text items last utf8 spelled = absurd spelled.1
 text_utf8 name (element_node a b c later) text items last utf8 spelled = absurd spelled.1
 
-kids_utf8 : (name : List ℕ) (kids : ValueTrees) (text : List ℕ) (items : List Item) (last : List ℕ) → IsUtf8 text →
-    ((items : List Item) → SpellsItemsUpTo markup text (items_of kids ++ items) last → TextsAreUtf8 kids × Goes items last) →
-    SpellsItemsUpTo (mode_in name) text (items_of kids ++ (the_end name ∷ items)) last → TextsAreUtf8 kids × Goes items last
-kids_utf8 name kids text items last utf8 read spelled = by_name (is_among name raw_names) (is_among name text_names) refl refl
+children_utf8 : (name : List ℕ) (children : ValueTrees) (text : List ℕ) (items : List Item) (last : List ℕ) → IsUtf8 text →
+    ((items : List Item) → SpellsItemsUpTo markup text (items_of children ++ items) last → TextsAreUtf8 children × Goes items last) →
+    SpellsItemsUpTo (mode_in name) text (items_of children ++ (the_end name ∷ items)) last → TextsAreUtf8 children × Goes items last
+children_utf8 name children text items last utf8 read spelled = by_name (is_among name raw_names) (is_among name text_names) refl refl
   where
-    by_name : (r t : Bool) → is_among name raw_names ≡ r → is_among name text_names ≡ t → TextsAreUtf8 kids × Goes items last
-    by_name true t p q = raw_utf8 name kids text items last utf8 (rw p at spelled)
-    by_name false true p q = text_utf8 name kids text items last utf8 (rw (p, q) at spelled)
+    by_name : (r t : Bool) → is_among name raw_names ≡ r → is_among name text_names ≡ t → TextsAreUtf8 children × Goes items last
+    by_name true t p q = raw_utf8 name children text items last utf8 (rw p at spelled)
+    by_name false true p q = text_utf8 name children text items last utf8 (rw (p, q) at spelled)
     by_name false false p q =
         let inner = read (the_end name ∷ items) (rw (p, q) at spelled) in
         let behind = inner.1 in
         let ends = behind.2 in
         (inner.0, (ends.0, utf8_end behind.0 name ends.0 ends.1 behind.1, ends.2))
 
-element_utf8 : (top : Bool) (name : List ℕ) (attributes : List Attribute) (kids later : ValueTrees) (text : List ℕ) (items : List Item) (last : List ℕ) →
-    AreInPlace top (element_node name attributes kids later) → IsUtf8 text →
-    ((text : List ℕ) (items : List Item) → IsUtf8 text → SpellsItemsUpTo markup text (items_of kids ++ items) last → TextsAreUtf8 kids × Goes items last) →
+element_utf8 : (top : Bool) (name : List ℕ) (attributes : List Attribute) (children later : ValueTrees) (text : List ℕ) (items : List Item) (last : List ℕ) →
+    AreInPlace top (element_node name attributes children later) → IsUtf8 text →
+    ((text : List ℕ) (items : List Item) → IsUtf8 text → SpellsItemsUpTo markup text (items_of children ++ items) last → TextsAreUtf8 children × Goes items last) →
     ((text : List ℕ) → IsUtf8 text → SpellsItemsUpTo markup text (items_of later ++ items) last → TextsAreUtf8 later × Goes items last) →
     (void : Bool) → is_among name void_names ≡ void →
-    SpellsItemsUpTo markup text (items_of (element_node name attributes kids later) ++ items) last → TextsAreUtf8 (element_node name attributes kids later) × Goes items last
-element_utf8 top name attributes kids later text items last placed utf8 inner outer true void spelled =
+    SpellsItemsUpTo markup text (items_of (element_node name attributes children later) ++ items) last → TextsAreUtf8 (element_node name attributes children later) × Goes items last
+element_utf8 top name attributes children later text items last placed utf8 inner outer true void spelled =
     let tag = utf8_start text name attributes spelled.0 spelled.1 utf8 in
     let mode : mode_in name ≡ markup = rw (void_not_raw name void, void_not_text name void) refl in
     let more : SpellsItemsUpTo (mode_in name) spelled.0 (items_of later ++ items) last = rw void at spelled.2 in
     let after = outer spelled.0 tag.1 (subst (λ m. SpellsItemsUpTo m spelled.0 (items_of later ++ items) last) mode more) in
     ((tag.0, subst TextsAreUtf8 (sym (placed.0 void)) tt, after.0), after.1)
-element_utf8 top name attributes kids later text items last placed utf8 inner outer false void spelled =
+element_utf8 top name attributes children later text items last placed utf8 inner outer false void spelled =
     let tag = utf8_start text name attributes spelled.0 spelled.1 utf8 in
-    let more : SpellsItemsUpTo (mode_in name) spelled.0 ((items_of kids ++ the_end name ∷ items_of later) ++ items) last = rw void at spelled.2 in
-    let grouped = subst (λ (is : List Item). SpellsItemsUpTo (mode_in name) spelled.0 is last) (append_assoc (items_of kids) (the_end name ∷ items_of later) items) more in
-    let below = kids_utf8 name kids spelled.0 (items_of later ++ items) last tag.1 (λ i s. inner spelled.0 i tag.1 s) grouped in
+    let more : SpellsItemsUpTo (mode_in name) spelled.0 ((items_of children ++ the_end name ∷ items_of later) ++ items) last = rw void at spelled.2 in
+    let grouped = subst (λ (is : List Item). SpellsItemsUpTo (mode_in name) spelled.0 is last) (append_assoc (items_of children) (the_end name ∷ items_of later) items) more in
+    let below = children_utf8 name children spelled.0 (items_of later ++ items) last tag.1 (λ i s. inner spelled.0 i tag.1 s) grouped in
     let behind = below.1 in
     let after = outer behind.0 behind.1 behind.2 in
     ((tag.0, below.0, after.0), after.1)
@@ -429,9 +429,9 @@ trees_utf8 top (comment_node contents later) last text items placed utf8 spelled
     trees_utf8 top later last spelled.0 items placed (utf8_comment begins.0 contents spelled.0 begins.2 inner) spelled.2
 trees_utf8 top (doctype_node name public system later) last text items placed utf8 spelled =
     trees_utf8 top later last spelled.0 items placed.1 (utf8_doctype text name public system spelled.0 spelled.1 utf8) spelled.2
-trees_utf8 top (element_node name attributes kids later) last text items placed utf8 spelled =
-    element_utf8 top name attributes kids later text items last placed utf8
-    (λ t i u s. trees_utf8 false kids last t i placed.1 u s) (λ t u s. trees_utf8 top later last t items placed.2 u s)
+trees_utf8 top (element_node name attributes children later) last text items placed utf8 spelled =
+    element_utf8 top name attributes children later text items last placed utf8
+    (λ t i u s. trees_utf8 false children last t i placed.1 u s) (λ t u s. trees_utf8 top later last t items placed.2 u s)
     (is_among name void_names) refl spelled
 
 pub read_utf8 : (text : List ℕ) (trees : ValueTrees) → Spells text trees → IsUtf8 text → TextsAreUtf8 trees

@@ -14,7 +14,7 @@ use Rattle.dom_links.specs.Sound.{IsForest, contents_at, stays}
 use Rattle.dom_links.specs.Trees.{NoTrees, contents_list, trees, trees_to}
 use Rattle.dom_links.specs.Walk.{IsNodeOf, IsWithin, later, row_on}
 use Rattle.dom_links.proofs.Grown.{within}
-use Rattle.dom_links.proofs.Nodes.{kids_past}
+use Rattle.dom_links.proofs.Nodes.{children_past}
 use Rattle.dom_links.proofs.Places.{cases_Option, siblings_run}
 use Rattle.dom_links.proofs.Depth.{trees-none, trees-some}
 use Rattle.dom_links.proofs.Later.{begins}
@@ -74,7 +74,7 @@ contents_within forest good n e read = elim (cases_Option e.template_contents) [
 pub no_row : (forest : Forest) (first : Option ℕ) → first ≡ None → trees forest (row_on forest false first) ≡ NoTrees
 no_row forest first none = rw none (trees-none forest)
 
--- ---- the text of a node and of its kids
+-- ---- the text of a node and of its children
 
 -- the text of a node alone
 pub html-known : (forest : Forest) → IsForest forest → (n : ℕ) (content : NodeData) → slice_get forest.content n ≡ Some content → html_of forest n ≡ opening content (is_kept forest n) ++ text_below forest n content
@@ -90,8 +90,8 @@ html-known forest good n content read =
 pub inner-known : (forest : Forest) → IsForest forest → (n : ℕ) (node : TreeNode) → IsNodeOf forest n node → is_void_node node.content ≡ false → inner_html_of forest n ≡ row_text forest (keeps_texts node.content) node.first_child
 unfolding inner_html_of
 inner-known forest good n node is open_here =
-    let kids = (begins forest false n node.first_child good is.first_is).all in
-    rw (is.content_is, open_here, kids) refl
+    let children = (begins forest false n node.first_child good is.first_is).all in
+    rw (is.content_is, open_here, children) refl
 
 -- what a node is written as, in the two pieces in which it is written, where the forest is a tree's
 pub html-pieces : (forest tree : Forest) → IsForest forest → forest ≡ tree → (n : ℕ) (content : NodeData) → slice_get forest.content n ≡ Some content → (raw : Bool) (below : List ℕ) → raw ≡ is_kept forest n → below ≡ text_below forest n content →
@@ -100,12 +100,12 @@ html-pieces forest tree good same n content read raw below kept is =
     let text : html_of tree n ≡ opening content (is_kept forest n) ++ text_below forest n content = ap (λ f. html_of f n) (sym same) ∙ html-known forest good n content read in
     rw (text, kept, is) refl
 
--- the same of its kids
+-- the same of its children
 pub inner-piece : (forest tree : Forest) → IsForest forest → forest ≡ tree → (n : ℕ) (node : TreeNode) → IsNodeOf forest n node → is_void_node node.content ≡ false → (raw : Bool) (text : List ℕ) → raw ≡ keeps_texts node.content → text ≡ row_text forest raw node.first_child →
     text ≡ inner_html_of tree n
 inner-piece forest tree good same n node is open_here raw text keeps wrote =
-    let kids : inner_html_of tree n ≡ row_text forest (keeps_texts node.content) node.first_child = ap (λ f. inner_html_of f n) (sym same) ∙ inner-known forest good n node is open_here in
-    rw (kids, wrote, keeps) refl
+    let children : inner_html_of tree n ≡ row_text forest (keeps_texts node.content) node.first_child = ap (λ f. inner_html_of f n) (sym same) ∙ inner-known forest good n node is open_here in
+    rw (children, wrote, keeps) refl
 
 pub html-unknown : (forest : Forest) (n : ℕ) → length forest.content ≤ n → html_of forest n ≡ []
 unfolding html_of trees
@@ -121,4 +121,4 @@ inner-bare forest n content read bare = rw (read, bare) refl
 
 pub inner-unknown : (forest : Forest) (n : ℕ) → IsForest forest → length forest.content ≤ n → inner_html_of forest n ≡ []
 unfolding inner_html_of
-inner-unknown forest n good past = rw (slice_get_past forest.content n past, kids_past forest n good.once past, trees-none forest) refl
+inner-unknown forest n good past = rw (slice_get_past forest.content n past, children_past forest n good.once past, trees-none forest) refl

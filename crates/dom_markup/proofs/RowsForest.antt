@@ -7,7 +7,7 @@ use Rattle.dom_nodes.specs.declared.node_data.NodeData.{NodeData}
 use Rattle.dom_nodes.specs.Kinds.{contents_named, is_fragment, is_top, may_bear}
 use Rattle.dom_links.specs.Lists.{IsDistinct, map_from, names, stands_in}
 use Rattle.dom_links.specs.Forest.{owner_from}
-use Rattle.dom_markup.specs.Numbered.{Row, kids_among, run_among}
+use Rattle.dom_markup.specs.Numbered.{Row, children_among, run_among}
 
 -- the parent of the node n, where the rows are those of the nodes from i on
 abbrev pub parent_from : ℕ → List Row → ℕ → Option ℕ
@@ -18,32 +18,32 @@ parent_before : (i : ℕ) (rows : List Row) (n : ℕ) → n < i → parent_from 
 parent_before i [] n low = refl
 parent_before i (row ∷ rows) n low = let other : (i == n) ≡ false = ne_eqb i n (λ e. omega (arith, e)) in rw other (parent_before (i + 1) rows n (omega arith))
 
--- ---- who stands among kids
+-- ---- who stands among children
 
-kids_before : (i : ℕ) (rows : List Row) (q n : ℕ) → n < i → stands_in n (kids_among i rows q) ≡ false
-kids_before i [] q n low = refl
-kids_before i (row ∷ rows) q n low = by_test (names row.parent q) refl (kids_before (i + 1) rows q n (omega arith))
+children_before : (i : ℕ) (rows : List Row) (q n : ℕ) → n < i → stands_in n (children_among i rows q) ≡ false
+children_before i [] q n low = refl
+children_before i (row ∷ rows) q n low = by_test (names row.parent q) refl (children_before (i + 1) rows q n (omega arith))
   where
-    by_test : (t : Bool) → names row.parent q ≡ t → stands_in n (kids_among (i + 1) rows q) ≡ false → stands_in n (kids_among i (row ∷ rows) q) ≡ false
+    by_test : (t : Bool) → names row.parent q ≡ t → stands_in n (children_among (i + 1) rows q) ≡ false → stands_in n (children_among i (row ∷ rows) q) ≡ false
     by_test true t more = let other : (i == n) ≡ false = ne_eqb i n (λ e. omega (arith, e)) in rw (t, other) more
     by_test false t more = rw t more
 
-pub stands-kids : (i : ℕ) (rows : List Row) (q n : ℕ) → stands_in n (kids_among i rows q) ≡ names (parent_from i rows n) q
-stands-kids i [] q n = refl
-stands-kids i (row ∷ rows) q n = by_tests (names row.parent q) (i == n) refl refl (stands-kids (i + 1) rows q n)
+pub stands-children : (i : ℕ) (rows : List Row) (q n : ℕ) → stands_in n (children_among i rows q) ≡ names (parent_from i rows n) q
+stands-children i [] q n = refl
+stands-children i (row ∷ rows) q n = by_tests (names row.parent q) (i == n) refl refl (stands-children (i + 1) rows q n)
   where
-    by_tests : (t s : Bool) → names row.parent q ≡ t → (i == n) ≡ s → stands_in n (kids_among (i + 1) rows q) ≡ names (parent_from (i + 1) rows n) q → stands_in n (kids_among i (row ∷ rows) q) ≡ names (parent_from i (row ∷ rows) n) q
+    by_tests : (t s : Bool) → names row.parent q ≡ t → (i == n) ≡ s → stands_in n (children_among (i + 1) rows q) ≡ names (parent_from (i + 1) rows n) q → stands_in n (children_among i (row ∷ rows) q) ≡ names (parent_from i (row ∷ rows) n) q
     by_tests true true t s more = rw (t, s) (sym t)
     by_tests true false t s more = rw (t, s) more
-    by_tests false true t s more = rw (t, s) (kids_before (i + 1) rows q n (let is : i ≡ n = eqb-true i n s in omega (arith, is)) ∙ sym t)
+    by_tests false true t s more = rw (t, s) (children_before (i + 1) rows q n (let is : i ≡ n = eqb-true i n s in omega (arith, is)) ∙ sym t)
     by_tests false false t s more = rw (t, s) more
 
-pub kids_distinct : (i : ℕ) (rows : List Row) (q : ℕ) → IsDistinct (kids_among i rows q)
-kids_distinct i [] q = tt
-kids_distinct i (row ∷ rows) q = by_test (names row.parent q) refl (kids_distinct (i + 1) rows q)
+pub children_distinct : (i : ℕ) (rows : List Row) (q : ℕ) → IsDistinct (children_among i rows q)
+children_distinct i [] q = tt
+children_distinct i (row ∷ rows) q = by_test (names row.parent q) refl (children_distinct (i + 1) rows q)
   where
-    by_test : (t : Bool) → names row.parent q ≡ t → IsDistinct (kids_among (i + 1) rows q) → IsDistinct (kids_among i (row ∷ rows) q)
-    by_test true t more = rw t (kids_before (i + 1) rows q i (omega arith), more)
+    by_test : (t : Bool) → names row.parent q ≡ t → IsDistinct (children_among (i + 1) rows q) → IsDistinct (children_among i (row ∷ rows) q)
+    by_test true t more = rw t (children_before (i + 1) rows q i (omega arith), more)
     by_test false t more = rw t more
 
 -- ---- the first list in which a number stands
@@ -76,14 +76,14 @@ runs-map_from i (suc k) (row ∷ rows) h =
     let other : (i == (i + 1) + k) ≡ false = ne_eqb i ((i + 1) + k) (λ e. omega (arith, e)) in
     runs-map_from (i + 1) k rows (omega arith) ∙ rw there (rw other refl)
 
-pub kids-from : (g : ℕ → List ℕ) (i k : ℕ) (rows : List Row) → k < length rows → get_or (map_from i (λ p row. g p) rows) k [] ≡ g (i + k)
-kids-from g i k [] h = absurd (omega arith)
-kids-from g i zero (row ∷ rows) h = ap g (sym (add-zero i))
-kids-from g i (suc k) (row ∷ rows) h = kids-from g (i + 1) k rows (omega arith) ∙ ap g (omega arith)
+pub children-from : (g : ℕ → List ℕ) (i k : ℕ) (rows : List Row) → k < length rows → get_or (map_from i (λ p row. g p) rows) k [] ≡ g (i + k)
+children-from g i k [] h = absurd (omega arith)
+children-from g i zero (row ∷ rows) h = ap g (sym (add-zero i))
+children-from g i (suc k) (row ∷ rows) h = children-from g (i + 1) k rows (omega arith) ∙ ap g (omega arith)
 
 -- ---- rows in order
 
--- the parent of a row comes before it and bears kids, a document or a fragment has no parent, and contents come right after their element
+-- the parent of a row comes before it and bears children, a document or a fragment has no parent, and contents come right after their element
 pub record IsInOrder (content : List NodeData) (n : ℕ) (row : Row) : Type 0 where
   pub below : (p : ℕ) → row.parent ≡ Some p → (p < n) × (option_map_or may_bear (slice_get content p) false ≡ true)
   pub top : is_top row.content ≡ true → row.parent ≡ None

@@ -7,10 +7,10 @@ use Rattle.std.proofs.lemmas.List.{get_or_past}
 use Rattle.dom_nodes.specs.declared.node_data.NodeData.{NodeData}
 use Rattle.dom_nodes.specs.Kinds.{contents_named, is_fragment, is_top}
 use Rattle.dom_links.specs.Lists.{IsDistinct, names, stands_in}
-use Rattle.dom_links.specs.Forest.{Forest, StandsOnce, kids_of, parent, run_of, siblings}
+use Rattle.dom_links.specs.Forest.{Forest, StandsOnce, children_of, parent, run_of, siblings}
 use Rattle.dom_links.specs.Sound.{IsForest, Reaches, one_step, then_step, Step, contents_at, stays}
-use Rattle.dom_markup.specs.Numbered.{Row, forest_of_rows, kids_among, run_among}
-use Rattle.dom_markup.proofs.RowsForest.{AreInOrder, content_at, contents_of_rows, kids-from, kids_distinct, length-map_from, order_at, owner_none, owner_some, parent_at, parent_from, parent_past, row_at, runs-map_from, stands-kids}
+use Rattle.dom_markup.specs.Numbered.{Row, forest_of_rows, children_among, run_among}
+use Rattle.dom_markup.proofs.RowsForest.{AreInOrder, content_at, contents_of_rows, children-from, children_distinct, length-map_from, order_at, owner_none, owner_some, parent_at, parent_from, parent_past, row_at, runs-map_from, stands-children}
 
 cases_parent : (o : Option ℕ) → (o ≡ None) ⊎ ((p : ℕ) × (o ≡ Some p))
 cases_parent None = inl refl
@@ -39,11 +39,11 @@ has_parent rows n p e = elim (cases_lt n (length rows)) [
     none_some : None ≡ Some p → ⊥
     none_some e = cc
 
-kids_is : (rows : List Row) (q : ℕ) → q < length rows → kids_of (forest_of_rows rows) q ≡ kids_among 0 rows q
-kids_is rows q h = let zero-q : 0 + q ≡ q = omega arith in kids-from (λ p. kids_among 0 rows p) 0 q rows h ∙ ap (kids_among 0 rows) zero-q
+children_is : (rows : List Row) (q : ℕ) → q < length rows → children_of (forest_of_rows rows) q ≡ children_among 0 rows q
+children_is rows q h = let zero-q : 0 + q ≡ q = omega arith in children-from (λ p. children_among 0 rows p) 0 q rows h ∙ ap (children_among 0 rows) zero-q
 
-kids_past : (rows : List Row) (q : ℕ) → length rows ≤ q → kids_of (forest_of_rows rows) q ≡ []
-kids_past rows q h = get_or_past _ q [] (rw (length-map_from 0 (λ p row. kids_among 0 rows p) rows) h)
+children_past : (rows : List Row) (q : ℕ) → length rows ≤ q → children_of (forest_of_rows rows) q ≡ []
+children_past rows q h = get_or_past _ q [] (rw (length-map_from 0 (λ p row. children_among 0 rows p) rows) h)
 
 run_is : (rows : List Row) (n : ℕ) → n < length rows → run_of (forest_of_rows rows) n ≡ run_among n (parent_from 0 rows n)
 run_is rows n h = let zero-n : 0 + n ≡ n = omega arith in runs-map_from 0 n rows h ∙ ap (λ k. run_among k (parent_from 0 rows k)) zero-n
@@ -60,13 +60,13 @@ parent_below rows order n p e =
 
 pub parent_is : (rows : List Row) → AreInOrder (contents_of_rows rows) 0 rows → (n : ℕ) → parent (forest_of_rows rows) n ≡ parent_from 0 rows n
 parent_is rows order n = elim (cases_parent (parent_from 0 rows n)) [
-  | inl none ↦ owner_none n 0 (λ p. kids_among 0 rows p) rows (λ p. stands-kids 0 rows p n ∙ ap (λ o. names o p) none) ∙ sym none
+  | inl none ↦ owner_none n 0 (λ p. children_among 0 rows p) rows (λ p. stands-children 0 rows p n ∙ ap (λ o. names o p) none) ∙ sym none
   | inr some ↦
       let q = some.0 in
       let has = has_parent rows n q some.1 in
       let low = parent_below rows order n q some.1 in
       let within = has.within in
-      owner_some n 0 q (λ p. kids_among 0 rows p) rows (λ p. stands-kids 0 rows p n ∙ ap (λ o. names o p) some.1) (omega arith) (omega (arith, low, within)) ∙ sym some.1
+      owner_some n 0 q (λ p. children_among 0 rows p) rows (λ p. stands-children 0 rows p n ∙ ap (λ o. names o p) some.1) (omega arith) (omega (arith, low, within)) ∙ sym some.1
 ]
 
 -- ---- each stands once
@@ -93,12 +93,12 @@ pub rows_once : (rows : List Row) → AreInOrder (contents_of_rows rows) 0 rows 
 rows_once rows order =
     let many = length-contents rows in
     record {
-      kids_each = length-map_from 0 (λ p row. kids_among 0 rows p) rows ∙ sym many;
+      children_each = length-map_from 0 (λ p row. children_among 0 rows p) rows ∙ sym many;
       runs_each = length-map_from 0 (λ n row. run_among n row.parent) rows ∙ sym many;
       placed = λ n h. placed n (subst (λ (k : ℕ). n < k) many h) (cases_parent (parent_from 0 rows n));
-      in_kids = λ p n s. in_kids p n s (cases_lt p (length rows));
+      in_children = λ p n s. in_children p n s (cases_lt p (length rows));
       in_run = λ m n s. in_run m n s (cases_lt m (length rows));
-      kids_once = λ p. kids_once p (cases_lt p (length rows));
+      children_once = λ p. children_once p (cases_lt p (length rows));
       run_once = λ n. run_once n (cases_lt n (length rows));
       no_run = λ p n e. no_run p n (sym (parent_is rows order n) ∙ e);
     }
@@ -111,13 +111,13 @@ rows_once rows order =
     placed n h (inr some) =
         let has = has_parent rows n some.0 some.1 in
         let low = parent_below rows order n some.0 some.1 in
-        rw (parent_is rows order n, some.1) (ap (stands_in n) (kids_is rows some.0 (omega (arith, low, h))) ∙ stands-kids 0 rows some.0 n ∙ ap (λ o. names o some.0) some.1 ∙ eq-eqb some.0 some.0 refl)
+        rw (parent_is rows order n, some.1) (ap (stands_in n) (children_is rows some.0 (omega (arith, low, h))) ∙ stands-children 0 rows some.0 n ∙ ap (λ o. names o some.0) some.1 ∙ eq-eqb some.0 some.0 refl)
 
-    in_kids : (p n : ℕ) → stands_in n (kids_of (forest_of_rows rows) p) ≡ true → (p < length rows) ⊎ (length rows ≤ p) → (n < length (contents_of_rows rows)) × (parent (forest_of_rows rows) n ≡ Some p)
-    in_kids p n s (inl low) =
-        let named = same_name (parent_from 0 rows n) p (sym (stands-kids 0 rows p n) ∙ ap (stands_in n) (sym (kids_is rows p low)) ∙ s) in
+    in_children : (p n : ℕ) → stands_in n (children_of (forest_of_rows rows) p) ≡ true → (p < length rows) ⊎ (length rows ≤ p) → (n < length (contents_of_rows rows)) × (parent (forest_of_rows rows) n ≡ Some p)
+    in_children p n s (inl low) =
+        let named = same_name (parent_from 0 rows n) p (sym (stands-children 0 rows p n) ∙ ap (stands_in n) (sym (children_is rows p low)) ∙ s) in
         (rw (length-contents rows) (has_parent rows n p named).within, parent_is rows order n ∙ named)
-    in_kids p n s (inr high) = absurd (true≢false (sym s ∙ ap (stands_in n) (kids_past rows p high)))
+    in_children p n s (inr high) = absurd (true≢false (sym s ∙ ap (stands_in n) (children_past rows p high)))
 
     in_run : (m n : ℕ) → stands_in n (run_of (forest_of_rows rows) m) ≡ true → (m < length rows) ⊎ (length rows ≤ m) →
         (n < length (contents_of_rows rows)) × (parent (forest_of_rows rows) n ≡ None) × (run_of (forest_of_rows rows) n ≡ run_of (forest_of_rows rows) m)
@@ -126,9 +126,9 @@ rows_once rows order =
         (rw (length-contents rows) (subst (λ (k : ℕ). k < length rows) alone.1 low), parent_is rows order n ∙ (ap (parent_from 0 rows) (sym alone.1) ∙ alone.0), ap (run_of (forest_of_rows rows)) (sym alone.1))
     in_run m n s (inr high) = absurd (true≢false (sym s ∙ ap (stands_in n) (run_past rows m high)))
 
-    kids_once : (p : ℕ) → (p < length rows) ⊎ (length rows ≤ p) → IsDistinct (kids_of (forest_of_rows rows) p)
-    kids_once p (inl low) = subst IsDistinct (sym (kids_is rows p low)) (kids_distinct 0 rows p)
-    kids_once p (inr high) = subst IsDistinct (sym (kids_past rows p high)) tt
+    children_once : (p : ℕ) → (p < length rows) ⊎ (length rows ≤ p) → IsDistinct (children_of (forest_of_rows rows) p)
+    children_once p (inl low) = subst IsDistinct (sym (children_is rows p low)) (children_distinct 0 rows p)
+    children_once p (inr high) = subst IsDistinct (sym (children_past rows p high)) tt
 
     run_once : (n : ℕ) → (n < length rows) ⊎ (length rows ≤ n) → IsDistinct (run_of (forest_of_rows rows) n)
     run_once n (inl low) = subst IsDistinct (sym (run_is rows n low)) (run_distinct n (parent_from 0 rows n))

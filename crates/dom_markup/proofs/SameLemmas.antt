@@ -9,7 +9,7 @@ use Rattle.dom_nodes.specs.declared.name.Attr.{Attr}
 use Rattle.dom_nodes.specs.declared.node_data.NodeData.{NodeData}
 use Rattle.dom_nodes.specs.declared.node_data.NodeData.TheVariants.{Document, Fragment, Doctype, Text, Comment, Element as AnElement, ProcessingInstruction}
 use Rattle.dom_links.specs.Lists.{stands_in}
-use Rattle.dom_links.specs.Forest.{Forest, kids_of}
+use Rattle.dom_links.specs.Forest.{Forest, children_of}
 use Rattle.dom_links.specs.Sound.{IsForest, bears}
 use Rattle.dom_links.specs.Trees.{contents_list, trees}
 use Rattle.dom_links.specs.Laws.{AreTrees}
@@ -29,27 +29,27 @@ shown_values no_trees = nothing
 shown_values (text_node contents later) = shown_tree (Some (Text contents)) nothing nothing (shown_values later)
 shown_values (comment_node contents later) = shown_tree (Some (Comment contents)) nothing nothing (shown_values later)
 shown_values (doctype_node name public system later) = shown_tree (Some (Doctype name public system)) nothing nothing (shown_values later)
-shown_values (element_node name attributes kids later) =
-    if is_template name then shown_tree (Some (compared (read_element name attributes None))) (shown_tree (Some Fragment) nothing (shown_values kids) nothing) nothing (shown_values later)
-    else shown_tree (Some (compared (read_element name attributes None))) nothing (shown_values kids) (shown_values later)
+shown_values (element_node name attributes children later) =
+    if is_template name then shown_tree (Some (compared (read_element name attributes None))) (shown_tree (Some Fragment) nothing (shown_values children) nothing) nothing (shown_values later)
+    else shown_tree (Some (compared (read_element name attributes None))) nothing (shown_values children) (shown_values later)
 
--- a node that bears no kids has none
-no_kids : (forest : Forest) → IsForest forest → (n : ℕ) → bears forest n ≡ false → kids_of forest n ≡ []
-no_kids forest good n bare = go (kids_of forest n) refl
+-- a node that bears no children has none
+no_children : (forest : Forest) → IsForest forest → (n : ℕ) → bears forest n ≡ false → children_of forest n ≡ []
+no_children forest good n bare = go (children_of forest n) refl
   where
-    go : (ns : List ℕ) → kids_of forest n ≡ ns → kids_of forest n ≡ []
+    go : (ns : List ℕ) → children_of forest n ≡ ns → children_of forest n ≡ []
     go [] is = is
     go (k ∷ ks) is =
-        let stands : stands_in k (kids_of forest n) ≡ true = ap (stands_in k) is ∙ (rw (eq-eqb k k refl) refl) in
-        absurd (true≢false (sym (good.bearing n k (good.once.in_kids n k stands).1) ∙ bare))
+        let stands : stands_in k (children_of forest n) ≡ true = ap (stands_in k) is ∙ (rw (eq-eqb k k refl) refl) in
+        absurd (true≢false (sym (good.bearing n k (good.once.in_children n k stands).1) ∙ bare))
 
 -- what a node shows, and those after it
 shown-node : (forest : Forest) → AreTrees forest → (ns others : List ℕ) (n : ℕ) (content : NodeData) → ns ≡ n ∷ others → ((m : ℕ) → stands_in m ns ≡ true → m < length forest.content) → slice_get forest.content n ≡ Some content →
-    shown forest (trees forest ns) ≡ shown_tree (Some (compared content)) (shown forest (trees forest (contents_list forest n))) (shown forest (trees forest (kids_of forest n))) (shown forest (trees forest others))
+    shown forest (trees forest ns) ≡ shown_tree (Some (compared content)) (shown forest (trees forest (contents_list forest n))) (shown forest (trees forest (children_of forest n))) (shown forest (trees forest others))
 shown-node forest are ns others n content is known read =
     let unfolded = are.a_tree n others (subst (λ (l : List ℕ). (m : ℕ) → stands_in m l ≡ true → m < length forest.content) is known) in
     ap (λ l. shown forest (trees forest l)) is ∙ (ap (shown forest) unfolded
-    ∙ ap (λ o. shown_tree (option_map compared o) (shown forest (trees forest (contents_list forest n))) (shown forest (trees forest (kids_of forest n))) (shown forest (trees forest others))) read)
+    ∙ ap (λ o. shown_tree (option_map compared o) (shown forest (trees forest (contents_list forest n))) (shown forest (trees forest (children_of forest n))) (shown forest (trees forest others))) read)
 
 shown-none : (forest : Forest) → AreTrees forest → (ns : List ℕ) → ns ≡ [] → shown forest (trees forest ns) ≡ nothing
 shown-none forest are ns none = ap (λ l. shown forest (trees forest l)) none ∙ ap (shown forest) are.no_trees
@@ -59,25 +59,25 @@ shown-leaf : (forest : Forest) → IsForest forest → AreTrees forest → (ns o
     bears forest n ≡ false → contents_list forest n ≡ [] → shown forest (trees forest ns) ≡ shown_tree (Some (compared content)) nothing nothing (shown forest (trees forest others))
 shown-leaf forest good are ns others n content is known read bare empty =
     shown-node forest are ns others n content is known read
-    ∙ (ap (λ s. shown_tree (Some (compared content)) s (shown forest (trees forest (kids_of forest n))) (shown forest (trees forest others))) (shown-none forest are (contents_list forest n) empty)
-    ∙ ap (λ s. shown_tree (Some (compared content)) nothing s (shown forest (trees forest others))) (shown-none forest are (kids_of forest n) (no_kids forest good n bare)))
+    ∙ (ap (λ s. shown_tree (Some (compared content)) s (shown forest (trees forest (children_of forest n))) (shown forest (trees forest others))) (shown-none forest are (contents_list forest n) empty)
+    ∙ ap (λ s. shown_tree (Some (compared content)) nothing s (shown forest (trees forest others))) (shown-none forest are (children_of forest n) (no_children forest good n bare)))
 
 -- a fragment alone
 shown-fragment : (forest : Forest) → AreTrees forest → (c : ℕ) → option_map_or is_fragment (slice_get forest.content c) false ≡ true →
-    shown forest (trees forest (c ∷ [])) ≡ shown_tree (Some Fragment) nothing (shown forest (trees forest (kids_of forest c))) nothing
+    shown forest (trees forest (c ∷ [])) ≡ shown_tree (Some Fragment) nothing (shown forest (trees forest (children_of forest c))) nothing
 shown-fragment forest are c is = by_content (slice_get forest.content c) refl
   where
-    whole : slice_get forest.content c ≡ Some Fragment → shown forest (trees forest (c ∷ [])) ≡ shown_tree (Some Fragment) nothing (shown forest (trees forest (kids_of forest c))) nothing
+    whole : slice_get forest.content c ≡ Some Fragment → shown forest (trees forest (c ∷ [])) ≡ shown_tree (Some Fragment) nothing (shown forest (trees forest (children_of forest c))) nothing
     whole read =
         let empty : contents_list forest c ≡ [] = rw read refl in
         shown-node forest are (c ∷ []) [] c Fragment refl (known_more forest (c ∷ []) [] c refl (slice_get_within _ c Fragment read) (λ m s. absurd (true≢false (sym s)))) read
-        ∙ (ap (λ s. shown_tree (Some Fragment) s (shown forest (trees forest (kids_of forest c))) (shown forest (trees forest []))) (shown-none forest are (contents_list forest c) empty)
-        ∙ ap (λ s. shown_tree (Some Fragment) nothing (shown forest (trees forest (kids_of forest c))) s) (shown-none forest are [] refl))
+        ∙ (ap (λ s. shown_tree (Some Fragment) s (shown forest (trees forest (children_of forest c))) (shown forest (trees forest []))) (shown-none forest are (contents_list forest c) empty)
+        ∙ ap (λ s. shown_tree (Some Fragment) nothing (shown forest (trees forest (children_of forest c))) s) (shown-none forest are [] refl))
 
     other : (content : NodeData) → is_fragment content ≡ false → slice_get forest.content c ≡ Some content → ⊥
     other content differs read = true≢false (sym is ∙ ap (λ o. option_map_or is_fragment o false) read ∙ differs)
 
-    by_content : (o : Option NodeData) → slice_get forest.content c ≡ o → shown forest (trees forest (c ∷ [])) ≡ shown_tree (Some Fragment) nothing (shown forest (trees forest (kids_of forest c))) nothing
+    by_content : (o : Option NodeData) → slice_get forest.content c ≡ o → shown forest (trees forest (c ∷ [])) ≡ shown_tree (Some Fragment) nothing (shown forest (trees forest (children_of forest c))) nothing
     by_content None read = absurd (true≢false (sym is ∙ ap (λ o. option_map_or is_fragment o false) read))
     by_content (Some Fragment) read = whole read
     by_content (Some Document) read = absurd (other Document refl read)
@@ -103,28 +103,28 @@ element_compared : (name : List ℕ) (attrs : List Attr) (attributes : List Attr
 element_compared name attrs attributes contents flag stand = ap (λ (as' : List Attr). html_element name as' None false) (all_attrs attrs attributes stand)
 
 -- what is below an element
-below-shown : (forest : Forest) → IsForest forest → AreTrees forest → (n : ℕ) (name : List ℕ) (attributes : List Attribute) (below others : List ℕ) (kids : Shown) → (is : IsElement forest n name attributes below) →
-    shown forest (trees forest below) ≡ kids → (root : Option NodeData) (later : Shown) →
-    shown_tree root (shown forest (trees forest (contents_list forest n))) (shown forest (trees forest (kids_of forest n))) later
-    ≡ (if is_template name then shown_tree root (shown_tree (Some Fragment) nothing kids nothing) nothing later else shown_tree root nothing kids later)
-below-shown forest good are n name attributes below others kids is same root later = by_name (is_template name) is.contents refl refl
+below-shown : (forest : Forest) → IsForest forest → AreTrees forest → (n : ℕ) (name : List ℕ) (attributes : List Attribute) (below others : List ℕ) (children : Shown) → (is : IsElement forest n name attributes below) →
+    shown forest (trees forest below) ≡ children → (root : Option NodeData) (later : Shown) →
+    shown_tree root (shown forest (trees forest (contents_list forest n))) (shown forest (trees forest (children_of forest n))) later
+    ≡ (if is_template name then shown_tree root (shown_tree (Some Fragment) nothing children nothing) nothing later else shown_tree root nothing children later)
+below-shown forest good are n name attributes below others children is same root later = by_name (is_template name) is.contents refl refl
   where
     by_name : (t : Bool) (contents : Option ℕ) → is_template name ≡ t → is.contents ≡ contents →
-        shown_tree root (shown forest (trees forest (contents_list forest n))) (shown forest (trees forest (kids_of forest n))) later
-        ≡ (if t then shown_tree root (shown_tree (Some Fragment) nothing kids nothing) nothing later else shown_tree root nothing kids later)
+        shown_tree root (shown forest (trees forest (contents_list forest n))) (shown forest (trees forest (children_of forest n))) later
+        ≡ (if t then shown_tree root (shown_tree (Some Fragment) nothing children nothing) nothing later else shown_tree root nothing children later)
     by_name true None t some = absurd (rw some at (when_true _ _ t is.holds))
     by_name true (Some c) t some =
-        let holds : (kids_of forest n ≡ []) × (below ≡ kids_of forest c) = rw some at (when_true _ _ t is.holds) in
+        let holds : (children_of forest n ≡ []) × (below ≡ children_of forest c) = rw some at (when_true _ _ t is.holds) in
         let list : contents_list forest n ≡ c ∷ [] = contents_are forest n name is.attrs is.contents is.flag is.read c some in
         let named = good.contents_known n c (rw (is.read, some) refl) in
-        let inner : shown forest (trees forest (contents_list forest n)) ≡ shown_tree (Some Fragment) nothing kids nothing =
+        let inner : shown forest (trees forest (contents_list forest n)) ≡ shown_tree (Some Fragment) nothing children nothing =
         ap (λ l. shown forest (trees forest l)) list ∙ (shown-fragment forest are c named.1 ∙ ap (λ s. shown_tree (Some Fragment) nothing s nothing) (ap (λ l. shown forest (trees forest l)) (sym holds.1) ∙ same)) in
-        ap (λ s. shown_tree root s (shown forest (trees forest (kids_of forest n))) later) inner
-        ∙ ap (λ s. shown_tree root (shown_tree (Some Fragment) nothing kids nothing) s later) (shown-none forest are (kids_of forest n) holds.0)
+        ap (λ s. shown_tree root s (shown forest (trees forest (children_of forest n))) later) inner
+        ∙ ap (λ s. shown_tree root (shown_tree (Some Fragment) nothing children nothing) s later) (shown-none forest are (children_of forest n) holds.0)
     by_name false contents t some =
         let holds = when_false _ _ t is.holds in
         let list : contents_list forest n ≡ [] = contents_none forest n name is.attrs is.contents is.flag is.read holds.0 in
-        ap (λ s. shown_tree root s (shown forest (trees forest (kids_of forest n))) later) (shown-none forest are (contents_list forest n) list)
+        ap (λ s. shown_tree root s (shown forest (trees forest (children_of forest n))) later) (shown-none forest are (contents_list forest n) list)
         ∙ ap (λ s. shown_tree root nothing s later) (ap (λ l. shown forest (trees forest l)) (sym holds.1) ∙ same)
 
 pub represented-shown : (forest : Forest) → IsForest forest → AreTrees forest → (ns : List ℕ) (values : ValueTrees) → Represents forest ns values → shown forest (trees forest ns) ≡ shown_values values
@@ -138,25 +138,25 @@ represented-shown forest good are ns (comment_node contents later) r =
 represented-shown forest good are ns (doctype_node name public system later) r =
     shown-leaf forest good are ns r.1 r.0 (Doctype name public system) r.2 (known_all forest ns (doctype_node name public system later) r) r.3 (rw r.3 refl) (rw r.3 refl)
     ∙ ap (shown_tree (Some (Doctype name public system)) nothing nothing) (represented-shown forest good are r.1 later r.4)
-represented-shown forest good are ns (element_node name attributes kids later) r =
-    shown-node forest are ns r.1 r.0 (html_element name r.4.attrs r.4.contents r.4.flag) r.3 (known_all forest ns (element_node name attributes kids later) r) r.4.read
-    ∙ (ap (λ e. shown_tree (Some e) (shown forest (trees forest (contents_list forest r.0))) (shown forest (trees forest (kids_of forest r.0))) (shown forest (trees forest r.1))) (element_compared name r.4.attrs attributes r.4.contents r.4.flag r.4.named)
-    ∙ (ap (shown_tree (Some (compared (read_element name attributes None))) (shown forest (trees forest (contents_list forest r.0))) (shown forest (trees forest (kids_of forest r.0)))) (represented-shown forest good are r.1 later r.6)
-    ∙ below-shown forest good are r.0 name attributes r.2 r.1 (shown_values kids) r.4 (represented-shown forest good are r.2 kids r.5) (Some (compared (read_element name attributes None))) (shown_values later)))
+represented-shown forest good are ns (element_node name attributes children later) r =
+    shown-node forest are ns r.1 r.0 (html_element name r.4.attrs r.4.contents r.4.flag) r.3 (known_all forest ns (element_node name attributes children later) r) r.4.read
+    ∙ (ap (λ e. shown_tree (Some e) (shown forest (trees forest (contents_list forest r.0))) (shown forest (trees forest (children_of forest r.0))) (shown forest (trees forest r.1))) (element_compared name r.4.attrs attributes r.4.contents r.4.flag r.4.named)
+    ∙ (ap (shown_tree (Some (compared (read_element name attributes None))) (shown forest (trees forest (contents_list forest r.0))) (shown forest (trees forest (children_of forest r.0)))) (represented-shown forest good are r.1 later r.6)
+    ∙ below-shown forest good are r.0 name attributes r.2 r.1 (shown_values children) r.4 (represented-shown forest good are r.2 children r.5) (Some (compared (read_element name attributes None))) (shown_values later)))
 
 -- a document and what is below it
-pub document-shown : (forest : Forest) → IsForest forest → AreTrees forest → slice_get forest.content 0 ≡ Some Document → (values : ValueTrees) → Represents forest (kids_of forest 0) values →
+pub document-shown : (forest : Forest) → IsForest forest → AreTrees forest → slice_get forest.content 0 ≡ Some Document → (values : ValueTrees) → Represents forest (children_of forest 0) values →
     shown forest (trees forest (0 ∷ [])) ≡ shown_tree (Some Document) nothing (shown_values values) nothing
 document-shown forest good are root values r =
     let empty : contents_list forest 0 ≡ [] = rw root refl in
     shown-node forest are (0 ∷ []) [] 0 Document refl (known_more forest (0 ∷ []) [] 0 refl good.rooted (λ m s. absurd (true≢false (sym s)))) root
-    ∙ (ap (λ s. shown_tree (Some Document) s (shown forest (trees forest (kids_of forest 0))) (shown forest (trees forest []))) (shown-none forest are (contents_list forest 0) empty)
-    ∙ (ap (λ s. shown_tree (Some Document) nothing s (shown forest (trees forest []))) (represented-shown forest good are (kids_of forest 0) values r)
+    ∙ (ap (λ s. shown_tree (Some Document) s (shown forest (trees forest (children_of forest 0))) (shown forest (trees forest []))) (shown-none forest are (contents_list forest 0) empty)
+    ∙ (ap (λ s. shown_tree (Some Document) nothing s (shown forest (trees forest []))) (represented-shown forest good are (children_of forest 0) values r)
     ∙ ap (λ s. shown_tree (Some Document) nothing (shown_values values) s) (shown-none forest are [] refl)))
 
 -- documents that stand for the same trees
 pub documents_same : (one other : Forest) → IsForest one → IsForest other → AreTrees one → AreTrees other → slice_get one.content 0 ≡ Some Document → slice_get other.content 0 ≡ Some Document →
-    (values : ValueTrees) → Represents one (kids_of one 0) values → Represents other (kids_of other 0) values → SameTree one 0 other 0
+    (values : ValueTrees) → Represents one (children_of one 0) values → Represents other (children_of other 0) values → SameTree one 0 other 0
 documents_same one other good fine are also root base values r s = document-shown one good are root values r ∙ sym (document-shown other fine also base values s)
 
 -- a plain document is the document of the trees that its HTML spells

@@ -26,7 +26,7 @@ use Rattle.dom_markup.specs.Numbered.{html_name, read_attr, read_element, docume
 use Rattle.dom_markup.specs.Refusals.{nodes_begun, Refused, Declines, StopsBefore, BeginsNothingAt, Shows, IsFaultAt, LeavesSomeOpen}
 use Rattle.dom_markup.specs.Token.{IsNext, Unread, contents_in, kind_of}
 use Rattle.dom_markup.specs.Tokens.{IsStopped}
-use Rattle.dom_markup.specs.Frames.{HasRead, Opened, is_top, opened_size, with_element, kids_place}
+use Rattle.dom_markup.specs.Frames.{HasRead, Opened, is_top, opened_size, with_element, children_place}
 use Rattle.dom_markup.specs.Limits.{IsLimit, IsPlainData, LacksNumbers}
 use Rattle.dom_markup.specs.Reader.{AfterItems, IsWhole, opened_by}
 use Rattle.dom_markup.specs.declared.document.reader.Open.{Open}
@@ -40,7 +40,7 @@ use Rattle.dom_markup.proofs.Whole.{mode_past-push, SpellsItems-from_front, Spel
 
 -- ---- making a node
 
--- plain data under a known node that bears kids is refused by a limit alone
+-- plain data under a known node that bears children is refused by a limit alone
 pub only_limits : (forest : Forest) (t : ℕ) (content : NodeData) (fault : EditFault) → t < length forest.content → bears forest t ≡ true → IsPlainData content → DataCause forest t content fault → IsLimit fault
 only_limits forest t content edit_faults.UnknownNode known bearing plain cause = absurd (omega arith)
 only_limits forest t content edit_faults.NoChildrenHere known bearing plain cause = true≢false (sym bearing ∙ cause)
@@ -86,16 +86,16 @@ leaf_read items old new stack stack' item made content h leaf grown is same =
     (reads_leaf items old (map opened_by stack) item content h leaf))
 
 pub start_read : (items : List Item) (old new : Forest) (stack stack' : List Open) (one : Open) (name : List ℕ) (all : List Attribute) (h : HasRead items old (map opened_by stack)) →
-    new ≡ with_element (opened_size h.frames) name all old → stack' ≡ stack ++ one ∷ [] → one.number ≡ kids_place (folded one.name.now) old → folded one.name.now ≡ name → is_among name void_names ≡ false →
+    new ≡ with_element (opened_size h.frames) name all old → stack' ≡ stack ++ one ∷ [] → one.number ≡ children_place (folded one.name.now) old → folded one.name.now ≡ name → is_among name void_names ≡ false →
     HasRead (items ++ start_tag name all ∷ []) new (map opened_by stack')
 start_read items old new stack stack' one name all h made pushed number named open_one =
-    let place : one.number ≡ kids_place name old = number ∙ ap (λ (n : List ℕ). kids_place n old) named in
-    let opened : opened_by one ≡ record { number = kids_place name old; name = name } =
-    ap (λ (n : ℕ). record { number = n; name = folded one.name.now }) place ∙ ap (λ (n : List ℕ). record { number = kids_place name old; name = n }) named in
-    let shown : map opened_by stack' ≡ map opened_by stack ++ record { number = kids_place name old; name = name } ∷ [] =
+    let place : one.number ≡ children_place name old = number ∙ ap (λ (n : List ℕ). children_place n old) named in
+    let opened : opened_by one ≡ record { number = children_place name old; name = name } =
+    ap (λ (n : ℕ). record { number = n; name = folded one.name.now }) place ∙ ap (λ (n : List ℕ). record { number = children_place name old; name = n }) named in
+    let shown : map opened_by stack' ≡ map opened_by stack ++ record { number = children_place name old; name = name } ∷ [] =
     ap (map opened_by) pushed ∙ map-append opened_by stack (one ∷ []) ∙ ap (λ (o : Opened). map opened_by stack ++ o ∷ []) opened in
     subst (λ (os : List Opened). HasRead (items ++ start_tag name all ∷ []) new os) (sym shown)
-    (subst (λ (f : Forest). HasRead (items ++ start_tag name all ∷ []) f (map opened_by stack ++ record { number = kids_place name old; name = name } ∷ [])) (sym made)
+    (subst (λ (f : Forest). HasRead (items ++ start_tag name all ∷ []) f (map opened_by stack ++ record { number = children_place name old; name = name } ∷ [])) (sym made)
     (reads_start items old (map opened_by stack) name all h open_one))
 
 abbrev of_parts : QualName → List Attr → Option ℕ → Element
@@ -128,18 +128,18 @@ void_read items old new stack stack' name all h made same void =
     leaf_read items old new stack stack' (start_tag name all) _ (read_element name all None) h (void_leaf (is_top h.frames) name all void) (made ∙ plain) refl same
 
 -- a start tag that finds no number
-pub start_declined : (items : List Item) (written name : List ℕ) (all : List Attribute) (kind : MarkupFaultKind) (forest : Forest) (stack : List Opened) → HasRead items forest stack → folded written ≡ name → LacksNumbers (kids_place (folded written) forest) kind → Declines items (start_tag name all) kind
+pub start_declined : (items : List Item) (written name : List ℕ) (all : List Attribute) (kind : MarkupFaultKind) (forest : Forest) (stack : List Opened) → HasRead items forest stack → folded written ≡ name → LacksNumbers (children_place (folded written) forest) kind → Declines items (start_tag name all) kind
 start_declined items written name all kind forest stack h named lacks =
-    let moved : LacksNumbers (kids_place name forest) kind = subst (λ (n : List ℕ). LacksNumbers (kids_place n forest) kind) named lacks in
+    let moved : LacksNumbers (children_place name forest) kind = subst (λ (n : List ℕ). LacksNumbers (children_place n forest) kind) named lacks in
     elim (cases_Bool (is_template name)) [
       | inl t ↦
           (let two : nodes_begun (start_tag name all ∷ []) ≡ 2 = rw t refl in
-          let place : kids_place name forest ≡ length forest.content + 1 = rw t refl in
-          no_number items (start_tag name all) kind forest stack (kids_place name forest) h (omega (arith, two)) (omega (arith, two, place)) moved)
+          let place : children_place name forest ≡ length forest.content + 1 = rw t refl in
+          no_number items (start_tag name all) kind forest stack (children_place name forest) h (omega (arith, two)) (omega (arith, two, place)) moved)
       | inr e ↦
           (let one : nodes_begun (start_tag name all ∷ []) ≡ 1 = rw e refl in
-          let place : kids_place name forest ≡ length forest.content = rw e refl in
-          no_number items (start_tag name all) kind forest stack (kids_place name forest) h (omega (arith, one)) (omega (arith, one, place)) moved)
+          let place : children_place name forest ≡ length forest.content = rw e refl in
+          no_number items (start_tag name all) kind forest stack (children_place name forest) h (omega (arith, one)) (omega (arith, one, place)) moved)
     ]
 
 -- ---- the item that a token is

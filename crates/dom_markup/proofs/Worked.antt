@@ -38,7 +38,7 @@ spelled = record {
 -- a root, and below it the element, and below that the text
 numbered : document_of paragraph ≡ record {
   content = Document ∷ read_element (codes "p") [] None ∷ Text (codes "a") ∷ [];
-  kids = (1 ∷ []) ∷ (2 ∷ []) ∷ [] ∷ [];
+  children = (1 ∷ []) ∷ (2 ∷ []) ∷ [] ∷ [];
   runs = (0 ∷ []) ∷ [] ∷ [] ∷ [];
 }
 unfolding document_of
@@ -50,7 +50,7 @@ attribute name value = record { name = name; value = value }
 -- two texts beside an element are numbered in order of start
 numbered_siblings : document_of (element_node (codes "b") [] (text_node (codes "x") no_trees) (text_node (codes "y") no_trees)) ≡ record {
   content = Document ∷ read_element (codes "b") [] None ∷ Text (codes "x") ∷ Text (codes "y") ∷ [];
-  kids = (1 ∷ 3 ∷ []) ∷ (2 ∷ []) ∷ [] ∷ [] ∷ [];
+  children = (1 ∷ 3 ∷ []) ∷ (2 ∷ []) ∷ [] ∷ [] ∷ [];
   runs = (0 ∷ []) ∷ [] ∷ [] ∷ [] ∷ [];
 }
 unfolding document_of

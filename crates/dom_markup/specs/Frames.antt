@@ -22,14 +22,14 @@ no_trees then more = more
 (text_node contents after) then more = text_node contents (after then more)
 (comment_node contents after) then more = comment_node contents (after then more)
 (doctype_node name public system after) then more = doctype_node name public system (after then more)
-(element_node name attributes kids after) then more = element_node name attributes kids (after then more)
+(element_node name attributes children after) then more = element_node name attributes children (after then more)
 
 -- the innermost element stands first in the list
 abbrev pub opened_items : List Frame → List Item
 opened_items [] = []
 opened_items (f ∷ fs) = opened_items fs ++ (items_of f.before ++ start_tag f.name f.attributes ∷ [])
 
--- the trees where all that is open ends, with these as the last kids
+-- the trees where all that is open ends, with these as the last children
 abbrev pub closed : List Frame → ValueTrees → ValueTrees
 closed [] done = done
 closed (f ∷ fs) done = closed fs (f.before then element_node f.name f.attributes done no_trees)
@@ -44,12 +44,12 @@ FramesInPlace [] = Unit {0}
 FramesInPlace (f ∷ fs) = AreInPlace (is_top fs) f.before × (is_among f.name void_names ≡ false) × FramesInPlace fs
 
 -- how many nodes stand up to and with the innermost element, and its contents where it is a template; that is also the
--- number of the node below which its kids stand
+-- number of the node below which its children stand
 abbrev pub opened_size : List Frame → ℕ
 opened_size [] = 0
 opened_size (f ∷ fs) = opened_size fs + (size f.before + (if is_template f.name then 2 else 1))
 
--- an open element: the number of the node below which its kids stand, and its name
+-- an open element: the number of the node below which its children stand, and its name
 pub record Opened : Type 0 where
   pub number : ℕ
   pub name : List ℕ
@@ -59,15 +59,15 @@ abbrev pub opened : List Frame → List Opened
 opened [] = []
 opened (f ∷ fs) = opened fs ++ record { number = opened_size (f ∷ fs); name = f.name } ∷ []
 
--- the forest with a new element of this name as the last kid of p, and a template's contents
+-- the forest with a new element of this name as the last child of p, and a template's contents
 abbrev pub with_element : ℕ → List ℕ → List Attribute → Forest → Forest
 with_element p name attributes forest =
     if is_template name then with_template p (read_element name attributes (Some (length forest.content + 1))) forest
     else with_child p (read_element name attributes None) forest
 
--- the number of the node below which its kids stand
-abbrev pub kids_place : List ℕ → Forest → ℕ
-kids_place name forest = if is_template name then length forest.content + 1 else length forest.content
+-- the number of the node below which its children stand
+abbrev pub children_place : List ℕ → Forest → ℕ
+children_place name forest = if is_template name then length forest.content + 1 else length forest.content
 
 -- what has been read after these items: the forest so far, and the open elements
 pub record HasRead (items : List Item) (forest : Forest) (stack : List Opened) : Type 0 where

@@ -10,7 +10,7 @@ use Rattle.dom_nodes.specs.declared.name.Namespace.TheVariants.{None as NoNamesp
 use Rattle.dom_nodes.specs.declared.node_data.Element.{Element}
 use Rattle.dom_nodes.specs.declared.node_data.NodeData.{NodeData}
 use Rattle.dom_nodes.specs.declared.node_data.NodeData.TheVariants.{Document, Fragment, Doctype, Text, Comment, Element as AnElement, ProcessingInstruction}
-use Rattle.dom_links.specs.Forest.{Forest, kids_of, parent}
+use Rattle.dom_links.specs.Forest.{Forest, children_of, parent}
 use Rattle.dom_links.specs.Trees.{Trees, NoTrees, Tree, trees}
 use Rattle.dom_markup.specs.Names.{is_among, void_names, raw_names}
 use Rattle.dom_markup.specs.Escaping.{escaped_text, escaped_value}
@@ -76,7 +76,7 @@ abbrev pub closing : NodeData → List ℕ
 closing (AnElement element) = end_tag element.name.local
 closing _ = []
 
--- what then follows, of the texts of its template contents and of its kids; below a void element nothing is written
+-- what then follows, of the texts of its template contents and of its children; below a void element nothing is written
 abbrev pub following : NodeData → List ℕ → List ℕ → List ℕ
 following Document inner below = below
 following Fragment inner below = below
@@ -89,11 +89,11 @@ node_text content raw inner below = opening content raw ++ following content inn
 -- the text of trees, one after another; `raw` says that texts at the top are written as they are
 abbrev pub trees_text : Forest → Bool → Trees → List ℕ
 trees_text forest raw NoTrees = []
-trees_text forest raw (Tree n contents kids later) =
-    option_map_or (λ content. node_text content raw (trees_text forest false contents) (trees_text forest (keeps_texts content) kids)) (slice_get forest.content n) []
+trees_text forest raw (Tree n contents children later) =
+    option_map_or (λ content. node_text content raw (trees_text forest false contents) (trees_text forest (keeps_texts content) children)) (slice_get forest.content n) []
     ++ trees_text forest raw later
 
--- the texts among the kids of a node are written as they are
+-- the texts among the children of a node are written as they are
 abbrev pub keeps_below : Forest → ℕ → Bool
 keeps_below forest n = option_map_or keeps_texts (slice_get forest.content n) false
 
@@ -109,6 +109,6 @@ html_of forest n = trees_text forest (is_kept forest n) (trees forest (n ∷ [])
 abbrev pub is_bare : Forest → ℕ → Bool
 is_bare forest n = option_map_or is_void_node (slice_get forest.content n) false
 
--- the HTML of the kids of a node
+-- the HTML of the children of a node
 unfoldable pub inner_html_of : Forest → ℕ → List ℕ
-inner_html_of forest n = if is_bare forest n then [] else trees_text forest (keeps_below forest n) (trees forest (kids_of forest n))
+inner_html_of forest n = if is_bare forest n then [] else trees_text forest (keeps_below forest n) (trees forest (children_of forest n))

@@ -231,17 +231,17 @@ items_of no_trees = []
 items_of (text_node contents later) = characters contents ∷ items_of later
 items_of (comment_node contents later) = comment contents ∷ items_of later
 items_of (doctype_node name public system later) = doctype name public system ∷ items_of later
-items_of (element_node name attributes kids later) =
-    start_tag name attributes ∷ (if is_among name void_names then items_of later else (items_of kids ++ end_tag name ∷ items_of later))
+items_of (element_node name attributes children later) =
+    start_tag name attributes ∷ (if is_among name void_names then items_of later else (items_of children ++ end_tag name ∷ items_of later))
 
--- void elements have no kids, and doctypes stand only at the top
+-- void elements have no children, and doctypes stand only at the top
 abbrev pub AreInPlace : Bool → ValueTrees → Type 0
 AreInPlace top no_trees = Unit {0}
 AreInPlace top (text_node contents later) = AreInPlace top later
 AreInPlace top (comment_node contents later) = AreInPlace top later
 AreInPlace top (doctype_node name public system later) = (top ≡ true) × AreInPlace top later
-AreInPlace top (element_node name attributes kids later) =
-    (is_among name void_names ≡ true → kids ≡ no_trees) × AreInPlace false kids × AreInPlace top later
+AreInPlace top (element_node name attributes children later) =
+    (is_among name void_names ≡ true → children ≡ no_trees) × AreInPlace false children × AreInPlace top later
 
 -- the text spells the trees
 pub record Spells (text : List ℕ) (trees : ValueTrees) : Type 0 where

@@ -38,7 +38,7 @@ size no_trees = 0
 size (text_node contents later) = 1 + size later
 size (comment_node contents later) = 1 + size later
 size (doctype_node name public system later) = 1 + size later
-size (element_node name attributes kids later) = (if is_template name then 2 else 1) + size kids + size later
+size (element_node name attributes children later) = (if is_template name then 2 else 1) + size children + size later
 
 -- the nodes of trees below a parent, in order of start, where the first has the number n; a template's fragment comes right after it
 abbrev pub rows_from : ℕ → ℕ → ValueTrees → List Row
@@ -46,30 +46,30 @@ rows_from p n no_trees = []
 rows_from p n (text_node contents later) = record { parent = Some p; content = Text contents } ∷ rows_from p (n + 1) later
 rows_from p n (comment_node contents later) = record { parent = Some p; content = Comment contents } ∷ rows_from p (n + 1) later
 rows_from p n (doctype_node name public system later) = record { parent = Some p; content = Doctype name public system } ∷ rows_from p (n + 1) later
-rows_from p n (element_node name attributes kids later) =
+rows_from p n (element_node name attributes children later) =
     if is_template name then
-    record { parent = Some p; content = read_element name attributes (Some (n + 1)) } ∷ (record { parent = None; content = Fragment } ∷ (rows_from (n + 1) (n + 2) kids ++ rows_from p (n + 2 + size kids) later))
-    else record { parent = Some p; content = read_element name attributes None } ∷ (rows_from n (n + 1) kids ++ rows_from p (n + 1 + size kids) later)
+    record { parent = Some p; content = read_element name attributes (Some (n + 1)) } ∷ (record { parent = None; content = Fragment } ∷ (rows_from (n + 1) (n + 2) children ++ rows_from p (n + 2 + size children) later))
+    else record { parent = Some p; content = read_element name attributes None } ∷ (rows_from n (n + 1) children ++ rows_from p (n + 1 + size children) later)
 
 -- the nodes are a document and these trees below it
 abbrev pub rows_of : ValueTrees → List Row
 rows_of trees = record { parent = None; content = Document } ∷ rows_from 0 1 trees
 
 -- the numbers, from i on, of the nodes whose parent is p
-abbrev pub kids_among : ℕ → List Row → ℕ → List ℕ
-kids_among i [] p = []
-kids_among i (row ∷ rows) p = if names row.parent p then i ∷ kids_among (i + 1) rows p else kids_among (i + 1) rows p
+abbrev pub children_among : ℕ → List Row → ℕ → List ℕ
+children_among i [] p = []
+children_among i (row ∷ rows) p = if names row.parent p then i ∷ children_among (i + 1) rows p else children_among (i + 1) rows p
 
 -- a node without a parent is a run of its own
 abbrev pub run_among : ℕ → Option ℕ → List ℕ
 run_among n None = n ∷ []
 run_among n (Some p) = []
 
--- the forest of nodes in order of their numbers, with the kids of each in that order too
+-- the forest of nodes in order of their numbers, with the children of each in that order too
 abbrev pub forest_of_rows : List Row → Forest
 forest_of_rows rows = record {
   content = map (λ row. row.content) rows;
-  kids = map_from 0 (λ p row. kids_among 0 rows p) rows;
+  children = map_from 0 (λ p row. children_among 0 rows p) rows;
   runs = map_from 0 (λ n row. run_among n row.parent) rows;
 }
 

@@ -3,7 +3,7 @@ use Rattle.std.specs.Prelude.{◌≡◌, ℕ, ◌+◌, ◌<◌, Bool, false, Lis
 use Rattle.std.specs.Io.KnownBytes.{Appends}
 use Rattle.std.specs.Option.{option_map_or}
 use Rattle.dom_nodes.specs.declared.node_data.NodeData.{NodeData}
-use Rattle.dom_links.specs.Forest.{Forest, kids_of}
+use Rattle.dom_links.specs.Forest.{Forest, children_of}
 use Rattle.dom_links.specs.Trees.{Trees, NoTrees, Tree, contents_list, trees}
 use Rattle.dom_links.specs.Walk.{row_on}
 use Rattle.dom_markup.specs.declared.serializing.stack.SerializeOp.{SerializeOp}
@@ -35,7 +35,7 @@ AreWithin forest (op ∷ ops) = IsOpWithin forest op × AreWithin forest ops
 -- how many steps are left: two for each node, one for each end tag
 abbrev pub trees_weight : Trees → ℕ
 trees_weight NoTrees = 0
-trees_weight (Tree n contents kids later) = 2 + trees_weight contents + trees_weight kids + trees_weight later
+trees_weight (Tree n contents children later) = 2 + trees_weight contents + trees_weight children + trees_weight later
 
 abbrev pub row_weight : Forest → Option ℕ → ℕ
 row_weight forest first = trees_weight (trees forest (row_on forest false first))
@@ -51,11 +51,11 @@ weight forest (op ∷ ops) = op_weight forest op + weight forest ops
 -- what follows the opening of node n
 abbrev pub text_below : Forest → ℕ → NodeData → List ℕ
 text_below forest n content =
-    following content (trees_text forest false (trees forest (contents_list forest n))) (trees_text forest (keeps_texts content) (trees forest (kids_of forest n)))
+    following content (trees_text forest false (trees forest (contents_list forest n))) (trees_text forest (keeps_texts content) (trees forest (children_of forest n)))
 
--- the steps that its contents and kids take
+-- the steps that its contents and children take
 abbrev pub weight_below : Forest → ℕ → ℕ
-weight_below forest n = trees_weight (trees forest (contents_list forest n)) + trees_weight (trees forest (kids_of forest n))
+weight_below forest n = trees_weight (trees forest (contents_list forest n)) + trees_weight (trees forest (children_of forest n))
 
 -- some of the text was written and the rest is still to be written, or after a fault a beginning of it was written
 abbrev pub WritesSome : {T E : Type 0} → Option (List ℕ) → Option (List ℕ) → Result T E → (text rest : List ℕ) → Type 0

@@ -6,7 +6,7 @@ use Rattle.dom_nodes.specs.declared.name.Attr.{Attr}
 use Rattle.dom_nodes.specs.declared.name.Namespace.TheVariants.{None as NoNamespace, Html}
 use Rattle.dom_nodes.specs.declared.node_data.NodeData.{NodeData}
 use Rattle.dom_nodes.specs.declared.node_data.NodeData.TheVariants.{Document, Doctype, Comment, Text, Element}
-use Rattle.dom_links.specs.Forest.{Forest, kids_of}
+use Rattle.dom_links.specs.Forest.{Forest, children_of}
 use Rattle.dom_markup.specs.Letters.{is_name_byte, folded}
 use Rattle.dom_markup.specs.Names.{Mode, markup, text_of, raw_text_of, mode_in, is_among, is_template, void_names, raw_names}
 use Rattle.dom_markup.specs.Escaping.{escaped_text}
@@ -27,8 +27,8 @@ text_of_trees raw no_trees = []
 text_of_trees raw (text_node contents later) = (if raw then contents else escaped_text contents) ++ text_of_trees raw later
 text_of_trees raw (comment_node contents later) = codes "<!--" ++ (contents ++ (codes "-->" ++ text_of_trees raw later))
 text_of_trees raw (doctype_node name public system later) = codes "<!DOCTYPE " ++ (name ++ (codes ">" ++ text_of_trees raw later))
-text_of_trees raw (element_node name attributes kids later) =
-    start_text name attributes ++ ((if is_among name void_names then [] else text_of_trees (is_among name raw_names) kids ++ end_tag name) ++ text_of_trees raw later)
+text_of_trees raw (element_node name attributes children later) =
+    start_text name attributes ++ ((if is_among name void_names then [] else text_of_trees (is_among name raw_names) children ++ end_tag name) ++ text_of_trees raw later)
 
 -- ---- plain trees
 
@@ -55,7 +55,7 @@ begins_with_text _ = false
 
 -- what is read in a mode of its own is one text at most, and a raw one does not hold its end tag
 abbrev pub IsPlainIn : Mode → ValueTrees → Type 0
-IsPlainIn markup kids = Unit {0}
+IsPlainIn markup children = Unit {0}
 IsPlainIn (text_of name) no_trees = Unit {0}
 IsPlainIn (text_of name) (text_node contents no_trees) = Unit {0}
 IsPlainIn (text_of name) _ = ⊥
@@ -64,17 +64,17 @@ IsPlainIn (raw_text_of name) (text_node contents no_trees) = HoldsNoEnd name con
 IsPlainIn (raw_text_of name) _ = ⊥
 
 -- Trees that their HTML spells: no text is empty or next to a text, names are as the grammar spells them, void elements
--- have no kids, comments do not hold their end, and doctypes stand only at the top and have no identifiers. Every text of
+-- have no children, comments do not hold their end, and doctypes stand only at the top and have no identifiers. Every text of
 -- a program is UTF-8
 abbrev pub IsPlainTrees : Bool → ValueTrees → Type 0
 IsPlainTrees top no_trees = Unit {0}
 IsPlainTrees top (text_node contents later) = (contents ≢ []) × IsUtf8 contents × (begins_with_text later ≡ false) × IsPlainTrees top later
 IsPlainTrees top (comment_node contents later) = HoldsNoClose contents × IsPlainTrees top later
 IsPlainTrees top (doctype_node name public system later) = (top ≡ true) × IsPlainName name × (public ≡ []) × (system ≡ []) × IsPlainTrees top later
-IsPlainTrees top (element_node name attributes kids later) =
+IsPlainTrees top (element_node name attributes children later) =
     IsTagName name × (folded name ≡ name) × ArePlain attributes
-    × (is_among name void_names ≡ true → kids ≡ no_trees) × IsPlainIn (mode_in name) kids
-    × IsPlainTrees false kids × IsPlainTrees top later
+    × (is_among name void_names ≡ true → children ≡ no_trees) × IsPlainIn (mode_in name) children
+    × IsPlainTrees false children × IsPlainTrees top later
 
 -- ---- trees that are plain where a text spells them
 
@@ -84,7 +84,7 @@ HaveNoIdentifiers no_trees = Unit {0}
 HaveNoIdentifiers (text_node contents later) = HaveNoIdentifiers later
 HaveNoIdentifiers (comment_node contents later) = HaveNoIdentifiers later
 HaveNoIdentifiers (doctype_node name public system later) = (public ≡ []) × (system ≡ []) × HaveNoIdentifiers later
-HaveNoIdentifiers (element_node name attributes kids later) = HaveNoIdentifiers kids × HaveNoIdentifiers later
+HaveNoIdentifiers (element_node name attributes children later) = HaveNoIdentifiers children × HaveNoIdentifiers later
 
 -- ---- nodes that stand for trees
 
@@ -104,7 +104,7 @@ html_element name attrs contents flag = Element (record {
   mathml_annotation_xml_integration_point = flag;
 })
 
--- the node is an element of this name and with these attributes, and these numbers are its kids, or those of its contents where it is a template
+-- the node is an element of this name and with these attributes, and these numbers are its children, or those of its contents where it is a template
 pub record IsElement (forest : Forest) (n : ℕ) (name : List ℕ) (attributes : List Attribute) (below : List ℕ) : Type 0 where
   pub attrs : List Attr
   pub contents : Option ℕ
@@ -112,8 +112,8 @@ pub record IsElement (forest : Forest) (n : ℕ) (name : List ℕ) (attributes :
   pub read : slice_get forest.content n ≡ Some (html_element name attrs contents flag)
   pub named : StandForAttributes attrs attributes
   pub holds : MatchBool (is_template name)
-      (MatchOption contents ⊥ (λ inner. (kids_of forest n ≡ []) × (below ≡ kids_of forest inner)))
-      ((contents ≡ None) × (below ≡ kids_of forest n))
+      (MatchOption contents ⊥ (λ inner. (children_of forest n ≡ []) × (below ≡ children_of forest inner)))
+      ((contents ≡ None) × (below ≡ children_of forest n))
 
 -- these nodes, one after another, stand for these trees
 abbrev pub Represents : Forest → List ℕ → ValueTrees → Type 0
@@ -124,13 +124,13 @@ Represents forest ns (comment_node contents later) =
     (n : ℕ) × (others : List ℕ) × (ns ≡ n ∷ others) × (slice_get forest.content n ≡ Some (Comment contents)) × Represents forest others later
 Represents forest ns (doctype_node name public system later) =
     (n : ℕ) × (others : List ℕ) × (ns ≡ n ∷ others) × (slice_get forest.content n ≡ Some (Doctype name public system)) × Represents forest others later
-Represents forest ns (element_node name attributes kids later) =
+Represents forest ns (element_node name attributes children later) =
     (n : ℕ) × (others below : List ℕ) × (ns ≡ n ∷ others) × IsElement forest n name attributes below
-    × Represents forest below kids × Represents forest others later
+    × Represents forest below children × Represents forest others later
 
 -- a document is plain where the nodes below its root stand for plain trees
 pub record IsPlain (forest : Forest) : Type 0 where
   pub trees : ValueTrees
   pub root : slice_get forest.content 0 ≡ Some Document
-  pub below : Represents forest (kids_of forest 0) trees
+  pub below : Represents forest (children_of forest 0) trees
   pub plain : IsPlainTrees true trees

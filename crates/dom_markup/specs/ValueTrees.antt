@@ -14,5 +14,5 @@ pub data ValueTrees : Type 0 where
   comment_node : List ℕ → ValueTrees → ValueTrees
   -- a doctype of this name with a public and a system identifier
   doctype_node : List ℕ → List ℕ → List ℕ → ValueTrees → ValueTrees
-  -- an element of this name with these attributes and these kids; what a `template` has are its contents
+  -- an element of this name with these attributes and these children; what a `template` has are its contents
   element_node : List ℕ → List Attribute → ValueTrees → ValueTrees → ValueTrees

@@ -2,7 +2,7 @@
 
 ghost use Rattle.std.specs.Prelude.{◌≡◌, ◌≤◌, [], List, find, length, IfErr, IfOk, IfSome, MatchResult};
 ghost use Rattle.std.specs.Option.{option_map};
-ghost use Rattle.dom_links.specs.Forest.{Forest, kids_of};
+ghost use Rattle.dom_links.specs.Forest.{Forest, children_of};
 ghost use Rattle.dom_links.specs.Growth.{lone};
 ghost use Rattle.dom_links.specs.ListMoves.{element_at};
 ghost use Rattle.dom_trees.specs.declared.node_ref.NodeRef.{NodeRef};
@@ -146,7 +146,7 @@ impl Document {
 
     /// The first child of the root that is an element.
     pub fn html_root(&self) -> Option<NodeRef<'_>>
-        ensures number { option_map (λ (node : NodeRef). node.id) result ≡ find (element_at self.now.tree) (kids_of self.now.tree 0) }
+        ensures number { option_map (λ (node : NodeRef). node.id) result ≡ find (element_at self.now.tree) (children_of self.now.tree 0) }
         ensures tree { IfSome result (λ node. node.tree.now ≡ self.now.tree) }
     {
         self.tree.html_root()

@@ -7,7 +7,7 @@ ghost use Rattle.dom_markup.specs.ReadingBack.{SpellsDocument};
 ghost use Rattle.dom_markup.specs.Writing.{Writes};
 
 use crate::laws::plain::plain_documents_are_spelled;
-use crate::serializing::stack::{put_kids, put_node};
+use crate::serializing::stack::{put_children, put_node};
 use crate::writing::{ToText, ToWriter};
 use dom_nodes::fault::OutOfMemory;
 use dom_trees::node_ref::NodeRef;
@@ -58,7 +58,7 @@ pub trait NodeMarkup {
     // The number of the node.
     ghost number: { Self → ℕ };
 
-    /// Writes the node's HTML, or that of its kids alone; nothing for an unknown number. After a fault a beginning of
+    /// Writes the node's HTML, or that of its children alone; nothing for an unknown number. After a fault a beginning of
     /// it is written: `Write` where the writer failed, was interrupted or took no byte, `Memory` where memory was
     /// refused.
     fn write_html<W: Write>(&self, scope: TraversalScope, w: &mut W) -> Result<(), WriteFault>
@@ -73,7 +73,7 @@ pub trait NodeMarkup {
         ensures spelled { IfOk result (λ text. number self.now ≡ 0 → IsPlain (forest self.now)
             → SpellsDocument (string_bytes text) (forest self.now)) };
 
-    /// The HTML of the node's kids; empty for an unknown number. That of a plain document's root spells the document.
+    /// The HTML of the node's children; empty for an unknown number. That of a plain document's root spells the document.
     fn inner_html(&self) -> Result<String, OutOfMemory>
         ensures text { IfOk result (λ text. string_bytes text
             ≡ inner_html_of (forest self.now) (number self.now)) }
@@ -105,7 +105,7 @@ impl<'a> NodeMarkup for NodeRef<'a> {
     fn write_html<W: Write>(&self, scope: TraversalScope, w: &mut W) -> Result<(), WriteFault> {
         match scope {
             TraversalScope::IncludeNode => put_node::<ToWriter, W>(self.tree, self.id, w),
-            TraversalScope::ChildrenOnly => put_kids::<ToWriter, W>(self.tree, self.id, w),
+            TraversalScope::ChildrenOnly => put_children::<ToWriter, W>(self.tree, self.id, w),
         }
     }
 
@@ -119,7 +119,7 @@ impl<'a> NodeMarkup for NodeRef<'a> {
     fn inner_html(&self) -> Result<String, OutOfMemory> {
         tell_of_plain(self.tree);
         let mut text = String::new(self.tree.allocator());
-        put_kids::<ToText, String>(self.tree, self.id, &mut text)?;
+        put_children::<ToText, String>(self.tree, self.id, &mut text)?;
         Ok(text)
     }
 
@@ -135,7 +135,7 @@ impl<'a> NodeMarkup for NodeRef<'a> {
 /// Tells that the HTML of a plain document spells it. It does nothing.
 fn tell_of_plain(tree: &Tree)
     ensures root { IsPlain tree.now → SpellsDocument (html_of tree.now 0) tree.now }
-    ensures kids { IsPlain tree.now → SpellsDocument (inner_html_of tree.now 0) tree.now }
+    ensures children { IsPlain tree.now → SpellsDocument (inner_html_of tree.now 0) tree.now }
 {
     tree.nodes();
     plain_documents_are_spelled();

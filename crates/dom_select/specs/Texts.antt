@@ -1,10 +1,10 @@
--- What a node's kids are, and the texts at and below it.
+-- What a node's children are, and the texts at and below it.
 use Rattle.std.specs.Prelude.{ℕ, Bool, false, ◌||◌, ◌&&◌, not, List, [], ◌∷◌, slice_get}
 use Rattle.std.specs.List.{list_all, list_any}
 use Rattle.std.specs.Option.{option_map_or}
 use Rattle.dom_nodes.specs.declared.node_data.NodeData.{NodeData}
 use Rattle.dom_nodes.specs.declared.node_data.NodeData.TheVariants.{Text}
-use Rattle.dom_links.specs.Forest.{Forest, kids_of}
+use Rattle.dom_links.specs.Forest.{Forest, children_of}
 use Rattle.dom_links.specs.Trees.{walk_below}
 use Rattle.dom_trees.specs.Views.{is_filled_text}
 use Rattle.dom_select.specs.Comparisons.{has_within}
@@ -15,18 +15,18 @@ use Rattle.dom_select.specs.Lines.{element_at}
 abbrev pub filled_at : Forest → ℕ → Bool
 filled_at forest n = option_map_or is_filled_text (slice_get forest.content n) false
 
--- an element none of whose kids is an element or a text that isn't blank
+-- an element none of whose children is an element or a text that isn't blank
 abbrev pub empty_at : Forest → ℕ → Bool
-empty_at forest n = element_at forest n && list_all (λ kid. not (element_at forest kid || filled_at forest kid)) (kids_of forest n)
+empty_at forest n = element_at forest n && list_all (λ child. not (element_at forest child || filled_at forest child)) (children_of forest n)
 
 abbrev pub is_lone : (ℕ → Bool) → List ℕ → Bool
 is_lone p [] = false
-is_lone p (kid ∷ []) = p kid
-is_lone p (kid ∷ other ∷ kids) = false
+is_lone p (child ∷ []) = p child
+is_lone p (child ∷ other ∷ children) = false
 
--- exactly one kid, a text that isn't blank
+-- exactly one child, a text that isn't blank
 abbrev pub only_text_at : Forest → ℕ → Bool
-only_text_at forest n = is_lone (filled_at forest) (kids_of forest n)
+only_text_at forest n = is_lone (filled_at forest) (children_of forest n)
 
 abbrev pub text_contains : List ℕ → NodeData → Bool
 text_contains inner (Text contents) = has_within CaseSensitive contents inner

@@ -1,4 +1,4 @@
-//! What a node's kids are, and the texts at and below it.
+//! What a node's children are, and the texts at and below it.
 
 ghost use Rattle.std.specs.Prelude.{◌≡◌, ◌||◌, not};
 ghost use Rattle.dom_select.specs.Lines.{element_at};
@@ -34,23 +34,23 @@ pub(crate) fn is_empty(tree: &Tree, id: &NodeId) -> bool
     if !is_element(tree, id) {
         return false;
     }
-    for kid in tree.child_ids_of_it(id, false) {
-        if !is_passed_over(tree, &kid) {
+    for child in tree.child_ids_of_it(id, false) {
+        if !is_passed_over(tree, &child) {
             return false;
         }
     }
     true
 }
 
-/// Whether the node has exactly one kid, a text that isn't blank.
+/// Whether the node has exactly one child, a text that isn't blank.
 pub(crate) fn is_only_text(tree: &Tree, id: &NodeId) -> bool
     ensures { result ≡ only_text_at tree.now id.now }
 {
-    let mut kids = tree.child_ids_of_it(id, false);
-    let Some(first) = kids.next() else {
+    let mut children = tree.child_ids_of_it(id, false);
+    let Some(first) = children.next() else {
         return false;
     };
-    if kids.next().is_some() {
+    if children.next().is_some() {
         return false;
     }
     is_filled(tree, &first)

@@ -9,7 +9,7 @@ use Rattle.dom_trees.specs.Views.{refs_to}
 
 -- the node that a reference names is an element
 abbrev pub is_element_ref : NodeRef → Bool
-is_element_ref kid = element_at kid.tree.now kid.id
+is_element_ref child = element_at child.tree.now child.id
 
 -- the references to elements are those to the numbers of elements
 pub filter-refs : (tree : Bor Forest) (ids : List ℕ) → filter is_element_ref (refs_to tree ids) ≡ refs_to tree (filter (element_at tree.now) ids)

@@ -5,7 +5,7 @@ use Rattle.std.proofs.lemmas.List.{length-map}
 use Rattle.dom_nodes.specs.declared.fault.EditFault.{EditFault}
 use Rattle.dom_nodes.specs.declared.fault.EditFault.TheVariants.{UnknownNode, NoChildrenHere, RootOrFragment, Cycle, TooManyNodes, Memory, BadContents, Markup}
 use Rattle.dom_nodes.specs.declared.node_data.TreeNode.{TreeNode}
-use Rattle.dom_links.specs.Forest.{Forest, forest_of, kids_of}
+use Rattle.dom_links.specs.Forest.{Forest, forest_of, children_of}
 use Rattle.dom_links.specs.declared.gap.Gap.{Gap}
 use Rattle.dom_links.specs.declared.gap.Gap.TheVariants.{EndOf as end_of}
 use Rattle.dom_links.specs.Sound.{AtOrBelow, IsSoundArena, MayPlace, is_open, stays, target}
@@ -31,10 +31,10 @@ told_list forest gap x start moved (Err Memory) K h open' all cause known = caus
 told_list forest gap x start moved (Err BadContents) K h open' all cause known = cause
 told_list forest gap x start moved (Err (Markup fault)) K h open' all cause known = cause
 
--- the same of the kids of x, which go to another node
-pub told_kids : (forest : Forest) (t x start : ℕ) (p : Option ℕ) (r : Result (Unit {0}) EditFault) (K : Type 0) → p ≡ Some t → t < length forest.content → is_open (end_of t) forest ≡ true → with_later forest start ≡ kids_of forest x →
+-- the same of the children of x, which go to another node
+pub told_children : (forest : Forest) (t x start : ℕ) (p : Option ℕ) (r : Result (Unit {0}) EditFault) (K : Type 0) → p ≡ Some t → t < length forest.content → is_open (end_of t) forest ≡ true → with_later forest start ≡ children_of forest x →
     MatchResult r (λ _. EachOf (with_later forest start) (MayPlace forest t)) (λ fault. RunCause forest t start fault) →
     K → MatchResult r (λ _. K × MayReparent forest x p) (λ fault. ReparentCause forest x p fault)
-told_kids forest t x start p r K is h open' all told known =
+told_children forest t x start p r K is h open' all told known =
     subst (λ o. MatchResult r (λ _. K × MayReparent forest x o) (λ fault. ReparentCause forest x o fault)) (sym is)
-    (told_list forest (end_of t) x start (kids_of forest x) r K h open' all told known)
+    (told_list forest (end_of t) x start (children_of forest x) r K h open' all told known)

@@ -21,17 +21,17 @@ compared (Element element) = Element (record {
 })
 compared content = content
 
--- Trees without numbers: what is compared of the first tree's root, its contents, its kids, and the trees after it
+-- Trees without numbers: what is compared of the first tree's root, its contents, its children, and the trees after it
 pub data Shown : Type 0 where
   nothing : Shown
-  shown_tree : (root : Option NodeData) (contents kids later : Shown) → Shown
+  shown_tree : (root : Option NodeData) (contents children later : Shown) → Shown
 
 abbrev pub shown : Forest → Trees → Shown
 shown forest NoTrees = nothing
-shown forest (Tree n contents kids later) =
-    shown_tree (option_map compared (slice_get forest.content n)) (shown forest contents) (shown forest kids) (shown forest later)
+shown forest (Tree n contents children later) =
+    shown_tree (option_map compared (slice_get forest.content n)) (shown forest contents) (shown forest children) (shown forest later)
 
--- n and m are the same tree: what is reached from them by kids and contents, they too, can be paired so that each pair
--- is compared equal, and so are the orders of their kids
+-- n and m are the same tree: what is reached from them by children and contents, they too, can be paired so that each pair
+-- is compared equal, and so are the orders of their children
 abbrev pub SameTree : Forest → ℕ → Forest → ℕ → Type 0
 SameTree one n other m = shown one (trees one (n ∷ [])) ≡ shown other (trees other (m ∷ []))

@@ -45,13 +45,13 @@ pub(crate) fn start(alloc: Global) -> Result<Tree, Fail> {
 }
 
 /// Whether the children of a node are these.
-pub(crate) fn has_kids(tree: &Tree, parent: usize, kids: &[usize]) -> bool {
+pub(crate) fn has_children(tree: &Tree, parent: usize, children: &[usize]) -> bool {
     let mut ids = tree.child_ids_of_it(&node(parent), false);
-    for kid in kids {
+    for child in children {
         let Some(id) = ids.next() else {
             return false;
         };
-        if id.value() != *kid {
+        if id.value() != *child {
             return false;
         }
     }
@@ -79,70 +79,70 @@ pub(crate) fn is_run(tree: &Tree, first: usize, others: &[usize]) -> bool {
 fn appends(alloc: Global) -> Result<bool, Fail> {
     let mut tree = start(alloc)?;
     tree.append_children_of(&node(5), &node(3))?;
-    if !has_kids(&tree, 1, &[2]) || !has_kids(&tree, 5, &[3, 4]) {
+    if !has_children(&tree, 1, &[2]) || !has_children(&tree, 5, &[3, 4]) {
         return Ok(false);
     }
     let mut tree = start(alloc)?;
     tree.append_children_of(&node(2), &node(4))?;
-    Ok(has_kids(&tree, 1, &[2, 3]) && has_kids(&tree, 2, &[4]))
+    Ok(has_children(&tree, 1, &[2, 3]) && has_children(&tree, 2, &[4]))
 }
 
 fn prepends(alloc: Global) -> Result<bool, Fail> {
     let mut tree = start(alloc)?;
     tree.prepend_children_of(&node(5), &node(3))?;
-    Ok(has_kids(&tree, 1, &[]) && has_kids(&tree, 5, &[2, 3, 4]))
+    Ok(has_children(&tree, 1, &[]) && has_children(&tree, 5, &[2, 3, 4]))
 }
 
 fn inserts(alloc: Global) -> Result<bool, Fail> {
     let mut tree = start(alloc)?;
     tree.insert_siblings_before(&node(5), &node(2))?;
-    if !has_kids(&tree, 1, &[]) || !is_run(&tree, 2, &[3, 4, 5]) {
+    if !has_children(&tree, 1, &[]) || !is_run(&tree, 2, &[3, 4, 5]) {
         return Ok(false);
     }
     let mut tree = start(alloc)?;
     tree.insert_siblings_after(&node(2), &node(4))?;
-    if !has_kids(&tree, 1, &[2, 4, 3]) {
+    if !has_children(&tree, 1, &[2, 4, 3]) {
         return Ok(false);
     }
     let mut tree = start(alloc)?;
     tree.insert_before_of(&node(4), &node(3))?;
-    Ok(has_kids(&tree, 1, &[2, 3, 4]))
+    Ok(has_children(&tree, 1, &[2, 3, 4]))
 }
 
 fn reparents(alloc: Global) -> Result<bool, Fail> {
     let mut tree = start(alloc)?;
     tree.reparent_children_of(&node(1), None)?;
     tree.insert_before_of(&node(3), &node(5))?;
-    if !has_kids(&tree, 1, &[]) || !is_run(&tree, 2, &[5, 3, 4]) {
+    if !has_children(&tree, 1, &[]) || !is_run(&tree, 2, &[5, 3, 4]) {
         return Ok(false);
     }
     let mut tree = start(alloc)?;
     tree.reparent_children_of(&node(1), Some(node(5)))?;
-    if !has_kids(&tree, 1, &[]) || !has_kids(&tree, 5, &[2, 3, 4]) {
+    if !has_children(&tree, 1, &[]) || !has_children(&tree, 5, &[2, 3, 4]) {
         return Ok(false);
     }
     tree.remove_children_of(&node(5))?;
-    Ok(has_kids(&tree, 5, &[]) && is_run(&tree, 2, &[3, 4]))
+    Ok(has_children(&tree, 5, &[]) && is_run(&tree, 2, &[3, 4]))
 }
 
 fn replaces(alloc: Global) -> Result<bool, Fail> {
     let mut tree = start(alloc)?;
     tree.replace_with(&node(3), &node(5))?;
-    Ok(has_kids(&tree, 1, &[2, 5, 4]) && is_run(&tree, 3, &[]))
+    Ok(has_children(&tree, 1, &[2, 5, 4]) && is_run(&tree, 3, &[]))
 }
 
 fn wraps(alloc: Global) -> Result<bool, Fail> {
     let mut tree = start(alloc)?;
     tree.unwrap_node(&node(3))?;
-    if !has_kids(&tree, 0, &[1]) || !has_kids(&tree, 1, &[2, 3, 4]) {
+    if !has_children(&tree, 0, &[1]) || !has_children(&tree, 1, &[2, 3, 4]) {
         return Ok(false);
     }
     tree.wrap_node(&node(3), &node(5))?;
-    if !has_kids(&tree, 1, &[2, 5, 4]) || !has_kids(&tree, 5, &[3]) {
+    if !has_children(&tree, 1, &[2, 5, 4]) || !has_children(&tree, 5, &[3]) {
         return Ok(false);
     }
     tree.unwrap_node(&node(3))?;
-    Ok(has_kids(&tree, 1, &[2, 3, 4]) && has_kids(&tree, 5, &[]) && is_run(&tree, 5, &[]))
+    Ok(has_children(&tree, 1, &[2, 3, 4]) && has_children(&tree, 5, &[]) && is_run(&tree, 5, &[]))
 }
 
 #[test]
@@ -178,6 +178,6 @@ fn refuses_empty_lists(rt: HostRuntime) -> Result<(), Fail> {
     let nowhere = Some(node(99));
     assert!(rt; tree.reparent_children_of(&node(5), nowhere) == Err(EditFault::UnknownNode));
     assert!(rt; tree.wrap_node(&node(3), &node(6)) == Err(EditFault::NoChildrenHere));
-    assert!(rt; has_kids(&tree, 1, &[2, 3, 4]));
+    assert!(rt; has_children(&tree, 1, &[2, 3, 4]));
     Ok(())
 }

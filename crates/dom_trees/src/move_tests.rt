@@ -3,7 +3,7 @@
 ghost use Rattle.std.specs.Prelude.{◌≡◌, ◌∷◌, [], OnErr, OnOk};
 ghost use Rattle.dom_links.specs.Moves.{cut};
 
-use crate::list_tests::{has_kids, is_run, node, start};
+use crate::list_tests::{has_children, is_run, node, start};
 use crate::node_mut::NodeMut;
 use crate::tree::Tree;
 use dom_nodes::fault::EditFault;
@@ -26,46 +26,46 @@ fn appends_with_later(alloc: Global) -> Result<bool, Fail> {
     let mut tree = start(alloc)?;
     let mut five = tree.node_mut(&node(5)).ok_or("node")?;
     five.append_children(&node(3))?;
-    if !has_kids(&tree, 1, &[2]) || !has_kids(&tree, 5, &[3, 4]) {
+    if !has_children(&tree, 1, &[2]) || !has_children(&tree, 5, &[3, 4]) {
         return Ok(false);
     }
     let mut tree = start(alloc)?;
     let mut two = tree.node_mut(&node(2)).ok_or("node")?;
     two.append_children(&node(4))?;
-    Ok(has_kids(&tree, 1, &[2, 3]) && has_kids(&tree, 2, &[4]))
+    Ok(has_children(&tree, 1, &[2, 3]) && has_children(&tree, 2, &[4]))
 }
 
 fn prepends_a_whole_list(alloc: Global) -> Result<bool, Fail> {
     let mut tree = start(alloc)?;
     let mut five = tree.node_mut(&node(5)).ok_or("node")?;
     five.prepend_children(&node(3))?;
-    Ok(has_kids(&tree, 1, &[]) && has_kids(&tree, 5, &[2, 3, 4]))
+    Ok(has_children(&tree, 1, &[]) && has_children(&tree, 5, &[2, 3, 4]))
 }
 
 fn inserts_with_later(alloc: Global) -> Result<bool, Fail> {
     let mut tree = start(alloc)?;
     let mut five = tree.node_mut(&node(5)).ok_or("node")?;
     five.insert_siblings_before(&node(2))?;
-    if !has_kids(&tree, 1, &[]) || !is_run(&tree, 2, &[3, 4, 5]) {
+    if !has_children(&tree, 1, &[]) || !is_run(&tree, 2, &[3, 4, 5]) {
         return Ok(false);
     }
     let mut tree = start(alloc)?;
     let mut five = tree.node_mut(&node(5)).ok_or("node")?;
     five.insert_siblings_after(&node(3))?;
-    Ok(has_kids(&tree, 1, &[2]) && is_run(&tree, 5, &[3, 4]))
+    Ok(has_children(&tree, 1, &[2]) && is_run(&tree, 5, &[3, 4]))
 }
 
 fn inserts_one(alloc: Global) -> Result<bool, Fail> {
     let mut tree = start(alloc)?;
     let mut two = tree.node_mut(&node(2)).ok_or("node")?;
     two.insert_after(&node(4))?;
-    if !has_kids(&tree, 1, &[2, 4, 3]) {
+    if !has_children(&tree, 1, &[2, 4, 3]) {
         return Ok(false);
     }
     let mut tree = start(alloc)?;
     let mut four = tree.node_mut(&node(4)).ok_or("node")?;
     four.insert_before(&node(3))?;
-    Ok(has_kids(&tree, 1, &[2, 3, 4]))
+    Ok(has_children(&tree, 1, &[2, 3, 4]))
 }
 
 fn appends_one(alloc: Global) -> Result<bool, Fail> {
@@ -73,36 +73,39 @@ fn appends_one(alloc: Global) -> Result<bool, Fail> {
     let mut one = tree.node_mut(&node(1)).ok_or("node")?;
     one.append_child(&node(2))?;
     one.prepend_child(&node(5))?;
-    if !has_kids(&tree, 1, &[5, 3, 4, 2]) {
+    if !has_children(&tree, 1, &[5, 3, 4, 2]) {
         return Ok(false);
     }
     cut_out(&mut tree, &node(3))?;
-    Ok(has_kids(&tree, 1, &[5, 4, 2]) && is_run(&tree, 3, &[]))
+    Ok(has_children(&tree, 1, &[5, 4, 2]) && is_run(&tree, 3, &[]))
 }
 
 fn replaces_one(alloc: Global) -> Result<bool, Fail> {
     let mut tree = start(alloc)?;
     let mut three = tree.node_mut(&node(3)).ok_or("node")?;
     three.replace_with(&node(5))?;
-    Ok(has_kids(&tree, 1, &[2, 5, 4]) && is_run(&tree, 3, &[]))
+    Ok(has_children(&tree, 1, &[2, 5, 4]) && is_run(&tree, 3, &[]))
 }
 
 fn wraps_and_unwraps(alloc: Global) -> Result<bool, Fail> {
     let mut tree = start(alloc)?;
     let mut three = tree.node_mut(&node(3)).ok_or("node")?;
     three.wrap_node(&node(5))?;
-    if !has_kids(&tree, 1, &[2, 5, 4]) || !has_kids(&tree, 5, &[3]) {
+    if !has_children(&tree, 1, &[2, 5, 4]) || !has_children(&tree, 5, &[3]) {
         return Ok(false);
     }
     let mut three = tree.node_mut(&node(3)).ok_or("node")?;
     three.unwrap_node()?;
-    if !has_kids(&tree, 1, &[2, 3, 4]) || !has_kids(&tree, 5, &[]) || !is_run(&tree, 5, &[]) {
+    if !has_children(&tree, 1, &[2, 3, 4])
+        || !has_children(&tree, 5, &[])
+        || !is_run(&tree, 5, &[])
+    {
         return Ok(false);
     }
     let mut tree = start(alloc)?;
     let mut three = tree.node_mut(&node(3)).ok_or("node")?;
     three.unwrap_node()?;
-    Ok(has_kids(&tree, 0, &[1]) && has_kids(&tree, 1, &[2, 3, 4]))
+    Ok(has_children(&tree, 0, &[1]) && has_children(&tree, 1, &[2, 3, 4]))
 }
 
 fn removes_children(alloc: Global) -> Result<bool, Fail> {
@@ -116,7 +119,7 @@ fn removes_children(alloc: Global) -> Result<bool, Fail> {
     let mut tree = start(alloc)?;
     let mut one = tree.node_mut(&node(1)).ok_or("node")?;
     one.remove_children()?;
-    Ok(has_kids(&tree, 1, &[]) && is_run(&tree, 2, &[3, 4]))
+    Ok(has_children(&tree, 1, &[]) && is_run(&tree, 2, &[3, 4]))
 }
 
 #[test]
@@ -149,7 +152,7 @@ fn refuses_from_a_node(rt: HostRuntime) -> Result<(), Fail> {
     let mut root = tree.node_mut(&node(0)).ok_or("node")?;
     assert!(rt; root.insert_before(&node(2)) == Err(EditFault::RootOrFragment));
     assert!(rt; tree.node_mut(&node(7)).is_none());
-    assert!(rt; has_kids(&tree, 1, &[2, 3, 4]));
+    assert!(rt; has_children(&tree, 1, &[2, 3, 4]));
     Ok(())
 }
 

@@ -2,7 +2,7 @@
 
 ghost use Rattle.std.specs.Prelude.{◌≡◌, ◌<◌, ◌≤◌, ◌∷◌, [], IfErr, MatchOption, OnErr, OnOk, length};
 ghost use Rattle.std.specs.Borrow.{sem};
-ghost use Rattle.dom_links.specs.Forest.{kids_of, siblings};
+ghost use Rattle.dom_links.specs.Forest.{children_of, siblings};
 ghost use Rattle.dom_links.specs.ListMoves.{AllowedList, MayWrap, replaced, unwrapped, with_later, wrapped};
 ghost use Rattle.dom_links.specs.Moves.{cut, moved_to};
 ghost use Rattle.dom_links.specs.declared.gap.Gap.TheVariants.{After as after_node, Before as before_node, EndOf as end_of, FrontOf as front_of};
@@ -57,7 +57,7 @@ impl<'a> NodeMut<'a> {
 
     /// Cuts the children out. They are then a run of their own.
     pub fn remove_children(&mut self) -> Result<(), EditFault>
-        ensures ok { OnOk result (self.new.tree.now ≡ cut (kids_of self.old.tree.now self.old.id) self.old.tree.now) }
+        ensures ok { OnOk result (self.new.tree.now ≡ cut (children_of self.old.tree.now self.old.id) self.old.tree.now) }
         ensures known { OnOk result (self.old.id < length self.old.tree.now.content) }
         ensures err { OnErr result (self.new.tree.now ≡ self.old.tree.now) }
         ensures cause { IfErr result (λ fault. RemovalCause self.old.tree.now self.old.id fault) }

@@ -69,13 +69,13 @@ fn walks(rt: HostRuntime) -> Result<(), Fail> {
     let mut walk = tree.descendant_ids_of_it(&NodeId::root());
     while walk.next().is_some() {}
     assert_eq!(rt; walk.reads(), 9);
-    let kids = tree.child_ids_of(&NodeId::root())?;
-    assert_eq!(rt; numbers(alloc, &kids)?.as_slice(), [1, 4].as_slice());
+    let children = tree.child_ids_of(&NodeId::root())?;
+    assert_eq!(rt; numbers(alloc, &children)?.as_slice(), [1, 4].as_slice());
     assert!(rt;
-        matches!(tree.child_ids_of_it(&tree.root_id(), false).next(), Some(kid) if kid.value() == 1)
+        matches!(tree.child_ids_of_it(&tree.root_id(), false).next(), Some(child) if child.value() == 1)
     );
     assert!(rt;
-        matches!(tree.child_ids_of_it(&tree.root_id(), true).next(), Some(kid) if kid.value() == 4)
+        matches!(tree.child_ids_of_it(&tree.root_id(), true).next(), Some(child) if child.value() == 4)
     );
     let three = NodeId::new(3).ok_or("id")?;
     let above = tree.ancestor_ids_of(&three, None)?;
@@ -176,8 +176,8 @@ fn reads_nodes(rt: HostRuntime) -> Result<(), Fail> {
     assert!(rt; two.attr("id") == None);
     assert_eq!(rt; two.attrs().len(), 1);
     assert!(rt; matches!(two.parent(), Some(parent) if parent.id.value() == 1));
-    assert!(rt; matches!(two.last_child(), Some(kid) if kid.id.value() == 3));
-    assert!(rt; matches!(two.first_child(), Some(kid) if kid.id.value() == 3));
+    assert!(rt; matches!(two.last_child(), Some(child) if child.id.value() == 3));
+    assert!(rt; matches!(two.first_child(), Some(child) if child.id.value() == 3));
     assert!(rt; two.next_sibling().is_none());
     assert!(rt; two.prev_sibling().is_none());
     Ok(())
@@ -187,7 +187,7 @@ fn reads_nodes(rt: HostRuntime) -> Result<(), Fail> {
 fn lists_references(rt: HostRuntime) -> Result<(), Fail> {
     let tree = small_tree(rt.alloc())?;
     let root = tree.root();
-    assert!(rt; matches!(root.children_it(true).next(), Some(kid) if kid.id.value() == 4));
+    assert!(rt; matches!(root.children_it(true).next(), Some(child) if child.id.value() == 4));
     assert!(rt; matches!(root.descendants_it().next(), Some(below) if below.id.value() == 1));
     assert!(rt; root.ancestors_it(None).next().is_none());
     Ok(())

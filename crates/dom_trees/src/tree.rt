@@ -1,7 +1,7 @@
 //! A tree that owns its nodes.
 
 ghost use Rattle.std.specs.Prelude.{◌≡◌, ◌<◌, ◌≤◌, ◌∷◌, [], false, length, IfErr, IfOk, IsErrAnd, MatchOption, None, OnErr, OnOk};
-ghost use Rattle.dom_links.specs.Forest.{forest_of, kids_of};
+ghost use Rattle.dom_links.specs.Forest.{forest_of, children_of};
 ghost use Rattle.dom_links.specs.Growth.{DataCause, MayAppend, lone, with_child};
 ghost use Rattle.dom_links.specs.Lists.{IsDistinct};
 ghost use Rattle.dom_links.specs.Moves.{cut, moved_to};
@@ -126,16 +126,16 @@ impl Tree {
         find_node(self.nodes(), *id)
     }
 
-    /// The kids of a node, first to last, or last to first where `rev` says so.
+    /// The children of a node, first to last, or last to first where `rev` says so.
     pub fn child_ids_of_it(&self, id: &NodeId, rev: bool) -> ChildNodes<'_>
-        ensures { result ≡ in_order rev (kids_of self.now id.now) }
+        ensures { result ≡ in_order rev (children_of self.now id.now) }
     {
         ChildNodes::new(self.nodes(), id, rev)
     }
 
-    /// The kids of a node, in order.
+    /// The children of a node, in order.
     pub fn child_ids_of(&self, id: &NodeId) -> Result<Vec<NodeId>, OutOfMemory>
-        ensures { IfOk result (λ ids. ids.items ≡ kids_of self.now id.now) }
+        ensures { IfOk result (λ ids. ids.items ≡ children_of self.now id.now) }
     {
         Ok(self.child_ids_of_it(id, false).collect(self.allocator())?)
     }

@@ -1,8 +1,8 @@
 //! The moves of several nodes, and moves in two steps. They take no memory.
 
 ghost use Rattle.std.specs.Prelude.{◌≡◌, ◌≢◌, ◌<◌, [], ◌∷◌, ℕ, false, length, IfSome};
-ghost use Rattle.dom_links.specs.Forest.{IsArenaOf, forest_of, kids_of, siblings};
-ghost use Rattle.dom_links.specs.ListMoves.{KidsRemoved, MovedList, Reparents, Replaced, Unwrapped, Wrapped, with_later};
+ghost use Rattle.dom_links.specs.Forest.{IsArenaOf, forest_of, children_of, siblings};
+ghost use Rattle.dom_links.specs.ListMoves.{ChildrenRemoved, MovedList, Reparents, Replaced, Unwrapped, Wrapped, with_later};
 ghost use Rattle.dom_links.specs.Lists.{stands_in};
 ghost use Rattle.dom_links.specs.Moves.{after_node, before_node, cut, end_of, front_of};
 ghost use Rattle.dom_links.specs.Sound.{IsForest};
@@ -77,7 +77,7 @@ impl TreeNodeOps {
         requires linked { IsArenaOf (forest_of nodes.old) nodes.old }
         requires known { x < length nodes.old }
         requires target_known { IfSome parent (λ t. t < length nodes.old) }
-        requires apart { IfSome parent (λ t. stands_in t (kids_of (forest_of nodes.old) x) ≡ false) }
+        requires apart { IfSome parent (λ t. stands_in t (children_of (forest_of nodes.old) x) ≡ false) }
         ensures { Reparents nodes.old nodes.new x parent }
     {
         let Some(t) = parent else {
@@ -109,7 +109,7 @@ pub(crate) fn cut_with_later(nodes: &mut [TreeNode], x: NodeId)
 pub fn remove_children(nodes: &mut [TreeNode], x: NodeId)
     requires linked { IsArenaOf (forest_of nodes.old) nodes.old }
     requires known { x < length nodes.old }
-    ensures { KidsRemoved nodes.old nodes.new x }
+    ensures { ChildrenRemoved nodes.old nodes.new x }
 {
     let Some(first) = first_child_of(nodes, x) else {
         return;

@@ -2,7 +2,7 @@
 //! it.
 
 ghost use Rattle.std.specs.Prelude.{◌≡◌, find, false, true, if◌then◌else◌};
-ghost use Rattle.dom_links.specs.Forest.{forest_of, kids_of};
+ghost use Rattle.dom_links.specs.Forest.{forest_of, children_of};
 ghost use Rattle.dom_links.specs.ListMoves.{element_at};
 ghost use Rattle.dom_links.specs.Lists.{last};
 ghost use Rattle.dom_links.specs.Sound.{IsSoundArena};
@@ -47,7 +47,7 @@ impl TreeNodeOps {
     /// The first element among the children of a node.
     pub fn first_element_child_of(nodes: &[TreeNode], id: &NodeId) -> Option<NodeId>
         requires { IsSoundArena nodes.now }
-        ensures { result ≡ find (element_at (forest_of nodes.now)) (kids_of (forest_of nodes.now) id.now) }
+        ensures { result ≡ find (element_at (forest_of nodes.now)) (children_of (forest_of nodes.now) id.now) }
     {
         first_element_on(nodes, first_child_id(nodes, id), false)
     }

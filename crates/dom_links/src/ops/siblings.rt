@@ -1,7 +1,7 @@
 //! What stands beside and above a node, and whether a node may be moved with its later siblings.
 
 ghost use Rattle.std.specs.Prelude.{◌≡◌, ◌≢◌, ◌<◌, ◌⊎◌, IfSome, MatchBool, MatchOption, Some, [], false, length, not, true};
-ghost use Rattle.dom_links.specs.Forest.{IsArenaOf, forest_of, kids_of, parent, siblings};
+ghost use Rattle.dom_links.specs.Forest.{IsArenaOf, forest_of, children_of, parent, siblings};
 ghost use Rattle.dom_links.specs.ListMoves.{BlockedRun, EachOf, element_above, element_at, with_later, wrapper};
 ghost use Rattle.dom_links.specs.Lists.{first, stands_in};
 ghost use Rattle.dom_links.specs.Sound.{IsForest, MayPlace, stays};
@@ -66,10 +66,10 @@ pub fn first_sibling_of(nodes: &[TreeNode], x: NodeId) -> NodeId
 pub fn first_child_of(nodes: &[TreeNode], x: NodeId) -> Option<NodeId>
     requires linked { IsArenaOf (forest_of nodes.now) nodes.now }
     requires known { x < length nodes.now }
-    ensures first { result ≡ first (kids_of (forest_of nodes.now) x) }
-    ensures known { IfSome result (λ kid. kid < length nodes.now) }
-    ensures all { MatchOption result (kids_of (forest_of nodes.now) x ≡ [])
-        (λ kid. with_later (forest_of nodes.now) kid ≡ kids_of (forest_of nodes.now) x) }
+    ensures first { result ≡ first (children_of (forest_of nodes.now) x) }
+    ensures known { IfSome result (λ child. child < length nodes.now) }
+    ensures all { MatchOption result (children_of (forest_of nodes.now) x ≡ [])
+        (λ child. with_later (forest_of nodes.now) child ≡ children_of (forest_of nodes.now) x) }
 {
     nodes[x.value()].first_child
 }

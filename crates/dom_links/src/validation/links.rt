@@ -150,14 +150,14 @@ fn shares_parent(nodes: &[TreeNode], n: usize) -> bool
 }
 
 /// Whether a link, if there is one, names a node whose parent is n.
-fn is_kid(nodes: &[TreeNode], link: Option<NodeId>, n: usize) -> bool
+fn is_child(nodes: &[TreeNode], link: Option<NodeId>, n: usize) -> bool
     requires { IsKnown nodes.now link }
     ensures { MatchBool result (IfSome link (λ c. parent_link nodes.now c ≡ Some n)) (IfSome link (λ c. parent_link nodes.now c ≡ Some n) → ⊥) }
 {
-    let Some(kid) = link else {
+    let Some(child) = link else {
         return true;
     };
-    leads_to(nodes[kid.value()].parent, n)
+    leads_to(nodes[child.value()].parent, n)
 }
 
 /// Whether a node that is first or last in its list is so named by its parent.
@@ -190,10 +190,10 @@ fn is_linked(nodes: &[TreeNode], n: usize) -> bool
     if !shares_parent(nodes, n) {
         return false;
     }
-    if !is_kid(nodes, nodes[n].first_child, n) {
+    if !is_child(nodes, nodes[n].first_child, n) {
         return false;
     }
-    if !is_kid(nodes, nodes[n].last_child, n) {
+    if !is_child(nodes, nodes[n].last_child, n) {
         return false;
     }
     is_named(nodes, n)

@@ -11,7 +11,7 @@ ghost use Rattle.dom_markup.specs.Markup.{Item, Begins, BeginsDoctype, BeginsEnd
 ghost use Rattle.dom_markup.specs.Written.{attribute_of};
 ghost use Rattle.dom_markup.specs.Names.{markup};
 ghost use Rattle.dom_markup.specs.Token.{contents_in, kind_of, mode_of};
-ghost use Rattle.dom_markup.specs.Frames.{kids_place, opened_size, with_element};
+ghost use Rattle.dom_markup.specs.Frames.{children_place, opened_size, with_element};
 ghost use Rattle.dom_markup.specs.Limits.{IsLimit, IsPlainData, LacksNumbers, limit_kind};
 ghost use Rattle.dom_markup.specs.Numbered.{html_name, read_attr};
 ghost use Rattle.dom_markup.specs.Refusals.{Declines, LeavesSomeOpen};
@@ -159,7 +159,7 @@ fn limit_of(fault: EditFault) -> MarkupFaultKind
     }
 }
 
-/// An open element: the number of the node below which its kids stand, and its name as it is written.
+/// An open element: the number of the node below which its children stand, and its name as it is written.
 #[derive(Clone, Copy)]
 struct Open<'a> {
     number: NodeId,
@@ -199,7 +199,7 @@ impl<'a> Reader<'a> {
         }
     }
 
-    /// Makes a node as the last kid of the innermost open element.
+    /// Makes a node as the last child of the innermost open element.
     fn append(&mut self, content: NodeData) -> Result<NodeId, MarkupFaultKind>
         requires reading { IsReading self.old }
         requires plain { IsPlainData content }
@@ -215,7 +215,7 @@ impl<'a> Reader<'a> {
         }
     }
 
-    /// Makes an element with contents as the last kid of the innermost open element, and tells the contents' number.
+    /// Makes an element with contents as the last child of the innermost open element, and tells the contents' number.
     fn append_template(&mut self, name: QualName, attrs: Attrs) -> Result<NodeId, MarkupFaultKind>
         requires { IsReading self.old }
         ensures tree { OnOk result ((items : List Item) (h : AfterItems items self.old) → self.new.tree ≡ with_template (opened_size h.frames) (element_with name attrs (length self.old.tree.content + 1)) self.old.tree) }
@@ -230,15 +230,15 @@ impl<'a> Reader<'a> {
         }
     }
 
-    /// Makes an element as the last kid of the innermost open element, with contents where it is a template, and tells
-    /// below which number its kids stand.
+    /// Makes an element as the last child of the innermost open element, with contents where it is a template, and tells
+    /// below which number its children stand.
     fn append_element(&mut self, started: Started) -> Result<NodeId, MarkupFaultKind>
         requires { IsReading self.old }
         ensures tree { OnOk result ((items : List Item) (h : AfterItems items self.old) (name : List ℕ) (all : List Attribute) → folded started.entry.written.now ≡ name
             → started.entry.name ≡ html_name name → started.entry.attrs ≡ map read_attr all → self.new.tree ≡ with_element (opened_size h.frames) name all self.old.tree) }
         ensures stack { self.new.stack ≡ self.old.stack }
-        ensures number { IfOk result (λ number. number ≡ kids_place (folded started.entry.written.now) self.old.tree) }
-        ensures limit { IfErr result (λ kind. LacksNumbers (kids_place (folded started.entry.written.now) self.old.tree) kind) }
+        ensures number { IfOk result (λ number. number ≡ children_place (folded started.entry.written.now) self.old.tree) }
+        ensures limit { IfErr result (λ kind. LacksNumbers (children_place (folded started.entry.written.now) self.old.tree) kind) }
     {
         if !is_template(started.written) {
             let element = Element::new(started.name, started.attrs, None, false);

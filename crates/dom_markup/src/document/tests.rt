@@ -17,7 +17,7 @@ fn reads(rt: HostRuntime) -> Result<(), Fail> {
         "<DIV><p Class=\"x\" class=\"y\">a\u{a0}</P >\n</div>",
     )?;
     assert_eq!(rt; document.tree.len(), 5);
-    assert!(rt; matches!(document.root().first_child(), Some(kid) if kid.id.value() == 1));
+    assert!(rt; matches!(document.root().first_child(), Some(child) if child.id.value() == 1));
     let div = NodeRef::new(NodeId::new(1).ok_or("id")?, &document.tree);
     assert!(rt; div.node_name() == Some("div"));
     assert!(rt; matches!(document.html_root(), Some(html) if html.id == div.id));
@@ -27,7 +27,7 @@ fn reads(rt: HostRuntime) -> Result<(), Fail> {
     assert_eq!(rt; p.attrs().len(), 1);
     assert!(rt; p.attr("class") == Some("x"));
     assert!(rt; matches!(p.parent(), Some(parent) if parent.id.value() == 1));
-    assert!(rt; matches!(p.first_child(), Some(kid) if kid.id.value() == 3));
+    assert!(rt; matches!(p.first_child(), Some(child) if child.id.value() == 3));
     assert!(rt; matches!(p.next_sibling(), Some(next) if next.id.value() == 4));
     assert!(rt; text_at(&document, NodeId::new(3).ok_or("id")?) == "a\u{a0}");
     assert!(rt; text_at(&document, NodeId::new(4).ok_or("id")?) == "\n");
@@ -190,7 +190,7 @@ fn reads_templates(rt: HostRuntime) -> Result<(), Fail> {
     assert!(rt; template.first_child().is_none());
     let contents = NodeRef::new(NodeId::new(2).ok_or("id")?, &document.tree);
     assert!(rt; contents.parent().is_none());
-    assert!(rt; matches!(contents.first_child(), Some(kid) if kid.id.value() == 3));
+    assert!(rt; matches!(contents.first_child(), Some(child) if child.id.value() == 3));
     assert!(rt; text_at(&document, NodeId::new(4).ok_or("id")?) == "a");
     assert!(rt; matches!(template.next_sibling(), Some(next) if next.id.value() == 5));
     Ok(())

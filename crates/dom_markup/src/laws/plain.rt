@@ -2,7 +2,7 @@
 
 ghost use Rattle.std.specs.Prelude.{◌≡◌, Bool, false, ℕ, List, slice_get};
 ghost use Rattle.std.specs.Str.{IsUtf8};
-ghost use Rattle.dom_links.specs.Forest.{Forest, kids_of};
+ghost use Rattle.dom_links.specs.Forest.{Forest, children_of};
 ghost use Rattle.dom_links.specs.Sound.{IsForest};
 ghost use Rattle.dom_links.specs.Trees.{trees};
 ghost use Rattle.dom_markup.specs.Html.{html_of, inner_html_of, trees_text};
@@ -22,7 +22,7 @@ pub fn html_of_trees()
     ensures nodes { (forest : Forest) → IsForest forest → (raw : Bool) (ns : List ℕ) (values : ValueTrees)
         → Represents forest ns values → trees_text forest raw (trees forest ns) ≡ text_of_trees raw values }
     ensures document { (forest : Forest) → IsForest forest → slice_get forest.content 0 ≡ Some NodeData.Document
-        → (values : ValueTrees) → Represents forest (kids_of forest 0) values
+        → (values : ValueTrees) → Represents forest (children_of forest 0) values
         → html_of forest 0 ≡ text_of_trees false values }
 {
     trees_of_a_forest();
@@ -31,7 +31,7 @@ pub fn html_of_trees()
 /// The HTML of a plain document spells the trees that the nodes below its root stand for.
 pub fn plain_reads_back()
     ensures { (forest : Forest) → IsForest forest → IsPlain forest
-        → (trees : ValueTrees) × Represents forest (kids_of forest 0) trees × Spells (html_of forest 0) trees }
+        → (trees : ValueTrees) × Represents forest (children_of forest 0) trees × Spells (html_of forest 0) trees }
 {
     trees_of_a_forest();
 }
@@ -44,7 +44,7 @@ pub fn what_is_read_is_plain()
 
 /// The nodes below the root of the document of some trees stand for these trees.
 pub fn documents_stand_for_their_trees()
-    ensures { (trees : ValueTrees) → Represents (document_of trees) (kids_of (document_of trees) 0) trees }
+    ensures { (trees : ValueTrees) → Represents (document_of trees) (children_of (document_of trees) 0) trees }
 {}
 
 /// Nodes stand for one list of trees at most.
@@ -56,16 +56,16 @@ pub fn one_meaning()
 /// Documents that stand for the same trees are the same tree.
 pub fn documents_of_the_same_trees()
     ensures { (one other : Forest) → IsForest one → IsForest other → slice_get one.content 0 ≡ Some NodeData.Document
-        → slice_get other.content 0 ≡ Some NodeData.Document → (values : ValueTrees) → Represents one (kids_of one 0) values
-        → Represents other (kids_of other 0) values → SameTree one 0 other 0 }
+        → slice_get other.content 0 ≡ Some NodeData.Document → (values : ValueTrees) → Represents one (children_of one 0) values
+        → Represents other (children_of other 0) values → SameTree one 0 other 0 }
 {
     trees_of_a_forest();
 }
 
-/// The HTML of a plain document's root, or of its kids, spells the same tree.
+/// The HTML of a plain document's root, or of its children, spells the same tree.
 pub fn plain_documents_are_spelled()
     ensures root { (forest : Forest) → IsForest forest → IsPlain forest → SpellsDocument (html_of forest 0) forest }
-    ensures kids { (forest : Forest) → IsForest forest → IsPlain forest → SpellsDocument (inner_html_of forest 0) forest }
+    ensures children { (forest : Forest) → IsForest forest → IsPlain forest → SpellsDocument (inner_html_of forest 0) forest }
 {
     trees_of_a_forest();
 }

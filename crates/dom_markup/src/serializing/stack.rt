@@ -41,8 +41,12 @@ pub(super) fn put_node<P: PutText<W>, W>(tree: &Tree, id: NodeId, w: &mut W) -> 
     put_ops::<P, W>(nodes, &escaper, ops, w)
 }
 
-/// Puts the kids of the node; nothing for an unknown number or a void element.
-pub(super) fn put_kids<P: PutText<W>, W>(tree: &Tree, id: NodeId, w: &mut W) -> Result<(), P::Fault>
+/// Puts the children of the node; nothing for an unknown number or a void element.
+pub(super) fn put_children<P: PutText<W>, W>(
+    tree: &Tree,
+    id: NodeId,
+    w: &mut W,
+) -> Result<(), P::Fault>
     ensures { Writes (P.written w.old) (P.written w.new) result (inner_html_of tree.now id) }
 {
     let nodes = tree.nodes();
@@ -143,7 +147,7 @@ fn put_open<P: PutText<W>, W>(
     put_opening::<P, W>(w, escaper, &node.content, raw)
 }
 
-/// Pushes what follows the opening of a node: its template contents, its kids, its end tag.
+/// Pushes what follows the opening of a node: its template contents, its children, its end tag.
 fn push_following(
     nodes: &[TreeNode],
     id: NodeId,

@@ -1,21 +1,21 @@
 //! The nodes around a node, as references. Around an unknown number there is none.
 
 ghost use Rattle.std.specs.Prelude.{◌≡◌, IfOk, false, filter, find, true};
-ghost use Rattle.dom_links.specs.Forest.{kids_of};
+ghost use Rattle.dom_links.specs.Forest.{children_of};
 ghost use Rattle.dom_links.specs.ListMoves.{element_at};
 ghost use Rattle.dom_links.specs.Lists.{last};
 ghost use Rattle.dom_links.specs.Trees.{ancestors, limited, walk_below};
 ghost use Rattle.dom_links.specs.Walk.{later};
-ghost use Rattle.dom_trees.specs.Views.{kid_named, ref_to, refs_to};
+ghost use Rattle.dom_trees.specs.Views.{child_named, ref_to, refs_to};
 
 use crate::node_ref::NodeRef;
 use dom_links::ops::TreeNodeOps;
 use dom_nodes::fault::OutOfMemory;
 
 impl<'a> NodeRef<'a> {
-    /// The kids, in order.
+    /// The children, in order.
     pub fn children(&self) -> Result<Vec<NodeRef<'a>>, OutOfMemory>
-        ensures { IfOk result (λ refs. refs.items ≡ refs_to self.now.tree (kids_of self.now.tree.now self.now.id)) }
+        ensures { IfOk result (λ refs. refs.items ≡ refs_to self.now.tree (children_of self.now.tree.now self.now.id)) }
     {
         Ok(self.children_it(false).collect(self.tree.allocator())?)
     }
@@ -34,12 +34,12 @@ impl<'a> NodeRef<'a> {
         Ok(self.descendants_it().collect(self.tree.allocator())?)
     }
 
-    /// The kids that are elements, in order.
+    /// The children that are elements, in order.
     pub fn element_children(&self) -> Result<Vec<NodeRef<'a>>, OutOfMemory>
-        ensures { IfOk result (λ refs. refs.items ≡ refs_to self.now.tree (filter (element_at self.now.tree.now) (kids_of self.now.tree.now self.now.id))) }
+        ensures { IfOk result (λ refs. refs.items ≡ refs_to self.now.tree (filter (element_at self.now.tree.now) (children_of self.now.tree.now self.now.id))) }
     {
-        let kids = self.children_it(false);
-        let elements = kids.filter(|kid| kid.is_element());
+        let children = self.children_it(false);
+        let elements = children.filter(|child| child.is_element());
         Ok(elements.collect(self.tree.allocator())?)
     }
 
@@ -67,22 +67,22 @@ impl<'a> NodeRef<'a> {
         Some(NodeRef::new(id, self.tree))
     }
 
-    /// The first kid that is an element.
+    /// The first child that is an element.
     pub fn first_element_child(&self) -> Option<NodeRef<'a>>
-        ensures { result ≡ ref_to self.now.tree (find (element_at self.now.tree.now) (kids_of self.now.tree.now self.now.id)) }
+        ensures { result ≡ ref_to self.now.tree (find (element_at self.now.tree.now) (children_of self.now.tree.now self.now.id)) }
     {
         let id = TreeNodeOps::first_element_child_of(self.tree.nodes(), &self.id)?;
         Some(NodeRef::new(id, self.tree))
     }
 
-    /// The first kid that is an element of that local name.
+    /// The first child that is an element of that local name.
     pub(crate) fn child_named(&self, name: &str) -> Option<NodeRef<'a>>
-        ensures { result ≡ ref_to self.now.tree (kid_named self.now.tree.now self.now.id name.now) }
+        ensures { result ≡ ref_to self.now.tree (child_named self.now.tree.now self.now.id name.now) }
     {
         for id in self.tree.child_ids_of_it(&self.id, false) {
-            let kid = NodeRef::new(id, self.tree);
-            if kid.has_name(name) {
-                return Some(kid);
+            let child = NodeRef::new(id, self.tree);
+            if child.has_name(name) {
+                return Some(child);
             }
         }
         None

@@ -1,7 +1,7 @@
 //! The moves of several nodes of a tree, and the moves in two steps. They take no memory.
 
 ghost use Rattle.std.specs.Prelude.{◌≡◌, ◌<◌, ◌∷◌, [], IfErr, None, OnErr, OnOk, length};
-ghost use Rattle.dom_links.specs.Forest.{kids_of, siblings};
+ghost use Rattle.dom_links.specs.Forest.{children_of, siblings};
 ghost use Rattle.dom_links.specs.ListMoves.{AllowedList, MayReparent, MayWrap, reparented, replaced, unwrapped, with_later, wrapped};
 ghost use Rattle.dom_links.specs.Moves.{cut, moved_to};
 ghost use Rattle.dom_links.specs.declared.gap.Gap.TheVariants.{After as after_node, Before as before_node, EndOf as end_of, FrontOf as front_of};
@@ -107,7 +107,7 @@ impl Tree {
 
     /// Cuts the children of a node out. They are then a run of their own. Only an `UnknownNode` is refused.
     pub fn remove_children_of(&mut self, id: &NodeId) -> Result<(), EditFault>
-        ensures ok { OnOk result (self.new ≡ cut (kids_of self.old id.now) self.old) }
+        ensures ok { OnOk result (self.new ≡ cut (children_of self.old id.now) self.old) }
         ensures known { OnOk result (id.now < length self.old.content) }
         ensures err { OnErr result (self.new ≡ self.old) }
         ensures cause { IfErr result (λ fault. RemovalCause self.old id.now fault) }

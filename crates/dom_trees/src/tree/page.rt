@@ -1,7 +1,7 @@
 //! The parts of a page.
 
 ghost use Rattle.std.specs.Prelude.{◌≡◌, codes, find};
-ghost use Rattle.dom_links.specs.Forest.{kids_of};
+ghost use Rattle.dom_links.specs.Forest.{children_of};
 ghost use Rattle.dom_links.specs.ListMoves.{element_at};
 ghost use Rattle.dom_trees.specs.Views.{page_part, ref_to};
 
@@ -11,7 +11,7 @@ use crate::tree::Tree;
 impl Tree {
     /// The first child of the root that is an element.
     pub fn html_root(&self) -> Option<NodeRef<'_>>
-        ensures { result ≡ ref_to self.entry (find (element_at self.now) (kids_of self.now 0)) }
+        ensures { result ≡ ref_to self.entry (find (element_at self.now) (children_of self.now 0)) }
     {
         self.root().first_element_child()
     }

@@ -3,7 +3,7 @@
 ghost use Rattle.std.specs.Prelude.{◌≡◌, ◌<◌, ◌≤◌, ◌⊎◌, IfOk, MatchOption, false, length};
 ghost use Rattle.std.specs.Fn.{FnOnceReturnsAt, FnOnceReturnsAtPair};
 ghost use Rattle.std.specs.Option.{option_copied};
-ghost use Rattle.dom_links.specs.Forest.{kids_of, parent, siblings};
+ghost use Rattle.dom_links.specs.Forest.{children_of, parent, siblings};
 ghost use Rattle.dom_links.specs.Lists.{after, before, first, last};
 ghost use Rattle.dom_links.specs.Trees.{ancestors, limited};
 ghost use Rattle.dom_links.specs.Walk.{IsNodeOf, later};
@@ -95,16 +95,16 @@ impl Tree {
         NodeRef::new(*id, self).parent()
     }
 
-    /// The first kid of a node.
+    /// The first child of a node.
     pub fn first_child_of(&self, id: &NodeId) -> Option<NodeRef<'_>>
-        ensures { result ≡ ref_to self.entry (first (kids_of self.now id.now)) }
+        ensures { result ≡ ref_to self.entry (first (children_of self.now id.now)) }
     {
         NodeRef::new(*id, self).first_child()
     }
 
-    /// The last kid of a node.
+    /// The last child of a node.
     pub fn last_child_of(&self, id: &NodeId) -> Option<NodeRef<'_>>
-        ensures { result ≡ ref_to self.entry (last (kids_of self.now id.now)) }
+        ensures { result ≡ ref_to self.entry (last (children_of self.now id.now)) }
     {
         NodeRef::new(*id, self).last_child()
     }
@@ -130,12 +130,12 @@ impl Tree {
         NodeRef::new(*id, self).last_sibling()
     }
 
-    /// The kids of a node, in order.
+    /// The children of a node, in order.
     pub fn children_of(&self, id: &NodeId) -> Result<Vec<NodeRef<'_>>, OutOfMemory>
-        ensures { IfOk result (λ refs. refs.items ≡ refs_to self.entry (kids_of self.now id.now)) }
+        ensures { IfOk result (λ refs. refs.items ≡ refs_to self.entry (children_of self.now id.now)) }
     {
-        let kids = NodeRef::new(*id, self).children_it(false);
-        Ok(kids.collect(self.allocator())?)
+        let children = NodeRef::new(*id, self).children_it(false);
+        Ok(children.collect(self.allocator())?)
     }
 
     /// The ancestors of a node, from its parent on; at most `max_depth` of them, where that is neither none nor 0.

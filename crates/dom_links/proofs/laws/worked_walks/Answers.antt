@@ -1,6 +1,6 @@
 use Rattle.std.proofs.Common.{◌≡◌, [], ◌∷◌, Some, refl, ap}
 use Rattle.dom_links.specs.Examples.{small}
-use Rattle.dom_links.specs.Forest.{chain, kids_of, parent}
+use Rattle.dom_links.specs.Forest.{chain, children_of, parent}
 use Rattle.dom_links.specs.Trees.{ancestors, limited, trees, trees_to, upward, walk}
 use Rattle.dom_links.proofs.laws.worked_walks.Goals as goal
 
@@ -16,8 +16,8 @@ returns c = λ content seven.
       before_three = refl;
       before_two = refl;
       ends = (refl, refl);
-      below_root = ap (λ most. walk (trees_to (small content) most (kids_of (small content) 0))) seven;
-      below_five = ap (λ most. walk (trees_to (small content) most (kids_of (small content) 5))) seven;
+      below_root = ap (λ most. walk (trees_to (small content) most (children_of (small content) 0))) seven;
+      below_five = ap (λ most. walk (trees_to (small content) most (children_of (small content) 5))) seven;
       up_from_four = up;
       one_up = ap (limited (Some 1)) up;
       all_up = ap (limited (Some 0)) up;

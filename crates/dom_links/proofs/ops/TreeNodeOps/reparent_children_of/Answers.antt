@@ -1,20 +1,20 @@
 use Rattle.std.proofs.Common.{◌∙◌, ap, subst, ◌≡◌, false}
 use Rattle.std.specs.Option.{IfSome}
 use Rattle.dom_links.specs.Lists.{stands_in}
-use Rattle.dom_links.specs.Forest.{forest_of, kids_of}
+use Rattle.dom_links.specs.Forest.{forest_of, children_of}
 use Rattle.dom_links.specs.Moves.{end_of}
 use Rattle.dom_links.specs.ListMoves.{MovedList}
-use Rattle.dom_links.proofs.TwoSteps.{no_kids_moved, reparents_to}
+use Rattle.dom_links.proofs.TwoSteps.{no_children_moved, reparents_to}
 use Rattle.dom_links.proofs.ops.TreeNodeOps.reparent_children_of.Goals as goal
 
 pub returns-in_default-first_child_of : goal.returns-in_default-first_child_of
 returns-in_default-first_child_of c =
     reparents_to c.args.nodes.now c.args.nodes.now c.args.x c.in-Some.t c.args.parent c.in-Some.is
-    (no_kids_moved c.args.nodes.now c.args.x c.in-Some.t c.requires.linked c.in_default-first_child_of.ensures.all)
+    (no_children_moved c.args.nodes.now c.args.x c.in-Some.t c.requires.linked c.in_default-first_child_of.ensures.all)
 
 pub append_children_of-requires-clause-apart : goal.append_children_of-requires-clause-apart
 append_children_of-requires-clause-apart c =
-    let out : stands_in c.in-Some.t (kids_of (forest_of c.args.nodes.now) c.args.x) ≡ false = subst (λ o. IfSome o (λ t. stands_in t (kids_of (forest_of c.args.nodes.now) c.args.x) ≡ false)) c.in-Some.is c.requires.apart in
+    let out : stands_in c.in-Some.t (children_of (forest_of c.args.nodes.now) c.args.x) ≡ false = subst (λ o. IfSome o (λ t. stands_in t (children_of (forest_of c.args.nodes.now) c.args.x) ≡ false)) c.in-Some.is c.requires.apart in
     ap (stands_in c.in-Some.t) c.in-Some-first_child_of.ensures.all ∙ out
 
 pub returns : goal.returns

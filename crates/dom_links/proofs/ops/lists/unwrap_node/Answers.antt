@@ -5,7 +5,7 @@ use Rattle.dom_links.specs.Moves.{before_node}
 use Rattle.dom_links.specs.ListMoves.{MovedList, wrapper}
 use Rattle.dom_links.proofs.Cuts.{length-contents}
 use Rattle.dom_links.proofs.Depth.{parent_inside}
-use Rattle.dom_links.proofs.Places.{siblings_kid}
+use Rattle.dom_links.proofs.Places.{siblings_child}
 use Rattle.dom_links.proofs.TwoSteps.{IsWrapper, unwraps, wrapper_apart, wrapper_is}
 use Rattle.dom_links.proofs.ops.lists.unwrap_node.Goals as goal
 
@@ -20,7 +20,7 @@ pub insert_siblings_before-requires-clause-apart : goal.insert_siblings_before-r
 insert_siblings_before-requires-clause-apart c =
     let is = wrapper_is (forest_of c.args.nodes.now) c.args.x c.in-Some.parent (sym c.wrapper_of.ensures ∙ c.in-Some.is) in
     ap (stands_in c.in-Some.parent) (c.first_sibling_of-first.ensures.all
-    ∙ siblings_kid (forest_of c.args.nodes.now) c.args.x c.in-Some.parent (IsWrapper.parent_is is)) ∙ wrapper_apart (forest_of c.args.nodes.now) c.in-Some.parent c.requires.forest
+    ∙ siblings_child (forest_of c.args.nodes.now) c.args.x c.in-Some.parent (IsWrapper.parent_is is)) ∙ wrapper_apart (forest_of c.args.nodes.now) c.in-Some.parent c.requires.forest
 
 pub remove_from_parent-requires-clause-known : goal.remove_from_parent-requires-clause-known
 remove_from_parent-requires-clause-known c =
@@ -35,6 +35,6 @@ returns c =
     let is = wrapper_is (forest_of c.args.nodes.now) c.args.x c.in-Some.parent some in
     unwraps c.args.nodes.now c.insert_siblings_before.new.nodes c.remove_from_parent.new.nodes c.args.x c.in-Some.parent some
     (subst (MovedList c.args.nodes.now c.insert_siblings_before.new.nodes (before_node c.in-Some.parent))
-    (c.first_sibling_of-first.ensures.all ∙ siblings_kid (forest_of c.args.nodes.now) c.args.x c.in-Some.parent (IsWrapper.parent_is is))
+    (c.first_sibling_of-first.ensures.all ∙ siblings_child (forest_of c.args.nodes.now) c.args.x c.in-Some.parent (IsWrapper.parent_is is))
     c.insert_siblings_before.ensures)
     c.remove_from_parent.ensures.removed

@@ -11,7 +11,7 @@ returns c = record {
     spelled = plain_document_spells forest good (c.trees_of_a_forest.ensures forest good) plain;
     same = plain_same forest good (c.trees_of_a_forest.ensures forest good) (λ trees. c.trees_of_a_forest.ensures (document_of trees) (document_sound trees)) plain;
   };
-  kids = λ forest good plain. record {
+  children = λ forest good plain. record {
     trees = plain.trees;
     spelled = plain_document_inside_spells forest good (c.trees_of_a_forest.ensures forest good) plain;
     same = plain_same forest good (c.trees_of_a_forest.ensures forest good) (λ trees. c.trees_of_a_forest.ensures (document_of trees) (document_sound trees)) plain;

@@ -3,12 +3,12 @@ use Rattle.dom_links.specs.Forest.{forest_of}
 use Rattle.dom_links.specs.Walk.{IsWithin}
 use Rattle.dom_markup.specs.declared.serializing.stack.SerializeOp.TheVariants.{Close}
 use Rattle.dom_markup.specs.Ops.{ops_text, row_text, row_weight, weight}
-use Rattle.dom_markup.proofs.OpsLemmas.{pushed, element-below, element-weight, top-below, top-weight, kids-within, on_ok}
+use Rattle.dom_markup.proofs.OpsLemmas.{pushed, element-below, element-weight, top-below, top-weight, children-within, on_ok}
 use Rattle.dom_markup.proofs.RowLemmas.{contents_within, known_node}
 use Rattle.dom_markup.proofs.serializing.stack.push_following.Goals as goal
 
 pub push_open-requires-clause-within : goal.push_open-requires-clause-within
-push_open-requires-clause-within c = kids-within (forest_of c.args.nodes.now) c.requires.sound.forest c.args.id c.args.node.now c.requires.node
+push_open-requires-clause-within c = children-within (forest_of c.args.nodes.now) c.requires.sound.forest c.args.id c.args.node.now c.requires.node
 
 pub push_open-requires-clause-all_within : goal.push_open-requires-clause-all_within
 push_open-requires-clause-all_within c =
@@ -22,7 +22,7 @@ push_open-requires-in-Element-clause-within c =
     subst (IsWithin forest) (sym c.template_contents.ensures) (contents_within forest c.requires.sound.forest c.args.id c.in-Element.element read)
 
 pub push_open-requires-in-Document-clause-within : goal.push_open-requires-in-Document-clause-within
-push_open-requires-in-Document-clause-within c = kids-within (forest_of c.args.nodes.now) c.requires.sound.forest c.args.id c.args.node.now c.requires.node
+push_open-requires-in-Document-clause-within c = children-within (forest_of c.args.nodes.now) c.requires.sound.forest c.args.id c.args.node.now c.requires.node
 
 pub returns-in_ok-push_open-in-Element-clause-text : goal.returns-in_ok-push_open-in-Element-clause-text
 returns-in_ok-push_open-in-Element-clause-text c =

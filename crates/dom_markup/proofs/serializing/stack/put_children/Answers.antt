@@ -3,10 +3,10 @@ use Rattle.dom_links.specs.Forest.{forest_of}
 use Rattle.dom_markup.specs.Html.{inner_html_of}
 use Rattle.dom_markup.specs.Ops.{ops_text, row_text}
 use Rattle.dom_markup.specs.Writing.{Writes}
-use Rattle.dom_markup.proofs.OpsLemmas.{kids-within, only}
+use Rattle.dom_markup.proofs.OpsLemmas.{children-within, only}
 use Rattle.dom_markup.proofs.RowLemmas.{inner-piece, inner-bare, inner-unknown}
 use Rattle.dom_markup.proofs.WritingLemmas.{nothing-written}
-use Rattle.dom_markup.proofs.serializing.stack.put_kids.Goals as goal
+use Rattle.dom_markup.proofs.serializing.stack.put_children.Goals as goal
 
 pub returns-in_default : goal.returns-in_default
 returns-in_default g c =
@@ -21,7 +21,7 @@ returns-then-is_void_node g c =
     rw same (nothing-written _)
 
 pub push_open-requires-clause-within : goal.push_open-requires-clause-within
-push_open-requires-clause-within g c = kids-within (forest_of c.nodes-nodes.result.now) c.nodes-nodes.ensures.sound.forest c.args.id c.in-Some.node.now c.in-Some.ensures
+push_open-requires-clause-within g c = children-within (forest_of c.nodes-nodes.result.now) c.nodes-nodes.ensures.sound.forest c.args.id c.in-Some.node.now c.in-Some.ensures
 
 pub returns : goal.returns
 returns g c =
