@@ -196,7 +196,7 @@ list_moved old new gap moved are arena =
     record {
       made = is;
       linked = subst (λ (forest : Forest). IsArenaOf forest new) (sym is) arena;
-      kept = λ good allowed. subst IsForest (sym is) (forest-moved_list (forest_of old) gap moved good are allowed);
+      kept = λ allowed good. subst IsForest (sym is) (forest-moved_list (forest_of old) gap moved good are allowed);
     }
 
 -- cutting out nodes that don't stay where they are keeps a forest
@@ -241,5 +241,5 @@ children_removed old new x before arena =
     record {
       made = is;
       linked = subst (λ (forest : Forest). IsArenaOf forest new) (sym is) arena;
-      kept = λ good. subst IsForest (sym is) (forest-cut_list (forest_of old) (children_of (forest_of old) x) good (children_are (forest_of old) x good.once) (children_move (forest_of old) x good));
+      kept = λ _ good. subst IsForest (sym is) (forest-cut_list (forest_of old) (children_of (forest_of old) x) good (children_are (forest_of old) x good.once) (children_move (forest_of old) x good));
     }

@@ -2,18 +2,23 @@
 use Rattle.std.proofs.Common.{ℕ, ◌≡◌, ◌<◌, true, false, List, [], ◌∷◌, ◌++◌, Option, Some, None, refl, sym, ap, ◌∙◌, subst, arith, cond, length}
 use Rattle.std.specs.Prelude.{◌==◌}
 use Rattle.std.specs.Option.{IfSome}
-use Rattle.std.proofs.lemmas.Bool.{eq-eqb, or_parts}
+use Rattle.std.proofs.lemmas.Bool.{eq-eqb, eqb-true, ne_eqb, or_parts}
 use Rattle.dom_nodes.specs.declared.node_data.TreeNode.{TreeNode}
+use Rattle.dom_links.specs.declared.gap.Moving.{Moving}
+use Rattle.dom_links.specs.declared.gap.Moving.TheVariants.{Node, WithLater, WholeList}
 use Rattle.dom_links.specs.Lists.{stands_in, first, last, after, before, names}
-use Rattle.dom_links.specs.Forest.{Forest, StandsOnce, IsArenaOf, forest_of, children_of, parent, siblings, next_link}
-use Rattle.dom_links.specs.Moves.{end_of, front_of, before_node, after_node, put, cut}
+use Rattle.dom_links.specs.Forest.{Forest, StandsOnce, IsArenaOf, forest_of, children_of, parent, run_of, siblings, next_link}
+use Rattle.dom_links.specs.Moves.{Gap, end_of, front_of, before_node, after_node, put, cut, owner_at, left_of, right_of, StartsRun}
+use Rattle.dom_links.specs.Sound.{MayPlace, Moved, target}
 use Rattle.dom_links.specs.Walk.{rest_after}
 use Rattle.dom_links.specs.Writes.{Joined}
-use Rattle.dom_links.specs.ListMoves.{with_later, MovedList}
+use Rattle.dom_links.specs.ListMoves.{with_later, moved_nodes, mover, Moves}
 use Rattle.dom_links.specs.ListWrites.{NextsKnown, ParentsSet, RunAttached, following}
-use Rattle.dom_links.proofs.Neighbours.{around, before_here, after_here, last-append}
-use Rattle.dom_links.proofs.Places.{siblings_child, siblings_once, Beside}
-use Rattle.dom_links.proofs.Cuts.{length-contents, next_known}
+use Rattle.dom_links.proofs.Neighbours.{around, before_here, after_here, last-append, first-stands}
+use Rattle.dom_links.proofs.Places.{siblings_child, siblings_once, Beside, beside}
+use Rattle.dom_links.proofs.Cuts.{length-contents, one-stands, parent_known, prev_known, next_known}
+use Rattle.dom_links.proofs.Attach.{first_known, last_known}
+use Rattle.dom_links.proofs.Chains.{forest_of-arena}
 use Rattle.dom_links.proofs.BlockCuts.{AreNodes, IsTail, TailFacts, tail_facts, arena-cut_list}
 use Rattle.dom_links.proofs.BlockFills.{AreAlone, arena-put}
 use Rattle.dom_links.proofs.BlockGaps.{put-end_of, put-front_of, put-before, put-after}
@@ -65,52 +70,121 @@ cut_freed forest old shortened opened new x owner left arena h o l join open' se
     arena-cut_list forest old new x it.front (with_later forest x) arena it.tail
     (record { shortened = shortened; opened = opened; shortens = rw (o, l, it.left_is) at join; opens = open'; frees = set })
 
--- the nodes that were cut out are put at a gap
+pub known_inside : (forest : Forest) (nodes : List TreeNode) (x : ℕ) → IsArenaOf forest nodes → x < length nodes → x < length forest.content
+known_inside forest nodes x arena h =
+    let long = length-contents forest nodes arena.links in
+    omega arith
 
-cut_are_alone : (old : List TreeNode) (moved : List ℕ) → IsArenaOf (forest_of old) old → AreNodes (forest_of old) moved → AreAlone (cut moved (forest_of old)) moved
-cut_are_alone old moved arena are = alone-cut_list (forest_of old) moved arena.once are
+-- a run is put at a gap
 
-pub moved-end_of : (old middle new : List TreeNode) (moved : List ℕ) (x t : ℕ) (left : Option ℕ) → IsArenaOf (forest_of old) old → AreNodes (forest_of old) moved → first moved ≡ Some x → t < length old →
-    IsArenaOf (cut moved (forest_of old)) middle → left ≡ last (children_of (cut moved (forest_of old)) t) → RunAttached middle new x (Some t) left None → MovedList old new (end_of t) moved
-moved-end_of old middle new moved x t left arena are starts h cut_out l run =
-    let forest = cut moved (forest_of old) in
-    let long : length old ≡ length forest.content = length-contents (forest_of old) old arena.links in
-    list_moved old new (end_of t) moved are
-    (arena-put forest (put (end_of t) moved forest) middle new moved x (Some t) left None (children_of forest t) [] cut_out
-    (put-end_of forest moved t cut_out.once (cut_are_alone old moved arena are) (omega arith)) starts l refl run)
+pub run_alone : (forest : Forest) (x : ℕ) → StandsOnce forest → StartsRun forest x → AreAlone forest (run_of forest x)
+run_alone forest x once run = record {
+  are = record { once = once.run_once x; known = λ n s. (once.in_run x n s).0 };
+  no_parent = λ n s. (once.in_run x n s).1;
+  alone = λ n s. (once.in_run x n s).2;
+}
 
-pub moved-front_of : (old middle new : List TreeNode) (moved : List ℕ) (x t : ℕ) (right : Option ℕ) → IsArenaOf (forest_of old) old → AreNodes (forest_of old) moved → first moved ≡ Some x → t < length old →
-    IsArenaOf (cut moved (forest_of old)) middle → right ≡ first (children_of (cut moved (forest_of old)) t) → RunAttached middle new x (Some t) None right → MovedList old new (front_of t) moved
-moved-front_of old middle new moved x t right arena are starts h cut_out r run =
-    let forest = cut moved (forest_of old) in
-    let long : length old ≡ length forest.content = length-contents (forest_of old) old arena.links in
-    list_moved old new (front_of t) moved are
-    (arena-put forest (put (front_of t) moved forest) middle new moved x (Some t) None right [] (children_of forest t) cut_out
-    (put-front_of forest moved t cut_out.once (cut_are_alone old moved arena are) (omega arith)) starts refl r run)
-
-pub moved-before : (old middle new : List TreeNode) (moved : List ℕ) (x t : ℕ) (owner left : Option ℕ) → IsArenaOf (forest_of old) old → AreNodes (forest_of old) moved → first moved ≡ Some x → t < length old → stands_in t moved ≡ false →
-    IsArenaOf (cut moved (forest_of old)) middle → owner ≡ parent (cut moved (forest_of old)) t → left ≡ before (siblings (cut moved (forest_of old)) t) t → RunAttached middle new x owner left (Some t) → MovedList old new (before_node t) moved
-moved-before old middle new moved x t owner left arena are starts h out cut_out o l run =
-    let forest = cut moved (forest_of old) in
-    let long : length old ≡ length forest.content = length-contents (forest_of old) old arena.links in
+pub run_put : (forest : Forest) (old new : List TreeNode) (gap : Gap) (x : ℕ) (owner left right : Option ℕ) → IsArenaOf forest old → StartsRun forest x → target gap < length old →
+    stands_in (target gap) (run_of forest x) ≡ false → owner ≡ owner_at gap forest → left ≡ left_of gap forest → right ≡ right_of gap forest → RunAttached old new x owner left right →
+    IsArenaOf (put gap (run_of forest x) forest) new
+run_put forest old new (end_of t) x owner left right arena run h out o l r attached =
+    let moved = run_of forest x in
+    let long : length old ≡ length forest.content = length-contents forest old arena.links in
+    arena-put forest (put (end_of t) moved forest) old new moved x (Some t) left right (children_of forest t) [] arena
+    (put-end_of forest moved t arena.once (run_alone forest x arena.once run) (omega arith)) run.starts l r (rw o at attached)
+run_put forest old new (front_of t) x owner left right arena run h out o l r attached =
+    let moved = run_of forest x in
+    let long : length old ≡ length forest.content = length-contents forest old arena.links in
+    arena-put forest (put (front_of t) moved forest) old new moved x (Some t) left right [] (children_of forest t) arena
+    (put-front_of forest moved t arena.once (run_alone forest x arena.once run) (omega arith)) run.starts l r (rw o at attached)
+run_put forest old new (before_node t) x owner left right arena run h out o l r attached =
+    let moved = run_of forest x in
+    let long : length old ≡ length forest.content = length-contents forest old arena.links in
     let known : t < length forest.content = omega arith in
-    let parts = around t (siblings forest t) (siblings_once forest t cut_out.once) (cut_out.once.placed t known) in
-    list_moved old new (before_node t) moved are
-    (arena-put forest (put (before_node t) moved forest) middle new moved x (parent forest t) left (Some t) parts.front (t ∷ parts.back) cut_out
-    (put-before forest moved t cut_out.once (cut_are_alone old moved arena are) out known parts) starts
-    (l ∙ ap (λ ns. before ns t) parts.is ∙ before_here parts.front parts.back t parts.not_back) refl (rw o at run))
-
-pub moved-after : (old middle new : List TreeNode) (moved : List ℕ) (x t : ℕ) (owner right : Option ℕ) → IsArenaOf (forest_of old) old → AreNodes (forest_of old) moved → first moved ≡ Some x → t < length old → stands_in t moved ≡ false →
-    IsArenaOf (cut moved (forest_of old)) middle → owner ≡ parent (cut moved (forest_of old)) t → right ≡ after (siblings (cut moved (forest_of old)) t) t → RunAttached middle new x owner (Some t) right → MovedList old new (after_node t) moved
-moved-after old middle new moved x t owner right arena are starts h out cut_out o r run =
-    let forest = cut moved (forest_of old) in
-    let long : length old ≡ length forest.content = length-contents (forest_of old) old arena.links in
+    let parts = around t (siblings forest t) (siblings_once forest t arena.once) (arena.once.placed t known) in
+    arena-put forest (put (before_node t) moved forest) old new moved x (parent forest t) left right parts.front (t ∷ parts.back) arena
+    (put-before forest moved t arena.once (run_alone forest x arena.once run) out known parts) run.starts
+    (l ∙ ap (λ ns. before ns t) parts.is ∙ before_here parts.front parts.back t parts.not_back) r (rw o at attached)
+run_put forest old new (after_node t) x owner left right arena run h out o l r attached =
+    let moved = run_of forest x in
+    let long : length old ≡ length forest.content = length-contents forest old arena.links in
     let known : t < length forest.content = omega arith in
-    let parts = around t (siblings forest t) (siblings_once forest t cut_out.once) (cut_out.once.placed t known) in
-    list_moved old new (after_node t) moved are
-    (arena-put forest (put (after_node t) moved forest) middle new moved x (parent forest t) (Some t) right (parts.front ++ t ∷ []) parts.back cut_out
-    (put-after forest moved t cut_out.once (cut_are_alone old moved arena are) out known parts) starts
-    (sym (last-append parts.front (t ∷ []))) (r ∙ ap (λ ns. after ns t) parts.is ∙ after_here parts.front parts.back t parts.not_front) (rw o at run))
+    let parts = around t (siblings forest t) (siblings_once forest t arena.once) (arena.once.placed t known) in
+    arena-put forest (put (after_node t) moved forest) old new moved x (parent forest t) left right (parts.front ++ t ∷ []) parts.back arena
+    (put-after forest moved t arena.once (run_alone forest x arena.once run) out known parts) run.starts
+    (l ∙ sym (last-append parts.front (t ∷ []))) (r ∙ ap (λ ns. after ns t) parts.is ∙ after_here parts.front parts.back t parts.not_front) (rw o at attached)
+
+-- what a gap names is in the forest
+
+pub owner_known : (forest : Forest) (nodes : List TreeNode) (gap : Gap) (o : Option ℕ) → IsArenaOf forest nodes → target gap < length nodes → o ≡ owner_at gap forest → IfSome o (λ m. m < length nodes)
+owner_known forest nodes (end_of t) o arena h e = rw e h
+owner_known forest nodes (front_of t) o arena h e = rw e h
+owner_known forest nodes (before_node t) o arena h e = parent_known forest nodes t o arena h e
+owner_known forest nodes (after_node t) o arena h e = parent_known forest nodes t o arena h e
+
+pub left_known : (forest : Forest) (nodes : List TreeNode) (gap : Gap) (o : Option ℕ) → IsArenaOf forest nodes → target gap < length nodes → o ≡ left_of gap forest → IfSome o (λ m. m < length nodes)
+left_known forest nodes (end_of t) o arena h e = last_known forest nodes t o arena e
+left_known forest nodes (front_of t) o arena h e = rw e tt
+left_known forest nodes (before_node t) o arena h e = prev_known forest nodes t o arena h e
+left_known forest nodes (after_node t) o arena h e = rw e h
+
+pub right_known : (forest : Forest) (nodes : List TreeNode) (gap : Gap) (o : Option ℕ) → IsArenaOf forest nodes → target gap < length nodes → o ≡ right_of gap forest → IfSome o (λ m. m < length nodes)
+right_known forest nodes (end_of t) o arena h e = rw e tt
+right_known forest nodes (front_of t) o arena h e = first_known forest nodes t o arena e
+right_known forest nodes (before_node t) o arena h e = rw e h
+right_known forest nodes (after_node t) o arena h e = next_known forest nodes t o arena h e
+
+-- the nodes that are moved are cut out, and put at a gap
+
+pub no_other : (t x : ℕ) → (x ≡ t → ⊥) → stands_in t (x ∷ []) ≡ false
+no_other t x ne = one-stands x t ∙ ne_eqb x t ne
+
+pub moved_are : (forest : Forest) (moving : Moving) → StandsOnce forest → mover moving < length forest.content → AreNodes forest (moved_nodes forest moving)
+moved_are forest (Node x) once h = record {
+  once = (refl, tt);
+  known = λ n s. subst (λ (k : ℕ). k < length forest.content) (eqb-true x n (sym (one-stands x n) ∙ s)) h;
+}
+moved_are forest (WithLater x) once h = later_are forest x once h
+moved_are forest (WholeList x) once h = record { once = siblings_once forest x once; known = λ n s. Beside.known (beside forest x n once s) }
+
+-- the arena in which they are cut out, and their first one
+pub record CutOut (old middle : List TreeNode) (moving : Moving) (x : ℕ) : Type 0 where
+  pub is : forest_of middle ≡ cut (moved_nodes (forest_of old) moving) (forest_of old)
+  pub linked : IsArenaOf (forest_of middle) middle
+  pub run : StartsRun (forest_of middle) x
+  pub all : run_of (forest_of middle) x ≡ moved_nodes (forest_of old) moving
+
+pub is_cut_out : (old middle : List TreeNode) (moving : Moving) (x : ℕ) → IsArenaOf (forest_of old) old → mover moving < length old →
+    IsArenaOf (cut (moved_nodes (forest_of old) moving) (forest_of old)) middle → first (moved_nodes (forest_of old) moving) ≡ Some x → CutOut old middle moving x
+is_cut_out old middle moving x arena h arena' starts =
+    let moved = moved_nodes (forest_of old) moving in
+    let lone = alone-cut_list (forest_of old) moved arena.once (moved_are (forest_of old) moving arena.once (known_inside (forest_of old) old (mover moving) arena h)) in
+    let is : forest_of middle ≡ cut moved (forest_of old) = forest_of-arena (cut moved (forest_of old)) middle arena' in
+    let inside : stands_in x moved ≡ true = first-stands moved x starts in
+    record {
+      is = is;
+      linked = subst (λ (f : Forest). IsArenaOf f middle) (sym is) arena';
+      run = subst (λ (f : Forest). StartsRun f x) (sym is) (record { no_parent = lone.no_parent x inside; starts = ap first (lone.alone x inside) ∙ starts });
+      all = ap (λ (f : Forest). run_of f x) is ∙ lone.alone x inside;
+    }
+
+pub moves : (old middle new : List TreeNode) (gap : Gap) (moving : Moving) (x : ℕ) → IsArenaOf (forest_of old) old → mover moving < length old → CutOut old middle moving x →
+    IsArenaOf (put gap (run_of (forest_of middle) x) (forest_of middle)) new → Moves old new gap moving
+moves old middle new gap moving x arena h out put_there =
+    list_moved old new gap (moved_nodes (forest_of old) moving) (moved_are (forest_of old) moving arena.once (known_inside (forest_of old) old (mover moving) arena h))
+    (subst (λ (f : Forest). IsArenaOf f new) (ap (λ ns. put gap ns (forest_of middle)) out.all ∙ ap (put gap (moved_nodes (forest_of old) moving)) out.is) put_there)
+
+-- the move of one node
+pub moved_one : (old new : List TreeNode) (gap : Gap) (x : ℕ) → Moves old new gap (Node x) → Moved old new gap x
+moved_one old new gap x moved = record {
+  made = moved.made;
+  linked = moved.linked;
+  kept = λ allowed good. moved.kept (record {
+    target_known = allowed.target_known;
+    open_here = allowed.open_here;
+    may = λ n s. subst (MayPlace (forest_of old) (target gap)) (eqb-true x n (sym (one-stands x n) ∙ s)) allowed.may;
+  }) good;
+}
 
 -- the whole list of a node, from its first one on
 first_rest : (ns : List ℕ) (x : ℕ) → first ns ≡ Some x → ns ≡ x ∷ rest_after ns x
@@ -124,8 +198,3 @@ all_siblings forest n x once starts there = ap (λ ns. x ∷ rest_after ns x) th
 
 pub all_children : (forest : Forest) (p x : ℕ) → StandsOnce forest → first (children_of forest p) ≡ Some x → parent forest x ≡ Some p → with_later forest x ≡ children_of forest p
 all_children forest p x once starts above = ap (λ ns. x ∷ rest_after ns x) (siblings_child forest x p above) ∙ sym (first_rest (children_of forest p) x starts)
-
-pub known_inside : (forest : Forest) (nodes : List TreeNode) (x : ℕ) → IsArenaOf forest nodes → x < length nodes → x < length forest.content
-known_inside forest nodes x arena h =
-    let long = length-contents forest nodes arena.links in
-    omega arith

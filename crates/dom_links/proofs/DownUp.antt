@@ -1,11 +1,11 @@
 -- A node stands in the walk below those that stand above it, and after those that stand before it.
-use Rattle.std.proofs.Common.{ℕ, zero, suc, ◌≡◌, ◌<◌, ◌≤◌, Bool, true, false, List, [], ◌∷◌, ◌++◌, Option, Some, None, refl, sym, ap, ◌∙◌, subst, inl, inr, ◌⊎◌, length, reverse, arith, cond}
+use Rattle.std.proofs.Common.{ℕ, zero, suc, ◌≡◌, Bool, true, false, List, [], ◌∷◌, ◌++◌, Some, refl, sym, ap, ◌∙◌, inl, inr, ◌⊎◌, length, reverse, arith, cond}
 use Rattle.std.specs.Prelude.{◌==◌, ◌||◌}
-use Rattle.std.proofs.lemmas.Bool.{cases_Bool, eqb-true, eq-eqb, true≢false, or_right, or_left, or_cases}
+use Rattle.std.proofs.lemmas.Bool.{cases_Bool, eqb-true, true≢false, or_right, or_left, or_cases}
 use Rattle.dom_links.specs.Lists.{stands_in, IsDistinct}
 use Rattle.dom_links.specs.Forest.{Forest, children_of, parent, siblings}
 use Rattle.dom_links.specs.Sound.{IsForest}
-use Rattle.dom_links.specs.Trees.{trees_to, trees, walk, walk_below, ancestors, upward, in_order}
+use Rattle.dom_links.specs.Trees.{trees_to, trees, walk, walk_below, ancestors, upward}
 use Rattle.dom_links.specs.Walk.{later, rest_after}
 use Rattle.dom_links.proofs.Neighbours.{reverse_cons, stands_in-append, stands_in-reverse}
 use Rattle.dom_links.proofs.Places.{cases_Option, siblings_child}
@@ -13,7 +13,7 @@ use Rattle.dom_links.proofs.Apart.{Under, itself, over, walk_under}
 use Rattle.dom_links.proofs.Depth.{here_stands, later_stands, parent_inside, start_down, step_inside, trees_stay, upward-none}
 use Rattle.std.proofs.lemmas.Bool.{or_parts}
 use Rattle.dom_links.proofs.Places.{Beside, beside, siblings_once}
-use Rattle.dom_links.proofs.Later.{ancestors-parent, ordered_stands, rest_stands}
+use Rattle.dom_links.proofs.Later.{ancestors-parent, rest_stands}
 
 -- two tests that hold in the same cases
 same_answer : (a b : Bool) → (a ≡ true → b ≡ true) → (b ≡ true → a ≡ true) → a ≡ b

@@ -1,5 +1,5 @@
 -- Counting siblings, and stepping from one number to another.
-use Rattle.std.proofs.Common.{ℕ, zero, suc, ◌≡◌, ◌<◌, ◌≤◌, ◌+◌, ◌-◌, ◌*◌, ◌/◌, ◌%◌, Bool, true, false, List, [], ◌∷◌, Option, Some, None, inl, inr, refl, sym, ap, ◌∙◌, subst, arith, cond, length, nat_eq, MatchBool, slice_get}
+use Rattle.std.proofs.Common.{ℕ, ◌≡◌, ◌<◌, ◌≤◌, ◌+◌, ◌-◌, ◌*◌, ◌/◌, ◌%◌, Bool, true, false, List, [], ◌∷◌, Option, Some, None, inl, inr, sym, ap, ◌∙◌, arith, cond, length, nat_eq, MatchBool, slice_get}
 use Rattle.std.specs.Prelude.{◌==◌, count_by, if◌then◌else◌}
 use Rattle.std.specs.Option.{option_map_or}
 use Rattle.std.proofs.Math.Nat.{div-add-mod, mul-mod_right}
@@ -10,11 +10,9 @@ use Rattle.dom_nodes.specs.declared.node_data.NodeData.{NodeData}
 use Rattle.dom_nodes.specs.declared.node_data.TreeNode.{TreeNode}
 use Rattle.dom_links.specs.declared.indexes.IndexKind.{IndexKind}
 use Rattle.dom_links.specs.declared.indexes.IndexKind.TheVariants.{Child, LastChild, OfType, LastOfType}
-use Rattle.dom_links.specs.declared.indexes.Nth.{Nth}
-use Rattle.dom_links.specs.declared.indexes.Signed.{Signed}
 use Rattle.dom_nodes.specs.Kinds.{is_element}
 use Rattle.dom_links.specs.Forest.{Forest, siblings}
-use Rattle.dom_links.specs.Indexes.{IsNth, above_zero, below_zero, counts, index_at, is_from_first, of_one_type, passes, same_type}
+use Rattle.dom_links.specs.Indexes.{counts, index_at, is_from_first, of_one_type, passes}
 use Rattle.dom_links.specs.Lists.{after, stands_in}
 use Rattle.dom_links.specs.Sound.{IsForest}
 use Rattle.dom_links.specs.Trees.{in_order}
@@ -23,7 +21,7 @@ use Rattle.dom_links.proofs.Chains.{length_below}
 use Rattle.dom_links.proofs.Later.{Follows, follows, ordered_once, ordered_stands}
 use Rattle.dom_links.proofs.Nodes.{siblings_past}
 use Rattle.dom_links.proofs.Places.{Beside, beside, siblings_once}
-use Rattle.dom_links.proofs.RowWalks.{element_is, neighbour_is}
+use Rattle.dom_links.proofs.RowWalks.{neighbour_is}
 
 one_more : (p : ℕ → Bool) (n : ℕ) (ns : List ℕ) (b : Bool) → p n ≡ b → count_by p (n ∷ ns) ≡ cond b 1 0 + count_by p ns
 one_more p n ns b e = sum_by-cons (λ m. cond (p m) 1 0) n ns ∙ ap (λ x. cond x 1 0 + count_by p ns) e

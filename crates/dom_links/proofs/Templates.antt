@@ -249,5 +249,5 @@ appended_template old mid one new t x content arena number target created' secon
     record {
       made = is;
       linked = moved.linked;
-      kept = λ good may. subst IsForest (sym is) (template_kept forest t content good may);
+      kept = λ may good. subst IsForest (sym is) (template_kept forest t content good may);
     }

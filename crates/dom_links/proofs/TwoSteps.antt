@@ -6,10 +6,9 @@ use Rattle.std.proofs.lemmas.Bool.{cases_Bool, not-true}
 use Rattle.dom_nodes.specs.declared.node_data.TreeNode.{TreeNode}
 use Rattle.dom_links.specs.Lists.{stands_in, first, without, map_from}
 use Rattle.dom_links.specs.Forest.{Forest, StandsOnce, IsArenaOf, forest_of, children_of, run_of, parent, siblings}
-use Rattle.dom_links.specs.Moves.{end_of, front_of, before_node, children_with, put, cut, moved_to}
+use Rattle.dom_links.specs.Moves.{end_of, before_node, children_with, put, cut, moved_to}
 use Rattle.dom_links.specs.Sound.{one_step, then_step, Allowed, IsForest, MayPlace, Moved, Removed, stays}
-use Rattle.dom_links.specs.ListMoves.{AllowedList, MovedList, ChildrenRemoved, Reparents, MayWrap, Wrapped, Unwrapped, element_at, element_above, wrapper, without_wrapper, with_later}
-use Rattle.dom_links.specs.ListWrites.{RunAttached}
+use Rattle.dom_links.specs.ListMoves.{AllowedList, MovedList, ChildrenRemoved, Reparents, MayWrap, Replaced, Wrapped, Unwrapped, element_at, element_above, wrapper, without_wrapper, with_later}
 use Rattle.dom_links.proofs.Neighbours.{around, first-stands}
 use Rattle.dom_links.proofs.Places.{cases_Option, siblings_once}
 use Rattle.dom_links.proofs.Cuts.{once-cut}
@@ -19,7 +18,7 @@ use Rattle.dom_links.proofs.Gaps.{filled-before}
 use Rattle.dom_links.proofs.Depth.{parent_inside}
 use Rattle.dom_links.proofs.SiblingWalks.{not_beside_below}
 use Rattle.dom_links.proofs.BlockKept.{children_are, children_move, children_removed, list_moved}
-use Rattle.dom_links.proofs.BlockMoves.{all_children, later_are, known_inside, moved-front_of}
+use Rattle.dom_links.proofs.BlockMoves.{all_children}
 
 -- no node at all is cut out or put anywhere
 
@@ -77,14 +76,13 @@ no_children_moved old x t arena none =
 pub reparents_to : (old new : List TreeNode) (x t : ℕ) (p : Option ℕ) → p ≡ Some t → MovedList old new (end_of t) (children_of (forest_of old) x) → Reparents old new x p
 reparents_to old new x t p some moved = subst (Reparents old new x) (sym some) (record { made = moved.made; linked = moved.linked; kept = moved.kept })
 
--- the whole list of a node
-
-pub list_to_front : (old middle new : List TreeNode) (x start t : ℕ) (right : Option ℕ) → IsArenaOf (forest_of old) old → start < length old → with_later (forest_of old) start ≡ siblings (forest_of old) x → t < length old → IsArenaOf (cut (with_later (forest_of old) start) (forest_of old)) middle →
-    right ≡ first (children_of (cut (with_later (forest_of old) start) (forest_of old)) t) → RunAttached middle new start (Some t) None right → MovedList old new (front_of t) (siblings (forest_of old) x)
-list_to_front old middle new x start t right arena known all h cut_out r run =
-    subst (MovedList old new (front_of t)) all
-    (moved-front_of old middle new (with_later (forest_of old) start) start t right arena
-    (later_are (forest_of old) start arena.once (known_inside (forest_of old) old start arena known)) refl h cut_out r run)
+-- a node was put before another, and that one was cut out
+pub replaces : (old middle new : List TreeNode) (t x : ℕ) → Moved old middle (before_node t) x → Removed middle new t → Replaced old new t x
+replaces old middle new t x beside' out = record {
+  made = out.made ∙ ap (cut (t ∷ [])) beside'.made;
+  linked = out.linked;
+  kept = λ allowed good. out.kept tt (beside'.kept allowed good);
+}
 
 -- w was put before x: they then have one parent, and x may be moved into w
 
@@ -118,9 +116,9 @@ pub wraps : (old middle new : List TreeNode) (x w : ℕ) → Moved old middle (b
 wraps old middle new x w beside' inside = record {
   made = inside.made ∙ ap (moved_to (x ∷ []) (end_of w)) beside'.made;
   linked = inside.linked;
-  kept = λ good may. (let good' = beside'.kept good may.beside in
-      inside.kept good' (subst (λ (forest : Forest). Allowed forest (end_of w) x) (sym beside'.made)
-      (into_wrapper (forest_of old) x w good may (subst IsForest beside'.made good'))));
+  kept = λ may good. (let good' = beside'.kept may.beside good in
+      inside.kept (subst (λ (forest : Forest). Allowed forest (end_of w) x) (sym beside'.made)
+      (into_wrapper (forest_of old) x w good may (subst IsForest beside'.made good'))) good');
 }
 
 -- the elements above a node
@@ -198,5 +196,5 @@ pub unwraps : (old middle new : List TreeNode) (x p : ℕ) → wrapper (forest_o
 unwraps old middle new x p some moved removed = record {
   made = removed.made ∙ ap (cut (p ∷ [])) moved.made ∙ sym (ap (λ o. without_wrapper o (forest_of old)) some);
   linked = removed.linked;
-  kept = λ good. removed.kept (moved.kept good (children_before (forest_of old) x p good (wrapper_is (forest_of old) x p some)));
+  kept = λ _ good. removed.kept tt (moved.kept (children_before (forest_of old) x p good (wrapper_is (forest_of old) x p some)) good);
 }

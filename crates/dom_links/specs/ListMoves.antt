@@ -3,15 +3,29 @@ use Rattle.std.specs.Prelude.{ℕ, ◌≡◌, ◌<◌, ◌⊎◌, Bool, true, fa
 use Rattle.std.specs.Option.{option_map_or}
 use Rattle.dom_nodes.specs.declared.node_data.TreeNode.{TreeNode}
 use Rattle.dom_nodes.specs.Kinds.{is_element}
+use Rattle.dom_links.specs.declared.gap.Moving.{Moving}
+use Rattle.dom_links.specs.declared.gap.Moving.TheVariants.{Node, WithLater, WholeList}
 use Rattle.dom_links.specs.Lists.{stands_in}
-use Rattle.dom_links.specs.Forest.{Forest, IsArenaOf, forest_of, children_of, parent, run_of}
+use Rattle.dom_links.specs.Forest.{Forest, forest_of, children_of, parent, run_of, siblings}
 use Rattle.dom_links.specs.Moves.{Gap, end_of, before_node, cut, moved_to}
-use Rattle.dom_links.specs.Sound.{Allowed, AtOrBelow, IsForest, MayPlace, bears, is_open, stays, target}
+use Rattle.dom_links.specs.Sound.{Allowed, AtOrBelow, Edited, MayPlace, bears, is_open, stays, target}
 use Rattle.dom_links.specs.Walk.{later}
 
 -- a node and its later siblings
 abbrev pub with_later : Forest → ℕ → List ℕ
 with_later forest x = x ∷ later forest false x
+
+-- the nodes that are moved, in their order
+abbrev pub moved_nodes : Forest → Moving → List ℕ
+moved_nodes forest (Node n) = n ∷ []
+moved_nodes forest (WithLater n) = with_later forest n
+moved_nodes forest (WholeList n) = siblings forest n
+
+-- the node that tells them
+abbrev pub mover : Moving → ℕ
+mover (Node n) = n
+mover (WithLater n) = n
+mover (WholeList n) = n
 
 -- it holds of each node of the list
 abbrev pub EachOf : List ℕ → (ℕ → Type 0) → Type 0
@@ -31,18 +45,16 @@ pub record AllowedList (forest : Forest) (gap : Gap) (moved : List ℕ) : Type 0
   pub open_here : is_open gap forest ≡ true
   pub may : EachOf moved (MayPlace forest (target gap))
 
--- nodes were moved: the forest after is the forest before with them cut out and put at the gap in their order, the
--- links are that forest's, and it stays a forest where the move is allowed
-pub record MovedList (old new : List TreeNode) (gap : Gap) (moved : List ℕ) : Type 0 where
-  pub made : forest_of new ≡ moved_to moved gap (forest_of old)
-  pub linked : IsArenaOf (forest_of new) new
-  pub kept : IsForest (forest_of old) → AllowedList (forest_of old) gap moved → IsForest (forest_of new)
+-- nodes were moved: cut out, and put at the gap in their order
+abbrev pub MovedList : List TreeNode → List TreeNode → Gap → List ℕ → Type 0
+MovedList old new gap moved = Edited old new (moved_to moved gap (forest_of old)) (AllowedList (forest_of old) gap moved)
+
+abbrev pub Moves : List TreeNode → List TreeNode → Gap → Moving → Type 0
+Moves old new gap moving = MovedList old new gap (moved_nodes (forest_of old) moving)
 
 -- the children of a node were cut out, and are a run of their own
-pub record ChildrenRemoved (old new : List TreeNode) (x : ℕ) : Type 0 where
-  pub made : forest_of new ≡ cut (children_of (forest_of old) x) (forest_of old)
-  pub linked : IsArenaOf (forest_of new) new
-  pub kept : IsForest (forest_of old) → IsForest (forest_of new)
+abbrev pub ChildrenRemoved : List TreeNode → List TreeNode → ℕ → Type 0
+ChildrenRemoved old new x = Edited old new (cut (children_of (forest_of old) x) (forest_of old)) (Unit {0})
 
 -- the children of x go to the end of the children of p, or are a run of their own
 abbrev pub reparented : ℕ → Option ℕ → Forest → Forest
@@ -53,19 +65,15 @@ abbrev pub MayReparent : Forest → ℕ → Option ℕ → Type 0
 MayReparent forest x None = Unit {0}
 MayReparent forest x (Some p) = AllowedList forest (end_of p) (children_of forest x)
 
-pub record Reparents (old new : List TreeNode) (x : ℕ) (p : Option ℕ) : Type 0 where
-  pub made : forest_of new ≡ reparented x p (forest_of old)
-  pub linked : IsArenaOf (forest_of new) new
-  pub kept : IsForest (forest_of old) → MayReparent (forest_of old) x p → IsForest (forest_of new)
+abbrev pub Reparents : List TreeNode → List TreeNode → ℕ → Option ℕ → Type 0
+Reparents old new x p = Edited old new (reparented x p (forest_of old)) (MayReparent (forest_of old) x p)
 
 -- x is put right before t, and then t is cut out
 abbrev pub replaced : ℕ → ℕ → Forest → Forest
 replaced t x forest = cut (t ∷ []) (moved_to (x ∷ []) (before_node t) forest)
 
-pub record Replaced (old new : List TreeNode) (t x : ℕ) : Type 0 where
-  pub made : forest_of new ≡ replaced t x (forest_of old)
-  pub linked : IsArenaOf (forest_of new) new
-  pub kept : IsForest (forest_of old) → Allowed (forest_of old) (before_node t) x → IsForest (forest_of new)
+abbrev pub Replaced : List TreeNode → List TreeNode → ℕ → ℕ → Type 0
+Replaced old new t x = Edited old new (replaced t x (forest_of old)) (Allowed (forest_of old) (before_node t) x)
 
 -- w is put right before x, and then x to the end of the children of w
 abbrev pub wrapped : ℕ → ℕ → Forest → Forest
@@ -76,10 +84,8 @@ pub record MayWrap (forest : Forest) (x w : ℕ) : Type 0 where
   pub beside : Allowed forest (before_node x) w
   pub bearing : bears forest w ≡ true
 
-pub record Wrapped (old new : List TreeNode) (x w : ℕ) : Type 0 where
-  pub made : forest_of new ≡ wrapped x w (forest_of old)
-  pub linked : IsArenaOf (forest_of new) new
-  pub kept : IsForest (forest_of old) → MayWrap (forest_of old) x w → IsForest (forest_of new)
+abbrev pub Wrapped : List TreeNode → List TreeNode → ℕ → ℕ → Type 0
+Wrapped old new x w = Edited old new (wrapped x w (forest_of old)) (MayWrap (forest_of old) x w)
 
 abbrev pub element_at : Forest → ℕ → Bool
 element_at forest n = option_map_or is_element (slice_get forest.content n) false
@@ -100,10 +106,8 @@ without_wrapper (Some p) forest = cut (p ∷ []) (moved_to (children_of forest p
 abbrev pub unwrapped : ℕ → Forest → Forest
 unwrapped x forest = without_wrapper (wrapper forest x) forest
 
-pub record Unwrapped (old new : List TreeNode) (x : ℕ) : Type 0 where
-  pub made : forest_of new ≡ unwrapped x (forest_of old)
-  pub linked : IsArenaOf (forest_of new) new
-  pub kept : IsForest (forest_of old) → IsForest (forest_of new)
+abbrev pub Unwrapped : List TreeNode → List TreeNode → ℕ → Type 0
+Unwrapped old new x = Edited old new (unwrapped x (forest_of old)) (Unit {0})
 
 -- an element without parent, siblings and children
 pub record IsBare (forest : Forest) (w : ℕ) : Type 0 where

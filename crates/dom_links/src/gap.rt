@@ -1,4 +1,4 @@
-//! Where nodes can be put.
+//! What is moved in a forest, and where it can be put.
 
 use dom_nodes::node_id::NodeId;
 
@@ -9,4 +9,12 @@ pub enum Gap {
     FrontOf(NodeId),
     Before(NodeId),
     After(NodeId),
+}
+
+/// What is moved, told by a node: it alone, it with its later siblings, or the whole list that it stands in.
+#[derive(Clone, Copy)]
+pub enum Moving {
+    Node(NodeId),
+    WithLater(NodeId),
+    WholeList(NodeId),
 }

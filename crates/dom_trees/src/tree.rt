@@ -15,7 +15,7 @@ ghost use Rattle.dom_trees.specs.Refusals.{Cause, RemovalCause, RootCause};
 
 use crate::checks::check_move;
 use crate::node_ref::NodeRef;
-use dom_links::gap::Gap;
+use dom_links::gap::{Gap, Moving};
 use dom_links::iters::{AncestorNodes, ChildNodes, DescendantNodes, find_node};
 use dom_links::ops::{TreeNodeOps, create};
 use dom_links::validation::ValidateFault;
@@ -216,7 +216,7 @@ impl Tree {
         ensures cause { IfErr result (λ fault. Cause self.old gap x.now fault) }
     {
         check_move(&self.nodes, &gap, *x)?;
-        TreeNodeOps::move_to(&mut self.nodes, gap, *x);
+        TreeNodeOps::move_to(&mut self.nodes, gap, Moving::Node(*x));
         Ok(())
     }
 

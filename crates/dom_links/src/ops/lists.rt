@@ -1,77 +1,21 @@
-//! The moves of several nodes, and moves in two steps. They take no memory.
+//! The moves of the children of a node, and moves in two steps. They take no memory.
 
 ghost use Rattle.std.specs.Prelude.{◌≡◌, ◌≢◌, ◌<◌, [], ◌∷◌, ℕ, false, length, IfSome};
-ghost use Rattle.dom_links.specs.Forest.{IsArenaOf, forest_of, children_of, siblings};
-ghost use Rattle.dom_links.specs.ListMoves.{ChildrenRemoved, MovedList, Reparents, Replaced, Unwrapped, Wrapped, with_later};
+ghost use Rattle.dom_links.specs.Forest.{IsArenaOf, forest_of, children_of};
+ghost use Rattle.dom_links.specs.ListMoves.{ChildrenRemoved, Reparents, Replaced, Unwrapped, Wrapped, with_later};
 ghost use Rattle.dom_links.specs.Lists.{stands_in};
-ghost use Rattle.dom_links.specs.Moves.{after_node, before_node, cut, end_of, front_of};
+ghost use Rattle.dom_links.specs.Moves.{cut};
 ghost use Rattle.dom_links.specs.Sound.{IsForest};
 
+use crate::gap::{Gap, Moving};
 use crate::ops::TreeNodeOps;
-use crate::ops::list_writes::{attach_run, set_parents};
-use crate::ops::siblings::{first_child_of, first_sibling_of, wrapper_of};
+use crate::ops::list_writes::set_parents;
+use crate::ops::siblings::{first_child_of, wrapper_of};
 use crate::ops::writes::join;
 use dom_nodes::node_data::TreeNode;
 use dom_nodes::node_id::NodeId;
 
 impl TreeNodeOps {
-    /// Moves a node and its later siblings to the end of the children of another.
-    pub fn append_children_of(nodes: &mut [TreeNode], t: NodeId, x: NodeId)
-        requires linked { IsArenaOf (forest_of nodes.old) nodes.old }
-        requires target_known { t < length nodes.old }
-        requires known { x < length nodes.old }
-        requires apart { stands_in t (with_later (forest_of nodes.old) x) ≡ false }
-        ensures { MovedList nodes.old nodes.new (end_of t) (with_later (forest_of nodes.old) x) }
-    {
-        cut_with_later(nodes, x);
-        let last = nodes[t.value()].last_child;
-        attach_run(nodes, x, Some(t), last, None);
-    }
-
-    /// Moves the whole list of a node, it and all its siblings, to the front of the children of another.
-    pub fn prepend_children_of(nodes: &mut [TreeNode], t: NodeId, x: NodeId)
-        requires linked { IsArenaOf (forest_of nodes.old) nodes.old }
-        requires target_known { t < length nodes.old }
-        requires known { x < length nodes.old }
-        requires apart { stands_in t (siblings (forest_of nodes.old) x) ≡ false }
-        ensures { MovedList nodes.old nodes.new (front_of t) (siblings (forest_of nodes.old) x) }
-    {
-        let start = first_sibling_of(nodes, x);
-        cut_with_later(nodes, start);
-        let first = nodes[t.value()].first_child;
-        attach_run(nodes, start, Some(t), None, first);
-    }
-
-    /// Moves a node and its later siblings to the place right before another.
-    pub fn insert_siblings_before(nodes: &mut [TreeNode], t: NodeId, x: NodeId)
-        requires linked { IsArenaOf (forest_of nodes.old) nodes.old }
-        requires target_known { t < length nodes.old }
-        requires known { x < length nodes.old }
-        requires apart { stands_in t (with_later (forest_of nodes.old) x) ≡ false }
-        ensures { MovedList nodes.old nodes.new (before_node t) (with_later (forest_of nodes.old) x) }
-    {
-        cut_with_later(nodes, x);
-        let target = &nodes[t.value()];
-        let parent = target.parent;
-        let prev = target.prev_sibling;
-        attach_run(nodes, x, parent, prev, Some(t));
-    }
-
-    /// Moves a node and its later siblings to the place right after another.
-    pub fn insert_siblings_after(nodes: &mut [TreeNode], t: NodeId, x: NodeId)
-        requires linked { IsArenaOf (forest_of nodes.old) nodes.old }
-        requires target_known { t < length nodes.old }
-        requires known { x < length nodes.old }
-        requires apart { stands_in t (with_later (forest_of nodes.old) x) ≡ false }
-        ensures { MovedList nodes.old nodes.new (after_node t) (with_later (forest_of nodes.old) x) }
-    {
-        cut_with_later(nodes, x);
-        let target = &nodes[t.value()];
-        let parent = target.parent;
-        let next = target.next_sibling;
-        attach_run(nodes, x, parent, Some(t), next);
-    }
-
     /// Moves the children of a node to the end of those of another; without one they are then a run of their own.
     pub fn reparent_children_of(nodes: &mut [TreeNode], x: NodeId, parent: Option<NodeId>)
         requires linked { IsArenaOf (forest_of nodes.old) nodes.old }
@@ -152,7 +96,6 @@ pub fn unwrap_node(nodes: &mut [TreeNode], x: NodeId)
     let Some(parent) = wrapper_of(nodes, x) else {
         return;
     };
-    let first = first_sibling_of(nodes, x);
-    TreeNodeOps::insert_siblings_before(nodes, parent, first);
+    TreeNodeOps::move_to(nodes, Gap::Before(parent), Moving::WholeList(x));
     TreeNodeOps::remove_from_parent(nodes, parent);
 }

@@ -1,13 +1,19 @@
-//! The moves.
+//! The moves. They take no memory.
 
-ghost use Rattle.std.specs.Prelude.{◌≡◌, ◌≢◌, ◌<◌, [], ◌∷◌, length};
-ghost use Rattle.dom_links.specs.Forest.{IsArenaOf, forest_of};
-ghost use Rattle.dom_links.specs.Moves.{after_node, before_node, cut, end_of, front_of};
-ghost use Rattle.dom_links.specs.Sound.{Moved, Removed, target};
+ghost use Rattle.std.specs.Prelude.{◌≡◌, ◌≢◌, ◌<◌, [], ◌∷◌, false, length, Some};
+ghost use Rattle.dom_links.specs.Forest.{IsArenaOf, forest_of, run_of, siblings};
+ghost use Rattle.dom_links.specs.ListMoves.{Moves, moved_nodes, mover, with_later};
+ghost use Rattle.dom_links.specs.Lists.{first, stands_in};
+ghost use Rattle.dom_links.specs.Moves.{StartsRun, after_node, before_node, cut, end_of, front_of, left_of, owner_at, put, right_of};
+ghost use Rattle.dom_links.specs.Sound.{Removed, target};
+ghost use Rattle.dom_links.specs.declared.gap.Moving.TheVariants.{Node, WholeList, WithLater};
 
-use crate::gap::Gap;
+use crate::gap::{Gap, Moving};
 use crate::ops::TreeNodeOps;
-use crate::ops::writes::{attach, join, place};
+use crate::ops::list_writes::attach_run;
+use crate::ops::lists::cut_with_later;
+use crate::ops::siblings::first_sibling_of;
+use crate::ops::writes::{join, place};
 use dom_nodes::node_data::TreeNode;
 use dom_nodes::node_id::NodeId;
 
@@ -27,75 +33,184 @@ impl TreeNodeOps {
         place(nodes, x, None, None, None);
     }
 
+    /// Moves nodes to a gap.
+    pub fn move_to(nodes: &mut [TreeNode], gap: Gap, moving: Moving)
+        requires linked { IsArenaOf (forest_of nodes.old) nodes.old }
+        requires target_known { target gap < length nodes.old }
+        requires known { mover moving < length nodes.old }
+        requires apart { stands_in (target gap) (moved_nodes (forest_of nodes.old) moving) ≡ false }
+        ensures { Moves nodes.old nodes.new gap moving }
+    {
+        let start = cut_out(nodes, moving);
+        put_at(nodes, gap, start);
+    }
+
     /// Moves a node to the end of the children of another.
+    #[tactic(auto, using(crate::proofs::BlockMoves::no_other))]
     pub fn append_child_of(nodes: &mut [TreeNode], t: NodeId, x: NodeId)
         requires linked { IsArenaOf (forest_of nodes.old) nodes.old }
         requires target_known { t < length nodes.old }
         requires known { x < length nodes.old }
         requires apart { x ≢ t }
-        ensures { Moved nodes.old nodes.new (end_of t) x }
+        ensures { Moves nodes.old nodes.new (end_of t) (Node x) }
     {
-        TreeNodeOps::remove_from_parent(nodes, x);
-        let last = nodes[t.value()].last_child;
-        attach(nodes, x, Some(t), last, None);
+        TreeNodeOps::move_to(nodes, Gap::EndOf(t), Moving::Node(x));
     }
 
     /// Moves a node to the front of the children of another.
+    #[tactic(auto, using(crate::proofs::BlockMoves::no_other))]
     pub fn prepend_child_of(nodes: &mut [TreeNode], t: NodeId, x: NodeId)
         requires linked { IsArenaOf (forest_of nodes.old) nodes.old }
         requires target_known { t < length nodes.old }
         requires known { x < length nodes.old }
         requires apart { x ≢ t }
-        ensures { Moved nodes.old nodes.new (front_of t) x }
+        ensures { Moves nodes.old nodes.new (front_of t) (Node x) }
     {
-        TreeNodeOps::remove_from_parent(nodes, x);
-        let first = nodes[t.value()].first_child;
-        attach(nodes, x, Some(t), None, first);
+        TreeNodeOps::move_to(nodes, Gap::FrontOf(t), Moving::Node(x));
     }
 
     /// Moves a node to the place right before another.
+    #[tactic(auto, using(crate::proofs::BlockMoves::no_other))]
     pub fn insert_before_of(nodes: &mut [TreeNode], t: NodeId, x: NodeId)
         requires linked { IsArenaOf (forest_of nodes.old) nodes.old }
         requires target_known { t < length nodes.old }
         requires known { x < length nodes.old }
         requires apart { x ≢ t }
-        ensures { Moved nodes.old nodes.new (before_node t) x }
+        ensures { Moves nodes.old nodes.new (before_node t) (Node x) }
     {
-        TreeNodeOps::remove_from_parent(nodes, x);
-        let target = &nodes[t.value()];
-        let parent = target.parent;
-        let prev = target.prev_sibling;
-        attach(nodes, x, parent, prev, Some(t));
+        TreeNodeOps::move_to(nodes, Gap::Before(t), Moving::Node(x));
     }
 
     /// Moves a node to the place right after another.
+    #[tactic(auto, using(crate::proofs::BlockMoves::no_other))]
     pub fn insert_after_of(nodes: &mut [TreeNode], t: NodeId, x: NodeId)
         requires linked { IsArenaOf (forest_of nodes.old) nodes.old }
         requires target_known { t < length nodes.old }
         requires known { x < length nodes.old }
         requires apart { x ≢ t }
-        ensures { Moved nodes.old nodes.new (after_node t) x }
+        ensures { Moves nodes.old nodes.new (after_node t) (Node x) }
     {
-        TreeNodeOps::remove_from_parent(nodes, x);
-        let target = &nodes[t.value()];
-        let parent = target.parent;
-        let next = target.next_sibling;
-        attach(nodes, x, parent, Some(t), next);
+        TreeNodeOps::move_to(nodes, Gap::After(t), Moving::Node(x));
     }
 
-    /// Moves a node to a gap.
-    pub fn move_to(nodes: &mut [TreeNode], gap: Gap, x: NodeId)
+    /// Moves a node and its later siblings to the end of the children of another.
+    pub fn append_children_of(nodes: &mut [TreeNode], t: NodeId, x: NodeId)
         requires linked { IsArenaOf (forest_of nodes.old) nodes.old }
-        requires target_known { target gap < length nodes.old }
+        requires target_known { t < length nodes.old }
         requires known { x < length nodes.old }
-        requires apart { x ≢ target gap }
-        ensures { Moved nodes.old nodes.new gap x }
+        requires apart { stands_in t (with_later (forest_of nodes.old) x) ≡ false }
+        ensures { Moves nodes.old nodes.new (end_of t) (WithLater x) }
     {
-        match gap {
-            Gap::EndOf(t) => TreeNodeOps::append_child_of(nodes, t, x),
-            Gap::FrontOf(t) => TreeNodeOps::prepend_child_of(nodes, t, x),
-            Gap::Before(t) => TreeNodeOps::insert_before_of(nodes, t, x),
-            Gap::After(t) => TreeNodeOps::insert_after_of(nodes, t, x),
+        TreeNodeOps::move_to(nodes, Gap::EndOf(t), Moving::WithLater(x));
+    }
+
+    /// Moves the whole list of a node, it and all its siblings, to the front of the children of another.
+    pub fn prepend_children_of(nodes: &mut [TreeNode], t: NodeId, x: NodeId)
+        requires linked { IsArenaOf (forest_of nodes.old) nodes.old }
+        requires target_known { t < length nodes.old }
+        requires known { x < length nodes.old }
+        requires apart { stands_in t (siblings (forest_of nodes.old) x) ≡ false }
+        ensures { Moves nodes.old nodes.new (front_of t) (WholeList x) }
+    {
+        TreeNodeOps::move_to(nodes, Gap::FrontOf(t), Moving::WholeList(x));
+    }
+
+    /// Moves a node and its later siblings to the place right before another.
+    pub fn insert_siblings_before(nodes: &mut [TreeNode], t: NodeId, x: NodeId)
+        requires linked { IsArenaOf (forest_of nodes.old) nodes.old }
+        requires target_known { t < length nodes.old }
+        requires known { x < length nodes.old }
+        requires apart { stands_in t (with_later (forest_of nodes.old) x) ≡ false }
+        ensures { Moves nodes.old nodes.new (before_node t) (WithLater x) }
+    {
+        TreeNodeOps::move_to(nodes, Gap::Before(t), Moving::WithLater(x));
+    }
+
+    /// Moves a node and its later siblings to the place right after another.
+    pub fn insert_siblings_after(nodes: &mut [TreeNode], t: NodeId, x: NodeId)
+        requires linked { IsArenaOf (forest_of nodes.old) nodes.old }
+        requires target_known { t < length nodes.old }
+        requires known { x < length nodes.old }
+        requires apart { stands_in t (with_later (forest_of nodes.old) x) ≡ false }
+        ensures { Moves nodes.old nodes.new (after_node t) (WithLater x) }
+    {
+        TreeNodeOps::move_to(nodes, Gap::After(t), Moving::WithLater(x));
+    }
+}
+
+/// Cuts nodes out of their list, and answers the first of them. They are then a run of their own.
+fn cut_out(nodes: &mut [TreeNode], moving: Moving) -> NodeId
+    requires linked { IsArenaOf (forest_of nodes.old) nodes.old }
+    requires known { mover moving < length nodes.old }
+    ensures arena { IsArenaOf (cut (moved_nodes (forest_of nodes.old) moving) (forest_of nodes.old)) nodes.new }
+    ensures start { first (moved_nodes (forest_of nodes.old) moving) ≡ Some result }
+    ensures start_known { result < length nodes.old }
+{
+    match moving {
+        Moving::Node(x) => {
+            TreeNodeOps::remove_from_parent(nodes, x);
+            x
+        }
+        Moving::WithLater(x) => {
+            cut_with_later(nodes, x);
+            x
+        }
+        Moving::WholeList(x) => {
+            let start = first_sibling_of(nodes, x);
+            cut_with_later(nodes, start);
+            start
         }
     }
+}
+
+/// What nodes at a gap have as their parent, and beside them.
+#[derive(Drop)]
+struct Room {
+    owner: Option<NodeId>,
+    left: Option<NodeId>,
+    right: Option<NodeId>,
+}
+
+fn room_at(nodes: &[TreeNode], gap: Gap) -> Room
+    requires linked { IsArenaOf (forest_of nodes.now) nodes.now }
+    requires target_known { target gap < length nodes.now }
+    ensures owner { result.owner ≡ owner_at gap (forest_of nodes.now) }
+    ensures left { result.left ≡ left_of gap (forest_of nodes.now) }
+    ensures right { result.right ≡ right_of gap (forest_of nodes.now) }
+{
+    match gap {
+        Gap::EndOf(t) => Room {
+            owner: Some(t),
+            left: nodes[t.value()].last_child,
+            right: None,
+        },
+        Gap::FrontOf(t) => Room {
+            owner: Some(t),
+            left: None,
+            right: nodes[t.value()].first_child,
+        },
+        Gap::Before(t) => Room {
+            owner: nodes[t.value()].parent,
+            left: nodes[t.value()].prev_sibling,
+            right: Some(t),
+        },
+        Gap::After(t) => Room {
+            owner: nodes[t.value()].parent,
+            left: Some(t),
+            right: nodes[t.value()].next_sibling,
+        },
+    }
+}
+
+/// Puts a run at a gap, told by its first node.
+pub(crate) fn put_at(nodes: &mut [TreeNode], gap: Gap, x: NodeId)
+    requires linked { IsArenaOf (forest_of nodes.old) nodes.old }
+    requires target_known { target gap < length nodes.old }
+    requires known { x < length nodes.old }
+    requires run { StartsRun (forest_of nodes.old) x }
+    requires apart { stands_in (target gap) (run_of (forest_of nodes.old) x) ≡ false }
+    ensures { IsArenaOf (put gap (run_of (forest_of nodes.old) x) (forest_of nodes.old)) nodes.new }
+{
+    let room = room_at(nodes, gap);
+    attach_run(nodes, x, room.owner, room.left, room.right);
 }

@@ -1,7 +1,8 @@
 use Rattle.std.proofs.Common.{List, subst, arith}
 use Rattle.dom_nodes.specs.declared.node_data.TreeNode.{TreeNode}
 use Rattle.dom_links.specs.Forest.{forest_of}
-use Rattle.dom_links.specs.Growth.{Created, HasFreeContents}
+use Rattle.dom_links.specs.Growth.{HasFreeContents}
+use Rattle.dom_links.specs.Sound.{Edited}
 use Rattle.dom_links.proofs.ops.TreeNodeOps.create_node.Goals as goal
 
 pub returns-clause-allowed : goal.returns-clause-allowed
@@ -9,7 +10,7 @@ returns-clause-allowed c = subst (λ (nodes : List TreeNode). HasFreeContents (f
 
 pub returns-clause-sound : goal.returns-clause-sound
 returns-clause-sound c = record {
-  arena = Created.linked c.in_ok-id.ensures.ok;
-  forest = Created.kept c.in_ok-id.ensures.ok c.requires.forest (returns-clause-allowed c);
+  arena = Edited.linked c.in_ok-id.ensures.ok;
+  forest = Edited.kept c.in_ok-id.ensures.ok (returns-clause-allowed c) c.requires.forest;
   numbered = omega (arith, c.in_ok-id.ensures.grown, c.in_ok-id.ensures.number);
 }

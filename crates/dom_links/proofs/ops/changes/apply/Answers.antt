@@ -1,4 +1,4 @@
-use Rattle.std.proofs.Common.{rules, ◌≡◌, ◌&&◌, false, sym, ap, ◌∙◌}
+use Rattle.std.proofs.Common.{rules}
 use Rattle.std.proofs.lemmas.Result.{on_ok_weaker}
 use Rattle.dom_nodes.specs.Change.{asks, changed}
 use Rattle.dom_links.proofs.Changing.{written, unknown, keeps_change, asks_read}

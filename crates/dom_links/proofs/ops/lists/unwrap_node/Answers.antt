@@ -9,18 +9,17 @@ use Rattle.dom_links.proofs.Places.{siblings_child}
 use Rattle.dom_links.proofs.TwoSteps.{IsWrapper, unwraps, wrapper_apart, wrapper_is}
 use Rattle.dom_links.proofs.ops.lists.unwrap_node.Goals as goal
 
-pub insert_siblings_before-requires-clause-target_known : goal.insert_siblings_before-requires-clause-target_known
-insert_siblings_before-requires-clause-target_known c =
+pub move_to-requires-clause-target_known : goal.move_to-requires-clause-target_known
+move_to-requires-clause-target_known c =
     let long = length-contents (forest_of c.args.nodes.now) c.args.nodes.now c.requires.linked.links in
     let is = wrapper_is (forest_of c.args.nodes.now) c.args.x c.in-Some.parent (sym c.wrapper_of.ensures ∙ c.in-Some.is) in
     let known = parent_inside (forest_of c.args.nodes.now) c.args.x c.in-Some.parent c.requires.forest (IsWrapper.parent_is is) in
     omega arith
 
-pub insert_siblings_before-requires-clause-apart : goal.insert_siblings_before-requires-clause-apart
-insert_siblings_before-requires-clause-apart c =
+pub move_to-requires-clause-apart : goal.move_to-requires-clause-apart
+move_to-requires-clause-apart c =
     let is = wrapper_is (forest_of c.args.nodes.now) c.args.x c.in-Some.parent (sym c.wrapper_of.ensures ∙ c.in-Some.is) in
-    ap (stands_in c.in-Some.parent) (c.first_sibling_of-first.ensures.all
-    ∙ siblings_child (forest_of c.args.nodes.now) c.args.x c.in-Some.parent (IsWrapper.parent_is is)) ∙ wrapper_apart (forest_of c.args.nodes.now) c.in-Some.parent c.requires.forest
+    ap (stands_in c.in-Some.parent) (siblings_child (forest_of c.args.nodes.now) c.args.x c.in-Some.parent (IsWrapper.parent_is is)) ∙ wrapper_apart (forest_of c.args.nodes.now) c.in-Some.parent c.requires.forest
 
 pub remove_from_parent-requires-clause-known : goal.remove_from_parent-requires-clause-known
 remove_from_parent-requires-clause-known c =
@@ -33,8 +32,7 @@ pub returns : goal.returns
 returns c =
     let some : wrapper (forest_of c.args.nodes.now) c.args.x ≡ Some c.in-Some.parent = sym c.wrapper_of.ensures ∙ c.in-Some.is in
     let is = wrapper_is (forest_of c.args.nodes.now) c.args.x c.in-Some.parent some in
-    unwraps c.args.nodes.now c.insert_siblings_before.new.nodes c.remove_from_parent.new.nodes c.args.x c.in-Some.parent some
-    (subst (MovedList c.args.nodes.now c.insert_siblings_before.new.nodes (before_node c.in-Some.parent))
-    (c.first_sibling_of-first.ensures.all ∙ siblings_child (forest_of c.args.nodes.now) c.args.x c.in-Some.parent (IsWrapper.parent_is is))
-    c.insert_siblings_before.ensures)
+    unwraps c.args.nodes.now c.move_to.new.nodes c.remove_from_parent.new.nodes c.args.x c.in-Some.parent some
+    (subst (MovedList c.args.nodes.now c.move_to.new.nodes (before_node c.in-Some.parent))
+    (siblings_child (forest_of c.args.nodes.now) c.args.x c.in-Some.parent (IsWrapper.parent_is is)) c.move_to.ensures)
     c.remove_from_parent.ensures.removed
