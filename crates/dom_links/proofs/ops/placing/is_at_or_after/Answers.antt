@@ -4,7 +4,7 @@ use Rattle.std.specs.Prelude.{◌==◌}
 use Rattle.dom_links.specs.Forest.{forest_of}
 use Rattle.dom_links.proofs.SiblingWalks.{Seeking, Along, goes_forth, seeks_forth, seeks_no_more, sought_it, seeking_starts}
 use Rattle.dom_links.proofs.BlockMoves.{known_inside}
-use Rattle.dom_links.proofs.ops.siblings.is_at_or_after.Goals as goal
+use Rattle.dom_links.proofs.ops.placing.is_at_or_after.Goals as goal
 
 pub loop-n-init : goal.loop-n-init
 loop-n-init c = seeking_starts (forest_of c.args.nodes.now) c.args.x c.args.n (known_inside (forest_of c.args.nodes.now) c.args.nodes.now c.args.x c.requires.linked c.requires.known)
