@@ -2,16 +2,17 @@
 use Rattle.std.proofs.Common.{◌≡◌, ◌≢◌, ◌<◌, ℕ, List, [], ◌∷◌, ◌++◌, length, length-append, true, false, refl, sym, ap, ◌∙◌, subst, arith, append_assoc, inl, inr}
 use Rattle.std.specs.Prelude.{codes}
 use Rattle.dom_markup.specs.Letters.{folded}
-use Rattle.dom_markup.specs.Names.{Mode, markup, text_of, raw_text_of, mode_in, is_among, void_names}
+use Rattle.dom_nodes.specs.Words.{is_among}
+use Rattle.dom_markup.specs.Names.{Mode, markup, text_of, raw_text_of, mode_in, void_names}
 use Rattle.dom_nodes.specs.declared.fault.MarkupFaultKind.{MarkupFaultKind}
 use Rattle.dom_nodes.specs.declared.fault.MarkupFaultKind.TheVariants as fault_kinds
 use Rattle.dom_markup.specs.References.{decoded}
-use Rattle.dom_markup.specs.Refusals.{IsTagFault, LacksEnd, Shows}
+use Rattle.dom_markup.specs.Refusals.{IsTagFault, Shows}
 use Rattle.dom_markup.specs.Token.{BeginsKind, IsTextIn, kind_of}
 use Rattle.dom_markup.specs.declared.document.tokens.TokenKind.{TokenKind}
 use Rattle.dom_markup.specs.declared.document.tokens.TokenKind.TheVariants as kinds
 use Rattle.dom_markup.specs.ValueTrees.{Attribute}
-use Rattle.dom_markup.specs.Markup.{Item, NamesElement, EndsTag, BeginsStart, BeginsEnd, BeginsQuoted, BeginsWord, BeginsIdentifiers, BeginsDoctype, Begins, BeginsNothing, EndsAtTag, begins_markup, text_front, kept_after, mode_after}
+use Rattle.dom_markup.specs.Markup.{Item, NamesElement, EndsTag, BeginsStart, BeginsEnd, BeginsQuoted, BeginsWord, BeginsIdentifiers, BeginsDoctype, Begins, BeginsNothing, EndsAtTag, begins_markup, text_front, kept_after, mode_after, LacksEnd}
 use Rattle.dom_markup.specs.Markup.Item.{start_tag, end_tag, characters, comment, doctype}
 use Rattle.dom_markup.specs.Written.{Splits}
 use Rattle.dom_markup.specs.Letters.{is_name_byte, is_whitespace}

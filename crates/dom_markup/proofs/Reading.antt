@@ -4,7 +4,8 @@ use Rattle.std.specs.Prelude.{codes, ◌==◌, ◌||◌, MatchBool, ◌⊎◌}
 use Rattle.std.specs.List.{list_all}
 use Rattle.std.proofs.lemmas.Bool.{true≢false, and_parts, eqb-true, eq-eqb, ne_eqb}
 use Rattle.dom_markup.specs.Letters.{is_whitespace, is_letter, is_name_byte, folded}
-use Rattle.dom_markup.specs.Names.{markup, is_among, void_names}
+use Rattle.dom_nodes.specs.Words.{is_among}
+use Rattle.dom_markup.specs.Names.{markup, void_names}
 use Rattle.dom_markup.specs.References.{decoded}
 use Rattle.dom_markup.specs.ValueTrees.{Attribute}
 use Rattle.dom_markup.specs.Markup.{IsSpace, after_space, is_bare_byte, Fails, BeginsValue, begins_equals, HasValue, IsTagName, NamesElement, BeginsAttribute, Closes, EndsTag, BeginsStart, BeginsEnd, EndsAtMark, Begins, begins_markup, kept_after}

@@ -17,12 +17,14 @@ use Rattle.dom_links.specs.Growth.{DataCause, with_child, with_template}
 use Rattle.dom_links.specs.Sound.{bears}
 use Rattle.dom_trees.specs.Refusals.{TemplateCause, element_with}
 use Rattle.dom_markup.specs.Letters.{folded}
-use Rattle.dom_markup.specs.Names.{Mode, markup, text_of, raw_text_of, is_among, is_template, void_names}
+use Rattle.dom_nodes.specs.Words.{is_among}
+use Rattle.dom_markup.specs.Names.{Mode, markup, text_of, raw_text_of, is_template, void_names}
 use Rattle.dom_markup.specs.References.{decoded}
 use Rattle.dom_markup.specs.ValueTrees.{Attribute, ValueTrees}
 use Rattle.dom_markup.specs.Markup.{Item, AreInPlace, Begins, BeginsNothing, BeginsStart, BeginsEnd, BeginsDoctype, SpellsItemsUpTo, Spells, SpellsNothing, items_of, mode_after, mode_past, text_front}
 use Rattle.dom_markup.specs.Markup.Item.{start_tag, end_tag, characters, comment, doctype}
-use Rattle.dom_markup.specs.Numbered.{html_name, read_attr, read_element, document_of}
+use Rattle.dom_trees.specs.Made.{html_name}
+use Rattle.dom_markup.specs.Numbered.{read_attr, read_element, document_of}
 use Rattle.dom_markup.specs.Refusals.{nodes_begun, Refused, Declines, StopsBefore, BeginsNothingAt, Shows, IsFaultAt, LeavesSomeOpen}
 use Rattle.dom_markup.specs.Token.{IsNext, Unread, contents_in, kind_of}
 use Rattle.dom_markup.specs.Tokens.{IsStopped}

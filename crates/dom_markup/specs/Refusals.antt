@@ -5,7 +5,7 @@ use Rattle.dom_nodes.specs.declared.fault.MarkupFaultKind.{MarkupFaultKind}
 use Rattle.dom_nodes.specs.declared.fault.MarkupFaultKind.TheVariants.{BadTag, Unclosed, MismatchedEnd, StrayEnd, SlashOnOpen, BadComment, BadDeclaration, MisplacedDoctype, Instruction, TooManyNodes, Memory}
 use Rattle.dom_markup.specs.ValueTrees.{ValueTrees}
 use Rattle.dom_markup.specs.Frames.{Frame, FramesInPlace, is_top, opened_items}
-use Rattle.dom_markup.specs.Markup.{Item, AreInPlace, Begins, BeginsEnd, BeginsNothing, SpellsItemsUpTo, SpellsNothing, items_of, mode_past}
+use Rattle.dom_markup.specs.Markup.{Item, AreInPlace, Begins, BeginsNothing, LacksEnd, SpellsItemsUpTo, SpellsNothing, items_of, mode_past}
 use Rattle.dom_markup.specs.Markup.Item.{start_tag, end_tag, characters, comment, doctype}
 
 -- how many nodes begin with these items; a template has its contents besides
@@ -98,10 +98,6 @@ pub record StopsBefore (text : List ℕ) (at : ℕ) (kind : MarkupFaultKind) : T
   pub place : at + length left ≡ length text
   pub begins : Begins (mode_past markup items) left item rest
   pub cause : Declines items item kind
-
--- no end tag of this name stands in the text
-abbrev pub LacksEnd : List ℕ → List ℕ → Type 0
-LacksEnd name text = (before later beyond : List ℕ) → text ≡ before ++ later → BeginsEnd later name beyond → ⊥
 
 -- the text of an element is read, and its end tag stands nowhere
 abbrev pub LacksItsEnd : Mode → List ℕ → Type 0

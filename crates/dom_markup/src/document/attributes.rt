@@ -2,7 +2,8 @@
 
 ghost use Rattle.std.specs.Prelude.{◌≡◌, ◌<◌, ◌++◌, ◌∷◌, [], List, ℕ, Bool, IfOk, OnOk, length, map, string_bytes};
 ghost use Rattle.std.specs.List.{list_any};
-ghost use Rattle.dom_markup.specs.Attributes.{Gains, IsNoted, is_named};
+ghost use Rattle.dom_nodes.specs.Changes.{is_named};
+ghost use Rattle.dom_markup.specs.Attributes.{Gains, IsNoted};
 ghost use Rattle.dom_markup.specs.Letters.{folded};
 ghost use Rattle.dom_markup.specs.Markup.{EndsTag, kept_after};
 ghost use Rattle.dom_markup.specs.Numbered.{read_attr};

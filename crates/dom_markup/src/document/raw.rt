@@ -2,8 +2,7 @@
 
 ghost use Rattle.std.specs.Prelude.{List, ℕ, IfNone, IfSome};
 ghost use Rattle.dom_markup.specs.Letters.{folded};
-ghost use Rattle.dom_markup.specs.Markup.{BeginsEnd, EndsAtTag};
-ghost use Rattle.dom_markup.specs.Refusals.{LacksEnd};
+ghost use Rattle.dom_markup.specs.Markup.{BeginsEnd, EndsAtTag, LacksEnd};
 
 use crate::document::scan::{bytes_from, strip_all};
 use crate::document::tags::end_tag_end;

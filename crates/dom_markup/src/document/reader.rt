@@ -13,7 +13,8 @@ ghost use Rattle.dom_markup.specs.Names.{markup};
 ghost use Rattle.dom_markup.specs.Token.{contents_in, kind_of, mode_of};
 ghost use Rattle.dom_markup.specs.Frames.{children_place, opened_size, with_element};
 ghost use Rattle.dom_markup.specs.Limits.{IsLimit, IsPlainData, LacksNumbers, limit_kind};
-ghost use Rattle.dom_markup.specs.Numbered.{html_name, read_attr};
+ghost use Rattle.dom_trees.specs.Made.{html_name};
+ghost use Rattle.dom_markup.specs.Numbered.{read_attr};
 ghost use Rattle.dom_markup.specs.Refusals.{Declines, LeavesSomeOpen};
 
 use crate::document::attributes::{attrs_of, folded_name};

@@ -1,7 +1,9 @@
 use Rattle.std.proofs.Common.{◌≡◌, ℕ, List, ◌∷◌, sym, ◌∙◌, ap, map}
-use Rattle.dom_markup.specs.Names.{is_among, void_names}
+use Rattle.dom_nodes.specs.Words.{is_among}
+use Rattle.dom_markup.specs.Names.{void_names}
 use Rattle.dom_markup.specs.ValueTrees.{Attribute}
-use Rattle.dom_markup.specs.Numbered.{html_name, read_attr}
+use Rattle.dom_trees.specs.Made.{html_name}
+use Rattle.dom_markup.specs.Numbered.{read_attr}
 use Rattle.dom_markup.proofs.Reading.{start_shape}
 use Rattle.dom_markup.proofs.document.reader.start_tag_of.Goals as goal
 

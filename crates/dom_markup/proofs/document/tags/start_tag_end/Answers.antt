@@ -1,6 +1,7 @@
 use Rattle.std.proofs.Common.{◌≡◌, List, [], ℕ, Bool, refl, sym, ap, ◌∙◌, subst, rules}
 use Rattle.dom_markup.specs.Letters.{folded}
-use Rattle.dom_markup.specs.Names.{is_among, void_names}
+use Rattle.dom_nodes.specs.Words.{is_among}
+use Rattle.dom_markup.specs.Names.{void_names}
 use Rattle.dom_markup.specs.Markup.{Closes, kept_after}
 use Rattle.dom_markup.proofs.Reading.{start_shape, no_attributes}
 use Rattle.dom_markup.proofs.Items.{start_made}

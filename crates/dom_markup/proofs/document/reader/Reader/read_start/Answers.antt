@@ -1,7 +1,8 @@
 use Rattle.std.proofs.Common.{sym, ◌∙◌, ap, List, [], ◌∷◌, ◌++◌, Vec, Global}
 use Rattle.std.proofs.lemmas.Result.{err_from_is_err_and}
 use Rattle.dom_nodes.specs.declared.name.QualName.{QualName}
-use Rattle.dom_markup.specs.Names.{is_among, void_names}
+use Rattle.dom_nodes.specs.Words.{is_among}
+use Rattle.dom_markup.specs.Names.{void_names}
 use Rattle.dom_markup.specs.declared.document.reader.Open.{Open}
 use Rattle.dom_markup.proofs.Steps.{start_declined, start_read, void_read}
 use Rattle.dom_markup.proofs.document.reader.Reader.read_start.Goals as goal
