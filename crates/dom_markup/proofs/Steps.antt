@@ -27,7 +27,7 @@ use Rattle.dom_markup.specs.Markup.{Item, AreInPlace, Begins, BeginsNothing, Beg
 use Rattle.dom_markup.specs.Markup.Item.{start_tag, end_tag, characters, comment, doctype}
 use Rattle.dom_trees.specs.Made.{html_name}
 use Rattle.dom_markup.specs.Numbered.{read_attr, read_element, document_of}
-use Rattle.dom_markup.specs.Refusals.{nodes_begun, Refused, Declines, StopsBefore, BeginsNothingAt, Shows, IsFaultAt, LeavesSomeOpen}
+use Rattle.dom_markup.specs.Refusals.{nodes_begun, Refused, Declines, StopsBefore, BeginsNothingAt, Cause, IsFaultAt, LeavesSomeOpen}
 use Rattle.dom_markup.specs.Token.{IsNext, Unread, contents_in, kind_of}
 use Rattle.dom_markup.specs.Tokens.{IsStopped}
 use Rattle.dom_markup.specs.Frames.{HasRead, Opened, opened, is_top, opened_size, with_element, children_place}
@@ -304,7 +304,7 @@ progress_step source left later old new kind text start end p next r =
 pub token_place : (source : List ℕ) (left later : Unread) (reader : Reader) (kind : TokenKind) (text : List ℕ) (start end : ℕ) → Progress source left reader → IsNext left kind text start end later → start ≤ length source
 token_place source left later reader kind text start end p next = (let n = next.starts in let q = p.place in omega arith)
 
-fault_there : (source left : List ℕ) (at : ℕ) (mode : Mode) (kind : MarkupFaultKind) → Shows mode left kind → BeginsNothingAt source at kind → IsFaultAt source at kind
+fault_there : (source left : List ℕ) (at : ℕ) (mode : Mode) (kind : MarkupFaultKind) → Cause mode left kind → BeginsNothingAt source at kind → IsFaultAt source at kind
 fault_there source left at mode kinds.BadTag s h = h
 fault_there source left at mode kinds.SlashOnOpen s h = h
 fault_there source left at mode kinds.BadComment s h = h
@@ -320,14 +320,14 @@ fault_there source left at mode kinds.Memory s h = tt
 -- no item begins there
 pub stopped : (source : List ℕ) (left later : Unread) (reader : Reader) (fault : MarkupFault) → Progress source left reader → IsStopped left later fault → IsFaultAt source fault.at fault.kind
 stopped source left later reader fault p s =
-    fault_there source left.text fault.at left.mode fault.kind s.shows record {
+    fault_there source left.text fault.at left.mode fault.kind s.cause record {
       items = p.items;
       left = left.text;
       spelled = p.front;
       place = (let at = s.place in let place = p.place in omega arith);
       some = s.some;
       nothing = subst (λ (m : Mode). BeginsNothing m left.text) p.mode s.nothing;
-      shows = subst (λ (m : Mode). Shows m left.text fault.kind) p.mode s.shows;
+      cause = subst (λ (m : Mode). Cause m left.text fault.kind) p.mode s.cause;
     }
 
 fault_before : (source : List ℕ) (at : ℕ) (kind : MarkupFaultKind) → StopsBefore source at kind → IsFaultAt source at kind
