@@ -54,7 +54,8 @@ pub fn is_letter(byte: u8) -> bool
 /// Whether a run of name bytes names an element in a tag.
 pub fn names_element(name: &str) -> bool
     requires { list_all is_name_byte name.now ≡ true }
-    ensures { MatchBool result (NamesElement name.now (folded name.now)) ((element : List ℕ) → NamesElement name.now element → ⊥) }
+    ensures { MatchBool result (NamesElement name.now (folded name.now))
+        ((element : List ℕ) → NamesElement name.now element → ⊥) }
 {
     let [first, ..] = name.as_bytes() else {
         return false;

@@ -1,22 +1,19 @@
 //! Reading tags and texts into a tree.
 
-ghost use Rattle.std.specs.Prelude.{◌≡◌, ◌≤◌, ◌<◌, ◌+◌, ◌++◌, ◌∷◌, [], List, ℕ, Bool, None, map, IfErr, IfOk, MatchResult, length};
-ghost use Rattle.std.specs.List.{list_any};
-ghost use Rattle.std.specs.Str.{bytes_eq};
-ghost use Rattle.dom_links.specs.Growth.{lone, with_child, with_template};
-ghost use Rattle.dom_trees.specs.Refusals.{element_with};
-ghost use Rattle.dom_markup.specs.Letters.{folded};
-ghost use Rattle.dom_markup.specs.ValueTrees.{Attribute};
-ghost use Rattle.dom_markup.specs.Markup.{Item, Begins, BeginsDoctype, BeginsEnd, BeginsStart, EndsTag, kept_after};
-ghost use Rattle.dom_markup.specs.Written.{attribute_of};
-ghost use Rattle.dom_markup.specs.Names.{markup};
-ghost use Rattle.dom_markup.specs.Token.{contents_in, kind_of, mode_of};
-ghost use Rattle.dom_markup.specs.Frames.{children_place, opened_size, with_element};
-ghost use Rattle.dom_markup.specs.Limits.{IsLimit, IsPlainData, LacksNumbers, limit_kind};
+ghost use Rattle.std.specs.Prelude.{◌≡◌, ◌<◌, ◌+◌, ◌∷◌, [], List, ℕ, None, length};
+ghost use Rattle.std.specs.Prelude.{IfErr, IfOk, MatchResult};
+ghost use Rattle.dom_links.specs.Growth.{with_child, with_template};
 ghost use Rattle.dom_trees.specs.Made.{html_name};
-ghost use Rattle.dom_markup.specs.Numbered.{read_attr};
+ghost use Rattle.dom_trees.specs.Refusals.{element_with};
+ghost use Rattle.dom_markup.specs.Frames.{children_place, with_element};
+ghost use Rattle.dom_markup.specs.Letters.{folded};
+ghost use Rattle.dom_markup.specs.Limits.{IsLimit, IsPlainData, limit_kind};
+ghost use Rattle.dom_markup.specs.Markup.{Item, Begins, BeginsDoctype, BeginsEnd, BeginsStart};
+ghost use Rattle.dom_markup.specs.Names.{markup};
 ghost use Rattle.dom_markup.specs.Reader.{IsStarted};
 ghost use Rattle.dom_markup.specs.Refusals.{LeavesSomeOpen};
+ghost use Rattle.dom_markup.specs.Token.{contents_in, mode_of};
+ghost use Rattle.dom_markup.specs.ValueTrees.{Attribute};
 
 use crate::document::attributes::{attrs_of, folded_name};
 use crate::document::doctypes::{Doctype, doctype_at};
@@ -180,7 +177,7 @@ pub struct Reader<'a> {
 }
 
 impl<'a> Reader<'a> {
-    ghost use Rattle.dom_markup.specs.Reader.{AfterItems, Grows, IsReading, IsStarted, IsToken, IsWhole};
+    ghost use Rattle.dom_markup.specs.Reader.{AfterItems, Grows, IsReading, IsToken, IsWhole};
     ghost use Rattle.dom_markup.specs.Reader.{ReadsItem, Stands, parent_number};
 
     /// A reader that has read nothing.
@@ -221,13 +218,14 @@ impl<'a> Reader<'a> {
         }
     }
 
-    /// Makes an element with contents as the last child of the innermost open element, and tells the
-    /// contents' number.
+    /// Makes an element with contents as the last child of the innermost open element, and tells
+    /// the contents' number.
     fn append_template(&mut self, name: QualName, attrs: Attrs) -> Result<NodeId, MarkupFaultKind>
         requires { IsReading self.old }
         ensures { let contents = length self.old.tree.content + 1 in
+            let element = element_with name attrs contents in
             Grows self.old self.new result contents
-                (with_template (parent_number self.old) (element_with name attrs contents) self.old.tree) }
+                (with_template (parent_number self.old) element self.old.tree) }
     {
         let parent = self.parent();
         match self.tree.append_template_of(&parent, name, attrs) {
@@ -236,8 +234,8 @@ impl<'a> Reader<'a> {
         }
     }
 
-    /// Makes an element as the last child of the innermost open element, with contents where it is a
-    /// template, and tells below which number its children stand.
+    /// Makes an element as the last child of the innermost open element, with contents where it is
+    /// a template, and tells below which number its children stand.
     fn append_element(&mut self, started: Started) -> Result<NodeId, MarkupFaultKind>
         requires { IsReading self.old }
         ensures { (name : List ℕ) (all : List Attribute) → IsStarted started.entry name all

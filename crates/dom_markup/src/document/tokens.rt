@@ -150,8 +150,8 @@ pub struct Token<'a> {
 /// The tokens of a text, in order, one behind the other. They take no memory. `Err` stands where
 /// none of these begins, and after it there are no more: at a tag that isn't spelled (`BadTag`), a
 /// start tag that a slash ends though its element isn't void (`SlashOnOpen`), `<!--` without an end
-/// (`BadComment`), another `<!` that is no doctype (`BadDeclaration`), `<?` (`Instruction`), or where
-/// the text of an element has no end tag (`Unclosed`).
+/// (`BadComment`), another `<!` that is no doctype (`BadDeclaration`), `<?` (`Instruction`), or
+/// where the text of an element has no end tag (`Unclosed`).
 #[derive(Drop)]
 pub struct Tokens<'a> {
     rest: &'a str,
