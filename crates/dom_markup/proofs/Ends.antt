@@ -5,8 +5,7 @@ use Rattle.std.proofs.lemmas.List.{get_or-drop, take-append-drop}
 use Rattle.std.proofs.lemmas.Str.{IsCharBoundary-before_ascii}
 use Rattle.std.specs.Str.{IsCharBoundary}
 use Rattle.memchr.specs.Find.{Nowhere, NoneBefore, Passes, is_byte}
-use Rattle.dom_markup.specs.Markup.{BeginsEnd, EndsAtTag}
-use Rattle.dom_markup.specs.Refusals.{LacksEnd}
+use Rattle.dom_markup.specs.Markup.{BeginsEnd, EndsAtTag, LacksEnd}
 use Rattle.dom_markup.proofs.Reading.{end_same}
 use Rattle.dom_markup.proofs.Firsts.{get_behind}
 use Rattle.dom_markup.proofs.Marks.{drop_front}

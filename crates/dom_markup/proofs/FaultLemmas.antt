@@ -8,13 +8,13 @@ use Rattle.dom_markup.specs.Markup.{Item, Begins, SpellsItemsUpTo, Spells, mode_
 use Rattle.dom_markup.specs.Markup.Item.{start_tag, end_tag, characters, comment, doctype}
 use Rattle.dom_markup.specs.ValueTrees.{ValueTrees}
 use Rattle.dom_markup.specs.FaultKinds.{Holds, HoldsMark, IsLimitFault, IsNestingFault, IsTokenFault}
-use Rattle.dom_markup.specs.Refusals.{BeginsNothingAt, EndsNothing, IsFaultAt, Refused, Shows, StopsBefore}
+use Rattle.dom_markup.specs.Refusals.{BeginsNothingAt, EndsNothing, IsFaultAt, Refused, Cause, StopsBefore}
 use Rattle.dom_markup.proofs.Items.{Begins-suffix}
 use Rattle.dom_markup.proofs.Whole.{items_left, nothing_left}
 
 -- ---- faults of tokens
 
-pub token_fault : (mode : Mode) (left : List ℕ) (kind : MarkupFaultKind) → Shows mode left kind → IsTokenFault kind
+pub token_fault : (mode : Mode) (left : List ℕ) (kind : MarkupFaultKind) → Cause mode left kind → IsTokenFault kind
 token_fault mode left BadTag s = tt
 token_fault mode left Unclosed s = tt
 token_fault mode left MismatchedEnd s = s
@@ -88,12 +88,12 @@ fault_mark text at StrayEnd fault = stray_mark text at fault
 fault_mark text at SlashOnOpen fault = tt
 fault_mark text at BadComment fault =
     let front = suffix_of markup text fault.items fault.left fault.spelled in
-    mark_behind (codes "<!--") text front.0 fault.left fault.shows.1 front.1 fault.shows.2
+    mark_behind (codes "<!--") text front.0 fault.left fault.cause.1 front.1 fault.cause.2
 fault_mark text at BadDeclaration fault = tt
 fault_mark text at MisplacedDoctype fault = tt
 fault_mark text at Instruction fault =
     let front = suffix_of markup text fault.items fault.left fault.spelled in
-    mark_behind (codes "<?") text front.0 fault.left fault.shows.1 front.1 fault.shows.2
+    mark_behind (codes "<?") text front.0 fault.left fault.cause.1 front.1 fault.cause.2
 fault_mark text at TooManyNodes fault = tt
 fault_mark text at Memory fault = tt
 

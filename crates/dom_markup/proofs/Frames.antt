@@ -6,7 +6,8 @@ use Rattle.std.specs.Prelude.{slice_get, Option, Some, None, codes, if◌then◌
 use Rattle.std.specs.Option.{option_map_or}
 use Rattle.std.specs.Str.{bytes_eq}
 use Rattle.std.proofs.lemmas.Slice.Eq.{bytes_eq-Decides}
-use Rattle.dom_markup.specs.Names.{is_among, is_template, void_names}
+use Rattle.dom_nodes.specs.Words.{is_among}
+use Rattle.dom_markup.specs.Names.{is_template, void_names}
 use Rattle.dom_markup.specs.ValueTrees.{Attribute, ValueTrees}
 use Rattle.dom_markup.specs.ValueTrees.ValueTrees.{no_trees, text_node, comment_node, doctype_node, element_node}
 use Rattle.dom_markup.specs.Markup.{Item, AreInPlace, items_of}

@@ -1,20 +1,22 @@
 -- What a look at the first bytes says of the item that begins there.
 use Rattle.std.proofs.Common.{◌≡◌, ◌≢◌, ◌<◌, ℕ, List, [], ◌∷◌, ◌++◌, length, length-append, true, false, refl, sym, ap, ◌∙◌, subst, arith, append_assoc, inl, inr}
-use Rattle.std.specs.Prelude.{codes}
+use Rattle.std.specs.Prelude.{Bool, codes, ◌==◌, ◌||◌, ◌&&◌}
+use Rattle.std.proofs.lemmas.Bool.{false≢true, eqb-true}
 use Rattle.dom_markup.specs.Letters.{folded}
-use Rattle.dom_markup.specs.Names.{Mode, markup, text_of, raw_text_of, mode_in, is_among, void_names}
+use Rattle.dom_nodes.specs.Words.{is_among}
+use Rattle.dom_markup.specs.Names.{Mode, markup, text_of, raw_text_of, mode_in, void_names}
 use Rattle.dom_nodes.specs.declared.fault.MarkupFaultKind.{MarkupFaultKind}
 use Rattle.dom_nodes.specs.declared.fault.MarkupFaultKind.TheVariants as fault_kinds
 use Rattle.dom_markup.specs.References.{decoded}
-use Rattle.dom_markup.specs.Refusals.{IsTagFault, LacksEnd, Shows}
+use Rattle.dom_markup.specs.Refusals.{BeginsTag, Cause, EndsInSlash, StartCause}
 use Rattle.dom_markup.specs.Token.{BeginsKind, IsTextIn, kind_of}
 use Rattle.dom_markup.specs.declared.document.tokens.TokenKind.{TokenKind}
 use Rattle.dom_markup.specs.declared.document.tokens.TokenKind.TheVariants as kinds
 use Rattle.dom_markup.specs.ValueTrees.{Attribute}
-use Rattle.dom_markup.specs.Markup.{Item, NamesElement, EndsTag, BeginsStart, BeginsEnd, BeginsQuoted, BeginsWord, BeginsIdentifiers, BeginsDoctype, Begins, BeginsNothing, EndsAtTag, begins_markup, text_front, kept_after, mode_after}
+use Rattle.dom_markup.specs.Markup.{Item, NamesElement, EndsTag, BeginsStart, BeginsEnd, BeginsQuoted, BeginsWord, BeginsIdentifiers, BeginsDoctype, Begins, BeginsNothing, EndsAtTag, begins_markup, text_front, kept_after, mode_after, LacksEnd}
 use Rattle.dom_markup.specs.Markup.Item.{start_tag, end_tag, characters, comment, doctype}
 use Rattle.dom_markup.specs.Written.{Splits}
-use Rattle.dom_markup.specs.Letters.{is_name_byte, is_whitespace}
+use Rattle.dom_markup.specs.Letters.{is_letter, is_name_byte, is_whitespace}
 use Rattle.dom_markup.proofs.Reading.{no_letter, behind_first, other_second, comment_behind, EndsTag-suffix}
 use Rattle.dom_markup.proofs.Doctypes.{doctype_first}
 use Rattle.dom_markup.proofs.Texts.{no_front, begins_less, some_front}
@@ -86,18 +88,37 @@ found_item text item rest behind kind told next begins e f is after goes =
 pub found_start : (text n : List ℕ) (a : List Attribute) (rest : List ℕ) (kind : TokenKind) (next : Mode) → BeginsStart text n a rest → kind ≡ kinds.StartTag → next ≡ mode_in n → BeginsKind markup text kind rest next
 found_start text n a rest kind next begins is goes = record { item = start_tag n a; begins = begins; is_kind = is; goes_on = goes }
 
-pub tag_shows : (text : List ℕ) (kind : MarkupFaultKind) → IsTagFault kind → Shows markup text kind
-tag_shows text fault_kinds.BadTag h = refl
-tag_shows text fault_kinds.SlashOnOpen h = refl
-tag_shows text fault_kinds.Unclosed h = absurd h
-tag_shows text fault_kinds.MismatchedEnd h = absurd h
-tag_shows text fault_kinds.StrayEnd h = absurd h
-tag_shows text fault_kinds.BadComment h = absurd h
-tag_shows text fault_kinds.BadDeclaration h = absurd h
-tag_shows text fault_kinds.MisplacedDoctype h = absurd h
-tag_shows text fault_kinds.Instruction h = absurd h
-tag_shows text fault_kinds.TooManyNodes h = absurd h
-tag_shows text fault_kinds.Memory h = absurd h
+-- ---- why none is found
+
+-- an end tag is no start tag
+pub no_slash : (text tag : List ℕ) → text ≡ 60 ∷ 47 ∷ tag → EndsInSlash text → ⊥
+no_slash text tag e h = no_letter 47 h.written h.more tag refl h.names (behind_first 60 text _ _ e h.is)
+
+tag_begins : (text : List ℕ) → begins_markup text ≡ true → ((r : List ℕ) → text ≡ 60 ∷ 33 ∷ r → ⊥) → ((r : List ℕ) → text ≡ 60 ∷ 63 ∷ r → ⊥) → BeginsTag text
+tag_begins [] m mark instruction = absurd (false≢true m)
+tag_begins (a ∷ []) m mark instruction = absurd (false≢true m)
+tag_begins (a ∷ b ∷ bs) m mark instruction = by_byte (a == 60) (is_letter b || b == 47) (b == 33) (b == 63) refl refl refl refl m
+  where
+    by_byte : (x y z w : Bool) → (a == 60) ≡ x → (is_letter b || b == 47) ≡ y → (b == 33) ≡ z → (b == 63) ≡ w → (x && (y || z || w)) ≡ true → BeginsTag (a ∷ b ∷ bs)
+    by_byte false y z w p q r t h = absurd (false≢true h)
+    by_byte true true z w p q r t h = (b, bs, ap (λ n. n ∷ b ∷ bs) (eqb-true a 60 p), q)
+    by_byte true false true w p q r t h = absurd (mark bs (cc (eqb-true a 60 p, eqb-true b 33 r)))
+    by_byte true false false true p q r t h = absurd (instruction bs (cc (eqb-true a 60 p, eqb-true b 63 t)))
+    by_byte true false false false p q r t h = absurd (false≢true h)
+
+-- where neither an end tag nor a declaration nor an instruction stands
+pub start_cause : (text : List ℕ) (kind : MarkupFaultKind) → begins_markup text ≡ true → ((r : List ℕ) → text ≡ 60 ∷ 47 ∷ r → ⊥) → ((r : List ℕ) → text ≡ 60 ∷ 33 ∷ r → ⊥) → ((r : List ℕ) → text ≡ 60 ∷ 63 ∷ r → ⊥) → StartCause text kind → BeginsNothing markup text × Cause markup text kind
+start_cause text fault_kinds.BadTag m slash mark instruction h = (no_start_tag text m slash mark h.0, (refl, tag_begins text m mark instruction, h.1))
+start_cause text fault_kinds.SlashOnOpen m slash mark instruction h = (no_start_tag text m slash mark h.0, (refl, h.1))
+start_cause text fault_kinds.Unclosed m slash mark instruction h = absurd h
+start_cause text fault_kinds.MismatchedEnd m slash mark instruction h = absurd h
+start_cause text fault_kinds.StrayEnd m slash mark instruction h = absurd h
+start_cause text fault_kinds.BadComment m slash mark instruction h = absurd h
+start_cause text fault_kinds.BadDeclaration m slash mark instruction h = absurd h
+start_cause text fault_kinds.MisplacedDoctype m slash mark instruction h = absurd h
+start_cause text fault_kinds.Instruction m slash mark instruction h = absurd h
+start_cause text fault_kinds.TooManyNodes m slash mark instruction h = absurd h
+start_cause text fault_kinds.Memory m slash mark instruction h = absurd h
 
 -- ---- the text of an element
 
@@ -115,10 +136,10 @@ no_end_left (raw_text_of o) name text m lacks (characters c) rest b = lacks c re
 no_end_left (raw_text_of o) name text m lacks (comment c) rest b = b
 no_end_left (raw_text_of o) name text m lacks (doctype n p s) rest b = b
 
-pub unclosed_shows : (mode : Mode) (name text : List ℕ) → IsTextIn mode name → LacksEnd name text → Shows mode text fault_kinds.Unclosed
-unclosed_shows markup name text m lacks = absurd m
-unclosed_shows (text_of o) name text m lacks = subst (λ (x : List ℕ). LacksEnd x text) (sym m) lacks
-unclosed_shows (raw_text_of o) name text m lacks = subst (λ (x : List ℕ). LacksEnd x text) (sym m) lacks
+pub unclosed_cause : (mode : Mode) (name text : List ℕ) → IsTextIn mode name → LacksEnd name text → Cause mode text fault_kinds.Unclosed
+unclosed_cause markup name text m lacks = absurd m
+unclosed_cause (text_of o) name text m lacks = subst (λ (x : List ℕ). LacksEnd x text) (sym m) lacks
+unclosed_cause (raw_text_of o) name text m lacks = subst (λ (x : List ℕ). LacksEnd x text) (sym m) lacks
 
 -- the end tag stands at the front
 pub found_end : (mode : Mode) (name text rest behind : List ℕ) (told : TokenKind) (next : Mode) → IsTextIn mode name → BeginsEnd text name rest → behind ≡ rest → told ≡ kinds.EndTag → next ≡ markup → BeginsKind mode text told behind next

@@ -4,7 +4,7 @@ use Rattle.std.specs.List.{list_any}
 use Rattle.std.specs.Str.{bytes_eq}
 use Rattle.std.proofs.lemmas.List.Folds.{list_any_more}
 use Rattle.dom_nodes.specs.declared.name.Attr.{Attr}
-use Rattle.dom_markup.specs.Attributes.{is_named}
+use Rattle.dom_nodes.specs.Changes.{is_named}
 
 pub cond_or : (b c : Bool) → cond b true c ≡ (c || b)
 cond_or true true = refl

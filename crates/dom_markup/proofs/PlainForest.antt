@@ -15,7 +15,8 @@ use Rattle.dom_links.specs.Forest.{Forest, children_of}
 use Rattle.dom_links.specs.Sound.{IsForest}
 use Rattle.dom_links.specs.Trees.{contents_list, trees}
 use Rattle.dom_links.specs.Laws.{AreTrees}
-use Rattle.dom_markup.specs.Names.{is_among, is_template, void_names, raw_names}
+use Rattle.dom_nodes.specs.Words.{is_among}
+use Rattle.dom_markup.specs.Names.{is_template, void_names, raw_names}
 use Rattle.dom_markup.specs.Escaping.{escaped_text}
 use Rattle.std.specs.List.{flat_map}
 use Rattle.dom_nodes.specs.declared.name.Attr.{Attr}

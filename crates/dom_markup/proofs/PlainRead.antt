@@ -9,14 +9,15 @@ use Rattle.std.proofs.lemmas.List.Folds.{list_any-append}
 use Rattle.std.proofs.lemmas.Str.{length-encode}
 use Rattle.std.proofs.lemmas.Str.Ascii.{lowercase-lowercase}
 use Rattle.dom_markup.specs.Letters.{is_name_byte, is_letter, folded}
-use Rattle.dom_markup.specs.Names.{markup, text_of, raw_text_of, mode_in, is_among, void_names, raw_names, text_names}
+use Rattle.dom_nodes.specs.Words.{is_among}
+use Rattle.dom_markup.specs.Names.{markup, text_of, raw_text_of, mode_in, void_names, raw_names, text_names}
 use Rattle.dom_markup.specs.References.{decoded, decoded_after, reference}
 use Rattle.dom_markup.specs.declared.references.Reference.{Reference}
 use Rattle.dom_markup.specs.ValueTrees.{Attribute, ValueTrees}
 use Rattle.dom_markup.specs.ValueTrees.ValueTrees.{no_trees, text_node, comment_node, doctype_node, element_node}
-use Rattle.dom_markup.specs.Markup.{Item, IsTagName, EndsTag, has_name, kept_after, BeginsStart, BeginsEnd, begins_markup, text_front, EndsAtTag, EndsAtMark, SpellsItemsUpTo, items_of, AreInPlace, Spells}
+use Rattle.dom_markup.specs.Markup.{Item, IsTagName, EndsTag, has_name, kept_after, BeginsStart, BeginsEnd, begins_markup, text_front, EndsAtTag, EndsAtMark, SpellsItemsUpTo, items_of, AreInPlace, Spells, LacksEnd}
 use Rattle.dom_markup.specs.Markup.Item.{end_tag as the_end}
-use Rattle.dom_markup.specs.Plain.{HoldsNoEnd, HoldsNoClose, IsPlainName, ArePlain, begins_with_text, IsPlainIn, IsPlainTrees, HaveNoIdentifiers}
+use Rattle.dom_markup.specs.Plain.{HoldsNoClose, IsPlainName, ArePlain, begins_with_text, IsPlainIn, IsPlainTrees, HaveNoIdentifiers}
 use Rattle.dom_markup.proofs.PlainText.{assoc, tails, bytes_eq-swapped, or_none, none_or, void_not_raw, void_not_text}
 
 -- the texts and values of trees are UTF-8
@@ -157,7 +158,7 @@ end_longer text name rest more ends = record {
   is_space = ends.is_space;
 }
 
-no_end : (name text front rest : List ℕ) → EndsAtTag name text front rest → HoldsNoEnd name front
+no_end : (name text front rest : List ℕ) → EndsAtTag name text front rest → LacksEnd name front
 no_end name text front rest at before later beyond is ends =
     let whole : text ≡ before ++ (later ++ rest) = at.is ∙ (ap (λ t. t ++ rest) is ∙ assoc before later rest) in
     let long = at.first before (later ++ rest) (beyond ++ rest) whole (end_longer later name beyond rest ends) in

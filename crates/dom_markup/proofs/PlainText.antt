@@ -7,17 +7,18 @@ use Rattle.std.proofs.lemmas.Bool.{cases_Bool, cases_lt, and_parts, and_from, tr
 use Rattle.std.proofs.lemmas.List.Folds.{list_all-append, list_any-append}
 use Rattle.std.proofs.lemmas.Slice.Eq.{bytes_eq-Decides}
 use Rattle.dom_markup.specs.Letters.{is_name_byte, is_letter, is_whitespace, folded}
-use Rattle.dom_markup.specs.Names.{markup, text_of, raw_text_of, mode_in, is_among, void_names, raw_names, text_names}
+use Rattle.dom_nodes.specs.Words.{is_among}
+use Rattle.dom_markup.specs.Names.{markup, text_of, raw_text_of, mode_in, void_names, raw_names, text_names}
 use Rattle.dom_markup.specs.References.{decoded}
 use Rattle.dom_markup.specs.Escaping.{escaped_text, escaped_value, lacks}
 use Rattle.dom_markup.specs.Html.{attr_text, end_tag}
 use Rattle.dom_markup.specs.Numbered.{read_attr}
 use Rattle.dom_markup.specs.ValueTrees.{Attribute, ValueTrees}
 use Rattle.dom_markup.specs.ValueTrees.ValueTrees.{no_trees, text_node, comment_node, doctype_node, element_node}
-use Rattle.dom_markup.specs.Markup.{Item, IsTagName, BeginsAttribute, EndsTag, has_name, kept_after, BeginsStart, BeginsEnd, begins_markup, text_front, EndsAtTag, BeginsDoctype, Begins, SpellsItemsUpTo, items_of, AreInPlace, Spells}
+use Rattle.dom_markup.specs.Markup.{Item, IsTagName, BeginsAttribute, EndsTag, has_name, kept_after, BeginsStart, BeginsEnd, begins_markup, text_front, EndsAtTag, BeginsDoctype, Begins, SpellsItemsUpTo, items_of, AreInPlace, Spells, LacksEnd}
 use Rattle.dom_markup.specs.Markup.Item.{characters, comment, doctype}
 use Rattle.dom_markup.specs.Markup.Item.{end_tag as the_end}
-use Rattle.dom_markup.specs.Plain.{start_text, text_of_trees, HoldsNoEnd, HoldsNoClose, IsPlainName, ArePlain, begins_with_text, IsPlainIn, IsPlainTrees}
+use Rattle.dom_markup.specs.Plain.{start_text, text_of_trees, HoldsNoClose, IsPlainName, ArePlain, begins_with_text, IsPlainIn, IsPlainTrees}
 use Rattle.dom_markup.proofs.InertLemmas.{no_less, no_quote}
 use Rattle.dom_markup.proofs.ReadBack.{text_reads_back, value_reads_back}
 
@@ -272,7 +273,7 @@ end_inside name x left more later beyond is ends =
       },
     )
 
-ends_at_tag : (name text rest : List ℕ) → IsTagName name → folded name ≡ name → HoldsNoEnd name text → EndsAtTag name (text ++ (end_tag name ++ rest)) text (end_tag name ++ rest)
+ends_at_tag : (name text rest : List ℕ) → IsTagName name → folded name ≡ name → LacksEnd name text → EndsAtTag name (text ++ (end_tag name ++ rest)) text (end_tag name ++ rest)
 ends_at_tag name text rest is folds none = record {
   is = refl;
   after = rest;
@@ -287,7 +288,7 @@ ends_at_tag name text rest is folds none = record {
 }
 
 -- a text without a `<` holds no end tag
-no_end-lacks : (name text : List ℕ) → lacks 60 text ≡ true → HoldsNoEnd name text
+no_end-lacks : (name text : List ℕ) → lacks 60 text ≡ true → LacksEnd name text
 no_end-lacks name text none before later beyond is ends =
     let behind : lacks 60 later ≡ true = (and_parts (lacks 60 before) (lacks 60 later) (sym (list_all-append (λ b. not (b == 60)) before later) ∙ (ap (lacks 60) (sym is) ∙ none))).1 in
     true≢false (sym behind ∙ ap (lacks 60) ends.is)

@@ -4,11 +4,13 @@ use Rattle.std.specs.Prelude.{codes, ◌==◌, ◌||◌, MatchBool, ◌⊎◌}
 use Rattle.std.specs.List.{list_all}
 use Rattle.std.proofs.lemmas.Bool.{true≢false, and_parts, eqb-true, eq-eqb, ne_eqb}
 use Rattle.dom_markup.specs.Letters.{is_whitespace, is_letter, is_name_byte, folded}
-use Rattle.dom_markup.specs.Names.{markup, is_among, void_names}
+use Rattle.dom_nodes.specs.Words.{is_among}
+use Rattle.dom_markup.specs.Names.{markup, void_names}
 use Rattle.dom_markup.specs.References.{decoded}
 use Rattle.dom_markup.specs.ValueTrees.{Attribute}
 use Rattle.dom_markup.specs.Markup.{IsSpace, after_space, is_bare_byte, Fails, BeginsValue, begins_equals, HasValue, IsTagName, NamesElement, BeginsAttribute, Closes, EndsTag, BeginsStart, BeginsEnd, EndsAtMark, Begins, begins_markup, kept_after}
 use Rattle.dom_markup.specs.Markup.Item.{comment}
+use Rattle.dom_markup.specs.Refusals.{BeginsNoStart, EndsInSlash}
 use Rattle.dom_markup.specs.Written.{Splits, SameEnd}
 use Rattle.dom_markup.proofs.Spans.{span_same, letter-name, space-name, name-space}
 
@@ -379,6 +381,45 @@ start_shape text tag name behind e s n attributes r h =
     let both : name ++ behind ≡ h.written ++ h.more = sym s.is ∙ behind_first 60 text _ _ e h.is in
     let same = span_same is_name_byte name behind h.written h.more s.passes s.fails (tag_name_bytes h.written h.names.0) (EndsTag-fails _ h.more h.all r h.ends) both in
     (subst (λ (t : List ℕ). NamesElement t n) (sym same.0) h.names, h.all, subst (λ (t : List ℕ). EndsTag (is_among n void_names) t h.all r) (sym same.1) h.ends, h.kept)
+
+pub slash_shape : (text tag name behind : List ℕ) → text ≡ 60 ∷ tag → Splits is_name_byte tag name behind → EndsInSlash text → IsTagName name × (is_among (folded name) void_names ≡ false) × (all : List Attribute) × (r : List ℕ) × EndsTag true behind all r
+slash_shape text tag name behind e s h =
+    let both : name ++ behind ≡ h.written ++ h.more = sym s.is ∙ behind_first 60 text _ _ e h.is in
+    let same = span_same is_name_byte name behind h.written h.more s.passes s.fails (tag_name_bytes h.written h.names) (EndsTag-fails _ h.more h.all h.rest h.ends) both in
+    (subst IsTagName (sym same.0) h.names, subst (λ (t : List ℕ). is_among (folded t) void_names ≡ false) (sym same.0) h.open_element, h.all, h.rest, subst (λ (t : List ℕ). EndsTag true t h.all h.rest) (sym same.1) h.ends)
+
+-- what stands behind the attributes closes no tag
+pub no_start : (tag name behind close : List ℕ) (void : Bool) → Splits is_name_byte tag name behind → void ≡ is_among (folded name) void_names → SameEnd behind close → ((a : Attribute) (r : List ℕ) → BeginsAttribute close a r → ⊥) → ((r : List ℕ) → Closes void close r → ⊥) →
+    BeginsNoStart (60 ∷ tag)
+no_start tag name behind close void splits is same none closes n attributes rest h =
+    let shape = start_shape _ _ _ _ refl splits n attributes rest h in
+    let slash : is_among n void_names ≡ void = ap (λ (m : List ℕ). is_among m void_names) shape.0.1 ∙ sym is in
+    let ends = same.forth (is_among n void_names) shape.1 rest shape.2 in
+    closes rest (subst (λ (b : Bool). Closes b close rest) slash (no_attributes (is_among n void_names) close none ends.0 rest ends.1))
+
+pub no_slashed_start : (tag name behind close : List ℕ) → Splits is_name_byte tag name behind → SameEnd behind close → ((a : Attribute) (r : List ℕ) → BeginsAttribute close a r → ⊥) → ((r : List ℕ) → Closes true close r → ⊥) → EndsInSlash (60 ∷ tag) → ⊥
+no_slashed_start tag name behind close splits same none closes h =
+    let shape = slash_shape _ _ _ _ refl splits h in
+    let ends = same.forth true shape.2 shape.3 shape.4 in
+    closes shape.3 (no_attributes true close none ends.0 shape.3 ends.1)
+
+pub slashed_start : (tag name behind close rest : List ℕ) (void : Bool) → Splits is_name_byte tag name behind → IsTagName name → void ≡ is_among (folded name) void_names → SameEnd behind close → ((r : List ℕ) → Closes void close r → ⊥) → Closes true close rest → EndsInSlash (60 ∷ tag)
+slashed_start tag name behind close rest void splits names is same open_here closes =
+    let ends = same.back true [] rest closes in
+    record {
+      written = name;
+      more = behind;
+      all = ends.0;
+      rest = rest;
+      is = ap (λ t. 60 ∷ t) splits.is;
+      names = names;
+      open_element = sym is ∙ by_void void open_here;
+      ends = ends.1;
+    }
+  where
+    by_void : (b : Bool) → ((r : List ℕ) → Closes b close r → ⊥) → b ≡ false
+    by_void true none = absurd (none rest closes)
+    by_void false none = refl
 
 pub end_tag_shape : (text tag name inner space behind : List ℕ) → text ≡ 60 ∷ 47 ∷ tag → Splits is_name_byte tag name inner → Splits is_whitespace inner space behind → (n : List ℕ) (r : List ℕ) → BeginsEnd text n r → NamesElement name n × (behind ≡ 62 ∷ r)
 end_tag_shape text tag name inner space behind e s w n r h =

@@ -1,5 +1,7 @@
 -- What a reader's steps are on a text.
-use Rattle.std.proofs.Common.{Option, Some, None, ◌≡◌, ◌<◌, ◌≤◌, ◌+◌, ℕ, List, [], ◌∷◌, ◌++◌, length, map, true, false, refl, sym, ap, ◌∙◌, subst, arith, append_assoc, append-nil, length-append, inl, inr}
+use Rattle.std.specs.Prelude.{slice_get}
+use Rattle.std.specs.Option.{option_map_or}
+use Rattle.std.proofs.Common.{Vec, Global, Result, MatchResult, Option, Some, None, ◌≡◌, ◌<◌, ◌≤◌, ◌+◌, ◌-◌, ℕ, List, [], ◌∷◌, ◌++◌, length, map, true, false, refl, sym, ap, ◌∙◌, subst, arith, append_assoc, append-nil, length-append, inl, inr}
 use Rattle.std.proofs.lemmas.Bool.{true≢false, cases_Bool}
 use Rattle.std.proofs.lemmas.List.{map-append}
 use Rattle.dom_nodes.specs.declared.fault.EditFault.{EditFault}
@@ -17,23 +19,27 @@ use Rattle.dom_links.specs.Growth.{DataCause, with_child, with_template}
 use Rattle.dom_links.specs.Sound.{bears}
 use Rattle.dom_trees.specs.Refusals.{TemplateCause, element_with}
 use Rattle.dom_markup.specs.Letters.{folded}
-use Rattle.dom_markup.specs.Names.{Mode, markup, text_of, raw_text_of, is_among, is_template, void_names}
+use Rattle.dom_nodes.specs.Words.{is_among}
+use Rattle.dom_markup.specs.Names.{Mode, markup, text_of, raw_text_of, is_template, void_names}
 use Rattle.dom_markup.specs.References.{decoded}
 use Rattle.dom_markup.specs.ValueTrees.{Attribute, ValueTrees}
 use Rattle.dom_markup.specs.Markup.{Item, AreInPlace, Begins, BeginsNothing, BeginsStart, BeginsEnd, BeginsDoctype, SpellsItemsUpTo, Spells, SpellsNothing, items_of, mode_after, mode_past, text_front}
 use Rattle.dom_markup.specs.Markup.Item.{start_tag, end_tag, characters, comment, doctype}
-use Rattle.dom_markup.specs.Numbered.{html_name, read_attr, read_element, document_of}
-use Rattle.dom_markup.specs.Refusals.{nodes_begun, Refused, Declines, StopsBefore, BeginsNothingAt, Shows, IsFaultAt, LeavesSomeOpen}
+use Rattle.dom_trees.specs.Made.{html_name}
+use Rattle.dom_markup.specs.Numbered.{read_attr, read_element, document_of}
+use Rattle.dom_markup.specs.Refusals.{nodes_begun, Refused, Declines, StopsBefore, BeginsNothingAt, Cause, IsFaultAt, LeavesSomeOpen}
 use Rattle.dom_markup.specs.Token.{IsNext, Unread, contents_in, kind_of}
 use Rattle.dom_markup.specs.Tokens.{IsStopped}
-use Rattle.dom_markup.specs.Frames.{HasRead, Opened, is_top, opened_size, with_element, children_place}
+use Rattle.dom_markup.specs.Frames.{HasRead, Opened, opened, is_top, opened_size, with_element, children_place}
 use Rattle.dom_markup.specs.Limits.{IsLimit, IsPlainData, LacksNumbers}
-use Rattle.dom_markup.specs.Reader.{AfterItems, IsWhole, opened_by}
+use Rattle.dom_markup.specs.Reader.{AfterItems, Grows, IsStarted, IsToken, IsWhole, ReadsItem, Stands, opened_by, parent_number}
 use Rattle.dom_markup.specs.declared.document.reader.Open.{Open}
 use Rattle.dom_markup.specs.declared.document.reader.Reader.{Reader}
+use Rattle.dom_markup.specs.declared.document.reader.Started.{Started}
+use Rattle.dom_markup.specs.declared.document.tokens.Token.{Token}
 use Rattle.dom_markup.specs.declared.document.tokens.TokenKind.{TokenKind}
 use Rattle.dom_markup.specs.declared.document.tokens.TokenKind.TheVariants as token_kinds
-use Rattle.dom_markup.proofs.Frames.{nodes_begun-append, nodes_read, IsLeaf, void_leaf, void_plain, reads_leaf, reads_start, no_trees_end, no_trees_stray, no_trees_inside, no_trees_open}
+use Rattle.dom_markup.proofs.Frames.{nodes_begun-append, nodes_read, IsLeaf, void_leaf, void_plain, reads_leaf, reads_start, last_none, last_split, parent_last, parent_none, no_trees_end, no_trees_stray, no_trees_inside, no_trees_open}
 use Rattle.dom_markup.proofs.Fronts.{before_rest}
 use Rattle.dom_markup.proofs.OneReading.{SpellsItems}
 use Rattle.dom_markup.proofs.Whole.{mode_past-push, SpellsItems-from_front, SpellsItemsUpTo-push, items_left, first_left, none_left, nothing_left}
@@ -77,26 +83,42 @@ no_number items item kinds.BadDeclaration forest stack count h some few lacks = 
 no_number items item kinds.MisplacedDoctype forest stack count h some few lacks = absurd lacks
 no_number items item kinds.Instruction forest stack count h some few lacks = absurd lacks
 
-pub leaf_read : (items : List Item) (old new : Forest) (stack stack' : List Open) (item : Item) (made content : NodeData) (h : HasRead items old (map opened_by stack)) → IsLeaf item content (is_top h.frames) → new ≡ with_child (opened_size h.frames) made old → made ≡ content → stack' ≡ stack →
-    HasRead (items ++ item ∷ []) new (map opened_by stack')
-leaf_read items old new stack stack' item made content h leaf grown is same =
-    let p = opened_size h.frames in
-    subst (λ (os : List Open). HasRead (items ++ item ∷ []) new (map opened_by os)) (sym same)
-    (subst (λ (f : Forest). HasRead (items ++ item ∷ []) f (map opened_by stack)) (sym (grown ∙ ap (λ (c : NodeData). with_child p c old) is))
-    (reads_leaf items old (map opened_by stack) item content h leaf))
+-- the parent is the number below which the innermost frame's children stand
+pub parent_is : (items : List Item) (reader : Reader) (h : AfterItems items reader) → parent_number reader ≡ opened_size h.frames
+parent_is items reader h = by_last (slice_get stack (length stack - 1)) refl
+  where
+    stack : List Open
+    stack = reader.stack.items
 
-pub start_read : (items : List Item) (old new : Forest) (stack stack' : List Open) (one : Open) (name : List ℕ) (all : List Attribute) (h : HasRead items old (map opened_by stack)) →
-    new ≡ with_element (opened_size h.frames) name all old → stack' ≡ stack ++ one ∷ [] → one.number ≡ children_place (folded one.name.now) old → folded one.name.now ≡ name → is_among name void_names ≡ false →
-    HasRead (items ++ start_tag name all ∷ []) new (map opened_by stack')
-start_read items old new stack stack' one name all h made pushed number named open_one =
-    let place : one.number ≡ children_place name old = number ∙ ap (λ (n : List ℕ). children_place n old) named in
-    let opened : opened_by one ≡ record { number = children_place name old; name = name } =
-    ap (λ (n : ℕ). record { number = n; name = folded one.name.now }) place ∙ ap (λ (n : List ℕ). record { number = children_place name old; name = n }) named in
-    let shown : map opened_by stack' ≡ map opened_by stack ++ record { number = children_place name old; name = name } ∷ [] =
-    ap (map opened_by) pushed ∙ map-append opened_by stack (one ∷ []) ∙ ap (λ (o : Opened). map opened_by stack ++ o ∷ []) opened in
+    by_last : (o : Option Open) → slice_get stack (length stack - 1) ≡ o → option_map_or (λ (x : Open). x.number) o 0 ≡ opened_size h.frames
+    by_last None e = parent_none h.frames (sym (ap (map opened_by) (last_none stack e)) ∙ h.stack_is)
+    by_last (Some o) e =
+        let split = last_split stack o e in
+        let shown : map opened_by split.0 ++ opened_by o ∷ [] ≡ opened h.frames =
+        sym (ap (map opened_by) split.1 ∙ map-append opened_by split.0 (o ∷ [])) ∙ h.stack_is in
+        parent_last (map opened_by split.0) (opened_by o) h.frames shown
+
+pub leaf_read : (items : List Item) (old new : Reader) (item : Item) (made content : NodeData) (h : AfterItems items old) → IsLeaf item content (is_top h.frames) → new.tree ≡ with_child (parent_number old) made old.tree → made ≡ content → new.stack ≡ old.stack →
+    AfterItems (items ++ item ∷ []) new
+leaf_read items old new item made content h leaf grown is same =
+    let tree : new.tree ≡ with_child (opened_size h.frames) content old.tree =
+    grown ∙ ap (λ (p : ℕ). with_child p made old.tree) (parent_is items old h) ∙ ap (λ (c : NodeData). with_child (opened_size h.frames) c old.tree) is in
+    subst (λ (os : List Open). HasRead (items ++ item ∷ []) new.tree (map opened_by os)) (sym (ap (λ (v : Vec Open Global). v.items) same))
+    (subst (λ (f : Forest). HasRead (items ++ item ∷ []) f (map opened_by old.stack.items)) (sym tree)
+    (reads_leaf items old.tree (map opened_by old.stack.items) item content h leaf))
+
+pub start_read : (items : List Item) (old : Reader) (new : Forest) (before : Vec Open Global) (stack : List Open) (one : Open) (name : List ℕ) (all : List Attribute) (h : AfterItems items old) →
+    new ≡ with_element (parent_number old) name all old.tree → before ≡ old.stack → stack ≡ before.items ++ one ∷ [] → one.number ≡ children_place name old.tree → folded one.name.now ≡ name → is_among name void_names ≡ false →
+    HasRead (items ++ start_tag name all ∷ []) new (map opened_by stack)
+start_read items old new before stack one name all h made kept pushed number named open_one =
+    let opened : opened_by one ≡ record { number = children_place name old.tree; name = name } =
+    ap (λ (n : ℕ). record { number = n; name = folded one.name.now }) number ∙ ap (λ (n : List ℕ). record { number = children_place name old.tree; name = n }) named in
+    let shown : map opened_by stack ≡ map opened_by old.stack.items ++ record { number = children_place name old.tree; name = name } ∷ [] =
+    ap (map opened_by) (pushed ∙ ap (λ (v : Vec Open Global). v.items ++ one ∷ []) kept) ∙ map-append opened_by old.stack.items (one ∷ []) ∙ ap (λ (o : Opened). map opened_by old.stack.items ++ o ∷ []) opened in
+    let tree : new ≡ with_element (opened_size h.frames) name all old.tree = made ∙ ap (λ (p : ℕ). with_element p name all old.tree) (parent_is items old h) in
     subst (λ (os : List Opened). HasRead (items ++ start_tag name all ∷ []) new os) (sym shown)
-    (subst (λ (f : Forest). HasRead (items ++ start_tag name all ∷ []) f (map opened_by stack ++ record { number = children_place name old; name = name } ∷ [])) (sym made)
-    (reads_start items old (map opened_by stack) name all h open_one))
+    (subst (λ (f : Forest). HasRead (items ++ start_tag name all ∷ []) f (map opened_by old.stack.items ++ record { number = children_place name old.tree; name = name } ∷ [])) (sym tree)
+    (reads_start items old.tree (map opened_by old.stack.items) name all h open_one))
 
 abbrev of_parts : QualName → List Attr → Option ℕ → Element
 of_parts name attrs contents = record { name = name; attrs = attrs; template_contents = contents; mathml_annotation_xml_integration_point = false }
@@ -105,88 +127,105 @@ parts_same : (name other : QualName) (attrs others : List Attr) (contents : Opti
 parts_same name other attrs others contents e f = ap (λ (n : QualName). of_parts n attrs contents) e ∙ ap (λ (as' : List Attr). of_parts other as' contents) f
 
 -- an element without contents, and one with
-pub plain_made : (written name : List ℕ) (element : Element) (q : QualName) (attrs : List Attr) (all : List Attribute) (forest new : Forest) (p : ℕ) → is_template (folded written) ≡ false → element ≡ of_parts q attrs None → new ≡ with_child p (AnElement element) forest →
-    folded written ≡ name → q ≡ html_name name → attrs ≡ map read_attr all → new ≡ with_element p name all forest
-plain_made written name element q attrs all forest new p plain is made named e f =
-    let other : is_template name ≡ false = ap is_template (sym named) ∙ plain in
-    let grown : with_element p name all forest ≡ with_child p (read_element name all None) forest = rw other refl in
-    let same : element ≡ of_parts (html_name name) (map read_attr all) None = is ∙ parts_same q (html_name name) attrs (map read_attr all) None e f in
-    made ∙ ap (λ (x : Element). with_child p (AnElement x) forest) same ∙ sym grown
+pub plain_made : (old new : Reader) (result : Result ℕ MarkupFaultKind) (started : Started) (element : Element) (name : List ℕ) (all : List Attribute) → is_template (folded started.written.now) ≡ false → element ≡ of_parts started.name started.attrs None → IsStarted started name all →
+    Grows old new result (length old.tree.content) (with_child (parent_number old) (AnElement element) old.tree) → Grows old new result (children_place name old.tree) (with_element (parent_number old) name all old.tree)
+plain_made old new result started element name all plain is told grows =
+    let other : is_template name ≡ false = ap is_template (sym told.written) ∙ plain in
+    let place : length old.tree.content ≡ children_place name old.tree = rw other refl in
+    let same : element ≡ of_parts (html_name name) (map read_attr all) None = is ∙ parts_same _ (html_name name) _ (map read_attr all) None told.html told.attrs in
+    let grown : with_element (parent_number old) name all old.tree ≡ with_child (parent_number old) (read_element name all None) old.tree = rw other refl in
+    let tree : with_child (parent_number old) (AnElement element) old.tree ≡ with_element (parent_number old) name all old.tree =
+    ap (λ (x : Element). with_child (parent_number old) (AnElement x) old.tree) same ∙ sym grown in
+    subst (λ (p : ℕ). Grows old new result p (with_element (parent_number old) name all old.tree)) place
+    (subst (λ (f : Forest). Grows old new result (length old.tree.content) f) tree grows)
 
-pub template_made : (written name : List ℕ) (q : QualName) (attrs : List Attr) (all : List Attribute) (forest new : Forest) (p : ℕ) → is_template (folded written) ≡ true → new ≡ with_template p (element_with q attrs (length forest.content + 1)) forest →
-    folded written ≡ name → q ≡ html_name name → attrs ≡ map read_attr all → new ≡ with_element p name all forest
-template_made written name q attrs all forest new p template made named e f =
-    let other : is_template name ≡ true = ap is_template (sym named) ∙ template in
-    let grown : with_element p name all forest ≡ with_template p (read_element name all (Some (length forest.content + 1))) forest = rw other refl in
-    made ∙ ap (λ (x : Element). with_template p (AnElement x) forest) (parts_same q (html_name name) attrs (map read_attr all) (Some (length forest.content + 1)) e f) ∙ sym grown
+pub template_made : (old new : Reader) (result : Result ℕ MarkupFaultKind) (started : Started) (name : List ℕ) (all : List Attribute) → is_template (folded started.written.now) ≡ true → IsStarted started name all →
+    Grows old new result (length old.tree.content + 1) (with_template (parent_number old) (element_with started.name started.attrs (length old.tree.content + 1)) old.tree) → Grows old new result (children_place name old.tree) (with_element (parent_number old) name all old.tree)
+template_made old new result started name all template told grows =
+    let contents = length old.tree.content + 1 in
+    let other : is_template name ≡ true = ap is_template (sym told.written) ∙ template in
+    let place : contents ≡ children_place name old.tree = rw other refl in
+    let same : of_parts started.name started.attrs (Some contents) ≡ of_parts (html_name name) (map read_attr all) (Some contents) = parts_same _ (html_name name) _ (map read_attr all) (Some contents) told.html told.attrs in
+    let grown : with_element (parent_number old) name all old.tree ≡ with_template (parent_number old) (read_element name all (Some contents)) old.tree = rw other refl in
+    let tree : with_template (parent_number old) (element_with started.name started.attrs contents) old.tree ≡ with_element (parent_number old) name all old.tree =
+    ap (λ (x : Element). with_template (parent_number old) (AnElement x) old.tree) same ∙ sym grown in
+    subst (λ (p : ℕ). Grows old new result p (with_element (parent_number old) name all old.tree)) place
+    (subst (λ (f : Forest). Grows old new result contents f) tree grows)
 
 -- a void element has no contents
-pub void_read : (items : List Item) (old new : Forest) (stack stack' : List Open) (name : List ℕ) (all : List Attribute) (h : HasRead items old (map opened_by stack)) →
-    new ≡ with_element (opened_size h.frames) name all old → stack' ≡ stack → is_among name void_names ≡ true → HasRead (items ++ start_tag name all ∷ []) new (map opened_by stack')
-void_read items old new stack stack' name all h made same void =
-    let plain : with_element (opened_size h.frames) name all old ≡ with_child (opened_size h.frames) (read_element name all None) old = rw (void_plain name void) refl in
-    leaf_read items old new stack stack' (start_tag name all) _ (read_element name all None) h (void_leaf (is_top h.frames) name all void) (made ∙ plain) refl same
+pub void_read : (items : List Item) (old new : Reader) (name : List ℕ) (all : List Attribute) (h : AfterItems items old) →
+    new.tree ≡ with_element (parent_number old) name all old.tree → new.stack ≡ old.stack → is_among name void_names ≡ true → AfterItems (items ++ start_tag name all ∷ []) new
+void_read items old new name all h made same void =
+    let plain : with_element (parent_number old) name all old.tree ≡ with_child (parent_number old) (read_element name all None) old.tree = rw (void_plain name void) refl in
+    leaf_read items old new (start_tag name all) _ (read_element name all None) h (void_leaf (is_top h.frames) name all void) (made ∙ plain) refl same
 
 -- a start tag that finds no number
-pub start_declined : (items : List Item) (written name : List ℕ) (all : List Attribute) (kind : MarkupFaultKind) (forest : Forest) (stack : List Opened) → HasRead items forest stack → folded written ≡ name → LacksNumbers (children_place (folded written) forest) kind → Declines items (start_tag name all) kind
-start_declined items written name all kind forest stack h named lacks =
-    let moved : LacksNumbers (children_place name forest) kind = subst (λ (n : List ℕ). LacksNumbers (children_place n forest) kind) named lacks in
+pub start_declined : (items : List Item) (name : List ℕ) (all : List Attribute) (kind : MarkupFaultKind) (forest : Forest) (stack : List Opened) → HasRead items forest stack → LacksNumbers (children_place name forest) kind → Declines items (start_tag name all) kind
+start_declined items name all kind forest stack h lacks =
     elim (cases_Bool (is_template name)) [
       | inl t ↦
           (let two : nodes_begun (start_tag name all ∷ []) ≡ 2 = rw t refl in
           let place : children_place name forest ≡ length forest.content + 1 = rw t refl in
-          no_number items (start_tag name all) kind forest stack (children_place name forest) h (omega (arith, two)) (omega (arith, two, place)) moved)
+          no_number items (start_tag name all) kind forest stack (children_place name forest) h (omega (arith, two)) (omega (arith, two, place)) lacks)
       | inr e ↦
           (let one : nodes_begun (start_tag name all ∷ []) ≡ 1 = rw e refl in
           let place : children_place name forest ≡ length forest.content = rw e refl in
-          no_number items (start_tag name all) kind forest stack (children_place name forest) h (omega (arith, one)) (omega (arith, one, place)) moved)
+          no_number items (start_tag name all) kind forest stack (children_place name forest) h (omega (arith, one)) (omega (arith, one, place)) lacks)
     ]
 
 -- ---- the item that a token is
 
-pub start_case : (mode : Mode) (item : Item) (left rest : List ℕ) → token_kinds.StartTag ≡ kind_of mode item → Begins mode left item rest → (n : List ℕ) × (a : List Attribute) × (item ≡ start_tag n a) × BeginsStart left n a rest
-start_case markup (start_tag n a) left rest k b = (n, a, refl, b)
-start_case (text_of m) (start_tag n a) left rest k b = absurd b
-start_case (raw_text_of m) (start_tag n a) left rest k b = absurd b
-start_case mode (end_tag n) left rest k b = cc
-start_case markup (characters c) left rest k b = cc
-start_case (text_of m) (characters c) left rest k b = cc
-start_case (raw_text_of m) (characters c) left rest k b = cc
-start_case mode (comment c) left rest k b = cc
-start_case mode (doctype n p s) left rest k b = cc
+-- what is read behind some items
+abbrev Read : {T : Type 0} → List Item → Item → Reader → Result T MarkupFaultKind → Type 0
+Read items item new result = MatchResult result (λ _. AfterItems (items ++ item ∷ []) new) (λ kind. Declines items item kind)
 
-pub end_case : (mode : Mode) (item : Item) (left rest : List ℕ) → token_kinds.EndTag ≡ kind_of mode item → Begins mode left item rest → (n : List ℕ) × (item ≡ end_tag n) × BeginsEnd left n rest
-end_case mode (start_tag n a) left rest k b = cc
-end_case markup (end_tag n) left rest k b = (n, refl, b)
-end_case (text_of m) (end_tag n) left rest k b = (n, refl, subst (λ (o : List ℕ). BeginsEnd left o rest) (sym b.0) b.1)
-end_case (raw_text_of m) (end_tag n) left rest k b = (n, refl, subst (λ (o : List ℕ). BeginsEnd left o rest) (sym b.0) b.1)
-end_case markup (characters c) left rest k b = cc
-end_case (text_of m) (characters c) left rest k b = cc
-end_case (raw_text_of m) (characters c) left rest k b = cc
-end_case mode (comment c) left rest k b = cc
-end_case mode (doctype n p s) left rest k b = cc
+module _ {T : Type 0} (left : List ℕ) (old new : Reader) (result : Result T MarkupFaultKind) where
+  pub reads_start_tag : ((items : List Item) (n : List ℕ) (a : List Attribute) (rest : List ℕ) → AfterItems items old → BeginsStart left n a rest → Read items (start_tag n a) new result) → ReadsItem (Stands token_kinds.StartTag left) old new result
+  reads_start_tag f = record { read = λ items item h s. start_tag_case f items item h s }
+    where
+      start_tag_case : ((items : List Item) (n : List ℕ) (a : List Attribute) (rest : List ℕ) → AfterItems items old → BeginsStart left n a rest → Read items (start_tag n a) new result) → (items : List Item) (item : Item) → AfterItems items old → Stands token_kinds.StartTag left item → Read items item new result
+      start_tag_case f items (start_tag n a) h s = f items n a s.rest h s.begins
+      start_tag_case f items (end_tag n) h s = cc (s.is_kind)
+      start_tag_case f items (characters c) h s = cc (s.is_kind)
+      start_tag_case f items (comment c) h s = cc (s.is_kind)
+      start_tag_case f items (doctype n p t) h s = cc (s.is_kind)
 
-pub comment_case : (mode : Mode) (item : Item) (left rest : List ℕ) → token_kinds.Comment ≡ kind_of mode item → Begins mode left item rest → (c : List ℕ) × (item ≡ comment c) × Begins markup left (comment c) rest
-comment_case mode (start_tag n a) left rest k b = cc
-comment_case mode (end_tag n) left rest k b = cc
-comment_case markup (characters c) left rest k b = cc
-comment_case (text_of m) (characters c) left rest k b = cc
-comment_case (raw_text_of m) (characters c) left rest k b = cc
-comment_case markup (comment c) left rest k b = (c, refl, b)
-comment_case (text_of m) (comment c) left rest k b = absurd b
-comment_case (raw_text_of m) (comment c) left rest k b = absurd b
-comment_case mode (doctype n p s) left rest k b = cc
+  pub reads_end_tag : ((items : List Item) (n rest : List ℕ) → AfterItems items old → BeginsEnd left n rest → Read items (end_tag n) new result) → ReadsItem (Stands token_kinds.EndTag left) old new result
+  reads_end_tag f = record { read = λ items item h s. end_tag_case f items item h s }
+    where
+      end_tag_case : ((items : List Item) (n rest : List ℕ) → AfterItems items old → BeginsEnd left n rest → Read items (end_tag n) new result) → (items : List Item) (item : Item) → AfterItems items old → Stands token_kinds.EndTag left item → Read items item new result
+      end_tag_case f items (start_tag n a) h s = cc (s.is_kind)
+      end_tag_case f items (end_tag n) h s = f items n s.rest h s.begins
+      end_tag_case f items (characters c) h s = cc (s.is_kind)
+      end_tag_case f items (comment c) h s = cc (s.is_kind)
+      end_tag_case f items (doctype n p t) h s = cc (s.is_kind)
 
-pub doctype_case : (mode : Mode) (item : Item) (left rest : List ℕ) → token_kinds.Doctype ≡ kind_of mode item → Begins mode left item rest → (n : List ℕ) × (p : List ℕ) × (s : List ℕ) × (item ≡ doctype n p s) × BeginsDoctype left n p s rest
-doctype_case mode (start_tag n a) left rest k b = cc
-doctype_case mode (end_tag n) left rest k b = cc
-doctype_case markup (characters c) left rest k b = cc
-doctype_case (text_of m) (characters c) left rest k b = cc
-doctype_case (raw_text_of m) (characters c) left rest k b = cc
-doctype_case mode (comment c) left rest k b = cc
-doctype_case markup (doctype n p s) left rest k b = (n, p, s, refl, b)
-doctype_case (text_of m) (doctype n p s) left rest k b = absurd b
-doctype_case (raw_text_of m) (doctype n p s) left rest k b = absurd b
+  pub reads_comment : ((items : List Item) (c rest : List ℕ) → AfterItems items old → Begins markup left (comment c) rest → Read items (comment c) new result) → ReadsItem (Stands token_kinds.Comment left) old new result
+  reads_comment f = record { read = λ items item h s. comment_case f items item h s }
+    where
+      comment_case : ((items : List Item) (c rest : List ℕ) → AfterItems items old → Begins markup left (comment c) rest → Read items (comment c) new result) → (items : List Item) (item : Item) → AfterItems items old → Stands token_kinds.Comment left item → Read items item new result
+      comment_case f items (start_tag n a) h s = cc (s.is_kind)
+      comment_case f items (end_tag n) h s = cc (s.is_kind)
+      comment_case f items (characters c) h s = cc (s.is_kind)
+      comment_case f items (comment c) h s = f items c s.rest h s.begins
+      comment_case f items (doctype n p t) h s = cc (s.is_kind)
+
+  pub reads_doctype : ((items : List Item) (n p t rest : List ℕ) → AfterItems items old → BeginsDoctype left n p t rest → Read items (doctype n p t) new result) → ReadsItem (Stands token_kinds.Doctype left) old new result
+  reads_doctype f = record { read = λ items item h s. doctype_case f items item h s }
+    where
+      doctype_case : ((items : List Item) (n p t rest : List ℕ) → AfterItems items old → BeginsDoctype left n p t rest → Read items (doctype n p t) new result) → (items : List Item) (item : Item) → AfterItems items old → Stands token_kinds.Doctype left item → Read items item new result
+      doctype_case f items (start_tag n a) h s = cc (s.is_kind)
+      doctype_case f items (end_tag n) h s = cc (s.is_kind)
+      doctype_case f items (characters c) h s = cc (s.is_kind)
+      doctype_case f items (comment c) h s = cc (s.is_kind)
+      doctype_case f items (doctype n p t) h s = f items n p t s.rest h s.begins
+
+  pub reads_text : (contents : List ℕ) → ((items : List Item) → AfterItems items old → Read items (characters contents) new result) → ReadsItem (λ item. item ≡ characters contents) old new result
+  reads_text contents f = record { read = λ items item h is. subst (λ (i : Item). Read items i new result) (sym is) (f items h) }
+
+  -- what is read of some items is read of fewer
+  pub reads_as : (Is Was : Item → Type 0) → ((item : Item) → Is item → Was item) → ReadsItem Was old new result → ReadsItem Is old new result
+  reads_as Is Was f r = record { read = λ items item h is. r.read items item h (f item is) }
 
 -- a token that is neither a tag nor a comment nor a doctype is a text
 abbrev pub IsTextKind : TokenKind → Type 0
@@ -213,6 +252,23 @@ text_case mode kind (end_tag n) left text rest t k b whole = absurd (subst IsTex
 text_case mode kind (characters c) left text rest t k b whole = ap characters (text_is mode left text rest c b whole)
 text_case mode kind (comment c) left text rest t k b whole = absurd (subst IsTextKind k t)
 text_case mode kind (doctype n p s) left text rest t k b whole = absurd (subst IsTextKind k t)
+
+-- an item that is no text is read alike in each mode
+pub stands : (mode : Mode) (token : Token) (left : List ℕ) (kind : TokenKind) → token.kind ≡ kind → (IsTextKind kind → ⊥) → (item : Item) → IsToken token mode left item → Stands kind left item
+stands mode token left kind e other item is = by_item mode item (sym e ∙ is.is_kind) is.begins
+  where
+    by_item : (mode : Mode) (item : Item) → kind ≡ kind_of mode item → Begins mode left item is.rest → Stands kind left item
+    by_item markup item k b = record { rest = is.rest; is_kind = k; begins = b }
+    by_item (text_of m) (start_tag n a) k b = absurd b
+    by_item (text_of m) (end_tag n) k b = record { rest = is.rest; is_kind = k; begins = subst (λ (o : List ℕ). BeginsEnd left o is.rest) (sym b.0) b.1 }
+    by_item (text_of m) (characters c) k b = absurd (other (subst IsTextKind (sym k) tt))
+    by_item (text_of m) (comment c) k b = absurd b
+    by_item (text_of m) (doctype n p t) k b = absurd b
+    by_item (raw_text_of m) (start_tag n a) k b = absurd b
+    by_item (raw_text_of m) (end_tag n) k b = record { rest = is.rest; is_kind = k; begins = subst (λ (o : List ℕ). BeginsEnd left o is.rest) (sym b.0) b.1 }
+    by_item (raw_text_of m) (characters c) k b = absurd (other (subst IsTextKind (sym k) tt))
+    by_item (raw_text_of m) (comment c) k b = absurd b
+    by_item (raw_text_of m) (doctype n p t) k b = absurd b
 
 -- ---- a text of which a front has been read
 
@@ -248,7 +304,7 @@ progress_step source left later old new kind text start end p next r =
 pub token_place : (source : List ℕ) (left later : Unread) (reader : Reader) (kind : TokenKind) (text : List ℕ) (start end : ℕ) → Progress source left reader → IsNext left kind text start end later → start ≤ length source
 token_place source left later reader kind text start end p next = (let n = next.starts in let q = p.place in omega arith)
 
-fault_there : (source left : List ℕ) (at : ℕ) (mode : Mode) (kind : MarkupFaultKind) → Shows mode left kind → BeginsNothingAt source at kind → IsFaultAt source at kind
+fault_there : (source left : List ℕ) (at : ℕ) (mode : Mode) (kind : MarkupFaultKind) → Cause mode left kind → BeginsNothingAt source at kind → IsFaultAt source at kind
 fault_there source left at mode kinds.BadTag s h = h
 fault_there source left at mode kinds.SlashOnOpen s h = h
 fault_there source left at mode kinds.BadComment s h = h
@@ -264,14 +320,14 @@ fault_there source left at mode kinds.Memory s h = tt
 -- no item begins there
 pub stopped : (source : List ℕ) (left later : Unread) (reader : Reader) (fault : MarkupFault) → Progress source left reader → IsStopped left later fault → IsFaultAt source fault.at fault.kind
 stopped source left later reader fault p s =
-    fault_there source left.text fault.at left.mode fault.kind s.shows record {
+    fault_there source left.text fault.at left.mode fault.kind s.cause record {
       items = p.items;
       left = left.text;
       spelled = p.front;
       place = (let at = s.place in let place = p.place in omega arith);
       some = s.some;
       nothing = subst (λ (m : Mode). BeginsNothing m left.text) p.mode s.nothing;
-      shows = subst (λ (m : Mode). Shows m left.text fault.kind) p.mode s.shows;
+      cause = subst (λ (m : Mode). Cause m left.text fault.kind) p.mode s.cause;
     }
 
 fault_before : (source : List ℕ) (at : ℕ) (kind : MarkupFaultKind) → StopsBefore source at kind → IsFaultAt source at kind

@@ -3,12 +3,8 @@ use Rattle.std.specs.Prelude.{◌≡◌, ◌≤◌, ℕ, List, Bool, length, tak
 use Rattle.std.specs.BTreeSet.{BTreeSet, contains_text}
 use Rattle.std.specs.List.{list_any}
 use Rattle.std.specs.Str.{bytes_eq}
-use Rattle.dom_nodes.specs.declared.name.Attr.{Attr}
+use Rattle.dom_nodes.specs.Changes.{is_named}
 use Rattle.dom_markup.specs.declared.document.attributes.Kept.{Kept}
-
--- the attribute's local name is this one
-abbrev pub is_named : List ℕ → Attr → Bool
-is_named name attr = bytes_eq attr.name.local name
 
 -- the new set has the name, and what the old one has
 abbrev pub Gains : {A : Type 0} → List ℕ → BTreeSet (String A) → BTreeSet (String A) → Type 0

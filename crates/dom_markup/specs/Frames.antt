@@ -1,6 +1,7 @@
 -- A document of which a part has been read: the elements that are open, and the trees that are done.
 use Rattle.std.specs.Prelude.{◌≡◌, ◌+◌, ℕ, List, [], ◌∷◌, ◌++◌, length, Bool, true, false, Some, None, if◌then◌else◌}
-use Rattle.dom_markup.specs.Names.{is_among, is_template, void_names}
+use Rattle.dom_nodes.specs.Words.{is_among}
+use Rattle.dom_markup.specs.Names.{is_template, void_names}
 use Rattle.dom_markup.specs.ValueTrees.{Attribute, ValueTrees}
 use Rattle.dom_markup.specs.ValueTrees.ValueTrees.{no_trees, text_node, comment_node, doctype_node, element_node}
 use Rattle.dom_markup.specs.Markup.{Item, AreInPlace, items_of}

@@ -1,4 +1,5 @@
 pub mod Letters
+pub mod Taking
 pub mod Names
 pub mod References
 pub mod Referring
@@ -21,4 +22,5 @@ pub mod Cutting
 pub mod Ops
 pub mod Plain
 pub mod ReadingBack
+pub mod Documents
 pub mod FaultKinds

@@ -3,7 +3,8 @@ use Rattle.std.specs.Prelude.{◌≡◌, ◌≢◌, ℕ, ◌≤◌, ◌==◌, �
 use Rattle.std.specs.List.{list_all, list_any}
 use Rattle.std.specs.Str.{bytes_eq}
 use Rattle.dom_markup.specs.Letters.{is_whitespace, is_letter, is_name_byte, folded}
-use Rattle.dom_markup.specs.Names.{Mode, markup, text_of, raw_text_of, mode_in, is_among, void_names}
+use Rattle.dom_nodes.specs.Words.{is_among}
+use Rattle.dom_markup.specs.Names.{Mode, markup, text_of, raw_text_of, mode_in, void_names}
 use Rattle.dom_markup.specs.References.{decoded}
 use Rattle.dom_markup.specs.ValueTrees.{Attribute, ValueTrees}
 use Rattle.dom_markup.specs.ValueTrees.ValueTrees.{no_trees, text_node, comment_node, doctype_node, element_node}
@@ -136,6 +137,10 @@ pub record EndsAtTag (name text front rest : List ℕ) : Type 0 where
   pub after : List ℕ
   pub ends : BeginsEnd rest name after
   pub first : (before later beyond : List ℕ) → text ≡ before ++ later → BeginsEnd later name beyond → length front ≤ length before
+
+-- no end tag of this name stands in the text
+abbrev pub LacksEnd : List ℕ → List ℕ → Type 0
+LacksEnd name text = (before later beyond : List ℕ) → text ≡ before ++ later → BeginsEnd later name beyond → ⊥
 
 -- ---- comments and doctypes
 

@@ -1,6 +1,6 @@
 -- The names of elements that markup treats apart.
 use Rattle.std.specs.Prelude.{ℕ, Bool, List, [], ◌∷◌, codes, if◌then◌else◌}
-use Rattle.std.specs.List.{list_any}
+use Rattle.dom_nodes.specs.Words.{is_among}
 use Rattle.std.specs.Str.{bytes_eq}
 
 -- the elements that are a start tag alone
@@ -14,9 +14,6 @@ raw_names = codes "style" ∷ codes "script" ∷ codes "xmp" ∷ codes "iframe" 
 -- the elements that hold one text alone, in which references are read
 unfoldable pub text_names : List (List ℕ)
 text_names = codes "title" ∷ codes "textarea" ∷ []
-
-abbrev pub is_among : List ℕ → List (List ℕ) → Bool
-is_among name names = list_any (λ known. bytes_eq known name) names
 
 abbrev pub is_template : List ℕ → Bool
 is_template name = bytes_eq (codes "template") name

@@ -8,10 +8,11 @@ use Rattle.dom_nodes.specs.declared.node_data.NodeData.{NodeData}
 use Rattle.dom_nodes.specs.declared.node_data.NodeData.TheVariants.{Document, Doctype, Comment, Text, Element}
 use Rattle.dom_links.specs.Forest.{Forest, children_of}
 use Rattle.dom_markup.specs.Letters.{is_name_byte, folded}
-use Rattle.dom_markup.specs.Names.{Mode, markup, text_of, raw_text_of, mode_in, is_among, is_template, void_names, raw_names}
+use Rattle.dom_nodes.specs.Words.{is_among}
+use Rattle.dom_markup.specs.Names.{Mode, markup, text_of, raw_text_of, mode_in, is_template, void_names, raw_names}
 use Rattle.dom_markup.specs.Escaping.{escaped_text}
 use Rattle.dom_markup.specs.Html.{attr_text, end_tag}
-use Rattle.dom_markup.specs.Markup.{IsTagName, BeginsEnd, has_name}
+use Rattle.dom_markup.specs.Markup.{IsTagName, LacksEnd, has_name}
 use Rattle.dom_markup.specs.Numbered.{read_attr}
 use Rattle.dom_markup.specs.ValueTrees.{Attribute, ValueTrees}
 use Rattle.dom_markup.specs.ValueTrees.ValueTrees.{no_trees, text_node, comment_node, doctype_node, element_node}
@@ -31,10 +32,6 @@ text_of_trees raw (element_node name attributes children later) =
     start_text name attributes ++ ((if is_among name void_names then [] else text_of_trees (is_among name raw_names) children ++ end_tag name) ++ text_of_trees raw later)
 
 -- ---- plain trees
-
--- no end tag of this name stands in the text
-abbrev pub HoldsNoEnd : List ℕ → List ℕ → Type 0
-HoldsNoEnd name text = (before later beyond : List ℕ) → text ≡ before ++ later → BeginsEnd later name beyond → ⊥
 
 -- no end of a comment stands in the text
 abbrev pub HoldsNoClose : List ℕ → Type 0
@@ -60,7 +57,7 @@ IsPlainIn (text_of name) no_trees = Unit {0}
 IsPlainIn (text_of name) (text_node contents no_trees) = Unit {0}
 IsPlainIn (text_of name) _ = ⊥
 IsPlainIn (raw_text_of name) no_trees = Unit {0}
-IsPlainIn (raw_text_of name) (text_node contents no_trees) = HoldsNoEnd name contents
+IsPlainIn (raw_text_of name) (text_node contents no_trees) = LacksEnd name contents
 IsPlainIn (raw_text_of name) _ = ⊥
 
 -- Trees that their HTML spells: no text is empty or next to a text, names are as the grammar spells them, void elements

@@ -1,11 +1,14 @@
 -- Why a text is refused.
-use Rattle.std.specs.Prelude.{ℕ, ◌≡◌, ◌≢◌, ◌+◌, ◌≤◌, ◌⊎◌, List, [], ◌∷◌, ◌++◌, length, codes, if◌then◌else◌}
-use Rattle.dom_markup.specs.Names.{Mode, markup, text_of, raw_text_of, is_template}
+use Rattle.std.specs.Prelude.{ℕ, ◌≡◌, ◌≢◌, ◌==◌, ◌||◌, true, false, ◌+◌, ◌≤◌, ◌⊎◌, List, [], ◌∷◌, ◌++◌, length, codes, if◌then◌else◌}
+use Rattle.dom_markup.specs.Names.{Mode, markup, text_of, raw_text_of, is_template, void_names}
 use Rattle.dom_nodes.specs.declared.fault.MarkupFaultKind.{MarkupFaultKind}
 use Rattle.dom_nodes.specs.declared.fault.MarkupFaultKind.TheVariants.{BadTag, Unclosed, MismatchedEnd, StrayEnd, SlashOnOpen, BadComment, BadDeclaration, MisplacedDoctype, Instruction, TooManyNodes, Memory}
-use Rattle.dom_markup.specs.ValueTrees.{ValueTrees}
+use Rattle.dom_markup.specs.ValueTrees.{Attribute, ValueTrees}
+use Rattle.dom_nodes.specs.Ascii.{less_than, slash}
+use Rattle.dom_nodes.specs.Words.{is_among}
+use Rattle.dom_markup.specs.Letters.{folded, is_letter}
 use Rattle.dom_markup.specs.Frames.{Frame, FramesInPlace, is_top, opened_items}
-use Rattle.dom_markup.specs.Markup.{Item, AreInPlace, Begins, BeginsEnd, BeginsNothing, SpellsItemsUpTo, SpellsNothing, items_of, mode_past}
+use Rattle.dom_markup.specs.Markup.{Item, AreInPlace, Begins, BeginsNothing, BeginsStart, EndsTag, IsTagName, LacksEnd, SpellsItemsUpTo, SpellsNothing, items_of, mode_past}
 use Rattle.dom_markup.specs.Markup.Item.{start_tag, end_tag, characters, comment, doctype}
 
 -- how many nodes begin with these items; a template has its contents besides
@@ -99,31 +102,47 @@ pub record StopsBefore (text : List ℕ) (at : ℕ) (kind : MarkupFaultKind) : T
   pub begins : Begins (mode_past markup items) left item rest
   pub cause : Declines items item kind
 
--- no end tag of this name stands in the text
-abbrev pub LacksEnd : List ℕ → List ℕ → Type 0
-LacksEnd name text = (before later beyond : List ℕ) → text ≡ before ++ later → BeginsEnd later name beyond → ⊥
-
 -- the text of an element is read, and its end tag stands nowhere
 abbrev pub LacksItsEnd : Mode → List ℕ → Type 0
 LacksItsEnd markup text = ⊥
 LacksItsEnd (text_of name) text = LacksEnd name text
 LacksItsEnd (raw_text_of name) text = LacksEnd name text
 
--- a fault of this kind stands where no item begins, and tells of what stands there
-abbrev pub Shows : Mode → List ℕ → MarkupFaultKind → Type 0
-Shows mode left BadTag = mode ≡ markup
-Shows mode left SlashOnOpen = mode ≡ markup
-Shows mode left BadComment = (mode ≡ markup) × (more : List ℕ) × (left ≡ codes "<!--" ++ more)
-Shows mode left BadDeclaration = (mode ≡ markup) × (more : List ℕ) × (left ≡ codes "<!" ++ more)
-Shows mode left Instruction = (mode ≡ markup) × (more : List ℕ) × (left ≡ codes "<?" ++ more)
-Shows mode left Unclosed = LacksItsEnd mode left
-Shows mode left _ = ⊥
+-- a tag begins: a letter or a slash stands behind the `<`
+abbrev pub BeginsTag : List ℕ → Type 0
+BeginsTag left = (b : ℕ) × (more : List ℕ) × (left ≡ less_than ∷ b ∷ more) × ((is_letter b || b == slash) ≡ true)
 
--- a start tag doesn't end
-abbrev pub IsTagFault : MarkupFaultKind → Type 0
-IsTagFault BadTag = Unit {0}
-IsTagFault SlashOnOpen = Unit {0}
-IsTagFault _ = ⊥
+-- a start tag that a slash ends, and whose element isn't void
+pub record EndsInSlash (left : List ℕ) : Type 0 where
+  pub written : List ℕ
+  pub more : List ℕ
+  pub all : List Attribute
+  pub rest : List ℕ
+  pub is : left ≡ less_than ∷ (written ++ more)
+  pub names : IsTagName written
+  pub open_element : is_among (folded written) void_names ≡ false
+  pub ends : EndsTag true more all rest
+
+-- no start tag begins the text
+abbrev pub BeginsNoStart : List ℕ → Type 0
+BeginsNoStart text = (name : List ℕ) (attributes : List Attribute) (rest : List ℕ) → BeginsStart text name attributes rest → ⊥
+
+-- why no start tag begins the text
+abbrev pub StartCause : List ℕ → MarkupFaultKind → Type 0
+StartCause left BadTag = BeginsNoStart left × (EndsInSlash left → ⊥)
+StartCause left SlashOnOpen = BeginsNoStart left × EndsInSlash left
+StartCause left _ = ⊥
+
+-- why no item begins the text
+abbrev pub Cause : Mode → List ℕ → MarkupFaultKind → Type 0
+Cause mode left BadTag = (mode ≡ markup) × BeginsTag left × (EndsInSlash left → ⊥)
+Cause mode left SlashOnOpen = (mode ≡ markup) × EndsInSlash left
+Cause mode left BadComment = (mode ≡ markup) × (more : List ℕ) × (left ≡ codes "<!--" ++ more)
+Cause mode left BadDeclaration =
+    (mode ≡ markup) × (more : List ℕ) × (left ≡ codes "<!" ++ more) × ((after : List ℕ) → left ≡ codes "<!--" ++ after → ⊥)
+Cause mode left Instruction = (mode ≡ markup) × (more : List ℕ) × (left ≡ codes "<?" ++ more)
+Cause mode left Unclosed = LacksItsEnd mode left
+Cause mode left _ = ⊥
 
 -- the text is items up to a byte, and no item begins there
 pub record BeginsNothingAt (text : List ℕ) (at : ℕ) (kind : MarkupFaultKind) : Type 0 where
@@ -133,7 +152,7 @@ pub record BeginsNothingAt (text : List ℕ) (at : ℕ) (kind : MarkupFaultKind)
   pub place : at + length left ≡ length text
   pub some : left ≢ []
   pub nothing : BeginsNothing (mode_past markup items) left
-  pub shows : Shows (mode_past markup items) left kind
+  pub cause : Cause (mode_past markup items) left kind
 
 -- the text is items up to its end, and an element is open there
 pub record EndsOpenAt (text : List ℕ) (at : ℕ) : Type 0 where

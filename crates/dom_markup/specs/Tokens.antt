@@ -1,17 +1,28 @@
 -- What a call of `Tokens::next` gives.
-use Rattle.std.specs.Prelude.{◌≡◌, ◌≢◌, [], Option, MatchOption, Result, MatchResult}
+use Rattle.std.specs.Prelude.{◌≡◌, ◌≢◌, [], ℕ, List, Option, MatchOption, Result, MatchResult}
 use Rattle.dom_nodes.specs.declared.fault.MarkupFault.{MarkupFault}
+use Rattle.dom_nodes.specs.declared.fault.MarkupFaultKind.{MarkupFaultKind}
 use Rattle.dom_markup.specs.Markup.{BeginsNothing}
+use Rattle.dom_markup.specs.Names.{Mode}
 use Rattle.dom_markup.specs.FaultKinds.{IsTokenFault}
-use Rattle.dom_markup.specs.Refusals.{Shows}
-use Rattle.dom_markup.specs.Token.{IsNext, Unread}
+use Rattle.dom_markup.specs.Refusals.{Cause}
+use Rattle.dom_markup.specs.Token.{BeginsKind, IsNext, Unread, mode_of}
+use Rattle.dom_markup.specs.declared.document.tokens.Found.{Found}
 use Rattle.dom_markup.specs.declared.document.tokens.Token.{Token}
+
+-- the item at the front of the text, what follows it, and how that is read
+abbrev pub IsFound : Mode → List ℕ → Found → Type 0
+IsFound mode text found = BeginsKind mode text found.kind found.rest.now (mode_of found.within)
+
+-- the item at the front of the text, or why none begins there
+abbrev pub TakesItem : Mode → List ℕ → Result Found MarkupFaultKind → Type 0
+TakesItem mode text result = MatchResult result (IsFound mode text) (λ kind. BeginsNothing mode text × Cause mode text kind)
 
 -- nothing begins there, so nothing more is read
 pub record IsStopped (old new : Unread) (fault : MarkupFault) : Type 0 where
   pub some : old.text ≢ []
   pub nothing : BeginsNothing old.mode old.text
-  pub shows : Shows old.mode old.text fault.kind
+  pub cause : Cause old.mode old.text fault.kind
   pub kind : IsTokenFault fault.kind
   pub place : fault.at ≡ old.at
   pub ended : new.text ≡ []

@@ -1,20 +1,21 @@
 //! Documents, and reading them from explicit markup.
 
-ghost use Rattle.std.specs.Prelude.{◌≡◌, ◌≤◌, [], List, find, length, IfErr, IfOk, IfSome, MatchResult};
-ghost use Rattle.std.specs.Option.{option_map};
+ghost use Rattle.std.specs.Prelude.{◌≡◌, ◌≤◌, [], List, codes, find, length, string_bytes};
+ghost use Rattle.std.specs.Prelude.{IfErr, IfOk, IfSome, MatchResult};
 ghost use Rattle.dom_links.specs.Forest.{Forest, children_of};
 ghost use Rattle.dom_links.specs.Growth.{lone};
 ghost use Rattle.dom_links.specs.ListMoves.{element_at};
-ghost use Rattle.dom_trees.specs.declared.node_ref.NodeRef.{NodeRef};
-ghost use Rattle.dom_markup.specs.Markup.{Item, Spells, SpellsItemsUpTo};
-ghost use Rattle.dom_markup.specs.Numbered.{document_of};
+ghost use Rattle.dom_links.specs.Texts.{text_of};
+ghost use Rattle.dom_trees.specs.Views.{page_part};
+ghost use Rattle.dom_markup.specs.Documents.{IsHtml, IsNodeAt, IsSpelled};
+ghost use Rattle.dom_markup.specs.Html.{html_of, inner_html_of};
+ghost use Rattle.dom_markup.specs.Markup.{Item, SpellsItemsUpTo};
 ghost use Rattle.dom_markup.specs.FaultKinds.{HoldsMark, IsLimitFault, IsNestingFault};
 ghost use Rattle.dom_markup.specs.Names.{markup};
 ghost use Rattle.dom_markup.specs.Plain.{IsPlain};
 ghost use Rattle.dom_markup.specs.ReadingBack.{LacksIdentifiers, SpellsDocument};
 ghost use Rattle.dom_markup.specs.Refusals.{IsFaultAt, Refused};
 ghost use Rattle.dom_trees.specs.SameTree.{SameTree};
-ghost use Rattle.dom_markup.specs.ValueTrees.{ValueTrees};
 
 mod attributes;
 mod doctypes;
@@ -32,6 +33,7 @@ use crate::document::reader::Reader;
 pub use crate::document::tokens::{Token, TokenKind, Tokens};
 use crate::document::within::Within;
 use crate::laws::faults::kinds_of_faults;
+use crate::serializing::NodeMarkup;
 use crate::laws::plain::{documents_without_identifiers_are_plain, spelled_documents_are_the_same};
 use dom_nodes::fault::{MarkupFault, MarkupFaultKind, OutOfMemory};
 use dom_nodes::node_data::NodeData;
@@ -71,24 +73,26 @@ impl Document {
 
     /// The document that the text spells, with its nodes numbered in order of start.
     ///
-    /// At the fault's byte no tag begins (`BadTag`), a start tag ends in a slash that isn't void (`SlashOnOpen`), a comment
-    /// doesn't end (`BadComment`), another declaration than a doctype stands (`BadDeclaration`), an instruction
-    /// (`Instruction`), a doctype in an element (`MisplacedDoctype`), or an end tag that doesn't end the innermost open
-    /// element (`MismatchedEnd`) or where none is open (`StrayEnd`). `Unclosed`: the text ends there in an open element, or
-    /// the text of an element begins there that no end tag ends. `TooManyNodes` and `Memory` tell of a limit, met at
-    /// what begins there.
+    /// At the fault's byte a tag isn't spelled (`BadTag`), a slash ends a start tag whose element
+    /// isn't void (`SlashOnOpen`), a comment doesn't end (`BadComment`), another declaration than a
+    /// doctype stands (`BadDeclaration`), an instruction (`Instruction`), a doctype in an element
+    /// (`MisplacedDoctype`), or an end tag that doesn't end the innermost open element
+    /// (`MismatchedEnd`) or where none is open (`StrayEnd`). `Unclosed`: the text ends there in an
+    /// open element, or the text of an element begins there that no end tag ends. `TooManyNodes`
+    /// and `Memory` tell of a limit, met at what begins there.
     pub fn parse(alloc: Global, source: &str) -> Result<Document, MarkupFault>
-        ensures ok { IfOk result (λ document. (trees : ValueTrees) × Spells source.now trees × (document.tree ≡ document_of trees)) }
+        ensures ok { IfOk result (λ document. IsSpelled source.now document.tree) }
         ensures no_errors { IfOk result (λ document. document.errors.items ≡ []) }
         ensures no_quirks { IfOk result (λ document. document.quirks_mode ≡ QuirksMode.NoQuirks) }
         ensures refused { IfErr result (λ fault. Refused source.now fault.kind) }
         ensures place { IfErr result (λ fault. fault.at ≤ length source.now) }
         ensures cause { IfErr result (λ fault. IsFaultAt source.now fault.at fault.kind) }
-        ensures plain { IfOk result (λ document. LacksIdentifiers document.tree → IsPlain document.tree) }
-        ensures same { (forest : Forest) → SpellsDocument source.now forest
-            → MatchResult result (λ document. SameTree forest 0 document.tree 0) (λ fault. IsLimitFault fault.kind) }
-        ensures nesting { IfErr result (λ fault. (items : List Item) → SpellsItemsUpTo markup source.now items []
-            → IsNestingFault fault.kind) }
+        ensures plain { IfOk result (λ document.
+            LacksIdentifiers document.tree → IsPlain document.tree) }
+        ensures same { (forest : Forest) → SpellsDocument source.now forest → MatchResult result
+            (λ document. SameTree forest 0 document.tree 0) (λ fault. IsLimitFault fault.kind) }
+        ensures nesting { IfErr result (λ fault. (items : List Item)
+            → SpellsItemsUpTo markup source.now items [] → IsNestingFault fault.kind) }
         ensures marks { IfErr result (λ fault. HoldsMark source.now fault.kind) }
     {
         kinds_of_faults();
@@ -100,7 +104,7 @@ impl Document {
 
     /// What `parse` reads.
     fn read(alloc: Global, source: &str) -> Result<Document, MarkupFault>
-        ensures ok { IfOk result (λ document. (trees : ValueTrees) × Spells source.now trees × (document.tree ≡ document_of trees)) }
+        ensures ok { IfOk result (λ document. IsSpelled source.now document.tree) }
         ensures no_errors { IfOk result (λ document. document.errors.items ≡ []) }
         ensures no_quirks { IfOk result (λ document. document.quirks_mode ≡ QuirksMode.NoQuirks) }
         ensures refused { IfErr result (λ fault. Refused source.now fault.kind) }
@@ -146,10 +150,63 @@ impl Document {
 
     /// The first child of the root that is an element.
     pub fn html_root(&self) -> Option<NodeRef<'_>>
-        ensures number { option_map (λ (node : NodeRef). node.id) result ≡ find (element_at self.now.tree) (children_of self.now.tree 0) }
-        ensures tree { IfSome result (λ node. node.tree.now ≡ self.now.tree) }
+        ensures { let tree = self.now.tree in
+            IsNodeAt tree (find (element_at tree) (children_of tree 0)) result }
     {
         self.tree.html_root()
+    }
+
+    /// The first child `head` of the root's first child `html`.
+    pub fn head(&self) -> Option<NodeRef<'_>>
+        ensures { IsNodeAt self.now.tree (page_part self.now.tree (codes "head")) result }
+    {
+        self.tree.head()
+    }
+
+    /// The first child `body` of the root's first child `html`.
+    pub fn body(&self) -> Option<NodeRef<'_>>
+        ensures { IsNodeAt self.now.tree (page_part self.now.tree (codes "body")) result }
+    {
+        self.tree.body()
+    }
+
+    /// The document's HTML. That of a plain document spells it, so `parse` reads it back.
+    pub fn html(&self) -> Result<String, OutOfMemory>
+        ensures { let tree = self.now.tree in
+            IfOk result (λ text. IsHtml tree (html_of tree 0) (string_bytes text)) }
+    {
+        self.root().html()
+    }
+
+    /// The HTML of the root's children, which is the document's.
+    pub fn inner_html(&self) -> Result<String, OutOfMemory>
+        ensures { let tree = self.now.tree in
+            IfOk result (λ text. IsHtml tree (inner_html_of tree 0) (string_bytes text)) }
+    {
+        self.root().inner_html()
+    }
+
+    /// The same as `html`, but None where memory was refused.
+    pub fn try_html(&self) -> Option<String>
+        ensures { let tree = self.now.tree in
+            IfSome result (λ text. IsHtml tree (html_of tree 0) (string_bytes text)) }
+    {
+        self.root().try_html()
+    }
+
+    /// The same as `inner_html`, but None where memory was refused.
+    pub fn try_inner_html(&self) -> Option<String>
+        ensures { let tree = self.now.tree in
+            IfSome result (λ text. IsHtml tree (inner_html_of tree 0) (string_bytes text)) }
+    {
+        self.root().try_inner_html()
+    }
+
+    /// The contents of all texts, in walk order, joined. Template contents are not entered.
+    pub fn text(&self) -> Result<String, OutOfMemory>
+        ensures { IfOk result (λ text. string_bytes text ≡ text_of self.now.tree 0) }
+    {
+        self.root().text()
     }
 }
 

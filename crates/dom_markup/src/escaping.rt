@@ -9,7 +9,8 @@ use crate::writing::PutText;
 use memchr::memmem::Finder;
 use memchr::{memchr2, memchr3};
 
-/// Writes escaped texts. It holds the search for a no-break space, which is made once for all texts.
+/// Writes escaped texts. It holds the search for a no-break space, which is made once for all
+/// texts.
 #[derive(Drop)]
 pub(crate) struct Escaper {
     space: Finder<'static>,

@@ -10,5 +10,6 @@ pub mod plain;
 
 /// A text spells one list of trees at most.
 pub fn one_reading()
-    ensures { (text : List ℕ) (trees others : ValueTrees) → Spells text trees → Spells text others → trees ≡ others }
+    ensures { (text : List ℕ) (trees others : ValueTrees) → Spells text trees → Spells text others
+        → trees ≡ others }
 {}

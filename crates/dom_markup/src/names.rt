@@ -3,7 +3,8 @@
 ghost use Rattle.std.specs.Prelude.{◌≡◌};
 ghost use Rattle.std.specs.List.{list_any};
 ghost use Rattle.std.specs.Str.{bytes_eq};
-ghost use Rattle.dom_markup.specs.Names.{is_among, raw_names, void_names};
+ghost use Rattle.dom_nodes.specs.Words.{is_among};
+ghost use Rattle.dom_markup.specs.Names.{raw_names, void_names};
 
 use dom_nodes::name::LocalName;
 

@@ -26,7 +26,8 @@ pub fn decode(alloc: Global, text: &str) -> Result<Text, OutOfMemory>
     Ok(Text::from(read))
 }
 
-/// A character that a reference stands for: the text before the reference, the character, and the text after it.
+/// A character that a reference stands for: the text before the reference, the character, and the
+/// text after it.
 #[derive(Clone, Copy)]
 struct Referred<'a> {
     before: &'a str,

@@ -8,6 +8,7 @@ ghost use Rattle.dom_markup.specs.Writing.{Writes};
 
 use crate::laws::plain::plain_documents_are_spelled;
 use crate::serializing::stack::{put_children, put_node};
+pub use crate::writing::WriteFault;
 use crate::writing::{ToText, ToWriter};
 use dom_nodes::fault::OutOfMemory;
 use dom_trees::node_ref::NodeRef;
@@ -18,27 +19,6 @@ mod stack;
 mod tags;
 #[cfg(test)]
 mod tests;
-
-/// Why a text was not written whole.
-#[derive(Clone, Copy, PartialEq, Eq, Debug, Drop, thiserror::Error)]
-pub enum WriteFault {
-    /// The writer failed, or took no byte.
-    #[error("write failed")]
-    Write,
-    /// Memory was refused.
-    #[error("out of memory")]
-    Memory,
-}
-
-impl From<OutOfMemory> for WriteFault {
-    ghost use Rattle.dom_markup.specs.declared.serializing.WriteFault.TheVariants.{Memory};
-
-    ghost from_gives = { λ _ fault. fault ≡ Memory };
-
-    fn from(_refused: OutOfMemory) -> WriteFault {
-        WriteFault::Memory
-    }
-}
 
 /// Whether a node is written with its own tags, or only what is below it.
 #[derive(Clone, Copy, PartialEq, Eq, Debug, Drop)]
@@ -58,22 +38,23 @@ pub trait NodeMarkup {
     // The number of the node.
     ghost number: { Self → ℕ };
 
-    /// Writes the node's HTML, or that of its children alone; nothing for an unknown number. After a fault a beginning of
-    /// it is written: `Write` where the writer failed, was interrupted or took no byte, `Memory` where memory was
-    /// refused.
+    /// Writes the node's HTML, or that of its children alone; nothing for an unknown number. After
+    /// a fault a beginning of it is written: `Write` where the writer failed, was interrupted or
+    /// took no byte, `Memory` where memory was refused.
     fn write_html<W: Write>(&self, scope: TraversalScope, w: &mut W) -> Result<(), WriteFault>
         ensures { Writes (W.contents w.old) (W.contents w.new) result
             (html_in scope (forest self.now) (number self.now)) };
 
-    /// The node's HTML; empty for an unknown number. That of a plain document's root spells the document, so
-    /// `Document::parse` reads it back.
+    /// The node's HTML; empty for an unknown number. That of a plain document's root spells the
+    /// document, so `Document::parse` reads it back.
     fn html(&self) -> Result<String, OutOfMemory>
         ensures text { IfOk result (λ text. string_bytes text
             ≡ html_of (forest self.now) (number self.now)) }
         ensures spelled { IfOk result (λ text. number self.now ≡ 0 → IsPlain (forest self.now)
             → SpellsDocument (string_bytes text) (forest self.now)) };
 
-    /// The HTML of the node's children; empty for an unknown number. That of a plain document's root spells the document.
+    /// The HTML of the node's children; empty for an unknown number. That of a plain document's
+    /// root spells the document.
     fn inner_html(&self) -> Result<String, OutOfMemory>
         ensures text { IfOk result (λ text. string_bytes text
             ≡ inner_html_of (forest self.now) (number self.now)) }

@@ -1,12 +1,32 @@
 //! Where the pieces of a text go: to a writer, or to the end of a string.
 
-ghost use Rattle.std.specs.Prelude.{ℕ, List, Option, Some, string_bytes};
+ghost use Rattle.std.specs.Prelude.{◌≡◌, ℕ, List, Option, Some, IfErr, string_bytes};
 ghost use Rattle.std.specs.List.{flat_map};
 ghost use Rattle.dom_markup.specs.Writing.{Writes};
 
-use crate::serializing::WriteFault;
 use dom_nodes::fault::OutOfMemory;
 use std::io::Write;
+
+/// Why a text was not written whole.
+#[derive(Clone, Copy, PartialEq, Eq, Debug, Drop, thiserror::Error)]
+pub enum WriteFault {
+    /// The writer failed, or took no byte.
+    #[error("write failed")]
+    Write,
+    /// Memory was refused.
+    #[error("out of memory")]
+    Memory,
+}
+
+impl From<OutOfMemory> for WriteFault {
+    ghost use Rattle.dom_markup.specs.declared.writing.WriteFault.TheVariants.{Memory};
+
+    ghost from_gives = { λ _ fault. fault ≡ Memory };
+
+    fn from(_refused: OutOfMemory) -> WriteFault {
+        WriteFault::Memory
+    }
+}
 
 /// A way to put texts into a `W`.
 pub(crate) trait PutText<W> {
@@ -47,9 +67,11 @@ impl PutText<String> for ToText {
     }
 }
 
-/// Writes the bytes. The writer's own `write_all` doesn't say what a failed call has written.
+/// Writes the bytes; `Err` only where the writer failed or took no byte. The writer's own
+/// `write_all` doesn't say what a failed call has written.
 pub fn write_bytes<W: Write>(w: &mut W, bytes: &[u8]) -> Result<(), WriteFault>
-    ensures { Writes (W.contents w.old) (W.contents w.new) result bytes.now }
+    ensures written { Writes (W.contents w.old) (W.contents w.new) result bytes.now }
+    ensures fault { IfErr result (λ fault. fault ≡ WriteFault.Write) }
 {
     let mut rest = bytes;
     while !rest.is_empty() {
@@ -64,7 +86,8 @@ pub fn write_bytes<W: Write>(w: &mut W, bytes: &[u8]) -> Result<(), WriteFault>
 
 /// Puts the parts, one after the other.
 pub(crate) fn put_parts<P: PutText<W>, W>(w: &mut W, parts: &[&str]) -> Result<(), P::Fault>
-    ensures { Writes (P.written w.old) (P.written w.new) result (flat_map (λ part. part.now) parts.now) }
+    ensures { Writes (P.written w.old) (P.written w.new) result
+        (flat_map (λ part. part.now) parts.now) }
 {
     for part in parts {
         P::put(w, part)?;

@@ -1,8 +1,9 @@
 //! The attributes of a start tag: of equal names the first is kept.
 
-ghost use Rattle.std.specs.Prelude.{◌≡◌, ◌<◌, ◌++◌, ◌∷◌, [], List, ℕ, Bool, IfOk, OnOk, length, map, string_bytes};
+ghost use Rattle.std.specs.Prelude.{◌≡◌, ◌∷◌, [], List, ℕ, Bool, IfOk, OnOk, map, string_bytes};
 ghost use Rattle.std.specs.List.{list_any};
-ghost use Rattle.dom_markup.specs.Attributes.{Gains, IsNoted, is_named};
+ghost use Rattle.dom_nodes.specs.Changes.{is_named};
+ghost use Rattle.dom_markup.specs.Attributes.{Gains, IsNoted};
 ghost use Rattle.dom_markup.specs.Letters.{folded};
 ghost use Rattle.dom_markup.specs.Markup.{EndsTag, kept_after};
 ghost use Rattle.dom_markup.specs.Numbered.{read_attr};
@@ -38,8 +39,8 @@ fn has_attr(attrs: &[Attr], name: &LocalName) -> bool
     attrs.iter().any(|attr| attr.name.local.is_same(name))
 }
 
-/// The attributes of a tag so far. The names of all but the last few stand in a set too, so that a tag of many
-/// attributes is read quickly, whatever their names are.
+/// The attributes of a tag so far. The names of all but the last few stand in a set too, so that a
+/// tag of many attributes is read quickly, whatever their names are.
 #[derive(Drop)]
 struct Kept {
     attrs: Attrs,
@@ -100,7 +101,8 @@ impl Kept {
         requires { IsNoted self.old }
         ensures noted { OnOk result (IsNoted self.new) }
         ensures added { OnOk result ((kept : List Attribute) → self.old.attrs ≡ map read_attr kept
-            → self.new.attrs ≡ map read_attr (kept_after kept (attribute_of written.entry.name.now written.entry.value.now ∷ []))) }
+            → let added = attribute_of written.entry.name.now written.entry.value.now in
+                self.new.attrs ≡ map read_attr (kept_after kept (added ∷ []))) }
     {
         let local = LocalName::folded(alloc, written.name)?;
         if self.has(&local) {
@@ -119,7 +121,8 @@ impl Kept {
 
 /// The attributes of a start tag, behind its name; of equal names the first is kept.
 pub fn attrs_of(alloc: Global, text: &str) -> Result<Attrs, OutOfMemory>
-    ensures { IfOk result (λ attrs. (slash : Bool) (all : List Attribute) (rest : List ℕ) → EndsTag slash text.now all rest → attrs ≡ map read_attr (kept_after [] all)) }
+    ensures { IfOk result (λ attrs. (slash : Bool) (all : List Attribute) (rest : List ℕ)
+        → EndsTag slash text.now all rest → attrs ≡ map read_attr (kept_after [] all)) }
 {
     let mut kept = Kept::new(alloc);
     let mut rest = text;

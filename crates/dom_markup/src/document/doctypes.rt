@@ -1,6 +1,7 @@
 //! Doctypes.
 
-ghost use Rattle.std.specs.Prelude.{◌≡◌, ◌≢◌, [], codes, true, List, ℕ, ◌∷◌, IfNone, IfSome};
+ghost use Rattle.std.specs.Prelude.{◌++◌, codes, List, ℕ, IfNone, IfSome};
+ghost use Rattle.dom_markup.specs.Taking.{Takes, TakesTwo};
 ghost use Rattle.dom_markup.specs.Letters.{folded, is_name_byte};
 ghost use Rattle.dom_markup.specs.Markup.{BeginsDoctype, BeginsQuoted, BeginsWord, Fails};
 ghost use Rattle.dom_markup.specs.Written.{AfterPublic, EndsDoctype, IsWord};
@@ -17,8 +18,7 @@ pub struct Doctype<'a> {
 
 /// A text in quotes behind whitespace, and what follows it.
 fn quoted_at(text: &str) -> Option<(&str, &str)>
-    ensures some { IfSome result (λ found. BeginsQuoted text.now found.0.now found.1.now) }
-    ensures none { IfNone result ((value rest : List ℕ) → BeginsQuoted text.now value rest → ⊥) }
+    ensures { Takes (BeginsQuoted text.now) result }
 {
     let (space, quoted) = split_front(Letters::Whitespace, text);
     if space.is_empty() {
@@ -38,7 +38,8 @@ fn word_end<'a>(text: &'a str, word: &str) -> Option<&'a str>
     requires { IsWord word.now }
     ensures some { IfSome result (λ rest. BeginsWord word.now text.now rest.now) }
     ensures whole { IfSome result (λ rest. Fails is_name_byte rest.now) }
-    ensures none { IfNone result ((rest : List ℕ) → Fails is_name_byte rest → BeginsWord word.now text.now rest → ⊥) }
+    ensures none { IfNone result ((rest : List ℕ) → Fails is_name_byte rest
+        → BeginsWord word.now text.now rest → ⊥) }
 {
     let (space, behind) = split_front(Letters::Whitespace, text);
     let (written, rest) = split_front(Letters::Name, behind);
@@ -53,8 +54,7 @@ fn word_end<'a>(text: &'a str, word: &str) -> Option<&'a str>
 
 /// The identifiers behind the word `public`, and what follows the doctype.
 fn public_at(text: &str) -> Option<(&str, &str, &str)>
-    ensures some { IfSome result (λ found. AfterPublic text.now found.0.now found.1.now found.2.now) }
-    ensures none { IfNone result ((public system rest : List ℕ) → AfterPublic text.now public system rest → ⊥) }
+    ensures { TakesTwo (AfterPublic text.now) result }
 {
     let (public, later) = quoted_at(text)?;
     let Some((system, close)) = quoted_at(later) else {
@@ -67,8 +67,7 @@ fn public_at(text: &str) -> Option<(&str, &str, &str)>
 
 /// The identifiers, and what follows the doctype; an identifier that isn't there is empty.
 fn identifiers_at(text: &str) -> Option<(&str, &str, &str)>
-    ensures some { IfSome result (λ found. EndsDoctype text.now found.0.now found.1.now found.2.now) }
-    ensures none { IfNone result ((public system rest : List ℕ) → EndsDoctype text.now public system rest → ⊥) }
+    ensures { TakesTwo (EndsDoctype text.now) result }
 {
     if let Some(after) = word_end(text, "public") {
         let found = public_at(after)?;
@@ -85,8 +84,10 @@ fn identifiers_at(text: &str) -> Option<(&str, &str, &str)>
 
 /// The doctype, behind its `<!`, and what follows it.
 pub fn doctype_at(tag: &str) -> Option<(Doctype<'_>, &str)>
-    ensures some { IfSome result (λ found. BeginsDoctype (60 ∷ 33 ∷ tag.now) (folded found.0.name.now) found.0.public.now found.0.system.now found.1.now) }
-    ensures none { IfNone result ((name public system rest : List ℕ) → BeginsDoctype (60 ∷ 33 ∷ tag.now) name public system rest → ⊥) }
+    ensures some { let text = codes "<!" ++ tag.now in IfSome result (λ found. let read = found.0 in
+        BeginsDoctype text (folded read.name.now) read.public.now read.system.now found.1.now) }
+    ensures none { IfNone result ((name public system rest : List ℕ)
+        → BeginsDoctype (codes "<!" ++ tag.now) name public system rest → ⊥) }
 {
     let (word, inner) = split_front(Letters::Name, tag);
     let (space, gap) = split_front(Letters::Whitespace, inner);

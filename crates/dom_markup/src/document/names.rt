@@ -5,7 +5,8 @@ ghost use Rattle.std.specs.List.{list_all, list_any};
 ghost use Rattle.std.specs.Str.{bytes_eq};
 ghost use Rattle.dom_markup.specs.Letters.{folded, is_letter, is_name_byte};
 ghost use Rattle.dom_markup.specs.Markup.{NamesElement};
-ghost use Rattle.dom_markup.specs.Names.{is_among, is_template, raw_names, text_names, void_names};
+ghost use Rattle.dom_nodes.specs.Words.{is_among};
+ghost use Rattle.dom_markup.specs.Names.{is_template, raw_names, text_names, void_names};
 
 use crate::names::{RAW_NAMES, TEXT_NAMES, VOID_NAMES};
 
@@ -53,7 +54,8 @@ pub fn is_letter(byte: u8) -> bool
 /// Whether a run of name bytes names an element in a tag.
 pub fn names_element(name: &str) -> bool
     requires { list_all is_name_byte name.now ≡ true }
-    ensures { MatchBool result (NamesElement name.now (folded name.now)) ((element : List ℕ) → NamesElement name.now element → ⊥) }
+    ensures { MatchBool result (NamesElement name.now (folded name.now))
+        ((element : List ℕ) → NamesElement name.now element → ⊥) }
 {
     let [first, ..] = name.as_bytes() else {
         return false;

@@ -1,9 +1,9 @@
 //! Texts that go as far as the end tag of their element.
 
-ghost use Rattle.std.specs.Prelude.{List, ℕ, IfNone, IfSome};
+ghost use Rattle.std.specs.Prelude.{IfNone, IfSome};
+ghost use Rattle.dom_markup.specs.Taking.{Leaves};
 ghost use Rattle.dom_markup.specs.Letters.{folded};
-ghost use Rattle.dom_markup.specs.Markup.{BeginsEnd, EndsAtTag};
-ghost use Rattle.dom_markup.specs.Refusals.{LacksEnd};
+ghost use Rattle.dom_markup.specs.Markup.{BeginsEnd, EndsAtTag, LacksEnd};
 
 use crate::document::scan::{bytes_from, strip_all};
 use crate::document::tags::end_tag_end;
@@ -11,8 +11,7 @@ use memchr::memchr;
 
 /// What follows the end tag of this name, where it stands at the front.
 pub fn after_end<'a>(text: &'a str, name: &str) -> Option<&'a str>
-    ensures some { IfSome result (λ rest. BeginsEnd text.now (folded name.now) rest.now) }
-    ensures none { IfNone result ((rest : List ℕ) → BeginsEnd text.now (folded name.now) rest → ⊥) }
+    ensures { Leaves (BeginsEnd text.now (folded name.now)) result }
 {
     let tag = strip_all(text, "</")?;
     let (written, rest) = end_tag_end(tag)?;
@@ -24,7 +23,8 @@ pub fn after_end<'a>(text: &'a str, name: &str) -> Option<&'a str>
 
 /// The text before the first end tag of this name, and what begins with that tag.
 pub fn split_raw<'a>(text: &'a str, name: &str) -> Option<(&'a str, &'a str)>
-    ensures some { IfSome result (λ found. EndsAtTag (folded name.now) text.now found.0.now found.1.now) }
+    ensures some { IfSome result (λ found.
+        EndsAtTag (folded name.now) text.now found.0.now found.1.now) }
     ensures none { IfNone result (LacksEnd (folded name.now) text.now) }
 {
     let mut at = 0;

@@ -1,20 +1,19 @@
 //! Reading tags and texts into a tree.
 
-ghost use Rattle.std.specs.Prelude.{◌≡◌, ◌≤◌, ◌<◌, ◌+◌, ◌++◌, ◌∷◌, [], List, ℕ, Bool, None, map, IfErr, IfOk, OnOk, length};
-ghost use Rattle.std.specs.List.{list_any};
-ghost use Rattle.std.specs.Str.{bytes_eq};
-ghost use Rattle.dom_links.specs.Growth.{lone, with_child, with_template};
+ghost use Rattle.std.specs.Prelude.{◌≡◌, ◌<◌, ◌+◌, ◌∷◌, [], List, ℕ, None, length};
+ghost use Rattle.std.specs.Prelude.{IfErr, IfOk, MatchResult};
+ghost use Rattle.dom_links.specs.Growth.{with_child, with_template};
+ghost use Rattle.dom_trees.specs.Made.{html_name};
 ghost use Rattle.dom_trees.specs.Refusals.{element_with};
+ghost use Rattle.dom_markup.specs.Frames.{children_place, with_element};
 ghost use Rattle.dom_markup.specs.Letters.{folded};
-ghost use Rattle.dom_markup.specs.ValueTrees.{Attribute};
-ghost use Rattle.dom_markup.specs.Markup.{Item, Begins, BeginsDoctype, BeginsEnd, BeginsStart, EndsTag, kept_after};
-ghost use Rattle.dom_markup.specs.Written.{attribute_of};
+ghost use Rattle.dom_markup.specs.Limits.{IsLimit, IsPlainData, limit_kind};
+ghost use Rattle.dom_markup.specs.Markup.{Item, Begins, BeginsDoctype, BeginsEnd, BeginsStart};
 ghost use Rattle.dom_markup.specs.Names.{markup};
-ghost use Rattle.dom_markup.specs.Token.{contents_in, kind_of, mode_of};
-ghost use Rattle.dom_markup.specs.Frames.{children_place, opened_size, with_element};
-ghost use Rattle.dom_markup.specs.Limits.{IsLimit, IsPlainData, LacksNumbers, limit_kind};
-ghost use Rattle.dom_markup.specs.Numbered.{html_name, read_attr};
-ghost use Rattle.dom_markup.specs.Refusals.{Declines, LeavesSomeOpen};
+ghost use Rattle.dom_markup.specs.Reader.{IsStarted};
+ghost use Rattle.dom_markup.specs.Refusals.{LeavesSomeOpen};
+ghost use Rattle.dom_markup.specs.Token.{contents_in, mode_of};
+ghost use Rattle.dom_markup.specs.ValueTrees.{Attribute};
 
 use crate::document::attributes::{attrs_of, folded_name};
 use crate::document::doctypes::{Doctype, doctype_at};
@@ -66,8 +65,8 @@ struct Started<'a> {
 
 /// What a start tag tells.
 fn start_tag_of(alloc: Global, tag: &str) -> Result<Started<'_>, OutOfMemory>
-    ensures { IfOk result (λ found. (name : List ℕ) (all : List Attribute) (rest : List ℕ) → BeginsStart tag.now name all rest
-        → (folded found.written.now ≡ name) × (found.name ≡ html_name name) × (found.attrs ≡ map read_attr all)) }
+    ensures { IfOk result (λ started. (name : List ℕ) (all : List Attribute) (rest : List ℕ)
+        → BeginsStart tag.now name all rest → IsStarted started name all) }
 {
     let inner = behind(tag, '<');
     let (written, rest) = split_front(Letters::Name, inner);
@@ -82,7 +81,7 @@ fn start_tag_of(alloc: Global, tag: &str) -> Result<Started<'_>, OutOfMemory>
 
 /// The name of an end tag, as it is written.
 fn end_tag_of(tag: &str) -> &str
-    ensures { (name : List ℕ) (rest : List ℕ) → BeginsEnd tag.now name rest → folded result.now ≡ name }
+    ensures { (name rest : List ℕ) → BeginsEnd tag.now name rest → folded result.now ≡ name }
 {
     let inner = behind(behind(tag, '<'), '/');
     let (name, _) = split_front(Letters::Name, inner);
@@ -91,7 +90,8 @@ fn end_tag_of(tag: &str) -> &str
 
 /// The contents of a comment.
 fn comment_of(left: &str) -> &str
-    ensures { (contents : List ℕ) (rest : List ℕ) → Begins markup left.now (Item.comment contents) rest → result.now ≡ contents }
+    ensures { (contents rest : List ℕ) → Begins markup left.now (Item.comment contents) rest
+        → result.now ≡ contents }
 {
     let Some(comment) = strip_all(left, "<!--") else {
         return left;
@@ -105,7 +105,8 @@ fn comment_of(left: &str) -> &str
 /// A doctype as it is written.
 fn written_doctype(left: &str) -> Doctype<'_>
     ensures { (name public system rest : List ℕ) → BeginsDoctype left.now name public system rest
-        → (folded result.name.now ≡ name) × (result.public.now ≡ public) × (result.system.now ≡ system) }
+        → (folded result.name.now ≡ name)
+            × (result.public.now ≡ public) × (result.system.now ≡ system) }
 {
     let nothing = Doctype {
         name: left,
@@ -123,7 +124,8 @@ fn written_doctype(left: &str) -> Doctype<'_>
 
 /// The node of a doctype.
 fn doctype_of(alloc: Global, written: Doctype) -> Result<NodeData, OutOfMemory>
-    ensures doctype { IfOk result (λ content. content ≡ NodeData.Doctype (folded written.entry.name.now) written.entry.public.now written.entry.system.now) }
+    ensures doctype { let read = written.entry in IfOk result (λ content.
+        content ≡ NodeData.Doctype (folded read.name.now) read.public.now read.system.now) }
     ensures plain { IfOk result (λ content. IsPlainData content) }
 {
     let name = folded_name(alloc, written.name)?;
@@ -159,7 +161,8 @@ fn limit_of(fault: EditFault) -> MarkupFaultKind
     }
 }
 
-/// An open element: the number of the node below which its children stand, and its name as it is written.
+/// An open element: the number of the node below which its children stand, and its name as it is
+/// written.
 #[derive(Clone, Copy)]
 struct Open<'a> {
     number: NodeId,
@@ -174,7 +177,8 @@ pub struct Reader<'a> {
 }
 
 impl<'a> Reader<'a> {
-    ghost use Rattle.dom_markup.specs.Reader.{AfterItems, IsReading, IsWhole};
+    ghost use Rattle.dom_markup.specs.Reader.{AfterItems, Grows, IsReading, IsToken, IsWhole};
+    ghost use Rattle.dom_markup.specs.Reader.{ReadsItem, Stands, parent_number};
 
     /// A reader that has read nothing.
     pub fn new(alloc: Global) -> Result<Reader<'a>, OutOfMemory>
@@ -189,9 +193,10 @@ impl<'a> Reader<'a> {
         })
     }
 
-    /// The number of the innermost open element, of its contents where it is a template, or of the document.
+    /// The number of the innermost open element, of its contents where it is a template, or of the
+    /// document.
     fn parent(&self) -> NodeId
-        ensures { (items : List Item) (h : AfterItems items self.now) → result ≡ opened_size h.frames }
+        ensures { result ≡ parent_number self.now }
     {
         match self.stack.last() {
             Some(innermost) => innermost.number,
@@ -203,10 +208,8 @@ impl<'a> Reader<'a> {
     fn append(&mut self, content: NodeData) -> Result<NodeId, MarkupFaultKind>
         requires reading { IsReading self.old }
         requires plain { IsPlainData content }
-        ensures tree { OnOk result ((items : List Item) (h : AfterItems items self.old) → self.new.tree ≡ with_child (opened_size h.frames) content self.old.tree) }
-        ensures stack { self.new.stack ≡ self.old.stack }
-        ensures number { IfOk result (λ number. number ≡ length self.old.tree.content) }
-        ensures limit { IfErr result (λ kind. LacksNumbers (length self.old.tree.content) kind) }
+        ensures { Grows self.old self.new result (length self.old.tree.content)
+            (with_child (parent_number self.old) content self.old.tree) }
     {
         let parent = self.parent();
         match self.tree.append_child_data_of(&parent, content) {
@@ -215,13 +218,14 @@ impl<'a> Reader<'a> {
         }
     }
 
-    /// Makes an element with contents as the last child of the innermost open element, and tells the contents' number.
+    /// Makes an element with contents as the last child of the innermost open element, and tells
+    /// the contents' number.
     fn append_template(&mut self, name: QualName, attrs: Attrs) -> Result<NodeId, MarkupFaultKind>
         requires { IsReading self.old }
-        ensures tree { OnOk result ((items : List Item) (h : AfterItems items self.old) → self.new.tree ≡ with_template (opened_size h.frames) (element_with name attrs (length self.old.tree.content + 1)) self.old.tree) }
-        ensures stack { self.new.stack ≡ self.old.stack }
-        ensures number { IfOk result (λ number. number ≡ length self.old.tree.content + 1) }
-        ensures limit { IfErr result (λ kind. LacksNumbers (length self.old.tree.content + 1) kind) }
+        ensures { let contents = length self.old.tree.content + 1 in
+            let element = element_with name attrs contents in
+            Grows self.old self.new result contents
+                (with_template (parent_number self.old) element self.old.tree) }
     {
         let parent = self.parent();
         match self.tree.append_template_of(&parent, name, attrs) {
@@ -230,15 +234,13 @@ impl<'a> Reader<'a> {
         }
     }
 
-    /// Makes an element as the last child of the innermost open element, with contents where it is a template, and tells
-    /// below which number its children stand.
+    /// Makes an element as the last child of the innermost open element, with contents where it is
+    /// a template, and tells below which number its children stand.
     fn append_element(&mut self, started: Started) -> Result<NodeId, MarkupFaultKind>
         requires { IsReading self.old }
-        ensures tree { OnOk result ((items : List Item) (h : AfterItems items self.old) (name : List ℕ) (all : List Attribute) → folded started.entry.written.now ≡ name
-            → started.entry.name ≡ html_name name → started.entry.attrs ≡ map read_attr all → self.new.tree ≡ with_element (opened_size h.frames) name all self.old.tree) }
-        ensures stack { self.new.stack ≡ self.old.stack }
-        ensures number { IfOk result (λ number. number ≡ children_place (folded started.entry.written.now) self.old.tree) }
-        ensures limit { IfErr result (λ kind. LacksNumbers (children_place (folded started.entry.written.now) self.old.tree) kind) }
+        ensures { (name : List ℕ) (all : List Attribute) → IsStarted started.entry name all
+            → Grows self.old self.new result (children_place name self.old.tree)
+                (with_element (parent_number self.old) name all self.old.tree) }
     {
         if !is_template(started.written) {
             let element = Element::new(started.name, started.attrs, None, false);
@@ -255,8 +257,8 @@ impl<'a> Reader<'a> {
         within: Within,
     ) -> Result<(), MarkupFaultKind>
         requires { IsReading self.old }
-        ensures ok { OnOk result ((items : List Item) → AfterItems items self.old → AfterItems (items ++ Item.characters (contents_in (mode_of within.entry) text.now) ∷ []) self.new) }
-        ensures err { IfErr result (λ kind. (items : List Item) → AfterItems items self.old → Declines items (Item.characters (contents_in (mode_of within.entry) text.now)) kind) }
+        ensures { let contents = contents_in (mode_of within.entry) text.now in
+            ReadsItem (λ item. item ≡ Item.characters contents) self.old self.new result }
     {
         let Ok(contents) = contents_of(alloc, text, within) else {
             return Err(MarkupFaultKind::Memory);
@@ -268,8 +270,7 @@ impl<'a> Reader<'a> {
     /// Reads a comment.
     fn read_comment(&mut self, alloc: Global, left: &str) -> Result<(), MarkupFaultKind>
         requires { IsReading self.old }
-        ensures ok { OnOk result ((items : List Item) (contents rest : List ℕ) → AfterItems items self.old → Begins markup left.now (Item.comment contents) rest → AfterItems (items ++ Item.comment contents ∷ []) self.new) }
-        ensures err { IfErr result (λ kind. (items : List Item) (contents : List ℕ) → AfterItems items self.old → Declines items (Item.comment contents) kind) }
+        ensures { ReadsItem (Stands TokenKind.Comment left.now) self.old self.new result }
     {
         let Ok(contents) = Text::new(alloc, comment_of(left)) else {
             return Err(MarkupFaultKind::Memory);
@@ -281,9 +282,7 @@ impl<'a> Reader<'a> {
     /// Reads a doctype, which stands where no element is open.
     fn read_doctype(&mut self, alloc: Global, left: &str) -> Result<(), MarkupFaultKind>
         requires { IsReading self.old }
-        ensures ok { OnOk result ((items : List Item) (name public system rest : List ℕ) → AfterItems items self.old → BeginsDoctype left.now name public system rest
-            → AfterItems (items ++ Item.doctype name public system ∷ []) self.new) }
-        ensures err { IfErr result (λ kind. (items : List Item) (name public system : List ℕ) → AfterItems items self.old → Declines items (Item.doctype name public system) kind) }
+        ensures { ReadsItem (Stands TokenKind.Doctype left.now) self.old self.new result }
     {
         if !self.stack.is_empty() {
             return Err(MarkupFaultKind::MisplacedDoctype);
@@ -298,10 +297,7 @@ impl<'a> Reader<'a> {
     /// Reads a start tag.
     fn read_start(&mut self, alloc: Global, tag: &'a str) -> Result<(), MarkupFaultKind>
         requires { IsReading self.old }
-        ensures ok { OnOk result ((items : List Item) (name : List ℕ) (all : List Attribute) (rest : List ℕ) → AfterItems items self.old → BeginsStart tag.now name all rest
-            → AfterItems (items ++ Item.start_tag name all ∷ []) self.new) }
-        ensures err { IfErr result (λ kind. (items : List Item) (name : List ℕ) (all : List Attribute) (rest : List ℕ) → AfterItems items self.old → BeginsStart tag.now name all rest
-            → Declines items (Item.start_tag name all) kind) }
+        ensures { ReadsItem (Stands TokenKind.StartTag tag.now) self.old self.new result }
     {
         let Ok(started) = start_tag_of(alloc, tag) else {
             return Err(MarkupFaultKind::Memory);
@@ -320,10 +316,7 @@ impl<'a> Reader<'a> {
 
     /// Reads an end tag.
     fn read_end(&mut self, tag: &str) -> Result<(), MarkupFaultKind>
-        ensures ok { OnOk result ((items : List Item) (name : List ℕ) (rest : List ℕ) → AfterItems items self.old → BeginsEnd tag.now name rest
-            → AfterItems (items ++ Item.end_tag name ∷ []) self.new) }
-        ensures err { IfErr result (λ kind. (items : List Item) (name : List ℕ) (rest : List ℕ) → AfterItems items self.old → BeginsEnd tag.now name rest
-            → Declines items (Item.end_tag name) kind) }
+        ensures { ReadsItem (Stands TokenKind.EndTag tag.now) self.old self.new result }
     {
         let Some(innermost) = self.stack.pop() else {
             return Err(MarkupFaultKind::StrayEnd);
@@ -334,7 +327,8 @@ impl<'a> Reader<'a> {
         Ok(())
     }
 
-    /// Reads a token, with which `left` begins; `Err` for a limit, or where no trees have such items.
+    /// Reads a token, with which `left` begins; `Err` for a limit, or where no trees have such
+    /// items.
     pub fn read(
         &mut self,
         alloc: Global,
@@ -343,10 +337,8 @@ impl<'a> Reader<'a> {
         within: Within<'a>,
     ) -> Result<(), MarkupFaultKind>
         requires { IsReading self.old }
-        ensures ok { OnOk result ((items : List Item) (item : Item) (rest : List ℕ) → AfterItems items self.old → token.entry.kind ≡ kind_of (mode_of within.entry) item → Begins (mode_of within.entry) left.now item rest
-            → left.now ≡ token.entry.text.now ++ rest → AfterItems (items ++ item ∷ []) self.new) }
-        ensures err { IfErr result (λ kind. (items : List Item) (item : Item) (rest : List ℕ) → AfterItems items self.old → token.entry.kind ≡ kind_of (mode_of within.entry) item → Begins (mode_of within.entry) left.now item rest
-            → left.now ≡ token.entry.text.now ++ rest → Declines items item kind) }
+        ensures { ReadsItem (IsToken token.entry (mode_of within.entry) left.now)
+            self.old self.new result }
     {
         match token.kind {
             TokenKind::StartTag => self.read_start(alloc, left),
@@ -360,8 +352,9 @@ impl<'a> Reader<'a> {
 
     /// The tree, once all is read; `Unclosed` where an element is open.
     pub fn finish(self) -> Result<Tree, MarkupFaultKind>
-        ensures ok { IfOk result (λ tree. (items : List Item) → AfterItems items self.entry → IsWhole items tree) }
-        ensures err { IfErr result (λ kind. (kind ≡ MarkupFaultKind.Unclosed) × ((items : List Item) → AfterItems items self.entry → LeavesSomeOpen items)) }
+        ensures items { (items : List Item) → AfterItems items self.entry
+            → MatchResult result (λ tree. IsWhole items tree) (λ _. LeavesSomeOpen items) }
+        ensures kind { IfErr result (λ kind. kind ≡ MarkupFaultKind.Unclosed) }
     {
         if self.stack.is_empty() {
             Ok(self.tree)

@@ -1,11 +1,14 @@
 //! Fronts of a text: whitespace, names, attributes, the end of a start tag.
 
-ghost use Rattle.std.specs.Prelude.{◌≡◌, ◌≤◌, ◌<◌, ◌==◌, ◌||◌, not, true, List, ℕ, ◌∷◌, ◌++◌, Option, codes, drop, length, IfNone, IfSome, unwrap_or};
+ghost use Rattle.std.specs.Prelude.{◌≡◌, ◌≤◌, ◌<◌, ◌==◌, ◌||◌, not, true, List, ℕ, ◌∷◌, ◌++◌};
+ghost use Rattle.std.specs.Prelude.{IfNone, IfSome, codes, drop, length};
 ghost use Rattle.std.specs.List.{list_all, prefix_len};
 ghost use Rattle.dom_markup.specs.Letters.{is_letter, is_whitespace};
 ghost use Rattle.dom_markup.specs.References.{decoded};
 ghost use Rattle.dom_markup.specs.ValueTrees.{Attribute};
-ghost use Rattle.dom_markup.specs.Markup.{Item, BeginsAttribute, BeginsValue, Closes, EndsAtMark, EndsTag, HasValue, begins_markup, is_bare_byte, text_front};
+ghost use Rattle.dom_markup.specs.Markup.{BeginsAttribute, BeginsValue, Closes, EndsAtMark};
+ghost use Rattle.dom_markup.specs.Markup.{HasValue, begins_markup, text_front};
+ghost use Rattle.dom_markup.specs.Taking.{Leaves, Takes};
 ghost use Rattle.dom_markup.specs.Written.{attribute_of, passes, SameEnd, Splits};
 
 use crate::document::names::is_letter;
@@ -64,16 +67,14 @@ pub fn split_front(letters: Letters, text: &str) -> (&str, &str)
 /// What follows the letter at the front, if it stands there.
 pub fn strip(text: &str, letter: char) -> Option<&str>
     requires { letter < 128 }
-    ensures some { IfSome result (λ rest. text.now ≡ letter ∷ rest.now) }
-    ensures none { IfNone result ((rest : List ℕ) → text.now ≡ letter ∷ rest → ⊥) }
+    ensures { Leaves (λ rest. text.now ≡ letter ∷ rest) result }
 {
     text.strip_prefix(letter)
 }
 
 /// What follows the front, if the text begins with it.
 pub fn strip_all<'a>(text: &'a str, front: &str) -> Option<&'a str>
-    ensures some { IfSome result (λ rest. text.now ≡ front.now ++ rest.now) }
-    ensures none { IfNone result ((rest : List ℕ) → text.now ≡ front.now ++ rest → ⊥) }
+    ensures { Leaves (λ rest. text.now ≡ front.now ++ rest) result }
 {
     text.strip_prefix(front)
 }
@@ -133,8 +134,10 @@ pub fn split_text(text: &str) -> (&str, &str)
 
 /// The contents of a comment, behind its `<!--`, and what follows its first `-->`.
 pub fn comment_at(text: &str) -> Option<(&str, &str)>
-    ensures some { IfSome result (λ found. EndsAtMark (codes "-->") text.now found.0.now found.1.now) }
-    ensures none { IfNone result ((front rest : List ℕ) → text.now ≡ front ++ (codes "-->" ++ rest) → ⊥) }
+    ensures some { IfSome result (λ found.
+        EndsAtMark (codes "-->") text.now found.0.now found.1.now) }
+    ensures none { IfNone result ((front rest : List ℕ)
+        → text.now ≡ front ++ (codes "-->" ++ rest) → ⊥) }
 {
     let (contents, rest) = text.split_once("-->")?;
     Some((contents, rest))
@@ -145,7 +148,8 @@ pub fn comment_at(text: &str) -> Option<(&str, &str)>
 /// What stands before the first such letter, and what follows it.
 pub fn split_letter(text: &str, letter: u8) -> Option<(&str, &str)>
     requires { letter < 128 }
-    ensures some { IfSome result (λ found. (list_all (λ b. not (b == letter)) found.0.now ≡ true) × (text.now ≡ found.0.now ++ letter ∷ found.1.now)) }
+    ensures some { IfSome result (λ found. (list_all (λ b. not (b == letter)) found.0.now ≡ true)
+        × (text.now ≡ found.0.now ++ letter ∷ found.1.now)) }
     ensures none { IfNone result ((front rest : List ℕ) → text.now ≡ front ++ letter ∷ rest → ⊥) }
 {
     let at = memchr(letter, text.as_bytes())?;
@@ -154,8 +158,7 @@ pub fn split_letter(text: &str, letter: u8) -> Option<(&str, &str)>
 
 /// The value at the front as it is written, without its quotes, and what follows it.
 fn value_at(text: &str) -> Option<(&str, &str)>
-    ensures some { IfSome result (λ found. BeginsValue text.now found.0.now found.1.now) }
-    ensures none { IfNone result ((written rest : List ℕ) → BeginsValue text.now written rest → ⊥) }
+    ensures { Takes (BeginsValue text.now) result }
 {
     if let Some(inner) = strip(text, '"') {
         let found = split_letter(inner, b'"')?;
@@ -172,7 +175,8 @@ fn value_at(text: &str) -> Option<(&str, &str)>
     Some((bare, rest))
 }
 
-/// The value behind an attribute's name as it is written, and what follows it; empty where there is none.
+/// The value behind an attribute's name as it is written, and what follows it; empty where there is
+/// none.
 fn value_behind(after: &str) -> Option<(&str, &str)>
     ensures some { IfSome result (λ found. HasValue after.now (decoded found.0.now) found.1.now) }
     ensures none { IfNone result ((value rest : List ℕ) → HasValue after.now value rest → ⊥) }
@@ -195,8 +199,10 @@ pub struct Written<'a> {
 
 /// The attribute at the front, and what follows it.
 pub fn attribute_at(text: &str) -> Option<(Written<'_>, &str)>
-    ensures some { IfSome result (λ found. BeginsAttribute text.now (attribute_of found.0.name.now found.0.value.now) found.1.now) }
-    ensures none { IfNone result ((attribute : Attribute) (rest : List ℕ) → BeginsAttribute text.now attribute rest → ⊥) }
+    ensures some { IfSome result (λ found. let written = found.0 in
+        BeginsAttribute text.now (attribute_of written.name.now written.value.now) found.1.now) }
+    ensures none { IfNone result ((attribute : Attribute) (rest : List ℕ)
+        → BeginsAttribute text.now attribute rest → ⊥) }
 {
     let (space, behind) = split_front(Letters::Whitespace, text);
     let (name, behind) = split_front(Letters::Name, behind);
@@ -209,8 +215,7 @@ pub fn attribute_at(text: &str) -> Option<(Written<'_>, &str)>
 
 /// What follows the end of a tag at the front, which may be a slash and `>`.
 pub fn close_at(text: &str, slash: bool) -> Option<&str>
-    ensures some { IfSome result (λ rest. Closes slash text.now rest.now) }
-    ensures none { IfNone result ((rest : List ℕ) → Closes slash text.now rest → ⊥) }
+    ensures { Leaves (Closes slash text.now) result }
 {
     let (_, end) = split_front(Letters::Whitespace, text);
     if let Some(rest) = strip(end, '>') {
@@ -227,7 +232,8 @@ pub fn close_at(text: &str, slash: bool) -> Option<&str>
 /// What follows the attributes at the front.
 pub fn attributes_end(text: &str) -> &str
     ensures same { SameEnd text.now result.now }
-    ensures none { (attribute : Attribute) (rest : List ℕ) → BeginsAttribute result.now attribute rest → ⊥ }
+    ensures none { (attribute : Attribute) (rest : List ℕ)
+        → BeginsAttribute result.now attribute rest → ⊥ }
 {
     let mut rest = text;
     while let Some((_, after)) = attribute_at(rest) {

@@ -257,7 +257,7 @@ fn tag_of(alloc: Global, count: u32) -> Result<String, Fail> {
 #[test]
 fn reads_many_attributes(rt: HostRuntime) -> Result<(), Fail> {
     let alloc = rt.alloc();
-    for count in [15, 16, 17, 18, 33, 50000] {
+    for count in [15, 16, 17, 18, 33, 100000] {
         let document = Document::parse(alloc, tag_of(alloc, count)?.as_str())?;
         let p = NodeRef::new(NodeId::new(1).ok_or("id")?, &document.tree);
         assert!(rt; p.attrs().len() == count as usize);
@@ -285,5 +285,21 @@ fn reads_back_what_it_writes(rt: HostRuntime) -> Result<(), Fail> {
         let inner = again.root().try_inner_html().ok_or("memory")?;
         assert!(rt; inner.as_str() == html.as_str(), "{text}");
     }
+    Ok(())
+}
+
+#[test]
+fn tells_of_the_whole_document(rt: HostRuntime) -> Result<(), Fail> {
+    let alloc = rt.alloc();
+    let page = "<!DOCTYPE html><html><head><title>a&amp;b</title></head><body>cd</body></html>";
+    let document = Document::parse(alloc, page)?;
+    assert_eq!(rt; document.html()?.as_str(), page);
+    assert_eq!(rt; document.inner_html()?.as_str(), page);
+    assert!(rt; matches!(document.try_html(), Some(html) if html.as_str() == page));
+    assert!(rt; matches!(document.try_inner_html(), Some(html) if html.as_str() == page));
+    assert_eq!(rt; document.text()?.as_str(), "a&bcd");
+    assert!(rt; matches!(document.head(), Some(head) if head.node_name() == Some("head")));
+    assert!(rt; matches!(document.body(), Some(body) if body.node_name() == Some("body")));
+    assert!(rt; Document::new(alloc)?.body().is_none());
     Ok(())
 }

@@ -1,14 +1,12 @@
 //! Markup as a row of tags, texts, comments and doctypes.
 
-ghost use Rattle.std.specs.Prelude.{◌≡◌, ◌^◌, ◌<◌, ◌+◌, ◌++◌, ◌≢◌, [], List, ℕ, length, IfErr, IfOk};
+ghost use Rattle.std.specs.Prelude.{◌≡◌, ◌++◌, ◌≢◌, [], List, ℕ, length, MatchResult};
 ghost use Rattle.std.specs.Iterator.{at_most};
 ghost use Rattle.dom_markup.specs.Letters.{folded};
-ghost use Rattle.dom_markup.specs.Names.{markup, mode_in};
-ghost use Rattle.dom_markup.specs.ValueTrees.{Attribute};
-ghost use Rattle.dom_markup.specs.Markup.{BeginsNothing, BeginsStart};
-ghost use Rattle.dom_markup.specs.Refusals.{IsTagFault, Shows};
-ghost use Rattle.dom_markup.specs.Token.{BeginsKind, IsTextIn, Unread, mode_of};
-ghost use Rattle.dom_markup.specs.declared.document.tokens.TokenKind.TheVariants as kinds;
+ghost use Rattle.dom_markup.specs.Names.{markup};
+ghost use Rattle.dom_markup.specs.Refusals.{StartCause};
+ghost use Rattle.dom_markup.specs.Token.{IsTextIn, mode_of};
+ghost use Rattle.dom_markup.specs.Tokens.{IsFound, TakesItem};
 
 use crate::document::doctypes::doctype_at;
 use crate::document::raw::{after_end, split_raw};
@@ -18,7 +16,8 @@ use crate::document::within::{Within, within_element};
 use dom_nodes::fault::{MarkupFault, MarkupFaultKind};
 use std::marker::Model;
 
-/// What a token is. A text goes as far as it can. A `RawText` is the contents of a raw element, `title` or `textarea`.
+/// What a token is. A text goes as far as it can. A `RawText` is the contents of a raw element,
+/// `title` or `textarea`.
 #[derive(Clone, Copy, PartialEq, Eq, Debug, Drop)]
 pub enum TokenKind {
     Text,
@@ -50,11 +49,9 @@ fn then_markup<'a>(kind: TokenKind, rest: &'a str) -> Found<'a>
     }
 }
 
-/// The tag at the front, where neither an end tag nor a comment, a doctype or an instruction stands.
+/// The start tag at the front.
 fn start_at(text: &str) -> Result<Found<'_>, MarkupFaultKind>
-    ensures ok { IfOk result (λ found. (name : List ℕ) × (attributes : List Attribute) × BeginsStart text.now name attributes found.rest.now × (found.kind ≡ kinds.StartTag) × (mode_of found.within ≡ mode_in name)) }
-    ensures err { IfErr result (λ kind. (name : List ℕ) (attributes : List Attribute) (rest : List ℕ) → BeginsStart text.now name attributes rest → ⊥) }
-    ensures kind { IfErr result (λ kind. IsTagFault kind) }
+    ensures { MatchResult result (IsFound markup text.now) (StartCause text.now) }
 {
     let Some(tag) = strip(text, '<') else {
         return Err(MarkupFaultKind::BadTag);
@@ -70,9 +67,7 @@ fn start_at(text: &str) -> Result<Found<'_>, MarkupFaultKind>
 /// The item at the front of markup.
 fn markup_at(text: &str) -> Result<Found<'_>, MarkupFaultKind>
     requires { text.now ≢ [] }
-    ensures ok { IfOk result (λ found. BeginsKind markup text.now found.kind found.rest.now (mode_of found.within)) }
-    ensures err { IfErr result (λ kind. BeginsNothing markup text.now) }
-    ensures kind { IfErr result (λ kind. Shows markup text.now kind) }
+    ensures { TakesItem markup text.now result }
 {
     if !begins_markup(text.as_bytes()) {
         let (_, rest) = split_text(text);
@@ -102,12 +97,11 @@ fn markup_at(text: &str) -> Result<Found<'_>, MarkupFaultKind>
     start_at(text)
 }
 
-/// The item at the front of the text of an element of this name: the text, or where none is left the end tag.
+/// The item at the front of the text of an element of this name: the text, or where none is left
+/// the end tag.
 fn text_at<'a>(text: &'a str, name: &str, within: Within<'a>) -> Result<Found<'a>, MarkupFaultKind>
     requires { IsTextIn (mode_of within) (folded name.now) }
-    ensures ok { IfOk result (λ found. BeginsKind (mode_of within.entry) text.now found.kind found.rest.now (mode_of found.within)) }
-    ensures err { IfErr result (λ kind. BeginsNothing (mode_of within.entry) text.now) }
-    ensures kind { IfErr result (λ kind. Shows (mode_of within.entry) text.now kind) }
+    ensures { TakesItem (mode_of within.entry) text.now result }
 {
     if let Some(rest) = after_end(text, name) {
         return Ok(then_markup(TokenKind::EndTag, rest));
@@ -125,9 +119,7 @@ fn text_at<'a>(text: &'a str, name: &str, within: Within<'a>) -> Result<Found<'a
 /// The item at the front.
 fn item_at<'a>(text: &'a str, within: Within<'a>) -> Result<Found<'a>, MarkupFaultKind>
     requires { text.now ≢ [] }
-    ensures ok { IfOk result (λ found. BeginsKind (mode_of within.entry) text.now found.kind found.rest.now (mode_of found.within)) }
-    ensures err { IfErr result (λ kind. BeginsNothing (mode_of within.entry) text.now) }
-    ensures kind { IfErr result (λ kind. Shows (mode_of within.entry) text.now kind) }
+    ensures { TakesItem (mode_of within.entry) text.now result }
 {
     match within {
         Within::Markup => markup_at(text),
@@ -145,7 +137,8 @@ fn front_of<'a>(text: &'a str, rest: &str) -> &'a str
     front
 }
 
-/// A tag, a text, a comment or a doctype: the slice of the source that it is, and the bytes where that begins and ends.
+/// A tag, a text, a comment or a doctype: the slice of the source that it is, and the bytes where
+/// that begins and ends.
 #[derive(Clone, Copy)]
 pub struct Token<'a> {
     pub kind: TokenKind,
@@ -154,8 +147,11 @@ pub struct Token<'a> {
     pub end: usize,
 }
 
-/// The tokens of a text, in order, one behind the other. They take no memory. `Err` stands where none of
-/// these begins (`Unclosed` where the text of an element has no end tag), and after it there are no more.
+/// The tokens of a text, in order, one behind the other. They take no memory. `Err` stands where
+/// none of these begins, and after it there are no more: at a tag that isn't spelled (`BadTag`), a
+/// start tag that a slash ends though its element isn't void (`SlashOnOpen`), `<!--` without an end
+/// (`BadComment`), another `<!` that is no doctype (`BadDeclaration`), `<?` (`Instruction`), or
+/// where the text of an element has no end tag (`Unclosed`).
 #[derive(Drop)]
 pub struct Tokens<'a> {
     rest: &'a str,
@@ -169,7 +165,8 @@ impl<'a> Model for Tokens<'a> {
 
     ghost Value = { Unread };
 
-    ghost view = { λ tokens. record { text = tokens.rest.now; at = tokens.at; mode = mode_of tokens.within } };
+    ghost view = { λ tokens.
+        record { text = tokens.rest.now; at = tokens.at; mode = mode_of tokens.within } };
 
     ghost invariant = { λ tokens. tokens.at + length tokens.rest.now < 2 ^ 64 };
 }

@@ -7,8 +7,8 @@ ghost use Rattle.dom_markup.specs.Token.{mode_of};
 
 use crate::document::names::{holds_text, is_raw};
 
-/// What is read next: markup, or the text of an element, whose name stands here as its start tag has it. The
-/// references in a `Text` are read, a `RawText` is read as it is.
+/// What is read next: markup, or the text of an element, whose name stands here as its start tag
+/// has it. The references in a `Text` are read, a `RawText` is read as it is.
 #[derive(Clone, Copy)]
 pub enum Within<'a> {
     Markup,

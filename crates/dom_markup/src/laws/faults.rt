@@ -2,19 +2,23 @@
 
 ghost use Rattle.std.specs.Prelude.{[], List, ℕ};
 ghost use Rattle.dom_nodes.specs.declared.fault.MarkupFaultKind.{MarkupFaultKind};
-ghost use Rattle.dom_markup.specs.FaultKinds.{HoldsMark, IsLimitFault, IsNestingFault, IsTokenFault};
+ghost use Rattle.dom_markup.specs.FaultKinds.{HoldsMark, IsLimitFault};
+ghost use Rattle.dom_markup.specs.FaultKinds.{IsNestingFault, IsTokenFault};
 ghost use Rattle.dom_markup.specs.Markup.{Item, Spells, SpellsItemsUpTo};
 ghost use Rattle.dom_markup.specs.Names.{Mode, markup};
-ghost use Rattle.dom_markup.specs.Refusals.{IsFaultAt, Refused, Shows};
+ghost use Rattle.dom_markup.specs.Refusals.{Cause, IsFaultAt, Refused};
 ghost use Rattle.dom_markup.specs.ValueTrees.{ValueTrees};
 
-/// What a fault tells where no token begins is of few kinds. Of a text that is cut into tokens whole, only faults of
-/// nesting and limits are told. A bad comment needs `<!--`, an instruction `<?`, and a stray end `</`.
+/// Where no token begins, few kinds of faults are told. Of a text that is cut into tokens whole,
+/// only faults of nesting and limits are told, and of one that spells trees only limits. A bad
+/// comment needs `<!--`, an instruction `<?`, and a stray end `</`.
 pub fn kinds_of_faults()
-    ensures tokens { (mode : Mode) (left : List ℕ) (kind : MarkupFaultKind) → Shows mode left kind → IsTokenFault kind }
+    ensures tokens { (mode : Mode) (left : List ℕ) (kind : MarkupFaultKind) → Cause mode left kind
+        → IsTokenFault kind }
     ensures nesting { (text : List ℕ) (at : ℕ) (kind : MarkupFaultKind) (items : List Item)
         → SpellsItemsUpTo markup text items [] → IsFaultAt text at kind → IsNestingFault kind }
-    ensures marks { (text : List ℕ) (at : ℕ) (kind : MarkupFaultKind) → IsFaultAt text at kind → HoldsMark text kind }
-    ensures limits { (text : List ℕ) (trees : ValueTrees) (kind : MarkupFaultKind) → Spells text trees → Refused text kind
-        → IsLimitFault kind }
+    ensures marks { (text : List ℕ) (at : ℕ) (kind : MarkupFaultKind) → IsFaultAt text at kind
+        → HoldsMark text kind }
+    ensures limits { (text : List ℕ) (trees : ValueTrees) (kind : MarkupFaultKind)
+        → Spells text trees → Refused text kind → IsLimitFault kind }
 {}

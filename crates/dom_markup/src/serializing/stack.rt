@@ -1,4 +1,5 @@
-//! The walk that puts a tree's text, by a stack of what is still to be put. Each node is pushed and popped once.
+//! The walk that puts a tree's text, by a stack of what is still to be put. Each node is pushed and
+//! popped once.
 
 ghost use Rattle.std.specs.Prelude.{◌≡◌, ◌<◌, ◌≤◌, ◌+◌, ◌++◌, [], ◌∷◌, OnErr, OnOk, Some};
 ghost use Rattle.dom_links.specs.Forest.{forest_of};

@@ -3,7 +3,8 @@
 ghost use Rattle.std.specs.Prelude.{◌≡◌};
 ghost use Rattle.std.specs.List.{list_any};
 ghost use Rattle.std.specs.Str.{bytes_eq};
-ghost use Rattle.dom_markup.specs.Html.{attr_text, closing, is_void_node, is_raw, is_void, keeps_texts, opening, prefix_text, start_tag};
+ghost use Rattle.dom_markup.specs.Html.{attr_text, closing, opening, prefix_text, start_tag};
+ghost use Rattle.dom_markup.specs.Html.{is_raw, is_void, is_void_node, keeps_texts};
 ghost use Rattle.dom_markup.specs.Writing.{Writes};
 
 use crate::escaping::Escaper;

@@ -36,7 +36,8 @@ fn text(alloc: Global, contents: &str) -> Result<NodeData, Fail> {
     })
 }
 
-/// Root 0 with the doctype 1, the paragraph 2 with the text 3, and the link 4 with the instruction 5.
+/// Root 0 with the doctype 1, the paragraph 2 with the text 3, and the link 4 with the instruction
+/// 5.
 fn page(alloc: Global) -> Result<Tree, Fail> {
     let root = NodeId::root();
     let mut tree = Tree::new(alloc, NodeData::Document)?;
@@ -66,7 +67,8 @@ fn page(alloc: Global) -> Result<Tree, Fail> {
     Ok(tree)
 }
 
-/// Root 0 with the break 1 with the text 2, the script 3 with the text 4 and the bold 5 with the text 6, and the comment 7.
+/// Root 0 with the break 1 with the text 2, the script 3 with the text 4 and the bold 5 with the
+/// text 6, and the comment 7.
 fn fragment(alloc: Global) -> Result<Tree, Fail> {
     let root = NodeId::root();
     let mut tree = Tree::new(alloc, NodeData::Fragment)?;
@@ -198,36 +200,61 @@ impl Write for Frail {
     }
 }
 
+/// What a writer that takes a byte a call, and fails after so many calls, got in this scope.
+fn written_by(
+    node: &NodeRef,
+    scope: TraversalScope,
+    calls: usize,
+    most: usize,
+) -> Result<(Frail, Result<(), WriteFault>), Fail> {
+    let mut frail = Frail {
+        taken: Vec::new(node.tree.allocator()),
+        most,
+        calls,
+    };
+    let result = node.write_html(scope, &mut frail);
+    Ok((frail, result))
+}
+
 #[test]
 fn stops_where_the_writer_fails(rt: HostRuntime) -> Result<(), Fail> {
     let alloc = rt.alloc();
     let tree = page(alloc)?;
     let node = NodeRef::new(NodeId::root(), &tree);
-    let whole = PAGE[0].0.as_bytes();
-    for calls in 0..whole.len() {
+    let link = NodeRef::new(NodeId::new(2).ok_or("id")?, &tree);
+    for (node, scope, whole) in [
+        (&node, TraversalScope::IncludeNode, PAGE[0].0),
+        (&node, TraversalScope::ChildrenOnly, PAGE[0].1),
+        (&link, TraversalScope::IncludeNode, PAGE[2].0),
+        (&link, TraversalScope::ChildrenOnly, PAGE[2].1),
+    ] {
+        for calls in 0..whole.len() {
+            let (frail, result) = written_by(node, scope, calls, 1)?;
+            assert!(rt; result == Err(WriteFault::Write));
+            assert_eq!(rt; frail.taken.as_slice(), &whole.as_bytes()[..calls]);
+        }
+        let (frail, result) = written_by(node, scope, whole.len(), 3)?;
+        assert!(rt; result.is_ok());
+        assert_eq!(rt; frail.taken.as_slice(), whole.as_bytes());
+        let (full, result) = written_by(node, scope, 1, 0)?;
+        assert!(rt; result == Err(WriteFault::Write));
+        assert_eq!(rt; full.calls, 0);
+    }
+    Ok(())
+}
+
+#[test]
+fn serialize_stops_where_the_writer_fails(rt: HostRuntime) -> Result<(), Fail> {
+    let alloc = rt.alloc();
+    let tree = page(alloc)?;
+    let node = SerializableNodeRef::from(NodeRef::new(NodeId::new(2).ok_or("id")?, &tree));
+    for scope in [TraversalScope::IncludeNode, TraversalScope::ChildrenOnly] {
         let mut frail = Frail {
             taken: Vec::new(alloc),
-            most: 1,
-            calls,
+            most: 2,
+            calls: 5,
         };
-        let result = node.write_html(TraversalScope::IncludeNode, &mut frail);
-        assert!(rt; result == Err(WriteFault::Write));
-        assert_eq!(rt; frail.taken.as_slice(), &whole[..calls]);
+        assert!(rt; node.serialize(scope, &mut frail) == Err(WriteFault::Write));
     }
-    let mut frail = Frail {
-        taken: Vec::new(alloc),
-        most: 3,
-        calls: whole.len(),
-    };
-    node.write_html(TraversalScope::IncludeNode, &mut frail)?;
-    assert_eq!(rt; frail.taken.as_slice(), whole);
-    let mut full = Frail {
-        taken: Vec::new(alloc),
-        most: 0,
-        calls: 1,
-    };
-    let result = node.write_html(TraversalScope::IncludeNode, &mut full);
-    assert!(rt; result == Err(WriteFault::Write));
-    assert_eq!(rt; full.calls, 0);
     Ok(())
 }

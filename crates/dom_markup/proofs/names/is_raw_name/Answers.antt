@@ -1,7 +1,8 @@
 use Rattle.std.proofs.Common.{◌≡◌, true, false, get_or, refl, ap, ◌∙◌}
 use Rattle.std.proofs.lemmas.Bool.{agree_below, agree_below_at}
 use Rattle.dom_nodes.specs.KnownNames.{known_name}
-use Rattle.dom_markup.specs.Names.{is_among, raw_names}
+use Rattle.dom_nodes.specs.Words.{is_among}
+use Rattle.dom_markup.specs.Names.{raw_names}
 use Rattle.dom_markup.specs.declared.names.TheConstants.{RAW}
 use Rattle.dom_markup.proofs.names.is_raw_name.Goals as goal
 

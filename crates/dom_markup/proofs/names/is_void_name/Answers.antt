@@ -1,7 +1,8 @@
 use Rattle.std.proofs.Common.{◌≡◌, true, false, get_or, refl, ap, ◌∙◌}
 use Rattle.std.proofs.lemmas.Bool.{agree_below, agree_below_at}
 use Rattle.dom_nodes.specs.KnownNames.{known_name}
-use Rattle.dom_markup.specs.Names.{is_among, void_names}
+use Rattle.dom_nodes.specs.Words.{is_among}
+use Rattle.dom_markup.specs.Names.{void_names}
 use Rattle.dom_markup.specs.declared.names.TheConstants.{VOID}
 use Rattle.dom_markup.proofs.names.is_void_name.Goals as goal
 

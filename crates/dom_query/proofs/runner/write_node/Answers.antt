@@ -8,4 +8,4 @@ returns-in_err-write_html g c =
     rw p.1 (beginning-more _ _ _ _ (rw c.new.ensures at c.in_err-write_html.ensures))
 
 pub returns : goal.returns
-returns g c = then-writes _ _ _ c.write_bytes.result _ _ (rw c.new.ensures at c.in_ok-write_html.ensures) c.write_bytes.ensures
+returns g c = then-writes _ _ _ c.write_bytes.result _ _ (rw c.new.ensures at c.in_ok-write_html.ensures) c.write_bytes.ensures.written

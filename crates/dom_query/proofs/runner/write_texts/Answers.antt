@@ -17,11 +17,11 @@ pub returns-in_err-write_bytes-clause-writes : goal.returns-in_err-write_bytes-c
 returns-in_err-write_bytes-clause-writes g c =
     let p = err_from_is_err_and c.from_residual-in_err-write_bytes.result c.from_residual-in_err-write_bytes.ensures.1 in
     let said : c.as_bytes.result.now ≡ text_of c.args.tree.now c.id-item.result = c.as_bytes.ensures.value ∙ (c.in_ok-text.ensures ∙ ap (λ (node : NodeRef). text_of node.tree.now node.id) c.new.ensures) in
-    rw p.1 (joined-next (text_of c.args.tree.now) _ _ c.id-item.result c.loop-id-test.true c.id-item.is _ _ _ (10 ∷ []) c.as_bytes.result.now said c.loop-id.invariant c.in_err-write_bytes.ensures)
+    rw p.1 (joined-next (text_of c.args.tree.now) _ _ c.id-item.result c.loop-id-test.true c.id-item.is _ _ _ (10 ∷ []) c.as_bytes.result.now said c.loop-id.invariant c.in_err-write_bytes.ensures.written)
 
 pub returns-in_err-write_bytes-2-clause-writes : goal.returns-in_err-write_bytes-2-clause-writes
 returns-in_err-write_bytes-2-clause-writes g c =
     let p = err_from_is_err_and c.from_residual-in_err-write_bytes-2.result c.from_residual-in_err-write_bytes-2.ensures.1 in
     let all = take_all c.loop-id.id-index c.args.selection.now c.loop-id-test.false in
     rw p.1 (subst (λ ns. AppendsBeginning (g.W.Write.contents c.args.out.now) (g.W.Write.contents c.write_bytes-2.new.w) (line_of (texts_of c.args.tree.now ns))) all
-    (beginning-then _ _ _ _ _ c.loop-id.invariant c.in_err-write_bytes-2.ensures))
+    (beginning-then _ _ _ _ _ c.loop-id.invariant c.in_err-write_bytes-2.ensures.written))

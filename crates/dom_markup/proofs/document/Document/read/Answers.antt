@@ -21,7 +21,7 @@ loop-found-preserved c =
     let invariant = c.loop-found.invariant in
     let kind = step.item.is_kind ∙ ap (λ (m : Mode). kind_of m step.item.item) (sym invariant.within) in
     let begins = begins_there _ _ _ _ step.item.item c.next.new.self.text invariant.left invariant.within step.item.begins in
-    let read = c.in_default-read.ensures.ok invariant.progress.items step.item.item c.next.new.self.text invariant.progress.read kind begins (invariant.left ∙ step.covers) in
+    let read = c.in_default-read.ensures.read invariant.progress.items step.item.item invariant.progress.read (record { rest = c.next.new.self.text; is_kind = kind; begins = begins; covers = invariant.left ∙ step.covers }) in
     record { can = tt; finite = tt; progress = progress_step _ _ _ _ _ _ _ _ _ invariant.progress step read; left = c.left-left.ensures; within = c.within-within.ensures; utf8 = search rules }
 
 pub returns-in_err-token : goal.returns-in_err-token
@@ -46,7 +46,7 @@ returns-in-Err-clause-cause c =
     let kind = step.item.is_kind ∙ ap (λ (m : Mode). kind_of m step.item.item) (sym invariant.within) in
     let begins = begins_there _ _ _ _ step.item.item c.next.new.self.text invariant.left invariant.within step.item.begins in
     declined _ c.loop-found.tokens c.next.new.self _ step.item.item _ _ invariant.progress step.starts step.item.begins
-    (c.in-Err.ensures.err invariant.progress.items step.item.item c.next.new.self.text invariant.progress.read kind begins (invariant.left ∙ step.covers))
+    (c.in-Err.ensures.read invariant.progress.items step.item.item invariant.progress.read (record { rest = c.next.new.self.text; is_kind = kind; begins = begins; covers = invariant.left ∙ step.covers }))
 
 pub returns-in-Err-clause-refused : goal.returns-in-Err-clause-refused
 returns-in-Err-clause-refused c = refused _ _ _ (returns-in-Err-clause-cause c)
@@ -55,14 +55,14 @@ pub returns-in-Ok-finish-clause-ok : goal.returns-in-Ok-finish-clause-ok
 returns-in-Ok-finish-clause-ok c =
     let progress = c.loop-found.invariant.progress in
     let none = c.in_default-next.ensures.steps.none in
-    let read = whole_text _ _ _ c.in-Ok-finish.tree progress none (c.in-Ok-finish.ensures.ok progress.items progress.read) in
+    let read = whole_text _ _ _ c.in-Ok-finish.tree progress none (c.in-Ok-finish.ensures.items progress.items progress.read) in
     (read.0, read.1, c.whole.ensures.tree ∙ read.2)
 
 pub returns-in-Err-finish-clause-cause : goal.returns-in-Err-finish-clause-cause
 returns-in-Err-finish-clause-cause c =
     let progress = c.loop-found.invariant.progress in
-    let closed = c.in-Err-finish.ensures.err in
-    unclosed _ _ _ _ progress c.in_default-next.ensures.steps.none closed.0 (closed.1 progress.items progress.read)
+    let closed = c.in-Err-finish.ensures in
+    unclosed _ _ _ _ progress c.in_default-next.ensures.steps.none closed.kind (closed.items progress.items progress.read)
 
 pub returns-in-Err-finish-clause-refused : goal.returns-in-Err-finish-clause-refused
 returns-in-Err-finish-clause-refused c = refused _ _ _ (returns-in-Err-finish-clause-cause c)

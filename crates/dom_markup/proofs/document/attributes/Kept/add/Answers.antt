@@ -3,7 +3,7 @@ use Rattle.std.specs.List.{list_any}
 use Rattle.std.proofs.lemmas.Result.{on_ok_weaker}
 use Rattle.dom_nodes.specs.declared.name.Attr.{Attr}
 use Rattle.dom_nodes.specs.declared.name.Namespace.TheVariants.{None as NoNamespace}
-use Rattle.dom_markup.specs.Attributes.{is_named}
+use Rattle.dom_nodes.specs.Changes.{is_named}
 use Rattle.dom_markup.specs.Letters.{folded}
 use Rattle.dom_markup.specs.References.{decoded}
 use Rattle.dom_markup.specs.Numbered.{read_attr}

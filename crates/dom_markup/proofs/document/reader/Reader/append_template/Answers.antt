@@ -1,20 +1,22 @@
-use Rattle.std.proofs.Common.{◌≡◌, ◌<◌, ◌+◌, ℕ, length, true, sym, ap, ◌∙◌, subst}
+use Rattle.std.proofs.Common.{◌≡◌, ◌<◌, ◌+◌, ℕ, length, true, refl, sym, ap, ◌∙◌, subst, rules}
 use Rattle.dom_links.specs.Growth.{with_template}
 use Rattle.dom_links.specs.Sound.{bears}
 use Rattle.dom_trees.specs.Refusals.{element_with}
 use Rattle.dom_markup.proofs.Frames.{parent_known, parent_bears}
-use Rattle.dom_markup.proofs.Steps.{template_limits}
+use Rattle.dom_markup.proofs.Steps.{template_limits, parent_is}
 use Rattle.dom_markup.proofs.document.reader.Reader.append_template.Goals as goal
 
 pub limit_of-requires : goal.limit_of-requires
 limit_of-requires c =
     let forest = c.args.self.now.tree in
-    let parent = c.parent-parent.ensures c.requires.0 c.requires.1 in
+    let parent = c.parent-parent.ensures ∙ parent_is c.requires.0 c.args.self.now c.requires.1 in
     template_limits forest c.parent-parent.result c.in-Err.fault
     (subst (λ (n : ℕ). n < length forest.content) (sym parent) (parent_known c.requires.0 _ _ c.requires.1))
     (subst (λ (n : ℕ). bears forest n ≡ true) (sym parent) (parent_bears c.requires.0 _ _ c.requires.1))
     c.in-Err.ensures.cause
 
-pub returns-in-Ok-clause-tree : goal.returns-in-Ok-clause-tree
-returns-in-Ok-clause-tree c = λ items h.
-    c.in-Ok.ensures.ok ∙ ap (λ (p : ℕ). with_template p (element_with c.args.name c.args.attrs (length c.args.self.now.tree.content + 1)) c.args.self.now.tree) (c.parent-parent.ensures items h)
+pub returns-in-Ok : goal.returns-in-Ok
+returns-in-Ok c = record {
+  stack = refl;
+  grown = (search rules, c.in-Ok.ensures.ok ∙ ap (λ (p : ℕ). with_template p (element_with c.args.name c.args.attrs (length c.args.self.now.tree.content + 1)) c.args.self.now.tree) c.parent-parent.ensures);
+}

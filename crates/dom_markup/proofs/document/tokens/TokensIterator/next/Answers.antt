@@ -11,19 +11,19 @@ item_at-requires c = λ e. length_from_nil _ e (sym c.is_empty.ensures ∙ c.if-
 pub returns-in-Err-clause-steps : goal.returns-in-Err-clause-steps
 returns-in-Err-clause-steps c = rw (← c.self.view_is) record {
   some = λ e. length_from_nil _ e (sym c.is_empty.ensures ∙ c.if-is_empty.false);
-  nothing = c.in-Err.ensures.err;
-  shows = c.in-Err.ensures.kind;
-  kind = token_fault _ _ _ c.in-Err.ensures.kind;
+  nothing = c.in-Err.ensures.0;
+  cause = c.in-Err.ensures.1;
+  kind = token_fault _ _ _ c.in-Err.ensures.1;
   place = refl;
   ended = c.split_at.ensures.back ∙ drop-length c.self.inside.rest.now;
 }
 
 pub front_of-text-requires : goal.front_of-text-requires
 front_of-text-requires c =
-    let front = Begins-suffix _ _ _ _ c.in-Ok.ensures.ok.begins in
+    let front = Begins-suffix _ _ _ _ c.in-Ok.ensures.begins in
     (front.0, front.1)
 
 pub returns-clause-goes : goal.returns-clause-goes
 returns-clause-goes c =
-    let shorter : length c.in-Ok.found.rest.now < length c.self.inside.rest.now = Begins-shorter _ _ _ _ c.in-Ok.ensures.ok.begins in
+    let shorter : length c.in-Ok.found.rest.now < length c.self.inside.rest.now = Begins-shorter _ _ _ _ c.in-Ok.ensures.begins in
     rw (← c.self.view_is) (search rules)
