@@ -4,28 +4,29 @@ use Rattle.std.specs.Prelude.{◌==◌, ◌&&◌, ◌||◌}
 use Rattle.std.specs.List.{slice_range}
 use Rattle.std.proofs.lemmas.Bool.{cases_Bool, eqb-true}
 use Rattle.std.proofs.lemmas.List.{at_drop_more, at_drop_all, take_more, take-append-drop}
+use Rattle.dom_nodes.specs.Ascii.{asterisk, backslash, backtick, dot, equals_sign, exclamation_mark, greater_than, hyphen, left_bracket, less_than, number_sign, plus_sign, right_bracket, right_parenthesis, tilde, underscore, vertical_bar}
 use Rattle.dom_md.specs.Chunks.{begins_block, escaped, is_list_marker, is_mark, is_marked, is_stop, is_underline, line_mark, with_marks, with_marks_at}
 use Rattle.dom_md.specs.Marks.{Cuts, IsFirstMark}
 use Rattle.dom_md.specs.Resolved.{is_punctuation, resolved, resolved_on}
 
 -- one of the marks
-mark_is : (b : ℕ) → is_mark b ≡ true → (P : ℕ → Type 0) → P 92 → P 96 → P 42 → P 95 → P 91 → P 93 → P 60 → P 124 → P 126 → P b
+mark_is : (b : ℕ) → is_mark b ≡ true → (P : ℕ → Type 0) → P backslash → P backtick → P asterisk → P underscore → P left_bracket → P right_bracket → P less_than → P vertical_bar → P tilde → P b
 mark_is b mark P p1 p2 p3 p4 p5 p6 p7 p8 p9 =
-    one (b == 92) (b == 96) (b == 42) (b == 95) (b == 91) (b == 93) (b == 60) (b == 124) (b == 126) refl refl refl refl refl refl refl refl refl mark
+    one (b == backslash) (b == backtick) (b == asterisk) (b == underscore) (b == left_bracket) (b == right_bracket) (b == less_than) (b == vertical_bar) (b == tilde) refl refl refl refl refl refl refl refl refl mark
   where
     at : (n : ℕ) → (b == n) ≡ true → P n → P b
     at n same p = subst P (sym (eqb-true b n same)) p
 
-    one : (x1 x2 x3 x4 x5 x6 x7 x8 x9 : Bool) → (b == 92) ≡ x1 → (b == 96) ≡ x2 → (b == 42) ≡ x3 → (b == 95) ≡ x4 → (b == 91) ≡ x5 → (b == 93) ≡ x6 → (b == 60) ≡ x7 → (b == 124) ≡ x8 → (b == 126) ≡ x9 → (x1 || x2 || x3 || x4 || x5 || x6 || x7 || x8 || x9) ≡ true → P b
-    one true _ _ _ _ _ _ _ _ e _ _ _ _ _ _ _ _ h = at 92 e p1
-    one false true _ _ _ _ _ _ _ _ e _ _ _ _ _ _ _ h = at 96 e p2
-    one false false true _ _ _ _ _ _ _ _ e _ _ _ _ _ _ h = at 42 e p3
-    one false false false true _ _ _ _ _ _ _ _ e _ _ _ _ _ h = at 95 e p4
-    one false false false false true _ _ _ _ _ _ _ _ e _ _ _ _ h = at 91 e p5
-    one false false false false false true _ _ _ _ _ _ _ _ e _ _ _ h = at 93 e p6
-    one false false false false false false true _ _ _ _ _ _ _ _ e _ _ h = at 60 e p7
-    one false false false false false false false true _ _ _ _ _ _ _ _ e _ h = at 124 e p8
-    one false false false false false false false false true _ _ _ _ _ _ _ _ e h = at 126 e p9
+    one : (x1 x2 x3 x4 x5 x6 x7 x8 x9 : Bool) → (b == backslash) ≡ x1 → (b == backtick) ≡ x2 → (b == asterisk) ≡ x3 → (b == underscore) ≡ x4 → (b == left_bracket) ≡ x5 → (b == right_bracket) ≡ x6 → (b == less_than) ≡ x7 → (b == vertical_bar) ≡ x8 → (b == tilde) ≡ x9 → (x1 || x2 || x3 || x4 || x5 || x6 || x7 || x8 || x9) ≡ true → P b
+    one true _ _ _ _ _ _ _ _ e _ _ _ _ _ _ _ _ h = at backslash e p1
+    one false true _ _ _ _ _ _ _ _ e _ _ _ _ _ _ _ h = at backtick e p2
+    one false false true _ _ _ _ _ _ _ _ e _ _ _ _ _ _ h = at asterisk e p3
+    one false false false true _ _ _ _ _ _ _ _ e _ _ _ _ _ h = at underscore e p4
+    one false false false false true _ _ _ _ _ _ _ _ e _ _ _ _ h = at left_bracket e p5
+    one false false false false false true _ _ _ _ _ _ _ _ e _ _ _ h = at right_bracket e p6
+    one false false false false false false true _ _ _ _ _ _ _ _ e _ _ h = at less_than e p7
+    one false false false false false false false true _ _ _ _ _ _ _ _ e _ h = at vertical_bar e p8
+    one false false false false false false false false true _ _ _ _ _ _ _ _ e h = at tilde e p9
     one false false false false false false false false false _ _ _ _ _ _ _ _ _ h = absurd (cc)
 
 or_cases : (a b : Bool) → (a || b) ≡ true → (a ≡ true) ⊎ (b ≡ true)
@@ -37,11 +38,11 @@ and_left true b h = refl
 and_left false b h = h
 
 -- a byte before which a backslash stands is a mark or `!`
-marked_is : (b : ℕ) (text : List ℕ) → is_marked b text ≡ true → (P : ℕ → Type 0) → (is_mark b ≡ true → P b) → P 33 → P b
+marked_is : (b : ℕ) (text : List ℕ) → is_marked b text ≡ true → (P : ℕ → Type 0) → (is_mark b ≡ true → P b) → P exclamation_mark → P b
 marked_is b [] marked P mark bang = mark marked
-marked_is b (next ∷ text) marked P mark bang = elim (or_cases (is_mark b) (b == 33 && next == 91) marked) [
+marked_is b (next ∷ text) marked P mark bang = elim (or_cases (is_mark b) (b == exclamation_mark && next == left_bracket) marked) [
   | inl m ↦ mark m
-  | inr both ↦ subst P (sym (eqb-true b 33 (and_left _ _ both))) bang
+  | inr both ↦ subst P (sym (eqb-true b exclamation_mark (and_left _ _ both))) bang
 ]
 
 pub marked_ascii : (b : ℕ) (text : List ℕ) → is_marked b text ≡ true → b < 128
@@ -52,9 +53,9 @@ pub marked_punctuation : (b : ℕ) (text : List ℕ) → is_marked b text ≡ tr
 marked_punctuation b text marked = marked_is b text marked (λ (n : ℕ). is_punctuation n ≡ true)
     (λ m. mark_is b m (λ (n : ℕ). is_punctuation n ≡ true) refl refl refl refl refl refl refl refl refl) refl
 
-unmarked_plain : (b : ℕ) (text : List ℕ) → is_marked b text ≡ false → (b == 92) ≡ false
-unmarked_plain b [] h = elim (cases_Bool (b == 92)) [ inl t ↦ (let no = rw t at h in absurd (cc)) | inr f ↦ f ]
-unmarked_plain b (next ∷ text) h = elim (cases_Bool (b == 92)) [ inl t ↦ (let no = rw t at h in absurd (cc)) | inr f ↦ f ]
+unmarked_plain : (b : ℕ) (text : List ℕ) → is_marked b text ≡ false → (b == backslash) ≡ false
+unmarked_plain b [] h = elim (cases_Bool (b == backslash)) [ inl t ↦ (let no = rw t at h in absurd (cc)) | inr f ↦ f ]
+unmarked_plain b (next ∷ text) h = elim (cases_Bool (b == backslash)) [ inl t ↦ (let no = rw t at h in absurd (cc)) | inr f ↦ f ]
 
 -- ---- what the marks resolve to
 
@@ -72,7 +73,7 @@ abbrev pub IsPlainTo : List ℕ → ℕ → Type 0
 IsPlainTo text at = with_marks text ≡ take at text ++ with_marks (drop at text)
 
 pub marked_here : (text : List ℕ) (at : ℕ) → at < length text → IsPlainTo text at → is_marked (get_or text at 0) (drop (at + 1) text) ≡ true →
-    with_marks text ≡ take at text ++ 92 ∷ get_or text at 0 ∷ with_marks (drop (at + 1) text)
+    with_marks text ≡ take at text ++ backslash ∷ get_or text at 0 ∷ with_marks (drop (at + 1) text)
 marked_here text at within plain marked = plain ∙ ap (λ t. take at text ++ t) (at_drop_more with_marks text at 0 within ∙ rw marked refl)
 
 pub plain_more : (text : List ℕ) (at : ℕ) → at < length text → IsPlainTo text at → is_marked (get_or text at 0) (drop (at + 1) text) ≡ false → IsPlainTo text (at + 1)
@@ -105,11 +106,11 @@ pub record IsPlain (b : ℕ) : Type 0 where
   pub punctuation : is_punctuation b ≡ true
   pub unmarked : (text : List ℕ) → is_marked b text ≡ false
 
-unmarked_by : (b : ℕ) → is_mark b ≡ false → (b == 33) ≡ false → (text : List ℕ) → is_marked b text ≡ false
+unmarked_by : (b : ℕ) → is_mark b ≡ false → (b == exclamation_mark) ≡ false → (text : List ℕ) → is_marked b text ≡ false
 unmarked_by b mark bang [] = mark
 unmarked_by b mark bang (next ∷ text) = rw (mark, bang) refl
 
-plain_at : (b n : ℕ) → (b == n) ≡ true → n < 128 → is_punctuation n ≡ true → is_mark n ≡ false → (n == 33) ≡ false → IsPlain b
+plain_at : (b n : ℕ) → (b == n) ≡ true → n < 128 → is_punctuation n ≡ true → is_mark n ≡ false → (n == exclamation_mark) ≡ false → IsPlain b
 plain_at b n same low p m e = subst IsPlain (sym (eqb-true b n same)) (record { ascii = low; punctuation = p; unmarked = unmarked_by n m e })
 
 and_right : (a b : Bool) → (a && b) ≡ true → b ≡ true
@@ -117,19 +118,19 @@ and_right true b h = h
 and_right false b h = absurd (cc)
 
 plain_first : (b : ℕ) (text : List ℕ) → begins_block (b ∷ text) ≡ true → IsPlain b
-plain_first b text h = one (b == 35) (b == 62) (b == 45) (b == 43) refl refl refl refl h
+plain_first b text h = one (b == number_sign) (b == greater_than) (b == hyphen) (b == plus_sign) refl refl refl refl h
   where
-    one : (x1 x2 x3 x4 : Bool) → (b == 35) ≡ x1 → (b == 62) ≡ x2 → (b == 45) ≡ x3 → (b == 43) ≡ x4 → (x1 || x2 || x3 || x4) ≡ true → IsPlain b
-    one true _ _ _ e _ _ _ h = plain_at b 35 e (omega arith) refl refl refl
-    one false true _ _ _ e _ _ h = plain_at b 62 e (omega arith) refl refl refl
-    one false false true _ _ _ e _ h = plain_at b 45 e (omega arith) refl refl refl
-    one false false false true _ _ _ e h = plain_at b 43 e (omega arith) refl refl refl
+    one : (x1 x2 x3 x4 : Bool) → (b == number_sign) ≡ x1 → (b == greater_than) ≡ x2 → (b == hyphen) ≡ x3 → (b == plus_sign) ≡ x4 → (x1 || x2 || x3 || x4) ≡ true → IsPlain b
+    one true _ _ _ e _ _ _ h = plain_at b number_sign e (omega arith) refl refl refl
+    one false true _ _ _ e _ _ h = plain_at b greater_than e (omega arith) refl refl refl
+    one false false true _ _ _ e _ h = plain_at b hyphen e (omega arith) refl refl refl
+    one false false false true _ _ _ e h = plain_at b plus_sign e (omega arith) refl refl refl
     one false false false false _ _ _ _ h = absurd (cc)
 
 plain_stop : (b : ℕ) → is_stop b ≡ true → IsPlain b
-plain_stop b h = elim (or_cases (b == 46) (b == 41) h) [
-  | inl e ↦ plain_at b 46 e (omega arith) refl refl refl
-  | inr e ↦ plain_at b 41 e (omega arith) refl refl refl
+plain_stop b h = elim (or_cases (b == dot) (b == right_parenthesis) h) [
+  | inl e ↦ plain_at b dot e (omega arith) refl refl refl
+  | inr e ↦ plain_at b right_parenthesis e (omega arith) refl refl refl
 ]
 
 pub record IsPlace (chunk : List ℕ) (at : ℕ) : Type 0 where
@@ -142,7 +143,7 @@ place_first (b ∷ text) h = record {
   within = omega arith;
   plain = elim (or_cases (begins_block (b ∷ text)) (is_underline (b ∷ text)) h) [
     | inl block ↦ plain_first b text block
-    | inr under ↦ plain_at b 61 (and_left _ _ under) (omega arith) refl refl refl
+    | inr under ↦ plain_at b equals_sign (and_left _ _ under) (omega arith) refl refl refl
   ];
 }
 
@@ -166,7 +167,7 @@ resolved-place chunk at place =
     let marks : resolved_on false (with_marks rest) ≡ rest = ap (resolved_on false) (sym (append-nil (with_marks rest))) ∙ (resolved-marks rest [] ∙ append-nil rest) in
     let behind : resolved_on true (with_marks (drop at chunk)) ≡ b ∷ rest = at_drop_more (λ t. resolved_on true (with_marks t)) chunk at 0 place.within ∙ rw (place.plain.unmarked rest, place.plain.punctuation) (ap (λ t. b ∷ t) marks) in
     let whole : b ∷ rest ≡ drop at chunk = sym (at_drop_more (λ t. t) chunk at 0 place.within) in
-    resolved-marks (take at chunk) (92 ∷ with_marks (drop at chunk)) ∙ (ap (λ t. take at chunk ++ t) (behind ∙ whole) ∙ take-append-drop at chunk)
+    resolved-marks (take at chunk) (backslash ∷ with_marks (drop at chunk)) ∙ (ap (λ t. take at chunk ++ t) (behind ∙ whole) ∙ take-append-drop at chunk)
 
 pub resolved-escaped : (line_start : Bool) (chunk : List ℕ) → resolved (escaped line_start chunk) ≡ chunk
 resolved-escaped false chunk = ap (resolved_on false) (sym (append-nil (with_marks chunk))) ∙ (resolved-marks chunk [] ∙ append-nil chunk)

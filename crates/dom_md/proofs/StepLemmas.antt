@@ -5,18 +5,19 @@ use Rattle.std.specs.Char.{is_whitespace}
 use Rattle.std.specs.Str.{chars, bytes_eq}
 use Rattle.std.proofs.lemmas.Bool.{cases_Bool, eqb-true, ne_eqb}
 use Rattle.std.proofs.lemmas.List.{at_drop_more, at_drop_all, length_push}
+use Rattle.dom_nodes.specs.Ascii.{space}
 use Rattle.dom_md.specs.Formatted.{drop_spaces, ends_with, spaced_on}
 
 -- ---- spaces at the end
 
-pub drop_spaces-space : (text : List ℕ) → drop_spaces (text ++ 32 ∷ []) ≡ drop_spaces text
+pub drop_spaces-space : (text : List ℕ) → drop_spaces (text ++ space ∷ []) ≡ drop_spaces text
 drop_spaces-space [] = refl
 drop_spaces-space (b ∷ text) = rw (drop_spaces-space text) refl
 
 ends-more : (b d : ℕ) (text : List ℕ) → ends_with (codes " ") (b ∷ d ∷ text) ≡ ends_with (codes " ") (d ∷ text)
 ends-more b d text =
     let from : length (b ∷ d ∷ text) - 1 ≡ suc (length (d ∷ text) - 1) = omega arith in
-    ap (λ n. bytes_eq (drop n (b ∷ d ∷ text)) (32 ∷ [])) from
+    ap (λ n. bytes_eq (drop n (b ∷ d ∷ text)) (space ∷ [])) from
 
 some_left : (b : ℕ) (text : List ℕ) → (length (b ∷ text) == 0) ≡ false
 some_left b text = ne_eqb (length (b ∷ text)) 0 (λ e. omega arith)
@@ -25,9 +26,9 @@ and-false : (a b : Bool) → b ≡ false → (a && b) ≡ false
 and-false true b h = h
 and-false false b h = refl
 
-last-one : (b : ℕ) → bytes_eq (b ∷ []) (32 ∷ []) ≡ false → (b == 32) ≡ false
-last-one b h = elim (cases_Bool (b == 32)) [
-  | inl t ↦ (let no_end : bytes_eq (b ∷ []) (32 ∷ []) ≡ true = rw t refl in absurd (cc))
+last-one : (b : ℕ) → bytes_eq (b ∷ []) (space ∷ []) ≡ false → (b == space) ≡ false
+last-one b h = elim (cases_Bool (b == space)) [
+  | inl t ↦ (let no_end : bytes_eq (b ∷ []) (space ∷ []) ≡ true = rw t refl in absurd (cc))
   | inr f ↦ f
 ]
 
@@ -36,19 +37,19 @@ drop_spaces-none [] h = refl
 drop_spaces-none (b ∷ []) h = rw (last-one b h) refl
 drop_spaces-none (b ∷ d ∷ text) h =
     let rest = drop_spaces-none (d ∷ text) (sym (ends-more b d text) ∙ h) in
-    let some : (b == 32 && length (drop_spaces (d ∷ text)) == 0) ≡ false = and-false (b == 32) _ (ap (λ t. length t == 0) rest ∙ some_left d text) in
+    let some : (b == space && length (drop_spaces (d ∷ text)) == 0) ≡ false = and-false (b == space) _ (ap (λ t. length t == 0) rest ∙ some_left d text) in
     rw some (ap (λ t. b ∷ t) rest)
 
 -- a text that ends in a space
 pub record EndsInSpace (text : List ℕ) : Type 0 where
   pub some : 0 < length text
-  pub byte : get_or text (length text - 1) 0 ≡ 32
-  pub is : text ≡ take (length text - 1) text ++ 32 ∷ []
+  pub byte : get_or text (length text - 1) 0 ≡ space
+  pub is : text ≡ take (length text - 1) text ++ space ∷ []
 
-one_space : (b : ℕ) → bytes_eq (b ∷ []) (32 ∷ []) ≡ true → b ≡ 32
-one_space b h = elim (cases_Bool (b == 32)) [
-  | inl t ↦ eqb-true b 32 t
-  | inr f ↦ (let no_end : bytes_eq (b ∷ []) (32 ∷ []) ≡ false = rw f refl in absurd (cc))
+one_space : (b : ℕ) → bytes_eq (b ∷ []) (space ∷ []) ≡ true → b ≡ space
+one_space b h = elim (cases_Bool (b == space)) [
+  | inl t ↦ eqb-true b space t
+  | inr f ↦ (let no_end : bytes_eq (b ∷ []) (space ∷ []) ≡ false = rw f refl in absurd (cc))
 ]
 
 pub ends_in_space : (text : List ℕ) → ends_with (codes " ") text ≡ true → EndsInSpace text
@@ -60,7 +61,7 @@ ends_in_space (b ∷ d ∷ text) h =
     record {
       some = omega arith;
       byte = ap (λ n. get_or (b ∷ d ∷ text) n 0) from ∙ rest.byte;
-      is = ap (λ t. b ∷ t) rest.is ∙ ap (λ n. take n (b ∷ d ∷ text) ++ 32 ∷ []) (sym from);
+      is = ap (λ t. b ∷ t) rest.is ∙ ap (λ n. take n (b ∷ d ∷ text) ++ space ∷ []) (sym from);
     }
 
 -- after the space was taken off
@@ -101,11 +102,11 @@ pub spaces_gap : (text old read : List ℕ) (gap : Bool) (c : ℕ) → length re
 spaces_gap text old read gap c within is white whole = spaces_step text old old read gap true c within is (rw white refl) whole
 
 pub spaces_letter : (text old new read : List ℕ) (gap : Bool) (c : ℕ) → length read < length (chars text) → c ≡ get_or (chars text) (length read) c → is_whitespace c ≡ false →
-    new ≡ old ++ ((if gap then encode_utf8 32 else []) ++ encode_utf8 c) → Spaces text old gap read → Spaces text new false (read ++ c ∷ [])
+    new ≡ old ++ ((if gap then encode_utf8 space else []) ++ encode_utf8 c) → Spaces text old gap read → Spaces text new false (read ++ c ∷ [])
 spaces_letter text old new read true c within is letter made whole =
     let rest = encode_utf8_all (spaced_on false (drop (length read + 1) (chars text))) in
     spaces_step text old new read true false c within is
-    (rw letter (ap (λ t. old ++ t) (sym (append_assoc (encode_utf8 32) (encode_utf8 c) rest)) ∙ (sym (append_assoc old (encode_utf8 32 ++ encode_utf8 c) rest) ∙ ap (λ t. t ++ rest) (sym made)))) whole
+    (rw letter (ap (λ t. old ++ t) (sym (append_assoc (encode_utf8 space) (encode_utf8 c) rest)) ∙ (sym (append_assoc old (encode_utf8 space ++ encode_utf8 c) rest) ∙ ap (λ t. t ++ rest) (sym made)))) whole
 spaces_letter text old new read false c within is letter made whole =
     let rest = encode_utf8_all (spaced_on false (drop (length read + 1) (chars text))) in
     spaces_step text old new read false false c within is

@@ -1,5 +1,5 @@
 -- The stack of what is still to be formatted, the last entry first.
-use Rattle.std.specs.Prelude.{ℕ, ◌+◌, ◌<◌, false, List, [], ◌++◌, ◌∷◌, length, Option, Some, slice_get, codes, if◌then◌else◌}
+use Rattle.std.specs.Prelude.{◌≡◌, ℕ, ◌+◌, ◌<◌, false, List, [], ◌++◌, ◌∷◌, length, Option, Some, OnOk, Result, slice_get, codes, if◌then◌else◌}
 use Rattle.std.specs.Str.{bytes_eq}
 use Rattle.std.specs.Option.{option_map_or}
 use Rattle.dom_nodes.specs.declared.node_data.NodeData.{NodeData}
@@ -11,7 +11,7 @@ use Rattle.dom_links.specs.Walk.{row_on}
 use Rattle.dom_markup.specs.Ops.{row_weight}
 use Rattle.dom_md.specs.declared.formatting.stack.FormatOp.{FormatOp}
 use Rattle.dom_md.specs.declared.formatting.stack.FormatOp.TheVariants.{Open, Close}
-use Rattle.dom_md.specs.Formatted.{Event, events, with_open, with_text}
+use Rattle.dom_md.specs.Formatted.{Event, events, folded, with_open, with_text}
 use Rattle.dom_md.specs.Formatted.Event.{closes}
 
 -- the events of a node and its later siblings
@@ -58,3 +58,11 @@ begun forest n old _ = old
 abbrev pub rest_events : Forest → ℕ → NodeData → List Event
 rest_events forest n (AnElement e) = (if bytes_eq e.name.local (codes "pre") then [] else events forest (trees forest (children_of forest n))) ++ closes e.name.local ∷ []
 rest_events forest n _ = []
+
+-- the events were added to the text
+abbrev pub Formats : {T E : Type 0} → (old new : List ℕ) → Result T E → List Event → Type 0
+Formats old new result es = OnOk result (new ≡ folded old es)
+
+-- some of the events that were to come were added, and the others are still to come
+abbrev pub FormatsSome : {T E : Type 0} → (old new : List ℕ) → Result T E → (before after : List Event) → Type 0
+FormatsSome old new result before after = OnOk result (folded new after ≡ folded old before)

@@ -3,6 +3,7 @@ use Rattle.std.specs.Prelude.{ℕ, ◌-◌, ◌==◌, ◌&&◌, ◌||◌, nat_lt
 use Rattle.std.specs.Char.{is_whitespace}
 use Rattle.std.specs.Option.{option_map_or}
 use Rattle.std.specs.Str.{bytes_eq, chars, trim_start, trim_end}
+use Rattle.dom_nodes.specs.Ascii.{space}
 use Rattle.dom_nodes.specs.declared.node_data.NodeData.{NodeData}
 use Rattle.dom_nodes.specs.declared.node_data.NodeData.TheVariants.{Text, Element as AnElement}
 use Rattle.dom_links.specs.Forest.{Forest, children_of}
@@ -37,7 +38,7 @@ is_parted text = length text == 0 || ends_with (codes "\n\n") text
 -- the text without the spaces at its end
 abbrev pub drop_spaces : List ℕ → List ℕ
 drop_spaces [] = []
-drop_spaces (b ∷ text) = if b == 32 && length (drop_spaces text) == 0 then [] else b ∷ drop_spaces text
+drop_spaces (b ∷ text) = if b == space && length (drop_spaces text) == 0 then [] else b ∷ drop_spaces text
 
 -- ---- words
 
@@ -45,7 +46,7 @@ drop_spaces (b ∷ text) = if b == 32 && length (drop_spaces text) == 0 then [] 
 -- that whitespace stands right before
 abbrev pub spaced_on : (gap : Bool) → List ℕ → List ℕ
 spaced_on gap [] = []
-spaced_on gap (c ∷ cs) = if is_whitespace c then spaced_on true cs else if gap then 32 ∷ c ∷ spaced_on false cs else c ∷ spaced_on false cs
+spaced_on gap (c ∷ cs) = if is_whitespace c then spaced_on true cs else if gap then space ∷ c ∷ spaced_on false cs else c ∷ spaced_on false cs
 
 -- the words of a text, joined by one space
 abbrev pub joined_words : List ℕ → List ℕ
@@ -121,9 +122,13 @@ events forest NoTrees = []
 events forest (Tree n contents children later) =
     option_map_or (λ content. node_events forest n content (events forest children)) (slice_get forest.content n) [] ++ events forest later
 
+-- what is below a node, formatted
+abbrev pub untrimmed_below : Forest → ℕ → List ℕ
+untrimmed_below forest n = folded [] (events forest (trees forest (children_of forest n)))
+
 -- the formatted text of what is below a node, and of a node with its own tags
 unfoldable pub formatted_below : Forest → ℕ → List ℕ
-formatted_below forest n = trim_end (folded [] (events forest (trees forest (children_of forest n))))
+formatted_below forest n = trim_end (untrimmed_below forest n)
 
 unfoldable pub formatted_node : Forest → ℕ → List ℕ
 formatted_node forest n = folded [] (events forest (trees forest (n ∷ [])))

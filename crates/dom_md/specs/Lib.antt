@@ -5,4 +5,6 @@ pub mod Fences
 pub mod FormatOps
 pub mod Formatted
 pub mod Marks
+pub mod Options
 pub mod Resolved
+pub mod Scopes

@@ -6,7 +6,8 @@ ghost use Rattle.dom_md.specs.Cells.{AddsBackslashes, BarsAreEscaped, in_cell};
 use dom_nodes::fault::OutOfMemory;
 use std::alloc::{AllocError, Global};
 
-/// Puts a backslash before each `|` that none stands before. Where memory is refused the text stays as it was.
+/// Puts a backslash before each `|` that none stands before. Where memory is refused the text stays
+/// as it was.
 pub fn escape_table_cell_inplace(text: &mut String) -> Result<(), OutOfMemory>
     ensures value { OnOk result (string_bytes text.new ≡ in_cell (string_bytes text.old)) }
     ensures bars { OnOk result (BarsAreEscaped (string_bytes text.new)) }

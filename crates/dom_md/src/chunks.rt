@@ -2,16 +2,18 @@
 
 ghost use Rattle.std.specs.Char.{is_ascii_digit};
 ghost use Rattle.std.specs.List.{list_all};
-ghost use Rattle.std.specs.Prelude.{◌≡◌, ◌<◌, ◌+◌, ◌++◌, drop, length, slice_index_or, IfOk, MatchOption, OnErr, OnOk, if◌then◌else◌, string_bytes, true};
-ghost use Rattle.dom_md.specs.Chunks.{escaped, begins_block, is_list_marker, is_mark, is_marked, is_stop, is_underline, line_mark, with_marks};
+ghost use Rattle.std.specs.Prelude.{◌≡◌, ◌<◌, ◌+◌, ◌++◌, drop, length, slice_index_or, true};
+ghost use Rattle.std.specs.Prelude.{IfOk, MatchOption, OnErr, OnOk, if◌then◌else◌, string_bytes};
+ghost use Rattle.dom_md.specs.Chunks.{escaped, begins_block, is_list_marker, is_mark, is_marked};
+ghost use Rattle.dom_md.specs.Chunks.{is_stop, is_underline, line_mark, with_marks};
 ghost use Rattle.dom_md.specs.Marks.{Cuts, IsFirstMark};
 ghost use Rattle.dom_md.specs.Resolved.{Resolves};
 
 use dom_nodes::fault::OutOfMemory;
 use std::alloc::{AllocError, Global};
 
-/// Adds a chunk; with `escape`, a backslash stands before what Markdown would read as a mark. Where memory is refused the text
-/// stays as it was.
+/// Adds a chunk; with `escape`, a backslash stands before what Markdown would read as a mark. Where
+/// memory is refused the text stays as it was.
 pub fn push_escaped_chunk(
     text: &mut String,
     chunk: &str,
@@ -20,7 +22,8 @@ pub fn push_escaped_chunk(
 ) -> Result<(), OutOfMemory>
     ensures added { OnOk result (string_bytes text.new
         ≡ string_bytes text.old ++ (if escape then escaped line_start chunk.now else chunk.now)) }
-    ensures resolves { OnOk result (escape ≡ true → Resolves (string_bytes text.old) (string_bytes text.new) chunk.now) }
+    ensures resolves { OnOk result (escape ≡ true
+        → Resolves (string_bytes text.old) (string_bytes text.new) chunk.now) }
     ensures err { OnErr result (string_bytes text.new ≡ string_bytes text.old) }
 {
     if !escape {

@@ -1,8 +1,12 @@
 //! What a writer of Markdown knows of where it writes: options, emphasis and lists.
 
-ghost use Rattle.std.specs.Prelude.{◌≡◌, ◌+◌, ◌<◌, ◌≤◌, ◌^◌, IfOk, false, string_bytes};
-ghost use Rattle.std.specs.Str.{bytes_eq};
-ghost use Rattle.dom_md.specs.Context.{advanced, advanced_opts, all_off, digit_count, has_scope, item_opts, kind_offset, line_break, merged, prefix_of, scope_of, with_include_node, with_inline, with_link_body, with_list_item, with_offset, with_scope, with_skip_escape, with_skip_md, with_table_cell};
+ghost use Rattle.std.specs.Prelude.{◌≡◌, ◌≤◌, IfOk, false, string_bytes};
+ghost use Rattle.dom_md.specs.Context.{advanced, digit_count, kind_offset, line_break, prefix_of};
+ghost use Rattle.dom_md.specs.Options.{advanced_opts, all_off, item_opts, with_include_node};
+ghost use Rattle.dom_md.specs.Options.{with_inline, with_link_body, with_list_item, with_offset};
+ghost use Rattle.dom_md.specs.Options.{with_scope, with_skip_escape, with_skip_md};
+ghost use Rattle.dom_md.specs.Options.{with_table_cell};
+ghost use Rattle.dom_md.specs.Scopes.{has_scope, merged};
 
 use dom_nodes::fault::OutOfMemory;
 use std::alloc::Global;
@@ -39,17 +43,6 @@ impl EmphasisScope {
         }
     }
 
-    /// What a marker stands for: `*` for italic, any other for bold.
-    pub fn from_marker(marker: &str) -> EmphasisScope
-        ensures { result ≡ scope_of marker.now }
-    {
-        if marker == "*" {
-            EmphasisScope::ITALIC
-        } else {
-            EmphasisScope::BOLD
-        }
-    }
-
     /// Whether all of the other's emphasis is in this one.
     pub const fn contains(self, other: EmphasisScope) -> bool
         ensures { result ≡ has_scope self other }
@@ -64,6 +57,22 @@ impl EmphasisScope {
         EmphasisScope {
             bold: self.bold || other.bold,
             italic: self.italic || other.italic,
+        }
+    }
+}
+
+/// What a marker stands for: `*` for italic, any other for bold.
+impl From<&str> for EmphasisScope {
+    ghost use Rattle.std.specs.Prelude.{◌≡◌};
+    ghost use Rattle.dom_md.specs.Scopes.{scope_of};
+
+    ghost from_gives = { λ marker made. made ≡ scope_of marker.now };
+
+    fn from(marker: &str) -> EmphasisScope {
+        if marker == "*" {
+            EmphasisScope::ITALIC
+        } else {
+            EmphasisScope::BOLD
         }
     }
 }
@@ -183,8 +192,7 @@ pub enum ListKind {
 impl ListKind {
     /// How far the text of an item stands behind that of the list.
     fn offset(self) -> usize
-        ensures value { result ≡ kind_offset self }
-        ensures small { result ≤ 12 }
+        ensures { result ≡ kind_offset self }
     {
         match self {
             ListKind::Ul => 4,
@@ -236,19 +244,17 @@ pub struct ListContext {
     pub opts: FormatOpts,
     pub kind: ListKind,
     list_indent: usize,
-    ghost room: { list_indent + 12 < 2 ^ 64 },
 }
 
 impl ListContext {
     /// A list written with these options, and with what its items are written.
     pub fn new(opts: FormatOpts, kind: ListKind) -> ListContext
-        requires { opts.offset + 12 < 2 ^ 64 }
-        ensures opts { result.opts ≡ item_opts (kind_offset kind) opts }
+        ensures opts { result.opts ≡ item_opts kind opts }
         ensures kind { result.kind ≡ kind }
         ensures indent { result.list_indent ≡ opts.offset }
     {
         let more = kind.offset();
-        let mut list_opts = opts.offset(opts.offset + more);
+        let mut list_opts = opts.offset(opts.offset.saturating_add(more));
         list_opts.include_node = false;
         ListContext {
             opts: list_opts,
@@ -273,7 +279,8 @@ impl ListContext {
 
     /// What stands before an item.
     pub fn prefix(&self, alloc: Global) -> Result<String, OutOfMemory>
-        ensures { IfOk result (λ text. string_bytes text ≡ prefix_of self.now.kind self.now.opts.table_cell) }
+        ensures { IfOk result (λ text. string_bytes text
+            ≡ prefix_of self.now.kind self.now.opts.table_cell) }
     {
         match self.kind {
             ListKind::Ul => {
@@ -288,7 +295,8 @@ impl ListContext {
     pub fn advance_ol_number(&mut self)
         ensures kind { self.new.kind ≡ advanced self.old.kind }
         ensures indent { self.new.list_indent ≡ self.old.list_indent }
-        ensures opts { self.new.opts ≡ advanced_opts self.old.kind self.old.list_indent self.old.opts }
+        ensures opts { self.new.opts
+            ≡ advanced_opts self.old.kind self.old.list_indent self.old.opts }
     {
         if let ListKind::Ol(n) = self.kind {
             let next = if n < MAX_LIST_NUMBER {
@@ -298,7 +306,7 @@ impl ListContext {
             };
             self.kind = ListKind::Ol(next);
             let more = self.kind.offset();
-            self.opts = self.opts.offset(self.list_indent + more);
+            self.opts = self.opts.offset(self.list_indent.saturating_add(more));
         }
     }
 }

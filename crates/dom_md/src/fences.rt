@@ -3,7 +3,8 @@
 ghost use Rattle.std.specs.Prelude.{◌≡◌, ◌+◌, ◌<◌, ◌≤◌, ◌++◌, ℕ, List, length, max};
 ghost use Rattle.dom_md.specs.Fences.{longest_run, ticks};
 
-/// How many backticks stand round the content: more than any run of backticks in it has, and at least `least`.
+/// How many backticks stand round the content: more than any run of backticks in it has, and at
+/// least `least`.
 pub fn fence_len(content: &str, least: usize) -> usize
     ensures value { result ≡ max least (longest_run content.now + 1) }
     ensures longer { (front text : List ℕ) → content.now ≡ front ++ text → ticks text < result }

@@ -10,9 +10,10 @@ use dom_trees::node_ref::NodeRef;
 mod stack;
 mod steps;
 
-/// The formatted text of what is below the node, without whitespace at its end; empty for an unknown number.
-pub fn formatted_text(node: &NodeRef<'_>) -> Result<String, OutOfMemory>
-    ensures { IfOk result (λ text. string_bytes text ≡ formatted_below node.now.tree.now node.now.id) }
+/// The formatted text of what is below the node, without whitespace at its end.
+pub(crate) fn formatted_text(node: &NodeRef<'_>) -> Result<String, OutOfMemory>
+    ensures { IfOk result (λ text. string_bytes text
+        ≡ formatted_below node.now.tree.now node.now.id) }
 {
     let text = format_children(node.tree, node.id)?;
     Ok(String::from_str(node.tree.allocator(), text.as_str().trim_end())?)
@@ -20,7 +21,8 @@ pub fn formatted_text(node: &NodeRef<'_>) -> Result<String, OutOfMemory>
 
 /// The formatted text of the node with its own tags; empty for an unknown number.
 pub fn formatted_node(node: &NodeRef<'_>) -> Result<String, OutOfMemory>
-    ensures { IfOk result (λ text. string_bytes text ≡ formatted_node node.now.tree.now node.now.id) }
+    ensures { IfOk result (λ text. string_bytes text
+        ≡ formatted_node node.now.tree.now node.now.id) }
 {
     format_node(node.tree, node.id)
 }

@@ -6,6 +6,7 @@ pub mod chunks;
 pub mod context;
 pub mod fences;
 pub mod formatting;
+pub mod node_md;
 
 pub use dom_markup::escaping::html_escape;
 

@@ -3,7 +3,8 @@
 use crate::cells::escape_table_cell_inplace;
 use crate::chunks::push_escaped_chunk;
 use crate::fences::fence_len;
-use crate::formatting::{formatted_node, formatted_text};
+use crate::formatting::formatted_node;
+use crate::node_md::{DocumentMd, NodeMd};
 use dom_markup::document::Document;
 use dom_nodes::node_id::NodeId;
 use dom_trees::node_ref::NodeRef;
@@ -12,7 +13,7 @@ use std::test::Fail;
 
 fn is_formatted(alloc: Global, markup: &str, wanted: &str) -> Result<bool, Fail> {
     let document = Document::parse(alloc, markup)?;
-    let text = formatted_text(&document.root())?;
+    let text = document.formatted_text()?;
     Ok(text.as_str() == wanted)
 }
 
@@ -45,7 +46,7 @@ fn formats_a_node(rt: HostRuntime) -> Result<(), Fail> {
     let document = Document::parse(rt.alloc(), "<div><p>a  b</p><p>c</p></div>")?;
     let div = NodeRef::new(NodeId::new(1).ok_or("id")?, &document.tree);
     assert!(rt; formatted_node(&div)?.as_str() == "a b\n\nc\n\n");
-    assert!(rt; formatted_text(&document.root())?.as_str() == "a b\n\nc");
+    assert!(rt; document.formatted_text()?.as_str() == "a b\n\nc");
     Ok(())
 }
 

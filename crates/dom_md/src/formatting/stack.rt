@@ -1,14 +1,17 @@
-//! The walk that formats a tree, by a stack of what is still to be formatted. Each node is pushed and popped once.
+//! The walk that formats a tree, by a stack of what is still to be formatted. Each node is pushed
+//! and popped once.
 
-ghost use Rattle.std.specs.Prelude.{◌≡◌, ◌<◌, ◌≤◌, ◌+◌, ◌++◌, [], ◌∷◌, IfOk, OnErr, OnOk, Some, string_bytes};
-ghost use Rattle.dom_links.specs.Forest.{forest_of, children_of};
+ghost use Rattle.std.specs.Prelude.{◌≡◌, ◌<◌, ◌≤◌, ◌+◌, ◌++◌, [], ◌∷◌};
+ghost use Rattle.std.specs.Prelude.{IfOk, OnErr, OnOk, Some, string_bytes};
+ghost use Rattle.dom_links.specs.Forest.{forest_of};
 ghost use Rattle.dom_links.specs.Sound.{IsSoundArena};
 ghost use Rattle.dom_links.specs.Texts.{text_of};
-ghost use Rattle.dom_links.specs.Trees.{trees};
 ghost use Rattle.dom_links.specs.Walk.{IsNodeOf, IsWithin};
 ghost use Rattle.dom_markup.specs.Ops.{row_weight, weight_below};
-ghost use Rattle.dom_md.specs.Formatted.{events, folded, formatted_node};
-ghost use Rattle.dom_md.specs.FormatOps.{AreWithin, IsOpWithin, begun, close_events, op_events, op_weight, ops_events, rest_events, row_events, weight};
+ghost use Rattle.dom_md.specs.Formatted.{formatted_node, untrimmed_below};
+ghost use Rattle.dom_md.specs.FormatOps.{AreWithin, Formats, FormatsSome, IsOpWithin, begun};
+ghost use Rattle.dom_md.specs.FormatOps.{close_events, op_events, op_weight, ops_events};
+ghost use Rattle.dom_md.specs.FormatOps.{rest_events, row_events, weight};
 
 use crate::formatting::steps::{add_text, close_element, open_element};
 use dom_links::iters::{find_node, node_at};
@@ -29,7 +32,7 @@ enum FormatOp {
 
 /// Formats what is below the node; nothing for an unknown number.
 pub(super) fn format_children(tree: &Tree, id: NodeId) -> Result<String, OutOfMemory>
-    ensures { IfOk result (λ text. string_bytes text ≡ folded [] (events tree.now (trees tree.now (children_of tree.now id)))) }
+    ensures { IfOk result (λ text. string_bytes text ≡ untrimmed_below tree.now id) }
 {
     let nodes = tree.nodes();
     let mut text = String::new(tree.allocator());
@@ -65,7 +68,8 @@ fn format_ops(
 ) -> Result<(), OutOfMemory>
     requires sound { IsSoundArena nodes.now }
     requires all_within { AreWithin (forest_of nodes.now) ops.items }
-    ensures { OnOk result (string_bytes text.new ≡ folded (string_bytes text.old) (ops_events (forest_of nodes.now) ops.items)) }
+    ensures { Formats (string_bytes text.old) (string_bytes text.new) result
+        (ops_events (forest_of nodes.now) ops.items) }
 {
     while let Some(op) = ops.pop() {
         format_op(nodes, op, &mut ops, text)?;
@@ -83,8 +87,9 @@ fn format_op(
     requires sound { IsSoundArena nodes.now }
     requires known { IsOpWithin (forest_of nodes.now) op }
     requires all_within { AreWithin (forest_of nodes.now) ops.old.items }
-    ensures text { OnOk result (folded (string_bytes text.new) (ops_events (forest_of nodes.now) ops.new.items)
-        ≡ folded (string_bytes text.old) (op_events (forest_of nodes.now) op ++ ops_events (forest_of nodes.now) ops.old.items)) }
+    ensures text { FormatsSome (string_bytes text.old) (string_bytes text.new) result
+        (op_events (forest_of nodes.now) op ++ ops_events (forest_of nodes.now) ops.old.items)
+        (ops_events (forest_of nodes.now) ops.new.items) }
     ensures all_within { OnOk result (AreWithin (forest_of nodes.now) ops.new.items) }
     ensures weight { OnOk result (weight (forest_of nodes.now) ops.new.items
         < op_weight (forest_of nodes.now) op + weight (forest_of nodes.now) ops.old.items) }
@@ -97,7 +102,8 @@ fn format_op(
 
 /// What a node's end adds.
 fn close_node(content: &NodeData, text: &mut String) -> Result<(), OutOfMemory>
-    ensures { OnOk result (string_bytes text.new ≡ folded (string_bytes text.old) (close_events content.now)) }
+    ensures { Formats (string_bytes text.old) (string_bytes text.new) result
+        (close_events content.now) }
 {
     match content {
         NodeData::Element(element) => Ok(close_element(text, element.node_name())?),
@@ -115,8 +121,10 @@ fn open_node(
     requires sound { IsSoundArena nodes.now }
     requires known { IsWithin (forest_of nodes.now) (Some id) }
     requires all_within { AreWithin (forest_of nodes.now) ops.old.items }
-    ensures text { OnOk result (folded (string_bytes text.new) (ops_events (forest_of nodes.now) ops.new.items)
-        ≡ folded (string_bytes text.old) (row_events (forest_of nodes.now) (Some id) ++ ops_events (forest_of nodes.now) ops.old.items)) }
+    ensures text { FormatsSome (string_bytes text.old) (string_bytes text.new) result
+        (row_events (forest_of nodes.now) (Some id)
+        ++ ops_events (forest_of nodes.now) ops.old.items)
+        (ops_events (forest_of nodes.now) ops.new.items) }
     ensures all_within { OnOk result (AreWithin (forest_of nodes.now) ops.new.items) }
     ensures weight { OnOk result (weight (forest_of nodes.now) ops.new.items
         < row_weight (forest_of nodes.now) (Some id) + weight (forest_of nodes.now) ops.old.items) }
@@ -137,9 +145,11 @@ fn begin_node(
     requires sound { IsSoundArena nodes.now }
     requires node { IsNodeOf (forest_of nodes.now) id node.now }
     requires all_within { AreWithin (forest_of nodes.now) ops.old.items }
-    ensures text { OnOk result (string_bytes text.new ≡ begun (forest_of nodes.now) id (string_bytes text.old) node.now.content) }
+    ensures text { OnOk result (string_bytes text.new
+        ≡ begun (forest_of nodes.now) id (string_bytes text.old) node.now.content) }
     ensures rest { OnOk result (ops_events (forest_of nodes.now) ops.new.items
-        ≡ rest_events (forest_of nodes.now) id node.now.content ++ ops_events (forest_of nodes.now) ops.old.items) }
+        ≡ rest_events (forest_of nodes.now) id node.now.content
+        ++ ops_events (forest_of nodes.now) ops.old.items) }
     ensures all_within { OnOk result (AreWithin (forest_of nodes.now) ops.new.items) }
     ensures weight { OnOk result (weight (forest_of nodes.now) ops.new.items
         ≤ 1 + weight_below (forest_of nodes.now) id + weight (forest_of nodes.now) ops.old.items) }
@@ -161,7 +171,8 @@ fn begin_node(
 /// Adds the text of the node as it is.
 fn keep_text(nodes: &[TreeNode], id: NodeId, text: &mut String) -> Result<(), OutOfMemory>
     requires { IsSoundArena nodes.now }
-    ensures { OnOk result (string_bytes text.new ≡ string_bytes text.old ++ text_of (forest_of nodes.now) id) }
+    ensures { OnOk result (string_bytes text.new
+        ≡ string_bytes text.old ++ text_of (forest_of nodes.now) id) }
 {
     let kept = TreeNodeOps::text_of(nodes, &id, *text.allocator())?;
     Ok(text.push_str(kept.as_str())?)
@@ -176,7 +187,8 @@ fn push_open(
     requires within { IsWithin (forest_of nodes.now) first }
     requires all_within { AreWithin (forest_of nodes.now) ops.old.items }
     ensures rest { OnOk result (ops_events (forest_of nodes.now) ops.new.items
-        ≡ row_events (forest_of nodes.now) first ++ ops_events (forest_of nodes.now) ops.old.items) }
+        ≡ row_events (forest_of nodes.now) first
+        ++ ops_events (forest_of nodes.now) ops.old.items) }
     ensures all_within { AreWithin (forest_of nodes.now) ops.new.items }
     ensures weight { OnOk result (weight (forest_of nodes.now) ops.new.items
         ≡ row_weight (forest_of nodes.now) first + weight (forest_of nodes.now) ops.old.items) }

@@ -4,7 +4,10 @@ ghost use Rattle.std.specs.Prelude.{◌≡◌, IfOk, OnOk, encode_utf8_all, fals
 ghost use Rattle.std.specs.List.{list_any};
 ghost use Rattle.std.specs.Str.{bytes_eq, chars};
 ghost use Rattle.dom_markup.specs.Names.{is_among};
-ghost use Rattle.dom_md.specs.Formatted.{block_names, cell_names, drop_spaces, ends_with, ends_with_whitespace, is_fresh, is_parted, joined_words, line_names, spaced_on, with_close, with_gap, with_open, with_text};
+ghost use Rattle.dom_md.specs.Formatted.{block_names, cell_names, drop_spaces, ends_with};
+ghost use Rattle.dom_md.specs.Formatted.{ends_with_whitespace, is_fresh, is_parted};
+ghost use Rattle.dom_md.specs.Formatted.{joined_words, line_names, spaced_on, with_close};
+ghost use Rattle.dom_md.specs.Formatted.{with_gap, with_open, with_text};
 
 use std::alloc::{AllocError, Global};
 
@@ -92,7 +95,8 @@ fn joined_words(alloc: Global, text: &str) -> Result<String, AllocError>
 
 /// The text with one space for each whitespace before a word.
 fn spaced(alloc: Global, text: &str) -> Result<String, AllocError>
-    ensures { IfOk result (λ words. string_bytes words ≡ encode_utf8_all (spaced_on false (chars text.now))) }
+    ensures { IfOk result (λ words. string_bytes words
+        ≡ encode_utf8_all (spaced_on false (chars text.now))) }
 {
     let mut words = String::new(alloc);
     let mut gap = false;

@@ -2,6 +2,7 @@ use Rattle.std.proofs.Common.{◌≡◌, ◌++◌, string_bytes, encode_utf8, ap
 use Rattle.std.specs.Prelude.{if◌then◌else◌}
 use Rattle.std.proofs.lemmas.Iterator.{YieldsList-from_chars}
 use Rattle.std.proofs.lemmas.Iterator.Consumers.{YieldsList-turn, YieldsList-end}
+use Rattle.dom_nodes.specs.Ascii.{space}
 use Rattle.dom_md.proofs.StepLemmas.{spaces_begin, spaces_gap, spaces_letter, spaces_end}
 use Rattle.dom_md.proofs.formatting.steps.spaced.Goals as goal
 use Rattle.dom_md.proofs.formatting.steps.spaced.Goals.{then-gap+in_ok-push, else-gap}
@@ -13,7 +14,7 @@ pub loop-c-preserved : goal.loop-c-preserved
 loop-c-preserved c =
     let t = YieldsList-turn (YieldsList-from_chars c.args.text.now c.utf8.text cc) c.loop-c.yielded _ c.loop-c.yielded_by _ _ c.in-Some.c c.in-Some.is c.next.ensures.steps in
     let old = string_bytes c.loop-c.words in
-    let front : string_bytes c.if-gap.words ≡ old ++ (if c.loop-c.gap then encode_utf8 32 else []) = elim c.if-gap.branch [
+    let front : string_bytes c.if-gap.words ≡ old ++ (if c.loop-c.gap then encode_utf8 space else []) = elim c.if-gap.branch [
       | then-gap+in_ok-push w ↦ ap string_bytes w.words-is ∙ (w.in_ok-push.ensures.bytes ∙ rw w.if-gap.true refl)
       | else-gap w ↦ ap string_bytes w.words-is ∙ rw w.if-gap.false (sym (append-nil old))
     ] in
