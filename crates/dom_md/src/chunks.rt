@@ -161,7 +161,7 @@ fn is_underline(bytes: &[u8]) -> bool
     true
 }
 
-fn is_list_marker(bytes: &[u8]) -> bool
+pub(crate) fn is_list_marker(bytes: &[u8]) -> bool
     ensures { result ≡ is_list_marker bytes.now }
 {
     if bytes.len() < 2 {

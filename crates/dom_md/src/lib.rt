@@ -7,6 +7,7 @@ pub mod context;
 pub mod fences;
 pub mod formatting;
 pub mod node_md;
+pub mod serializer;
 
 pub use dom_markup::escaping::html_escape;
 
