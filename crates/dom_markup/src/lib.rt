@@ -2,7 +2,7 @@
 #![tactic(auto)]
 
 pub mod document;
-mod escaping;
+pub mod escaping;
 pub mod laws;
 mod names;
 mod references;

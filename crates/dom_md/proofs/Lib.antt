@@ -1,0 +1,5 @@
+pub mod CellLemmas
+pub mod ChunkLemmas
+pub mod FenceLemmas
+pub mod StackLemmas
+pub mod StepLemmas

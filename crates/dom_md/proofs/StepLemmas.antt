@@ -1,0 +1,117 @@
+-- The steps of formatting.
+use Rattle.std.proofs.Common.{◌≡◌, ℕ, zero, suc, ◌+◌, ◌-◌, ◌<◌, ◌≤◌, Bool, true, false, List, [], ◌∷◌, ◌++◌, length, take, drop, get_or, refl, sym, ◌∙◌, ap, arith, append-nil, append_assoc, encode_utf8, encode_utf8_all, inl, inr}
+use Rattle.std.specs.Prelude.{◌==◌, ◌&&◌, codes, if◌then◌else◌}
+use Rattle.std.specs.Char.{is_whitespace}
+use Rattle.std.specs.Str.{chars, bytes_eq}
+use Rattle.std.proofs.lemmas.Bool.{cases_Bool, eqb-true, ne_eqb}
+use Rattle.std.proofs.lemmas.List.{at_drop_more, at_drop_all, length_push}
+use Rattle.dom_nodes.specs.Ascii.{space}
+use Rattle.dom_md.specs.Formatted.{drop_spaces, ends_with, spaced_on}
+
+-- ---- spaces at the end
+
+pub drop_spaces-space : (text : List ℕ) → drop_spaces (text ++ space ∷ []) ≡ drop_spaces text
+drop_spaces-space [] = refl
+drop_spaces-space (b ∷ text) = rw (drop_spaces-space text) refl
+
+ends-more : (b d : ℕ) (text : List ℕ) → ends_with (codes " ") (b ∷ d ∷ text) ≡ ends_with (codes " ") (d ∷ text)
+ends-more b d text =
+    let from : length (b ∷ d ∷ text) - 1 ≡ suc (length (d ∷ text) - 1) = omega arith in
+    ap (λ n. bytes_eq (drop n (b ∷ d ∷ text)) (space ∷ [])) from
+
+some_left : (b : ℕ) (text : List ℕ) → (length (b ∷ text) == 0) ≡ false
+some_left b text = ne_eqb (length (b ∷ text)) 0 (λ e. omega arith)
+
+and-false : (a b : Bool) → b ≡ false → (a && b) ≡ false
+and-false true b h = h
+and-false false b h = refl
+
+last-one : (b : ℕ) → bytes_eq (b ∷ []) (space ∷ []) ≡ false → (b == space) ≡ false
+last-one b h = elim (cases_Bool (b == space)) [
+  | inl t ↦ (let no_end : bytes_eq (b ∷ []) (space ∷ []) ≡ true = rw t refl in absurd (cc))
+  | inr f ↦ f
+]
+
+pub drop_spaces-none : (text : List ℕ) → ends_with (codes " ") text ≡ false → drop_spaces text ≡ text
+drop_spaces-none [] h = refl
+drop_spaces-none (b ∷ []) h = rw (last-one b h) refl
+drop_spaces-none (b ∷ d ∷ text) h =
+    let rest = drop_spaces-none (d ∷ text) (sym (ends-more b d text) ∙ h) in
+    let some : (b == space && length (drop_spaces (d ∷ text)) == 0) ≡ false = and-false (b == space) _ (ap (λ t. length t == 0) rest ∙ some_left d text) in
+    rw some (ap (λ t. b ∷ t) rest)
+
+-- a text that ends in a space
+pub record EndsInSpace (text : List ℕ) : Type 0 where
+  pub some : 0 < length text
+  pub byte : get_or text (length text - 1) 0 ≡ space
+  pub is : text ≡ take (length text - 1) text ++ space ∷ []
+
+one_space : (b : ℕ) → bytes_eq (b ∷ []) (space ∷ []) ≡ true → b ≡ space
+one_space b h = elim (cases_Bool (b == space)) [
+  | inl t ↦ eqb-true b space t
+  | inr f ↦ (let no_end : bytes_eq (b ∷ []) (space ∷ []) ≡ false = rw f refl in absurd (cc))
+]
+
+pub ends_in_space : (text : List ℕ) → ends_with (codes " ") text ≡ true → EndsInSpace text
+ends_in_space [] h = absurd (cc)
+ends_in_space (b ∷ []) h = let same = one_space b h in record { some = omega arith; byte = same; is = ap (λ n. n ∷ []) same }
+ends_in_space (b ∷ d ∷ text) h =
+    let rest = ends_in_space (d ∷ text) (sym (ends-more b d text) ∙ h) in
+    let from : length (b ∷ d ∷ text) - 1 ≡ suc (length (d ∷ text) - 1) = omega arith in
+    record {
+      some = omega arith;
+      byte = ap (λ n. get_or (b ∷ d ∷ text) n 0) from ∙ rest.byte;
+      is = ap (λ t. b ∷ t) rest.is ∙ ap (λ n. take n (b ∷ d ∷ text) ++ space ∷ []) (sym from);
+    }
+
+-- after the space was taken off
+pub taken_off : (old new : List ℕ) → EndsInSpace old → new ≡ take (length old - 1) old → drop_spaces new ≡ drop_spaces old
+taken_off old new ends is = ap drop_spaces is ∙ (sym (drop_spaces-space (take (length old - 1) old)) ∙ ap drop_spaces (sym ends.is))
+
+pub taken_shorter : (old new : List ℕ) → EndsInSpace old → new ≡ take (length old - 1) old → length new < length old
+taken_shorter old new ends is =
+    let all = ap length ends.is in
+    let some = ends.some in
+    rw is (omega (arith, length-take-le (length old - 1) old))
+  where
+    length-take-le : (n : ℕ) (t : List ℕ) → length (take n t) ≤ n
+    length-take-le zero t = omega arith
+    length-take-le (suc n) [] = omega arith
+    length-take-le (suc n) (x ∷ t) = let rest = length-take-le n t in omega (arith, rest)
+
+-- ---- words
+
+-- what is written, and what is still to come
+abbrev pub Spaces : List ℕ → List ℕ → Bool → List ℕ → Type 0
+Spaces text words gap read = words ++ encode_utf8_all (spaced_on gap (drop (length read) (chars text))) ≡ encode_utf8_all (spaced_on false (chars text))
+
+pub spaces_begin : (text words : List ℕ) → words ≡ [] → Spaces text words false []
+spaces_begin text words empty = rw empty refl
+
+spaces_step : (text old new read : List ℕ) (gap next : Bool) (c : ℕ) → length read < length (chars text) → c ≡ get_or (chars text) (length read) c →
+    old ++ encode_utf8_all (spaced_on gap (c ∷ drop (length read + 1) (chars text))) ≡ new ++ encode_utf8_all (spaced_on next (drop (length read + 1) (chars text))) →
+    Spaces text old gap read → Spaces text new next (read ++ c ∷ [])
+spaces_step text old new read gap next c within is step whole =
+    let n : length (read ++ c ∷ []) ≡ length read + 1 = length_push read c in
+    let here = at_drop_more (λ cs. old ++ encode_utf8_all (spaced_on gap cs)) (chars text) (length read) c within in
+    let same = ap (λ x. old ++ encode_utf8_all (spaced_on gap (x ∷ drop (length read + 1) (chars text)))) is in
+    rw n (sym step ∙ (same ∙ (sym here ∙ whole)))
+
+pub spaces_gap : (text old read : List ℕ) (gap : Bool) (c : ℕ) → length read < length (chars text) → c ≡ get_or (chars text) (length read) c → is_whitespace c ≡ true →
+    Spaces text old gap read → Spaces text old true (read ++ c ∷ [])
+spaces_gap text old read gap c within is white whole = spaces_step text old old read gap true c within is (rw white refl) whole
+
+pub spaces_letter : (text old new read : List ℕ) (gap : Bool) (c : ℕ) → length read < length (chars text) → c ≡ get_or (chars text) (length read) c → is_whitespace c ≡ false →
+    new ≡ old ++ ((if gap then encode_utf8 space else []) ++ encode_utf8 c) → Spaces text old gap read → Spaces text new false (read ++ c ∷ [])
+spaces_letter text old new read true c within is letter made whole =
+    let rest = encode_utf8_all (spaced_on false (drop (length read + 1) (chars text))) in
+    spaces_step text old new read true false c within is
+    (rw letter (ap (λ t. old ++ t) (sym (append_assoc (encode_utf8 space) (encode_utf8 c) rest)) ∙ (sym (append_assoc old (encode_utf8 space ++ encode_utf8 c) rest) ∙ ap (λ t. t ++ rest) (sym made)))) whole
+spaces_letter text old new read false c within is letter made whole =
+    let rest = encode_utf8_all (spaced_on false (drop (length read + 1) (chars text))) in
+    spaces_step text old new read false false c within is
+    (rw letter (sym (append_assoc old (encode_utf8 c) rest) ∙ ap (λ t. t ++ rest) (sym made))) whole
+
+pub spaces_end : (text words : List ℕ) (gap : Bool) (read : List ℕ) → length (chars text) ≤ length read → Spaces text words gap read → words ≡ encode_utf8_all (spaced_on false (chars text))
+spaces_end text words gap read past whole =
+    sym (append-nil words) ∙ (ap (λ t. words ++ t) (sym (at_drop_all (λ cs. encode_utf8_all (spaced_on gap cs)) (chars text) (length read) past)) ∙ whole)

@@ -1,0 +1,11 @@
+use Rattle.std.proofs.Common.{◌++◌, ◌∙◌, ap, string_bytes}
+use Rattle.dom_md.specs.Chunks.{escaped}
+use Rattle.dom_md.proofs.ChunkLemmas.{resolved-escaped}
+use Rattle.dom_md.proofs.chunks.push_escaped_chunk.Goals as goal
+
+pub returns-clause-resolves : goal.returns-clause-resolves
+returns-clause-resolves c = λ on. record {
+  added = escaped c.args.line_start c.args.chunk.now;
+  is = c.in_ok-push_str-2.ensures.bytes ∙ ap (λ t. string_bytes c.args.text.now ++ t) (c.as_str.ensures.value ∙ c.in_ok-escaped.ensures);
+  resolves = resolved-escaped c.args.line_start c.args.chunk.now;
+}

@@ -1,0 +1,49 @@
+use Rattle.std.proofs.Common.{◌≡◌, ◌∙◌, sym, ap, true, false, arith}
+use Rattle.std.specs.Prelude.{codes}
+use Rattle.std.specs.Str.{bytes_eq}
+use Rattle.dom_links.specs.Forest.{forest_of}
+use Rattle.dom_markup.proofs.OpsLemmas.{on_ok, on_ok-any}
+use Rattle.dom_markup.proofs.RowLemmas.{known_node}
+use Rattle.dom_md.specs.declared.formatting.stack.FormatOp.TheVariants.{Close}
+use Rattle.dom_md.proofs.StackLemmas.{pushed, pre-rest, children-rest, children-weight, children-within}
+use Rattle.dom_md.proofs.formatting.stack.begin_node.Goals as goal
+
+pub returns-then-eq-clause-rest : goal.returns-then-eq-clause-rest
+returns-then-eq-clause-rest c =
+    let forest = forest_of c.args.nodes.now in
+    let p = pushed forest c.args.ops.now.items c.push_op.new.ops.items (Close c.args.id) (known_node _ c.args.id _ c.requires.node.content_is) c.requires.all_within c.in_ok-push_op-in-Element.ensures.ok in
+    let pre : bytes_eq c.in-Element.element.name.local (codes "pre") ≡ true = ap (λ t. bytes_eq t (codes "pre")) (sym c.node_name-in-Element.ensures) ∙ (sym c.eq.ensures ∙ c.if-eq.true) in
+    on_ok-any c.keep_text.result (pre-rest forest c.args.id c.args.node.now.content c.in-Element.element c.requires.node.content_is c.in-Element.is pre _ _ p.rest)
+
+pub returns-then-eq-clause-all_within : goal.returns-then-eq-clause-all_within
+returns-then-eq-clause-all_within c =
+    let forest = forest_of c.args.nodes.now in
+    let p = pushed forest c.args.ops.now.items c.push_op.new.ops.items (Close c.args.id) (known_node _ c.args.id _ c.requires.node.content_is) c.requires.all_within c.in_ok-push_op-in-Element.ensures.ok in
+    on_ok-any c.keep_text.result p.all_within
+
+pub returns-then-eq-clause-weight : goal.returns-then-eq-clause-weight
+returns-then-eq-clause-weight c =
+    let forest = forest_of c.args.nodes.now in
+    let p = pushed forest c.args.ops.now.items c.push_op.new.ops.items (Close c.args.id) (known_node _ c.args.id _ c.requires.node.content_is) c.requires.all_within c.in_ok-push_op-in-Element.ensures.ok in
+    let w = p.weight in
+    on_ok-any c.keep_text.result (omega arith)
+
+pub push_open-requires-clause-within : goal.push_open-requires-clause-within
+push_open-requires-clause-within c = children-within (forest_of c.args.nodes.now) c.requires.sound.forest c.args.id c.args.node.now c.requires.node
+
+pub push_open-requires-clause-all_within : goal.push_open-requires-clause-all_within
+push_open-requires-clause-all_within c =
+    (pushed (forest_of c.args.nodes.now) c.args.ops.now.items c.push_op.new.ops.items (Close c.args.id) (known_node _ c.args.id _ c.requires.node.content_is) c.requires.all_within c.in_ok-push_op-in-Element.ensures.ok).all_within
+
+pub returns-else-eq-clause-rest : goal.returns-else-eq-clause-rest
+returns-else-eq-clause-rest c =
+    let forest = forest_of c.args.nodes.now in
+    let p = pushed forest c.args.ops.now.items c.push_op.new.ops.items (Close c.args.id) (known_node _ c.args.id _ c.requires.node.content_is) c.requires.all_within c.in_ok-push_op-in-Element.ensures.ok in
+    let other : bytes_eq c.in-Element.element.name.local (codes "pre") ≡ false = ap (λ t. bytes_eq t (codes "pre")) (sym c.node_name-in-Element.ensures) ∙ (sym c.eq.ensures ∙ c.if-eq.false) in
+    on_ok c.push_open.result (λ more. children-rest forest c.requires.sound.forest c.args.id c.args.node.now c.in-Element.element c.requires.node c.in-Element.is other _ _ _ p.rest more) c.push_open.ensures.rest
+
+pub returns-else-eq-clause-weight : goal.returns-else-eq-clause-weight
+returns-else-eq-clause-weight c =
+    let forest = forest_of c.args.nodes.now in
+    let p = pushed forest c.args.ops.now.items c.push_op.new.ops.items (Close c.args.id) (known_node _ c.args.id _ c.requires.node.content_is) c.requires.all_within c.in_ok-push_op-in-Element.ensures.ok in
+    on_ok c.push_open.result (λ more. children-weight forest c.requires.sound.forest c.args.id c.args.node.now c.requires.node _ _ _ p.weight more) c.push_open.ensures.weight

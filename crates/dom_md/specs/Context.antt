@@ -1,0 +1,33 @@
+-- Lists: their marks and numbers, and how far their items stand from the left.
+use Rattle.std.specs.Prelude.{ℕ, ◌+◌, ◌-◌, ◌^◌, Bool, List, ◌++◌, codes, max, min, nat_lt, if◌then◌else◌}
+use Rattle.std.specs.Fmt.{decimal}
+use Rattle.dom_md.specs.declared.context.ListKind.{ListKind}
+use Rattle.dom_md.specs.declared.context.ListKind.TheVariants.{Ul, Ol}
+
+-- so much further from the left, as far as a number goes
+abbrev pub further : ℕ → ℕ → ℕ
+further offset more = min (offset + more) (2 ^ 64 - 1)
+
+-- how many decimal digits a number of at most ten has
+abbrev pub digit_count : ℕ → ℕ
+digit_count n =
+    if nat_lt n 10 then 1 else if nat_lt n 100 then 2 else if nat_lt n 1000 then 3 else if nat_lt n 10000 then 4 else if nat_lt n 100000 then 5
+    else if nat_lt n 1000000 then 6 else if nat_lt n 10000000 then 7 else if nat_lt n 100000000 then 8 else if nat_lt n 1000000000 then 9 else 10
+
+-- how far the text of an item stands behind that of the list
+abbrev pub kind_offset : ListKind → ℕ
+kind_offset Ul = 4
+kind_offset (Ol n) = max 4 (digit_count n + 2)
+
+-- the next number, up to the limit
+abbrev pub advanced : ListKind → ListKind
+advanced Ul = Ul
+advanced (Ol n) = Ol (min (n + 1) 999999999)
+
+-- what stands before an item
+abbrev pub prefix_of : ListKind → (cell : Bool) → List ℕ
+prefix_of Ul cell = if cell then codes "+ " else codes "- "
+prefix_of (Ol n) cell = decimal n ++ codes ". "
+
+abbrev pub line_break : (cell : Bool) → List ℕ
+line_break cell = if cell then codes "<br>" else codes "\n"

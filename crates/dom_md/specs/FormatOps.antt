@@ -1,0 +1,68 @@
+-- The stack of what is still to be formatted, the last entry first.
+use Rattle.std.specs.Prelude.{◌≡◌, ℕ, ◌+◌, ◌<◌, false, List, [], ◌++◌, ◌∷◌, length, Option, Some, OnOk, Result, slice_get, codes, if◌then◌else◌}
+use Rattle.std.specs.Str.{bytes_eq}
+use Rattle.std.specs.Option.{option_map_or}
+use Rattle.dom_nodes.specs.declared.node_data.NodeData.{NodeData}
+use Rattle.dom_nodes.specs.declared.node_data.NodeData.TheVariants.{Text, Element as AnElement}
+use Rattle.dom_links.specs.Forest.{Forest, children_of}
+use Rattle.dom_links.specs.Texts.{text_of}
+use Rattle.dom_links.specs.Trees.{trees}
+use Rattle.dom_links.specs.Walk.{row_on}
+use Rattle.dom_markup.specs.Ops.{row_weight}
+use Rattle.dom_md.specs.declared.formatting.stack.FormatOp.{FormatOp}
+use Rattle.dom_md.specs.declared.formatting.stack.FormatOp.TheVariants.{Open, Close}
+use Rattle.dom_md.specs.Formatted.{Event, events, folded, with_open, with_text}
+use Rattle.dom_md.specs.Formatted.Event.{closes}
+
+-- the events of a node and its later siblings
+abbrev pub row_events : Forest → Option ℕ → List Event
+row_events forest first = events forest (trees forest (row_on forest false first))
+
+abbrev pub close_events : NodeData → List Event
+close_events (AnElement e) = closes e.name.local ∷ []
+close_events _ = []
+
+abbrev pub op_events : Forest → FormatOp → List Event
+op_events forest (Open id) = row_events forest (Some id)
+op_events forest (Close id) = option_map_or close_events (slice_get forest.content id) []
+
+abbrev pub ops_events : Forest → List FormatOp → List Event
+ops_events forest [] = []
+ops_events forest (op ∷ ops) = ops_events forest ops ++ op_events forest op
+
+-- the nodes named on the stack are in the forest
+abbrev pub IsOpWithin : Forest → FormatOp → Type 0
+IsOpWithin forest (Open id) = id < length forest.content
+IsOpWithin forest (Close id) = id < length forest.content
+
+abbrev pub AreWithin : Forest → List FormatOp → Type 0
+AreWithin forest [] = Unit {0}
+AreWithin forest (op ∷ ops) = IsOpWithin forest op × AreWithin forest ops
+
+-- how many steps are left, at most
+abbrev pub op_weight : Forest → FormatOp → ℕ
+op_weight forest (Open id) = row_weight forest (Some id)
+op_weight forest (Close id) = 1
+
+abbrev pub weight : Forest → List FormatOp → ℕ
+weight forest [] = 0
+weight forest (op ∷ ops) = op_weight forest op + weight forest ops
+
+-- the text after the beginning of node n
+abbrev pub begun : Forest → ℕ → List ℕ → NodeData → List ℕ
+begun forest n old (Text contents) = with_text old contents
+begun forest n old (AnElement e) = if bytes_eq e.name.local (codes "pre") then with_open old e.name.local ++ text_of forest n else with_open old e.name.local
+begun forest n old _ = old
+
+-- what then follows within it
+abbrev pub rest_events : Forest → ℕ → NodeData → List Event
+rest_events forest n (AnElement e) = (if bytes_eq e.name.local (codes "pre") then [] else events forest (trees forest (children_of forest n))) ++ closes e.name.local ∷ []
+rest_events forest n _ = []
+
+-- the events were added to the text
+abbrev pub Formats : {T E : Type 0} → (old new : List ℕ) → Result T E → List Event → Type 0
+Formats old new result es = OnOk result (new ≡ folded old es)
+
+-- some of the events that were to come were added, and the others are still to come
+abbrev pub FormatsSome : {T E : Type 0} → (old new : List ℕ) → Result T E → (before after : List Event) → Type 0
+FormatsSome old new result before after = OnOk result (folded new after ≡ folded old before)

@@ -1,0 +1,134 @@
+-- Formatted text: a fold over what opens and closes in a tree, and over its texts.
+use Rattle.std.specs.Prelude.{ℕ, ◌-◌, ◌==◌, ◌&&◌, ◌||◌, nat_lt, not, Bool, true, false, List, [], ◌∷◌, ◌++◌, length, drop, slice_get, codes, encode_utf8_all, if◌then◌else◌}
+use Rattle.std.specs.Char.{is_whitespace}
+use Rattle.std.specs.Option.{option_map_or}
+use Rattle.std.specs.Str.{bytes_eq, chars, trim_start, trim_end}
+use Rattle.dom_nodes.specs.Ascii.{space}
+use Rattle.dom_nodes.specs.declared.node_data.NodeData.{NodeData}
+use Rattle.dom_nodes.specs.declared.node_data.NodeData.TheVariants.{Text, Element as AnElement}
+use Rattle.dom_links.specs.Forest.{Forest, children_of}
+use Rattle.dom_links.specs.Texts.{text_of}
+use Rattle.dom_links.specs.Trees.{Trees, NoTrees, Tree, trees}
+use Rattle.dom_markup.specs.Names.{is_among}
+
+-- ---- names
+
+unfoldable pub block_names : List (List ℕ)
+block_names = codes "article" ∷ codes "blockquote" ∷ codes "section" ∷ codes "div" ∷ codes "p" ∷ codes "pre" ∷ codes "h1" ∷ codes "h2" ∷ codes "h3" ∷ codes "h4" ∷ codes "h5" ∷ codes "h6" ∷ codes "ul" ∷ codes "ol" ∷ codes "dl" ∷ codes "table" ∷ []
+
+unfoldable pub line_names : List (List ℕ)
+line_names = codes "br" ∷ codes "hr" ∷ codes "li" ∷ codes "tr" ∷ []
+
+unfoldable pub cell_names : List (List ℕ)
+cell_names = codes "td" ∷ codes "th" ∷ []
+
+-- ---- ends of a text
+
+abbrev pub ends_with : List ℕ → List ℕ → Bool
+ends_with end text = bytes_eq (drop (length text - length end) text) end
+
+-- the text is empty or ends in a line feed or a space
+abbrev pub is_fresh : List ℕ → Bool
+is_fresh text = length text == 0 || ends_with (codes "\n") text || ends_with (codes " ") text
+
+-- the text is empty or ends in two line feeds
+abbrev pub is_parted : List ℕ → Bool
+is_parted text = length text == 0 || ends_with (codes "\n\n") text
+
+-- the text without the spaces at its end
+abbrev pub drop_spaces : List ℕ → List ℕ
+drop_spaces [] = []
+drop_spaces (b ∷ text) = if b == space && length (drop_spaces text) == 0 then [] else b ∷ drop_spaces text
+
+-- ---- words
+
+-- characters of which none before the first word is whitespace: each further whitespace before a word becomes one space; `gap` says
+-- that whitespace stands right before
+abbrev pub spaced_on : (gap : Bool) → List ℕ → List ℕ
+spaced_on gap [] = []
+spaced_on gap (c ∷ cs) = if is_whitespace c then spaced_on true cs else if gap then space ∷ c ∷ spaced_on false cs else c ∷ spaced_on false cs
+
+-- the words of a text, joined by one space
+abbrev pub joined_words : List ℕ → List ℕ
+joined_words text = encode_utf8_all (spaced_on false (chars (trim_start text)))
+
+abbrev pub begins_with_whitespace : List ℕ → Bool
+begins_with_whitespace text = nat_lt (length (trim_start text)) (length text)
+
+abbrev pub ends_with_whitespace : List ℕ → Bool
+ends_with_whitespace text = nat_lt (length (trim_end text)) (length text)
+
+-- ---- the steps
+
+-- the words that are added, after a space where the text before did not part them
+abbrev pub with_words : (old text words : List ℕ) → List ℕ
+with_words old text words =
+    if length words == 0 then old
+    else if begins_with_whitespace text && not (is_fresh old) then old ++ (codes " " ++ words)
+    else old ++ words
+
+-- a space where the added text ended in whitespace
+abbrev pub with_gap : (text now : List ℕ) → List ℕ
+with_gap text now = if ends_with_whitespace text && not (ends_with_whitespace now) then now ++ codes " " else now
+
+abbrev pub with_text : (old text : List ℕ) → List ℕ
+with_text old text =
+    if is_fresh old && length (joined_words text) == 0 then old
+    else with_gap text (with_words old text (joined_words text))
+
+abbrev pub with_open : (old name : List ℕ) → List ℕ
+with_open old name = if is_among name block_names && not (is_parted old) then old ++ codes "\n" else old
+
+abbrev pub with_close : (old name : List ℕ) → List ℕ
+with_close old name =
+    if is_parted old then old
+    else if is_among name block_names then drop_spaces old ++ codes "\n\n"
+    else if is_among name line_names then drop_spaces old ++ codes "\n"
+    else if is_among name cell_names && not (is_fresh old) then old ++ codes " "
+    else old
+
+-- ---- the fold
+
+-- an element of this name opens or closes; a text; a text that is kept as it is
+pub data Event : Type 0 where
+  opens : List ℕ → Event
+  closes : List ℕ → Event
+  has_text : List ℕ → Event
+  keeps_text : List ℕ → Event
+
+abbrev pub step : List ℕ → Event → List ℕ
+step old (opens name) = with_open old name
+step old (closes name) = with_close old name
+step old (has_text text) = with_text old text
+step old (keeps_text text) = old ++ text
+
+abbrev pub folded : List ℕ → List Event → List ℕ
+folded old [] = old
+folded old (e ∷ es) = folded (step old e) es
+
+-- ---- the events of trees
+
+-- what stands between the tags of an element: a `pre` keeps its text
+abbrev pub inner_events : Forest → ℕ → List ℕ → List Event → List Event
+inner_events forest n name below = if bytes_eq name (codes "pre") then keeps_text (text_of forest n) ∷ [] else below
+
+abbrev pub node_events : Forest → ℕ → NodeData → List Event → List Event
+node_events forest n (Text contents) below = has_text contents ∷ []
+node_events forest n (AnElement e) below = opens e.name.local ∷ inner_events forest n e.name.local below ++ closes e.name.local ∷ []
+node_events forest n _ below = []
+
+abbrev pub events : Forest → Trees → List Event
+events forest NoTrees = []
+events forest (Tree n contents children later) =
+    option_map_or (λ content. node_events forest n content (events forest children)) (slice_get forest.content n) [] ++ events forest later
+
+-- what is below a node, formatted
+abbrev pub untrimmed_below : Forest → ℕ → List ℕ
+untrimmed_below forest n = folded [] (events forest (trees forest (children_of forest n)))
+
+-- the formatted text of what is below a node, and of a node with its own tags
+unfoldable pub formatted_below : Forest → ℕ → List ℕ
+formatted_below forest n = trim_end (untrimmed_below forest n)
+
+unfoldable pub formatted_node : Forest → ℕ → List ℕ
+formatted_node forest n = folded [] (events forest (trees forest (n ∷ [])))

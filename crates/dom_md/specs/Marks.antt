@@ -1,0 +1,15 @@
+-- The first mark of a text.
+use Rattle.std.specs.Prelude.{◌≡◌, ◌<◌, ◌+◌, ℕ, List, ◌∷◌, ◌++◌, length, take, drop, slice_index_or}
+use Rattle.dom_nodes.specs.Ascii.{backslash}
+use Rattle.dom_md.specs.Chunks.{with_marks}
+
+-- a mark stands at this place and none before it
+pub record IsFirstMark (text : List ℕ) (at : ℕ) : Type 0 where
+  pub within : at < length text
+  pub ascii : slice_index_or text at 0 < 128
+  pub whole : with_marks text ≡ take at text ++ backslash ∷ slice_index_or text at 0 ∷ with_marks (drop (at + 1) text)
+
+-- the text is cut at its first mark
+pub record Cuts (text before mark after : List ℕ) : Type 0 where
+  pub whole : with_marks text ≡ before ++ backslash ∷ (mark ++ with_marks after)
+  pub shorter : length after < length text

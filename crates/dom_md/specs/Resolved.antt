@@ -1,0 +1,26 @@
+-- What a text with backslashes stands for.
+use Rattle.std.specs.Prelude.{◌≡◌, ◌++◌, ℕ, ◌==◌, ◌&&◌, ◌||◌, nat_lt, Bool, true, false, List, [], ◌∷◌, if◌then◌else◌}
+use Rattle.dom_nodes.specs.Ascii.{backslash, delete, digit_nine, digit_zero, lower_a, lower_z, space, upper_a, upper_z}
+
+-- ASCII punctuation
+abbrev pub is_punctuation : ℕ → Bool
+is_punctuation b =
+    (nat_lt space b && nat_lt b digit_zero) || (nat_lt digit_nine b && nat_lt b upper_a)
+    || (nat_lt upper_z b && nat_lt b lower_a) || (nat_lt lower_z b && nat_lt b delete)
+
+-- from the left, each backslash that punctuation follows is taken away and that punctuation kept; `held` says that a backslash was
+-- met and what follows it was not
+abbrev pub resolved_on : (held : Bool) → List ℕ → List ℕ
+resolved_on false [] = []
+resolved_on true [] = backslash ∷ []
+resolved_on false (b ∷ text) = if b == backslash then resolved_on true text else b ∷ resolved_on false text
+resolved_on true (b ∷ text) = if is_punctuation b then b ∷ resolved_on false text else backslash ∷ b ∷ resolved_on false text
+
+abbrev pub resolved : List ℕ → List ℕ
+resolved text = resolved_on false text
+
+-- what was added to the old text resolves to the chunk
+pub record Resolves (old new chunk : List ℕ) : Type 0 where
+  pub added : List ℕ
+  pub is : new ≡ old ++ added
+  pub resolves : resolved added ≡ chunk

@@ -1,0 +1,192 @@
+//! Chunks of text that Markdown is to read as they are.
+
+ghost use Rattle.std.specs.Char.{is_ascii_digit};
+ghost use Rattle.std.specs.List.{list_all};
+ghost use Rattle.std.specs.Prelude.{◌≡◌, ◌<◌, ◌+◌, ◌++◌, drop, length, slice_index_or, true};
+ghost use Rattle.std.specs.Prelude.{IfOk, MatchOption, OnErr, OnOk, if◌then◌else◌, string_bytes};
+ghost use Rattle.dom_md.specs.Chunks.{escaped, begins_block, is_list_marker, is_mark, is_marked};
+ghost use Rattle.dom_md.specs.Chunks.{is_stop, is_underline, line_mark, with_marks};
+ghost use Rattle.dom_md.specs.Marks.{Cuts, IsFirstMark};
+ghost use Rattle.dom_md.specs.Resolved.{Resolves};
+
+use dom_nodes::fault::OutOfMemory;
+use std::alloc::{AllocError, Global};
+
+/// Adds a chunk; with `escape`, a backslash stands before what Markdown would read as a mark. Where
+/// memory is refused the text stays as it was.
+pub fn push_escaped_chunk(
+    text: &mut String,
+    chunk: &str,
+    escape: bool,
+    line_start: bool,
+) -> Result<(), OutOfMemory>
+    ensures added { OnOk result (string_bytes text.new
+        ≡ string_bytes text.old ++ (if escape then escaped line_start chunk.now else chunk.now)) }
+    ensures resolves { OnOk result (escape ≡ true
+        → Resolves (string_bytes text.old) (string_bytes text.new) chunk.now) }
+    ensures err { OnErr result (string_bytes text.new ≡ string_bytes text.old) }
+{
+    if !escape {
+        return Ok(text.push_str(chunk)?);
+    }
+    let escaped = escaped(*text.allocator(), chunk, line_start)?;
+    Ok(text.push_str(escaped.as_str())?)
+}
+
+/// The chunk with backslashes.
+fn escaped(alloc: Global, chunk: &str, line_start: bool) -> Result<String, AllocError>
+    ensures { IfOk result (λ made. string_bytes made ≡ escaped line_start chunk.now) }
+{
+    let mut made = String::new(alloc);
+    if line_start {
+        if let Some(at) = line_mark(chunk) {
+            push_marks(&mut made, &chunk[..at])?;
+            made.push('\\')?;
+            push_marks(&mut made, &chunk[at..])?;
+            return Ok(made);
+        }
+    }
+    push_marks(&mut made, chunk)?;
+    Ok(made)
+}
+
+/// Adds the chunk with a backslash before each mark.
+fn push_marks(made: &mut String, chunk: &str) -> Result<(), AllocError>
+    ensures { OnOk result (string_bytes made.new ≡ string_bytes made.old ++ with_marks chunk.now) }
+{
+    let mut rest = chunk;
+    while let Some(marked) = cut_mark(rest) {
+        made.push_str(marked.before)?;
+        made.push('\\')?;
+        made.push_str(marked.mark)?;
+        rest = marked.after;
+    }
+    made.push_str(rest)
+}
+
+/// A mark, the text before it and the text after it.
+#[derive(Clone, Copy)]
+struct Marked<'a> {
+    before: &'a str,
+    mark: &'a str,
+    after: &'a str,
+}
+
+/// The first mark of a text.
+fn cut_mark(text: &str) -> Option<Marked<'_>>
+    ensures { MatchOption result (with_marks text.now ≡ text.now) (λ cut.
+        Cuts text.now cut.before.now cut.mark.now cut.after.now) }
+{
+    let at = find_mark(text.as_bytes())?;
+    Some(Marked {
+        before: &text[..at],
+        mark: &text[at..at + 1],
+        after: &text[at + 1..],
+    })
+}
+
+/// The place of the first mark.
+fn find_mark(bytes: &[u8]) -> Option<usize>
+    ensures { MatchOption result (with_marks bytes.now ≡ bytes.now) (λ at.
+        IsFirstMark bytes.now at) }
+{
+    for at in 0..bytes.len() {
+        if is_marked(bytes, at) {
+            return Some(at);
+        }
+    }
+    None
+}
+
+/// Whether a backslash stands before the byte at this place.
+fn is_marked(bytes: &[u8], at: usize) -> bool
+    requires { at < length bytes.now }
+    ensures { result ≡ is_marked (slice_index_or bytes.now at 0) (drop (at + 1) bytes.now) }
+{
+    if is_mark(bytes[at]) {
+        return true;
+    }
+    if bytes[at] != b'!' {
+        return false;
+    }
+    match bytes[at + 1..].first() {
+        Some(next) => *next == b'[',
+        None => false,
+    }
+}
+
+fn is_mark(byte: u8) -> bool
+    ensures { result ≡ is_mark byte }
+{
+    matches!(
+        byte,
+        b'\\' | b'`' | b'*' | b'_' | b'[' | b']' | b'<' | b'|' | b'~'
+    )
+}
+
+/// The place before which a backslash stands only where the chunk begins a line.
+fn line_mark(chunk: &str) -> Option<usize>
+    ensures value { result ≡ line_mark chunk.now }
+{
+    let bytes = chunk.as_bytes();
+    if begins_block(bytes) || is_underline(bytes) {
+        return Some(0);
+    }
+    if is_list_marker(bytes) {
+        return Some(bytes.len() - 1);
+    }
+    None
+}
+
+fn begins_block(bytes: &[u8]) -> bool
+    ensures { result ≡ begins_block bytes.now }
+{
+    match bytes.first() {
+        Some(first) => matches!(*first, b'#' | b'>' | b'-' | b'+'),
+        None => false,
+    }
+}
+
+fn is_underline(bytes: &[u8]) -> bool
+    ensures { result ≡ is_underline bytes.now }
+{
+    if bytes.is_empty() {
+        return false;
+    }
+    for byte in bytes {
+        if *byte != b'=' {
+            return false;
+        }
+    }
+    true
+}
+
+pub(crate) fn is_list_marker(bytes: &[u8]) -> bool
+    ensures { result ≡ is_list_marker bytes.now }
+{
+    if bytes.len() < 2 {
+        return false;
+    }
+    let last = bytes.len() - 1;
+    if !are_digits(&bytes[..last]) {
+        return false;
+    }
+    is_stop(bytes[last])
+}
+
+fn are_digits(bytes: &[u8]) -> bool
+    ensures { result ≡ list_all is_ascii_digit bytes.now }
+{
+    for byte in bytes {
+        if !byte.is_ascii_digit() {
+            return false;
+        }
+    }
+    true
+}
+
+fn is_stop(byte: u8) -> bool
+    ensures { result ≡ is_stop byte }
+{
+    byte == b'.' || byte == b')'
+}

@@ -1,0 +1,28 @@
+//! Formatted text: the words of a tree, with line feeds where its blocks end.
+
+ghost use Rattle.std.specs.Prelude.{◌≡◌, IfOk, string_bytes};
+ghost use Rattle.dom_md.specs.Formatted.{formatted_below, formatted_node};
+
+use crate::formatting::stack::{format_children, format_node};
+use dom_nodes::fault::OutOfMemory;
+use dom_trees::node_ref::NodeRef;
+
+mod stack;
+mod steps;
+
+/// The formatted text of what is below the node, without whitespace at its end.
+pub(crate) fn formatted_text(node: &NodeRef<'_>) -> Result<String, OutOfMemory>
+    ensures { IfOk result (λ text. string_bytes text
+        ≡ formatted_below node.now.tree.now node.now.id) }
+{
+    let text = format_children(node.tree, node.id)?;
+    Ok(String::from_str(node.tree.allocator(), text.as_str().trim_end())?)
+}
+
+/// The formatted text of the node with its own tags; empty for an unknown number.
+pub fn formatted_node(node: &NodeRef<'_>) -> Result<String, OutOfMemory>
+    ensures { IfOk result (λ text. string_bytes text
+        ≡ formatted_node node.now.tree.now node.now.id) }
+{
+    format_node(node.tree, node.id)
+}

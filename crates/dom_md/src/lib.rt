@@ -1,0 +1,15 @@
+//! Markdown: the pieces that it is written of, and what a writer of it holds; formatted text.
+#![tactic(auto)]
+
+pub mod cells;
+pub mod chunks;
+pub mod context;
+pub mod fences;
+pub mod formatting;
+pub mod node_md;
+pub mod serializer;
+
+pub use dom_markup::escaping::html_escape;
+
+#[cfg(test)]
+mod tests;

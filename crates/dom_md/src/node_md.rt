@@ -1,0 +1,73 @@
+//! What this crate adds to nodes and documents.
+
+use crate::formatting::formatted_text;
+use crate::serializer::serialize_md;
+use dom_markup::document::Document;
+use dom_nodes::fault::OutOfMemory;
+use dom_trees::node_ref::NodeRef;
+
+/// The formatted text and the Markdown of a node.
+pub trait NodeMd {
+    ghost use Rattle.std.specs.Prelude.{◌≡◌, ℕ, IfOk, string_bytes};
+    ghost use Rattle.dom_links.specs.Forest.{Forest};
+    ghost use Rattle.dom_md.specs.Formatted.{formatted_below};
+
+    // The forest of the node's tree.
+    ghost forest: { Self → Forest };
+
+    // The number of the node.
+    ghost number: { Self → ℕ };
+
+    /// The formatted text of what is below the node, without whitespace at its end; empty for an
+    /// unknown number.
+    fn formatted_text(&self) -> Result<String, OutOfMemory>
+        ensures { IfOk result (λ text. string_bytes text
+            ≡ formatted_below (forest self.now) (number self.now)) };
+
+    /// The Markdown of what is below the node; empty for an unknown number. Elements of the names in
+    /// `skip_tags` are left out: `script`, `style`, `meta` and `head` where none are given.
+    fn md(&self, skip_tags: Option<&[&str]>) -> Result<String, OutOfMemory>;
+}
+
+impl<'a> NodeMd for NodeRef<'a> {
+    ghost forest = { λ node. node.tree.now };
+
+    ghost number = { λ node. node.id };
+
+    fn formatted_text(&self) -> Result<String, OutOfMemory> {
+        formatted_text(self)
+    }
+
+    fn md(&self, skip_tags: Option<&[&str]>) -> Result<String, OutOfMemory> {
+        serialize_md(self, false, skip_tags)
+    }
+}
+
+/// The formatted text and the Markdown of a document.
+pub trait DocumentMd {
+    ghost use Rattle.std.specs.Prelude.{◌≡◌, IfOk, string_bytes};
+    ghost use Rattle.dom_links.specs.Forest.{Forest};
+    ghost use Rattle.dom_md.specs.Formatted.{formatted_below};
+
+    // The forest of the document.
+    ghost forest: { Self → Forest };
+
+    /// The formatted text of what is below the root, without whitespace at its end.
+    fn formatted_text(&self) -> Result<String, OutOfMemory>
+        ensures { IfOk result (λ text. string_bytes text ≡ formatted_below (forest self.now) 0) };
+
+    /// The Markdown of what is below the root.
+    fn md(&self, skip_tags: Option<&[&str]>) -> Result<String, OutOfMemory>;
+}
+
+impl DocumentMd for Document {
+    ghost forest = { λ document. document.tree };
+
+    fn formatted_text(&self) -> Result<String, OutOfMemory> {
+        formatted_text(&self.root())
+    }
+
+    fn md(&self, skip_tags: Option<&[&str]>) -> Result<String, OutOfMemory> {
+        serialize_md(&self.root(), false, skip_tags)
+    }
+}

@@ -1,0 +1,192 @@
+//! Markdown of a tree, by a stack of what is still to be written, so without recursion.
+
+mod blocks;
+mod code;
+mod emphasis;
+mod images;
+mod items;
+mod links;
+mod lists;
+mod names;
+mod nodes;
+mod quotes;
+mod tables;
+mod tasks;
+mod texts;
+mod urls;
+
+use crate::context::FormatOpts;
+use crate::serializer::names::is_default_skipped;
+use crate::serializer::tables::Table;
+use crate::serializer::tasks::{Item, Task};
+use crate::serializer::texts::trim_space;
+use dom_nodes::fault::OutOfMemory;
+use dom_nodes::node_id::NodeId;
+use dom_trees::node_ref::NodeRef;
+use dom_trees::tree::Tree;
+
+/// The Markdown of what is below the node, or of the node, too; nothing for an unknown number.
+/// Elements of the names in `skip_tags` are left out: `script`, `style`, `meta` and `head` where
+/// none are given.
+pub fn serialize_md(
+    node: &NodeRef<'_>,
+    include_node: bool,
+    skip_tags: Option<&[&str]>,
+) -> Result<String, OutOfMemory> {
+    MDSerializer::new(node, skip_tags).serialize(include_node)
+}
+
+/// Writes nodes as Markdown.
+#[derive(Clone, Copy, Drop)]
+pub struct MDSerializer<'a> {
+    node: NodeRef<'a>,
+    skip_tags: Option<&'a [&'a str]>,
+}
+
+impl<'a> MDSerializer<'a> {
+    /// Of that node, without elements of those names; without `script`, `style`, `meta` and `head`
+    /// where none are given.
+    pub fn new(node: &NodeRef<'a>, skip_tags: Option<&'a [&'a str]>) -> MDSerializer<'a> {
+        MDSerializer {
+            node: NodeRef::new(node.id, node.tree),
+            skip_tags,
+        }
+    }
+
+    /// The Markdown of what is below the node, or of the node, too.
+    pub fn serialize(&self, include_node: bool) -> Result<String, OutOfMemory> {
+        let mut writer = Writer::new(self.node.tree, self.skip_tags);
+        writer.begin(self.node.id, include_node)?;
+        writer.write_all()?;
+        Ok(writer.text)
+    }
+}
+
+/// A text that is being written, and what is still to be written.
+#[derive(Drop)]
+struct Writer<'a> {
+    tree: &'a Tree,
+    skip_tags: Option<&'a [&'a str]>,
+    /// What is still to be written, the last first.
+    tasks: Vec<Task>,
+    /// The text that is being written.
+    text: String,
+    /// The texts that it will be part of, the outermost first.
+    outer: Vec<String>,
+    /// The items of lists that are being written, the outermost first.
+    items: Vec<Item>,
+    /// The table that is being written; a table with a table below isn't written as one.
+    table: Table,
+}
+
+impl<'a> Writer<'a> {
+    fn new(tree: &'a Tree, skip_tags: Option<&'a [&'a str]>) -> Writer<'a> {
+        let alloc = tree.allocator();
+        Writer {
+            tree,
+            skip_tags,
+            tasks: Vec::new(alloc),
+            text: String::new(alloc),
+            outer: Vec::new(alloc),
+            items: Vec::new(alloc),
+            table: Table::new(alloc),
+        }
+    }
+
+    fn begin(&mut self, id: NodeId, include_node: bool) -> Result<(), OutOfMemory> {
+        if include_node {
+            return self.push(Task::Node {
+                id,
+                opts: FormatOpts::new().include_node(),
+            });
+        }
+        self.push_below(id, FormatOpts::new())
+    }
+
+    /// Writes all that is on the stack. A node is pushed once, so the stack is empty at some time.
+    fn write_all(&mut self) -> Result<(), OutOfMemory> {
+        for _ in 0..u64::MAX {
+            let Some(task) = self.tasks.pop() else {
+                return Ok(());
+            };
+            self.step(task)?;
+        }
+        Ok(())
+    }
+
+    /// Writes the beginning of what a task asks for, and pushes the rest.
+    fn step(&mut self, task: Task) -> Result<(), OutOfMemory> {
+        match task {
+            Task::Row { id, opts } => self.write_row(id, opts),
+            Task::Node { id, opts } => self.open_node(id, opts),
+            Task::Close { id, opts } => self.close_node(id, opts),
+            Task::Trim => trim_space(&mut self.text),
+            Task::EndLine { table_cell } => self.end_line(table_cell),
+            Task::EndEmphasis { marker, merged } => self.end_emphasis(marker, merged),
+            Task::EndLink { id } => self.end_link(id),
+            Task::EndCode { id } => self.end_code(id),
+            Task::EndQuote => self.end_quote(),
+            Task::NextItem { id, context } => self.next_item(id, context),
+            Task::EndList => self.end_list(),
+            Task::NextBlock { id } => self.next_block(id),
+            Task::EndBlock { heading } => self.end_block(heading),
+            Task::EndIndented => self.end_indented(),
+            Task::EndItem => self.end_item(),
+            Task::NextCell => self.next_cell(),
+            Task::EndCell => self.end_cell(),
+        }
+    }
+
+    /// Pushes a task.
+    fn push(&mut self, task: Task) -> Result<(), OutOfMemory> {
+        match self.tasks.push(task) {
+            Ok(()) => Ok(()),
+            Err(_) => Err(OutOfMemory),
+        }
+    }
+
+    /// Pushes what is below the node, and that its text is then trimmed.
+    fn push_below(&mut self, id: NodeId, opts: FormatOpts) -> Result<(), OutOfMemory> {
+        self.push(Task::Trim)?;
+        self.push_children(id, opts)
+    }
+
+    /// Pushes what is below the node.
+    fn push_children(&mut self, id: NodeId, opts: FormatOpts) -> Result<(), OutOfMemory> {
+        let tree = self.tree;
+        let Some(node) = tree.get(&id) else {
+            return Ok(());
+        };
+        match node.first_child {
+            Some(first) => self.push(Task::Row { id: first, opts }),
+            None => Ok(()),
+        }
+    }
+
+    /// Begins a text that will be part of the one that is being written.
+    fn begin_text(&mut self) -> Result<(), OutOfMemory> {
+        let empty = String::new(self.tree.allocator());
+        let outer = std::mem::replace(&mut self.text, empty);
+        match self.outer.push(outer) {
+            Ok(()) => Ok(()),
+            Err(_) => Err(OutOfMemory),
+        }
+    }
+
+    /// Ends the text, goes on with the one that it will be part of, and hands it out.
+    fn end_text(&mut self) -> String {
+        let outer = match self.outer.pop() {
+            Some(outer) => outer,
+            None => String::new(self.tree.allocator()),
+        };
+        std::mem::replace(&mut self.text, outer)
+    }
+
+    /// Whether elements of that name are left out.
+    fn is_skipped(&self, name: &str) -> bool {
+        match self.skip_tags {
+            Some(names) => names.iter().any(|skipped| *skipped == name),
+            None => is_default_skipped(name),
+        }
+    }
+}

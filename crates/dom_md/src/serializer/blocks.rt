@@ -1,0 +1,165 @@
+//! Elements that Markdown has no writing of its own for: blocks, headings, breaks, rules.
+
+use crate::context::FormatOpts;
+use crate::serializer::Writer;
+use crate::serializer::names::{Tag, tag_of};
+use crate::serializer::nodes::can_interrupt_paragraph;
+use crate::serializer::tables::add_cell_break;
+use crate::serializer::tasks::{Marker, Task};
+use crate::serializer::texts::{
+    add_linebreaks, escape_closing_hashes, push_block_space, push_text, trim_end_spaces,
+};
+use dom_nodes::fault::OutOfMemory;
+use dom_nodes::node_data::NodeData;
+use dom_nodes::node_id::NodeId;
+use dom_trees::node_ref::NodeRef;
+
+impl<'a> Writer<'a> {
+    /// Writes a node and pushes its later siblings.
+    pub(super) fn write_row(&mut self, id: NodeId, opts: FormatOpts) -> Result<(), OutOfMemory> {
+        let tree = self.tree;
+        let Some(node) = tree.get(&id) else {
+            return Ok(());
+        };
+        if let Some(next) = node.next_sibling {
+            self.push(Task::Row { id: next, opts })?;
+        }
+        self.open_node(id, opts)
+    }
+
+    /// Writes the beginning of a node.
+    pub(super) fn open_node(&mut self, id: NodeId, opts: FormatOpts) -> Result<(), OutOfMemory> {
+        let tree = self.tree;
+        let Some(node) = tree.get(&id) else {
+            return Ok(());
+        };
+        match &node.content {
+            NodeData::Text { contents } => push_text(&mut self.text, contents.as_str(), opts),
+            NodeData::Element(element) => self.open_element(id, element.node_name(), opts),
+            _ => Ok(()),
+        }
+    }
+
+    fn open_element(
+        &mut self,
+        id: NodeId,
+        name: &str,
+        opts: FormatOpts,
+    ) -> Result<(), OutOfMemory> {
+        if self.is_skipped(name) {
+            return Ok(());
+        }
+        if opts.skip_md {
+            return self.push_plain(id, opts);
+        }
+        let tag = tag_of(name);
+        self.begin_block(id, tag, opts)?;
+        self.write_element(id, tag, opts)
+    }
+
+    /// Parts an element from what stands before it.
+    fn begin_block(&mut self, id: NodeId, tag: Tag, opts: FormatOpts) -> Result<(), OutOfMemory> {
+        if opts.link_body {
+            if tag.is_link_block() {
+                push_block_space(&mut self.text)?;
+            }
+            return Ok(());
+        }
+        if tag.is_block() {
+            self.begin_lines(id, tag, opts)?;
+        }
+        Ok(self.text.push_str(tag.prefix())?)
+    }
+
+    fn begin_lines(&mut self, id: NodeId, tag: Tag, opts: FormatOpts) -> Result<(), OutOfMemory> {
+        if opts.table_cell {
+            return add_cell_break(&mut self.text);
+        }
+        // A blank line before a list in an item would part the paragraphs of the outer list.
+        let is_tight = opts.list_item
+            && tag.is_list()
+            && can_interrupt_paragraph(&NodeRef::new(id, self.tree));
+        let end = if is_tight { "\n" } else { "\n\n" };
+        add_linebreaks(&mut self.text, end)
+    }
+
+    fn write_element(&mut self, id: NodeId, tag: Tag, opts: FormatOpts) -> Result<(), OutOfMemory> {
+        match tag {
+            Tag::Link => self.begin_link(id),
+            Tag::Image => self.write_image(id),
+            Tag::Preformatted => self.write_preformatted(id, opts),
+            Tag::Code => self.begin_code(id, opts),
+            Tag::Strong => self.begin_emphasis(id, Marker::Strong, opts),
+            Tag::Emphasis => self.begin_emphasis(id, Marker::Light, opts),
+            _ if opts.link_body => self.push_plain(id, opts),
+            Tag::UnorderedList | Tag::OrderedList => self.begin_list(id, tag, opts),
+            Tag::Quote => self.begin_quote(id),
+            Tag::Table => self.begin_table(id),
+            _ => self.push_plain(id, opts),
+        }
+    }
+
+    /// Pushes what is below an element, and its end.
+    fn push_plain(&mut self, id: NodeId, opts: FormatOpts) -> Result<(), OutOfMemory> {
+        self.push(Task::Close { id, opts })?;
+        self.push_children(id, opts)
+    }
+
+    /// Writes the end of an element.
+    pub(super) fn close_node(&mut self, id: NodeId, opts: FormatOpts) -> Result<(), OutOfMemory> {
+        let Some(name) = NodeRef::new(id, self.tree).node_name() else {
+            return Ok(());
+        };
+        let double = if opts.table_cell { "<br><br>" } else { "\n\n" };
+        if self.text.as_str().ends_with(double) {
+            return Ok(());
+        }
+        let tag = tag_of(name);
+        if opts.link_body && tag.is_link_block() {
+            return push_block_space(&mut self.text);
+        }
+        if opts.skip_md {
+            return self.close_plain(tag);
+        }
+        self.close_block(tag, opts)
+    }
+
+    /// Ends an element where no Markdown is written: a break is a space.
+    fn close_plain(&mut self, tag: Tag) -> Result<(), OutOfMemory> {
+        if tag == Tag::Break && !self.text.as_str().ends_with(' ') {
+            self.text.push(' ')?;
+        }
+        Ok(())
+    }
+
+    fn close_block(&mut self, tag: Tag, opts: FormatOpts) -> Result<(), OutOfMemory> {
+        if tag.is_heading() {
+            escape_closing_hashes(&mut self.text)?;
+        }
+        if tag.is_block() {
+            if opts.table_cell {
+                return add_cell_break(&mut self.text);
+            }
+            return add_linebreaks(&mut self.text, "\n\n");
+        }
+        match tag {
+            Tag::Break | Tag::Item | Tag::TableRow => self.break_line(opts),
+            _ => Ok(()),
+        }
+    }
+
+    /// Writes a line break within a block.
+    fn break_line(&mut self, opts: FormatOpts) -> Result<(), OutOfMemory> {
+        trim_end_spaces(&mut self.text);
+        if opts.link_body {
+            return Ok(self.text.push_str("<br>")?);
+        }
+        self.text.push_str("  ")?;
+        self.end_line(opts.table_cell)
+    }
+
+    /// Ends a line.
+    pub(super) fn end_line(&mut self, table_cell: bool) -> Result<(), OutOfMemory> {
+        Ok(self.text.push_str(if table_cell { "<br>" } else { "\n" })?)
+    }
+}

@@ -1,0 +1,207 @@
+//! Code: blocks between fences, and spans.
+
+use crate::context::FormatOpts;
+use crate::fences::fence_len;
+use crate::serializer::Writer;
+use crate::serializer::images::first_word;
+use crate::serializer::nodes::contents;
+use crate::serializer::tasks::Task;
+use crate::serializer::texts::push_block_space;
+use dom_nodes::fault::OutOfMemory;
+use dom_nodes::node_id::NodeId;
+use dom_trees::node_ref::NodeRef;
+
+impl<'a> Writer<'a> {
+    /// Writes a code block; in the text of a link a span.
+    pub(super) fn write_preformatted(
+        &mut self,
+        id: NodeId,
+        opts: FormatOpts,
+    ) -> Result<(), OutOfMemory> {
+        let node = NodeRef::new(id, self.tree);
+        let content = node.text()?;
+        if opts.link_body {
+            push_block_space(&mut self.text)?;
+            push_words_as_code(&mut self.text, content.as_str())?;
+            return push_block_space(&mut self.text);
+        }
+        if !self.text.as_str().ends_with("\n\n") {
+            self.text.push('\n')?;
+        }
+        let fence = fence_len(content.as_str(), 3);
+        push_ticks(&mut self.text, fence)?;
+        if let Some(language) = language_of(&node) {
+            push_language(&mut self.text, language)?;
+        }
+        self.text.push('\n')?;
+        push_lines(&mut self.text, content.as_str())?;
+        push_ticks(&mut self.text, fence)?;
+        Ok(self.text.push('\n')?)
+    }
+
+    /// Begins a code span; code of several lines is a block.
+    pub(super) fn begin_code(&mut self, id: NodeId, opts: FormatOpts) -> Result<(), OutOfMemory> {
+        if has_lines(&NodeRef::new(id, self.tree)) {
+            return self.write_preformatted(id, opts);
+        }
+        self.push(Task::EndCode { id })?;
+        self.push(Task::Node {
+            id,
+            opts: FormatOpts::new()
+                .include_node()
+                .inline()
+                .skip_escape()
+                .skip_md(),
+        })?;
+        self.begin_text()
+    }
+
+    pub(super) fn end_code(&mut self, id: NodeId) -> Result<(), OutOfMemory> {
+        let written = self.end_text();
+        let raw = NodeRef::new(id, self.tree).text()?;
+        let code = trimmed_code(written.as_str(), raw.as_str());
+        push_code(&mut self.text, code)
+    }
+}
+
+/// The code without the spaces of an indentation: those beside a line feed at an edge of the text.
+fn trimmed_code<'a>(code: &'a str, raw: &str) -> &'a str {
+    let front = if raw.trim_end_matches(is_blank).ends_with('\n') {
+        code.trim_end_matches(' ')
+    } else {
+        code
+    };
+    if raw.trim_start_matches(is_blank).starts_with('\n') {
+        front.trim_start_matches(' ')
+    } else {
+        front
+    }
+}
+
+fn is_blank(c: char) -> bool {
+    c == ' ' || c == '\t'
+}
+
+/// Whether a text below the node has a line feed between other characters.
+fn has_lines(node: &NodeRef<'_>) -> bool {
+    for below in node.descendants_it() {
+        if let Some(text) = contents(&below) {
+            if text.trim().contains('\n') {
+                return true;
+            }
+        }
+    }
+    false
+}
+
+/// Adds the content of a block, and a line feed where its last line lacks one.
+fn push_lines(text: &mut String, content: &str) -> Result<(), OutOfMemory> {
+    text.push_str(content)?;
+    if !content.is_empty() && !content.ends_with('\n') {
+        text.push('\n')?;
+    }
+    Ok(())
+}
+
+/// Adds the words, joined by one space, as a code span.
+fn push_words_as_code(text: &mut String, content: &str) -> Result<(), OutOfMemory> {
+    let mut code = String::new(*text.allocator());
+    for word in content.split_ascii_whitespace() {
+        if !code.as_str().is_empty() {
+            code.push(' ')?;
+        }
+        code.push_str(word)?;
+    }
+    push_code(text, code.as_str())
+}
+
+/// Adds a code span.
+fn push_code(text: &mut String, code: &str) -> Result<(), OutOfMemory> {
+    if code.is_empty() {
+        return Ok(());
+    }
+    // Two spans side by side would become one.
+    if text.as_str().ends_with('`') {
+        text.push(' ')?;
+    }
+    let fence = fence_len(code, 1);
+    let padded = needs_space(code);
+    push_ticks(text, fence)?;
+    if padded {
+        text.push(' ')?;
+    }
+    text.push_str(code)?;
+    if padded {
+        text.push(' ')?;
+    }
+    push_ticks(text, fence)
+}
+
+/// Whether a space stands between fence and code: where a backtick is at an edge, and where spaces
+/// are at both.
+fn needs_space(code: &str) -> bool {
+    if code.starts_with('`') || code.ends_with('`') {
+        return true;
+    }
+    code.starts_with(' ') && code.ends_with(' ') && !code.trim_end_matches(' ').is_empty()
+}
+
+fn push_ticks(text: &mut String, count: usize) -> Result<(), OutOfMemory> {
+    for _ in 0..count {
+        text.push('`')?;
+    }
+    Ok(())
+}
+
+/// The language of a code block: an attribute of it, or of one of three elements round it, or a
+/// class of the first `code` in it.
+fn language_of<'a>(node: &NodeRef<'a>) -> Option<&'a str> {
+    if let Some(language) = language_at(node) {
+        return Some(language);
+    }
+    for above in node.ancestors_it(Some(3)) {
+        if let Some(language) = language_at(&above) {
+            return Some(language);
+        }
+    }
+    for child in node.children_it(false) {
+        if child.has_name("code") {
+            return language_class(child.attr_or("class", ""));
+        }
+    }
+    None
+}
+
+/// The value of the first attribute that names a language.
+fn language_at<'a>(node: &NodeRef<'a>) -> Option<&'a str> {
+    for attr in node.attrs() {
+        let name = attr.name.local.as_str();
+        if name == "data-lang" || name == "data-language" {
+            return Some(attr.value.as_str());
+        }
+    }
+    None
+}
+
+/// What follows `language-` in the first class that begins with it.
+fn language_class(classes: &str) -> Option<&str> {
+    for class in classes.split_ascii_whitespace() {
+        if let Some(language) = class.strip_prefix("language-") {
+            return Some(language);
+        }
+    }
+    None
+}
+
+/// Adds what a fence can hold of the first word.
+fn push_language(text: &mut String, language: &str) -> Result<(), OutOfMemory> {
+    let Some(word) = first_word(language) else {
+        return Ok(());
+    };
+    for c in word.chars() {
+        if c.is_ascii_alphanumeric() || c == '-' || c == '_' || c == '+' || c == '.' || c == '#' {
+            text.push(c)?;
+        }
+    }
+    Ok(())
+}

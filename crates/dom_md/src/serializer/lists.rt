@@ -1,0 +1,144 @@
+//! Lists, and items without blocks.
+
+use crate::context::{FormatOpts, ListContext, ListKind};
+use crate::serializer::Writer;
+use crate::serializer::names::Tag;
+use crate::serializer::nodes::{has_item_blocks, number_at};
+use crate::serializer::tasks::Task;
+use crate::serializer::texts::{add_linebreaks, push_spaces, trim_end_spaces};
+use dom_nodes::fault::OutOfMemory;
+use dom_nodes::node_id::NodeId;
+use dom_trees::node_ref::NodeRef;
+
+/// The greatest number of an item.
+const MAX_LIST_NUMBER: u32 = 999_999_999;
+
+impl<'a> Writer<'a> {
+    pub(super) fn begin_list(
+        &mut self,
+        id: NodeId,
+        tag: Tag,
+        opts: FormatOpts,
+    ) -> Result<(), OutOfMemory> {
+        let node = NodeRef::new(id, self.tree);
+        if !opts.table_cell {
+            self.push(Task::EndList)?;
+        }
+        match node.first_child() {
+            Some(first) => self.push(Task::NextItem {
+                id: first.id,
+                context: ListContext::new(opts, kind_of(&node, tag)),
+            }),
+            None => Ok(()),
+        }
+    }
+
+    /// Without a blank line, a text after the list would go on with its last item.
+    pub(super) fn end_list(&mut self) -> Result<(), OutOfMemory> {
+        add_linebreaks(&mut self.text, "\n\n")
+    }
+
+    /// Writes a child of a list, and pushes the later ones.
+    pub(super) fn next_item(
+        &mut self,
+        id: NodeId,
+        context: ListContext,
+    ) -> Result<(), OutOfMemory> {
+        let node = NodeRef::new(id, self.tree);
+        let is_item = node.has_name("li");
+        let context = if is_item {
+            renumbered(context, &node)
+        } else {
+            context
+        };
+        let mut after = context;
+        if is_item {
+            after.advance_ol_number();
+        }
+        if let Some(next) = node.next_sibling() {
+            self.push(Task::NextItem {
+                id: next.id,
+                context: after,
+            })?;
+        }
+        if !is_item {
+            return self.push(Task::Node {
+                id,
+                opts: FormatOpts::new().include_node(),
+            });
+        }
+        let prefix = context.prefix(self.tree.allocator())?;
+        if has_item_blocks(&node) {
+            return self.begin_item(id, after, prefix.as_str());
+        }
+        trim_end_spaces(&mut self.text);
+        push_spaces(&mut self.text, context.list_indent_len())?;
+        self.text.push_str(prefix.as_str())?;
+        self.push(Task::EndLine {
+            table_cell: after.opts.table_cell,
+        })?;
+        self.push_below(id, after.opts.list_item())
+    }
+}
+
+/// The kind of a list, with the number of its first item.
+fn kind_of(node: &NodeRef<'_>, tag: Tag) -> ListKind {
+    if tag != Tag::OrderedList {
+        return ListKind::Ul;
+    }
+    match number_at(node, "start") {
+        Some(number) => ListKind::Ol(number),
+        None => ListKind::Ol(1),
+    }
+}
+
+/// The list before an item, which may give its own number.
+fn renumbered(context: ListContext, item: &NodeRef<'_>) -> ListContext {
+    let mut context = context;
+    if let ListKind::Ol(_) = context.kind {
+        if let Some(number) = number_at(item, "value") {
+            context.kind = ListKind::Ol(number);
+        }
+    }
+    context
+}
+
+/// The number that an attribute's value begins with: 0 for a negative one, and no greater than the
+/// limit.
+pub(super) fn parse_list_number(value: &str) -> Option<u32> {
+    let value = value.trim_ascii_start();
+    if let Some(digits) = value.strip_prefix('-') {
+        number_in(digits)?;
+        return Some(0);
+    }
+    match value.strip_prefix('+') {
+        Some(digits) => number_in(digits),
+        None => number_in(value),
+    }
+}
+
+/// The number of the digits that the text begins with, if there are any.
+fn number_in(text: &str) -> Option<u32> {
+    let mut number: Option<u32> = None;
+    for byte in text.as_bytes() {
+        if !byte.is_ascii_digit() {
+            return number;
+        }
+        number = Some(with_digit(number, *byte));
+    }
+    number
+}
+
+/// The number with one digit more.
+fn with_digit(number: Option<u32>, digit: u8) -> u32 {
+    let tens = match number {
+        Some(number) => number.saturating_mul(10),
+        None => 0,
+    };
+    let more = tens.saturating_add(u32::from(digit.saturating_sub(b'0')));
+    if more < MAX_LIST_NUMBER {
+        more
+    } else {
+        MAX_LIST_NUMBER
+    }
+}

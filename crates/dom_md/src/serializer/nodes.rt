@@ -1,0 +1,131 @@
+//! What is asked of nodes.
+
+use crate::serializer::lists::parse_list_number;
+use crate::serializer::names::{Tag, tag_of};
+use dom_nodes::node_data::NodeData;
+use dom_trees::node_ref::NodeRef;
+
+/// What the node is to Markdown.
+pub(super) fn tag(node: &NodeRef<'_>) -> Tag {
+    match node.node_name() {
+        Some(name) => tag_of(name),
+        None => Tag::Other,
+    }
+}
+
+/// The contents of a text.
+pub(super) fn contents<'a>(node: &NodeRef<'a>) -> Option<&'a str> {
+    match &node.tree.get(&node.id)?.content {
+        NodeData::Text { contents } => Some(contents.as_str()),
+        _ => None,
+    }
+}
+
+/// Whether the node is a text without words.
+pub(super) fn is_blank_text(node: &NodeRef<'_>) -> bool {
+    match contents(node) {
+        Some(text) => text.trim_ascii().is_empty(),
+        None => false,
+    }
+}
+
+/// Whether the node is a block that stands in lines of its own in an item.
+pub(super) fn is_item_block(node: &NodeRef<'_>) -> bool {
+    let tag = tag(node);
+    if tag.is_list() {
+        return false;
+    }
+    tag.is_block() || tag == Tag::Preformatted
+}
+
+/// Whether a child of the node is such a block.
+pub(super) fn has_item_blocks(node: &NodeRef<'_>) -> bool {
+    for child in node.children_it(false) {
+        if is_item_block(&child) {
+            return true;
+        }
+    }
+    false
+}
+
+/// Whether the node only holds blocks together.
+pub(super) fn is_block_wrapper(node: &NodeRef<'_>) -> bool {
+    if !node.has_name("div") && !node.has_name("section") && !node.has_name("article") {
+        return false;
+    }
+    for child in node.children_it(false) {
+        if !may_be_wrapped(&child) {
+            return false;
+        }
+    }
+    has_item_blocks(node)
+}
+
+fn may_be_wrapped(node: &NodeRef<'_>) -> bool {
+    let tag = tag(node);
+    if tag == Tag::Table || tag == Tag::Rule {
+        return false;
+    }
+    if tag.is_list() || is_item_block(node) {
+        return true;
+    }
+    node.is_comment() || is_blank_text(node)
+}
+
+/// Whether the list can follow a text without a blank line.
+pub(super) fn can_interrupt_paragraph(list: &NodeRef<'_>) -> bool {
+    let Some(first) = list.first_element_child() else {
+        return false;
+    };
+    if !first.has_name("li") || !begins_with_text(&first) {
+        return false;
+    }
+    if !list.has_name("ol") {
+        return true;
+    }
+    first_number(list, &first) == 1
+}
+
+/// Whether there is a text before the first list in the item.
+fn begins_with_text(item: &NodeRef<'_>) -> bool {
+    for child in item.children_it(false) {
+        if tag(&child).is_list() {
+            return false;
+        }
+        if has_words(&child) {
+            return true;
+        }
+    }
+    false
+}
+
+/// Whether there is a character but whitespace in the text of the node.
+fn has_words(node: &NodeRef<'_>) -> bool {
+    if let Some(text) = contents(node) {
+        return !text.trim().is_empty();
+    }
+    for below in node.descendants_it() {
+        if let Some(text) = contents(&below) {
+            if !text.trim().is_empty() {
+                return true;
+            }
+        }
+    }
+    false
+}
+
+/// The number of the first item of a list.
+fn first_number(list: &NodeRef<'_>, first: &NodeRef<'_>) -> u32 {
+    if let Some(number) = number_at(first, "value") {
+        return number;
+    }
+    match number_at(list, "start") {
+        Some(number) => number,
+        None => 1,
+    }
+}
+
+/// The number that an attribute gives.
+pub(super) fn number_at(node: &NodeRef<'_>, name: &str) -> Option<u32> {
+    parse_list_number(node.attr(name)?)
+}

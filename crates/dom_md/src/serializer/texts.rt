@@ -1,0 +1,190 @@
+//! Steps on the text so far.
+
+use crate::chunks::{is_list_marker, push_escaped_chunk};
+use crate::context::FormatOpts;
+use dom_nodes::fault::OutOfMemory;
+
+/// Keeps what stands before a place where a character begins.
+pub(super) fn cut_at(text: &mut String, end: usize) {
+    if text.is_char_boundary(end) {
+        text.truncate(end);
+    }
+}
+
+/// Takes the spaces at the end away.
+pub(super) fn trim_end_spaces(text: &mut String) {
+    let end = text.as_str().trim_end_matches(' ').len();
+    cut_at(text, end);
+}
+
+/// Takes the whitespace at the end away.
+pub(super) fn trim_end_space(text: &mut String) {
+    let end = text.as_str().trim_ascii_end().len();
+    cut_at(text, end);
+}
+
+/// Takes the whitespace at the start away.
+pub(super) fn trim_start_space(text: &mut String) -> Result<(), OutOfMemory> {
+    let rest = text.as_str().trim_ascii_start();
+    if rest.len() < text.as_str().len() {
+        let trimmed = String::from_str(*text.allocator(), rest)?;
+        *text = trimmed;
+    }
+    Ok(())
+}
+
+/// Takes the whitespace at both ends away.
+pub(super) fn trim_space(text: &mut String) -> Result<(), OutOfMemory> {
+    trim_end_space(text);
+    trim_start_space(text)
+}
+
+/// Adds that many spaces.
+pub(super) fn push_spaces(text: &mut String, count: usize) -> Result<(), OutOfMemory> {
+    for _ in 0..count {
+        text.push(' ')?;
+    }
+    Ok(())
+}
+
+/// Adds line feeds until the text, without the spaces at its end, ends in one, or in two.
+pub(super) fn add_linebreaks(text: &mut String, end: &str) -> Result<(), OutOfMemory> {
+    trim_end_spaces(text);
+    push_linebreaks(text, end)
+}
+
+/// Adds line feeds until the text ends in one, or in two.
+pub(super) fn push_linebreaks(text: &mut String, end: &str) -> Result<(), OutOfMemory> {
+    for _ in 0..2 {
+        if text.as_str().ends_with(end) {
+            return Ok(());
+        }
+        text.push('\n')?;
+    }
+    Ok(())
+}
+
+/// Adds a space where the text doesn't end in whitespace.
+pub(super) fn push_block_space(text: &mut String) -> Result<(), OutOfMemory> {
+    if !text.as_str().is_empty() && !ends_in_whitespace(text.as_str()) {
+        text.push(' ')?;
+    }
+    Ok(())
+}
+
+/// Puts a backslash before a `!` at the end.
+pub(super) fn escape_trailing_bang(text: &mut String) -> Result<(), OutOfMemory> {
+    let Some(front) = text.as_str().strip_suffix('!') else {
+        return Ok(());
+    };
+    let end = front.len();
+    cut_at(text, end);
+    Ok(text.push_str("\\!")?)
+}
+
+/// Puts a backslash before the last `#` signs of a heading, which would be read as its end.
+pub(super) fn escape_closing_hashes(text: &mut String) -> Result<(), OutOfMemory> {
+    let content = text.as_str().trim_end();
+    let stem = content.trim_end_matches('#');
+    if content.len() <= stem.len() || !stem.ends_with(' ') {
+        return Ok(());
+    }
+    let at = stem.len();
+    if text.is_char_boundary(at) {
+        text.insert(at, '\\')?;
+    }
+    Ok(())
+}
+
+/// Adds the words of a text.
+pub(super) fn push_text(
+    text: &mut String,
+    added: &str,
+    opts: FormatOpts,
+) -> Result<(), OutOfMemory> {
+    let fresh = ends_in_gap(text.as_str());
+    if added.trim_ascii().is_empty() {
+        if !fresh && !added.is_empty() {
+            text.push(' ')?;
+        }
+        return Ok(());
+    }
+    push_words(text, added, opts, fresh || text.as_str().is_empty())?;
+    if ends_in_whitespace(added) && !ends_in_whitespace(text.as_str()) {
+        text.push(' ')?;
+    }
+    Ok(())
+}
+
+fn push_words(
+    text: &mut String,
+    added: &str,
+    opts: FormatOpts,
+    fresh: bool,
+) -> Result<(), OutOfMemory> {
+    let escape = !opts.skip_escape;
+    let line_start = begins_line(text.as_str()) || opts.list_item;
+    let parted = (opts.inline || !fresh) && added.trim_ascii_start().len() < added.len();
+    let mut is_first = true;
+    for word in added.split_ascii_whitespace() {
+        if is_first {
+            push_gap(text, word, parted, escape)?;
+        } else {
+            text.push(' ')?;
+        }
+        push_escaped_chunk(text, word, escape, is_first && line_start)?;
+        is_first = false;
+    }
+    Ok(())
+}
+
+/// Adds what stands before the first word of a text: a space, or a backslash where the word would
+/// make a list's mark of the digits before it.
+fn push_gap(text: &mut String, word: &str, parted: bool, escape: bool) -> Result<(), OutOfMemory> {
+    if parted {
+        return Ok(text.push(' ')?);
+    }
+    if escape && (word == "." || word == ")") && ends_in_marker_digits(text.as_str()) {
+        text.push('\\')?;
+    }
+    Ok(())
+}
+
+/// Whether the text ends in digits that begin a line, or an item of a list.
+fn ends_in_marker_digits(text: &str) -> bool {
+    let stem = text.trim_end_matches(|c: char| c.is_ascii_digit());
+    let digits = text.len() - stem.len();
+    if digits < 1 || 9 < digits {
+        return false;
+    }
+    begins_line(before_item_mark(stem).trim_end_matches(' '))
+}
+
+/// What stands before the mark of an item, where the text ends in one; else the text.
+fn before_item_mark(text: &str) -> &str {
+    let Some(marked) = text.strip_suffix(' ') else {
+        return text;
+    };
+    let front = marked.trim_end_matches(|c: char| c != ' ' && c != '\n');
+    let Some(mark) = marked.get(front.len()..) else {
+        return text;
+    };
+    if mark == "-" || mark == "+" || is_list_marker(mark.as_bytes()) {
+        return front;
+    }
+    text
+}
+
+/// Whether the text is empty or ends in a line feed.
+pub(super) fn begins_line(text: &str) -> bool {
+    text.is_empty() || text.ends_with('\n')
+}
+
+/// Whether the text ends in a line feed or a space.
+fn ends_in_gap(text: &str) -> bool {
+    text.ends_with('\n') || text.ends_with(' ')
+}
+
+fn ends_in_whitespace(text: &str) -> bool {
+    text.trim_ascii_end().len() < text.len()
+}
