@@ -5,7 +5,7 @@ use Rattle.dom_links.specs.Forest.{Forest}
 use Rattle.dom_trees.specs.declared.node_ref.NodeRef.{NodeRef}
 use Rattle.dom_select.specs.Syntax.{SelectorList}
 use Rattle.dom_select.specs.Meaning.{Means}
-use Rattle.dom_select.specs.Leftward.{element_at}
+use Rattle.dom_links.specs.ListMoves.{element_at}
 use Rattle.dom_select.specs.Selected.{Picks}
 
 -- the node is an element that the selector means
