@@ -6,6 +6,9 @@ pub mod Items
 pub mod Letters
 pub mod Lines
 pub mod Matches
+pub mod MiniGrammar
+pub mod MiniLetters
+pub mod MiniSyntax
 pub mod Meaning
 pub mod Names
 pub mod Parts

@@ -8,6 +8,7 @@ pub mod fault;
 pub mod laws;
 pub mod matcher;
 mod matching;
+pub mod mini_selector;
 mod names;
 pub mod node_select;
 mod parser;
