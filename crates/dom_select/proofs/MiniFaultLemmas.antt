@@ -3,7 +3,7 @@ use Rattle.std.proofs.Common.{◌≡◌, ℕ, List, [], ◌∷◌, ◌++◌, map
 use Rattle.std.proofs.lemmas.List.{map-append}
 use Rattle.dom_select.specs.declared.mini_selector.fault.MiniFault.{MiniFault}
 use Rattle.dom_select.specs.declared.mini_selector.fault.MiniFault.TheVariants.{NoSelector, BadQuotedValue, Memory}
-use Rattle.dom_select.specs.declared.selector.Combinator.{Combinator}
+use Rattle.dom_select.specs.declared.matcher.syntax.Combinator.{Combinator}
 use Rattle.dom_select.specs.MiniLetters.{after_blanks}
 use Rattle.dom_select.specs.MiniSyntax.{Mini}
 use Rattle.dom_select.specs.MiniGrammar.{IsBadAttr, IsBadMini, IsBadPath, IsBadStep, IsPlainlyNone, MeetsBad, RefusesMini, RefusesPath, SpellsAttr, SpellsFront, SpellsMini, SpellsPath, SpellsStep, TellsBad}

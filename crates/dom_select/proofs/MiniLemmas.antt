@@ -2,10 +2,10 @@
 use Rattle.std.proofs.Common.{◌≡◌, ◌≢◌, ℕ, ◌+◌, ◌<◌, ◌≤◌, List, [], ◌∷◌, ◌++◌, length, drop, Bool, true, false, nat_eq, refl, sym, ap, ◌∙◌, subst, true≢false, MatchBool, Option, Some, None, arith, length-drop}
 use Rattle.std.proofs.lemmas.List.{append-nil}
 use Rattle.dom_nodes.specs.Ascii.{right_bracket}
-use Rattle.dom_select.specs.declared.selector.Combinator.{Combinator}
-use Rattle.dom_select.specs.declared.selector.Operator.{Operator}
+use Rattle.dom_select.specs.declared.matcher.syntax.Combinator.{Combinator}
+use Rattle.dom_select.specs.declared.matcher.syntax.Operator.{Operator}
 use Rattle.dom_select.specs.Attributes.{SpellsOperator}
-use Rattle.dom_select.specs.Letters.{begins}
+use Rattle.dom_select.specs.Characters.{begins}
 use Rattle.dom_select.specs.MiniLetters.{after_blanks, after_while, is_word}
 use Rattle.dom_select.specs.MiniSyntax.{Asked, Mini, has_part}
 use Rattle.dom_select.specs.MiniGrammar.{Excludes, Maybe, AsMany, MeetsBad, SpellsWord, SpellsMarked, SpellsId, SpellsClass, SpellsLead, SpellsQuoted, SpellsBare, SpellsValue, SpellsTest, SpellsAttr, IsBadTest, IsBadAttr, SpellsClasses, SpellsAttrs, SpellsFront, SpellsMini, IsBadMini, SpellsStep, IsBadStep, SpellsPath, IsBadPath}

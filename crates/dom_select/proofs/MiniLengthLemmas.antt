@@ -4,11 +4,11 @@ use Rattle.std.proofs.lemmas.Bool.{true≢false}
 use Rattle.std.specs.Prelude.{is_some, not}
 use Rattle.std.specs.List.{prefix_len, take_while}
 use Rattle.dom_nodes.specs.Ascii.{right_bracket}
-use Rattle.dom_select.specs.declared.selector.Combinator.{Combinator}
-use Rattle.dom_select.specs.declared.selector.Operator.{Operator}
+use Rattle.dom_select.specs.declared.matcher.syntax.Combinator.{Combinator}
+use Rattle.dom_select.specs.declared.matcher.syntax.Operator.{Operator}
 use Rattle.dom_select.specs.Attributes.{SpellsOperator, operator_of}
-use Rattle.dom_select.specs.declared.selector.Operator.TheVariants.{Equal}
-use Rattle.dom_select.specs.Letters.{begins}
+use Rattle.dom_select.specs.declared.matcher.syntax.Operator.TheVariants.{Equal}
+use Rattle.dom_select.specs.Characters.{begins}
 use Rattle.dom_select.specs.MiniLetters.{after_blanks, after_while, is_blank, is_word, isnt}
 use Rattle.dom_select.specs.MiniSyntax.{Asked, Mini, has_part, is_some_of}
 use Rattle.dom_select.specs.MiniGrammar.{Maybe, AsMany, SpellsWord, SpellsMarked, SpellsId, SpellsClass, SpellsLead, SpellsQuoted, SpellsBare, SpellsValue, SpellsTest, SpellsAttr, SpellsClasses, SpellsAttrs, SpellsFront, SpellsMini, SpellsStep, sign_at}

@@ -9,7 +9,7 @@ use Rattle.std.proofs.lemmas.List.Sums.{prefix_len-le-length, prefix_len_passes,
 use Rattle.std.proofs.lemmas.Str.{IsCharBoundary-after_ascii, IsCharBoundary-start}
 use Rattle.dom_select.specs.declared.mini_selector.scan.Stretch.{Stretch}
 use Rattle.dom_select.specs.declared.mini_selector.scan.Stretch.TheVariants.{Blank, Word}
-use Rattle.dom_select.specs.Letters.{begins}
+use Rattle.dom_select.specs.Characters.{begins}
 use Rattle.dom_select.specs.MiniLetters.{is_blank, is_word, isnt, passes}
 
 blank_small : (b : ℕ) → is_blank b ≡ true → b < 128

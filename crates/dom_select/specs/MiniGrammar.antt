@@ -4,11 +4,11 @@ use Rattle.std.specs.List.{take_while}
 use Rattle.dom_nodes.specs.Ascii.{dot, left_bracket, number_sign, right_bracket}
 use Rattle.dom_select.specs.declared.mini_selector.fault.MiniFault.{MiniFault}
 use Rattle.dom_select.specs.declared.mini_selector.fault.MiniFault.TheVariants.{NoSelector, BadQuotedValue, Memory}
-use Rattle.dom_select.specs.declared.selector.Combinator.{Combinator}
-use Rattle.dom_select.specs.declared.selector.Operator.{Operator}
+use Rattle.dom_select.specs.declared.matcher.syntax.Combinator.{Combinator}
+use Rattle.dom_select.specs.declared.matcher.syntax.Operator.{Operator}
 use Rattle.dom_select.specs.Attributes.{SpellsOperator}
 use Rattle.dom_select.specs.Grammar as grammar
-use Rattle.dom_select.specs.Letters.{begins}
+use Rattle.dom_select.specs.Characters.{begins}
 use Rattle.dom_select.specs.MiniLetters.{after_blanks, after_while, is_word, isnt}
 use Rattle.dom_select.specs.MiniSyntax.{Asked, Mini, has_part}
 use Rattle.dom_select.specs.Spelling.{Many, SpellsNone}

@@ -2,9 +2,9 @@
 use Rattle.std.specs.Prelude.{ℕ, List, [], ◌∷◌, Bool, true, false, ◌||◌, Option, None, Some, is_some, map, unwrap_or}
 use Rattle.std.specs.Borrow.{Bor}
 use Rattle.std.specs.Option.{option_copied, option_map}
-use Rattle.dom_select.specs.declared.selector.Combinator.{Combinator}
-use Rattle.dom_select.specs.declared.selector.Combinator.TheVariants.{Descendant}
-use Rattle.dom_select.specs.declared.selector.Operator.{Operator}
+use Rattle.dom_select.specs.declared.matcher.syntax.Combinator.{Combinator}
+use Rattle.dom_select.specs.declared.matcher.syntax.Combinator.TheVariants.{Descendant}
+use Rattle.dom_select.specs.declared.matcher.syntax.Operator.{Operator}
 use Rattle.dom_select.specs.declared.mini_selector.selector.MiniAttr.{MiniAttr}
 
 -- an attribute's name, and how its value is compared with which text, if it is

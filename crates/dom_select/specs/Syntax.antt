@@ -1,7 +1,7 @@
 -- Selectors as trees.
 use Rattle.std.specs.Prelude.{List}
-use Rattle.dom_select.specs.declared.selector.Combinator.{Combinator}
-use Rattle.dom_select.specs.declared.selector.Part.{Part}
+use Rattle.dom_select.specs.declared.matcher.syntax.Combinator.{Combinator}
+use Rattle.dom_select.specs.declared.matcher.syntax.Part.{Part}
 
 mutual
   -- what is asked of one node
@@ -15,8 +15,8 @@ mutual
 
   pub data NestedList : Type 0 where
     -- `:is` and `:where`, `:not`
-    is_some : SelectorList → NestedList
-    is_none : SelectorList → NestedList
+    some_means : SelectorList → NestedList
+    none_means : SelectorList → NestedList
     -- `:has`
     leads_on : SelectorList → NestedList
 

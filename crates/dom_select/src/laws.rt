@@ -8,7 +8,7 @@ ghost use Rattle.dom_select.specs.Css.{css_string, shown};
 ghost use Rattle.dom_select.specs.Grammar.{StandsFor};
 ghost use Rattle.dom_select.specs.MiniGrammar.{Excludes, HasOneReading, IsBadMini, IsBadPath, SpellsMini, SpellsPath};
 ghost use Rattle.dom_select.specs.Selected.{Selected};
-ghost use Rattle.dom_select.specs.Selection.{IsSelection};
+ghost use Rattle.dom_select.specs.Selected.{IsSelection};
 
 /// A text stands for one list of parts at most.
 pub fn one_reading()

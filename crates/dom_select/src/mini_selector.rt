@@ -5,3 +5,4 @@ pub mod fault;
 pub mod parser;
 mod scan;
 pub mod selector;
+mod truth;

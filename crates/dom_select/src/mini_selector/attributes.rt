@@ -2,7 +2,7 @@
 
 ghost use Rattle.std.specs.Prelude.{◌≡◌, map, nat_eq, MatchOption, MatchResult};
 ghost use Rattle.dom_nodes.specs.Ascii.{right_bracket};
-ghost use Rattle.dom_select.specs.Letters.{begins};
+ghost use Rattle.dom_select.specs.Characters.{begins};
 ghost use Rattle.dom_select.specs.MiniGrammar.{IsBadAttr, IsBadTest, IsPlainlyNone, Maybe, MeetsBad, SpellsAttr, SpellsAttrs, SpellsBare, SpellsQuoted, SpellsTest, TellsBad};
 ghost use Rattle.dom_select.specs.MiniSyntax.{asked_of, shown_test};
 ghost use Rattle.dom_select.specs.Spelling.{SpellsNone};
@@ -13,7 +13,7 @@ use crate::mini_selector::scan::{
     after_blanks, split_ascii, split_before, strip, take_operator, take_word,
 };
 use crate::mini_selector::selector::MiniAttr;
-use crate::selector::Operator;
+use crate::matcher::syntax::Operator;
 use std::alloc::Global;
 
 fn is_quote(byte: u8) -> bool

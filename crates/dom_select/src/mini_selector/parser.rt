@@ -9,7 +9,7 @@ use crate::mini_selector::attributes::take_attrs;
 use crate::mini_selector::fault::MiniFault;
 use crate::mini_selector::scan::{after_blanks, take_lead, take_marked, take_word};
 use crate::mini_selector::selector::MiniSelector;
-use crate::selector::Combinator;
+use crate::matcher::syntax::Combinator;
 use std::alloc::{AllocFailed, Global};
 
 /// The combinator at the front, if there is one, and what follows it.

@@ -4,12 +4,12 @@ ghost use Rattle.std.specs.Prelude.{◌≡◌, ◌<◌, ◌∷◌, ℕ, List, Bo
 ghost use Rattle.std.specs.List.{prefix_len, take_while};
 ghost use Rattle.dom_select.specs.Attributes.{SpellsOperator, operator_of};
 ghost use Rattle.dom_select.specs.Grammar.{combinator_of};
-ghost use Rattle.dom_select.specs.Letters.{begins};
+ghost use Rattle.dom_select.specs.Characters.{begins};
 ghost use Rattle.dom_select.specs.MiniLetters.{after_blanks, after_while, isnt, passes};
 ghost use Rattle.dom_select.specs.MiniGrammar.{SpellsLead, SpellsMarked, SpellsWord};
 ghost use Rattle.dom_select.specs.Spelling.{SpellsNone};
 
-use crate::selector::{Combinator, Operator};
+use crate::matcher::syntax::{Combinator, Operator};
 
 /// What a stretch of a mini selector is made of.
 #[derive(Clone, Copy)]

@@ -1,6 +1,6 @@
 //! What a mini selector's text stands for.
 
-use crate::selector::{Combinator, Operator};
+use crate::matcher::syntax::{Combinator, Operator};
 use std::marker::Model;
 
 /// An attribute, and how its value is compared with which text, if it is.

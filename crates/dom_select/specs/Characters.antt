@@ -1,0 +1,35 @@
+-- The characters that the grammar tells apart.
+use Rattle.std.specs.Prelude.{ℕ, ◌+◌, List, [], ◌∷◌, Bool, false, ◌||◌, nat_eq, nat_le, cond, drop}
+use Rattle.std.specs.Char.{is_ascii_alphabetic, is_ascii_digit, is_ascii_whitespace}
+use Rattle.std.specs.List.{prefix_len}
+use Rattle.dom_nodes.specs.Ascii.{carriage_return, form_feed, hyphen, line_feed, underscore}
+
+-- U+FFFD, which stands for what is no character
+abbrev pub replacement_character : ℕ
+replacement_character = 65533
+
+-- line feed, form feed, carriage return
+abbrev pub is_line_end : ℕ → Bool
+is_line_end c = nat_eq c line_feed || nat_eq c form_feed || nat_eq c carriage_return
+
+-- an ASCII letter, `_`, or a character from U+0080 on
+abbrev pub is_name_start : ℕ → Bool
+is_name_start c = is_ascii_alphabetic c || nat_eq c underscore || nat_le 128 c
+
+-- these, a digit or `-`
+abbrev pub is_name_char : ℕ → Bool
+is_name_char c = is_name_start c || is_ascii_digit c || nat_eq c hyphen
+
+-- the text without the tabs, line feeds, form feeds, carriage returns and spaces at its front
+abbrev pub after_white : List ℕ → List ℕ
+after_white text = drop (prefix_len is_ascii_whitespace text) text
+
+-- the text begins with a character that passes the test
+abbrev pub begins : (ℕ → Bool) → List ℕ → Bool
+begins test [] = false
+begins test (c ∷ cs) = test c
+
+-- how often a character stands in the text
+abbrev pub how_many : ℕ → List ℕ → ℕ
+how_many c [] = 0
+how_many c (d ∷ text) = cond (nat_eq d c) 1 0 + how_many c text
