@@ -10,6 +10,10 @@ pub mod Layers
 pub mod LengthLemmas
 pub mod MatchLemmas
 pub mod MeaningLemmas
+pub mod MiniFaultLemmas
+pub mod MiniLemmas
+pub mod MiniLengthLemmas
+pub mod MiniScanLemmas
 pub mod NameLemmas
 pub mod PrintedLemmas
 pub mod ReachLemmas

@@ -9,6 +9,10 @@ pub mod Has
 pub mod Leftward
 pub mod ListsAsTrees
 pub mod Meaning
+pub mod MiniGrammar
+pub mod MiniLetters
+pub mod MiniSyntax
+pub mod MiniTruth
 pub mod Names
 pub mod Parts
 pub mod Pseudos

@@ -6,6 +6,7 @@ ghost use Rattle.dom_select.specs.Strings.{SpellsString};
 ghost use Rattle.dom_select.specs.Syntax.{SelectorList};
 ghost use Rattle.dom_select.specs.Css.{css_string, shown};
 ghost use Rattle.dom_select.specs.Grammar.{StandsFor};
+ghost use Rattle.dom_select.specs.MiniGrammar.{Excludes, HasOneReading, IsBadMini, IsBadPath, SpellsMini, SpellsPath};
 ghost use Rattle.dom_select.specs.Selected.{Selected};
 ghost use Rattle.dom_select.specs.Selected.{IsSelection};
 
@@ -27,4 +28,13 @@ pub fn selected_exactly()
 /// A text written as a string is read as that text, whatever follows it, with U+FFFD for U+0000.
 pub fn printed_string()
     ensures { (text rest : List ℕ) → SpellsString (encode_utf8_all (map shown text)) (css_string text ++ rest) rest }
+{}
+
+/// A text stands for one mini selector at most, and for none where a bad value is met; so does a list of them, and the same is
+/// left of the text.
+pub fn one_mini_reading()
+    ensures mini { HasOneReading SpellsMini }
+    ensures mini_bad { Excludes SpellsMini IsBadMini }
+    ensures path { HasOneReading SpellsPath }
+    ensures path_bad { Excludes SpellsPath IsBadPath }
 {}

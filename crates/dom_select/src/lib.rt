@@ -5,6 +5,7 @@ pub mod css;
 pub mod fault;
 pub mod laws;
 pub mod matcher;
+pub mod mini_selector;
 pub mod node_select;
 #[cfg(test)]
 mod tests;

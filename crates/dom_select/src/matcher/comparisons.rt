@@ -21,7 +21,7 @@ pub(crate) fn passes(comparison: &Comparison, found: &str) -> bool
     )
 }
 
-fn compares(operator: Operator, case: CaseSensitivity, found: &str, value: &str) -> bool
+pub(crate) fn compares(operator: Operator, case: CaseSensitivity, found: &str, value: &str) -> bool
     ensures { result ≡ compares operator case found.now value.now }
 {
     let (text, wanted) = (found.as_bytes(), value.as_bytes());

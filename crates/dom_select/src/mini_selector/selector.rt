@@ -1,0 +1,93 @@
+//! What a mini selector's text stands for.
+
+use crate::matcher::syntax::{Combinator, Operator};
+use std::marker::Model;
+
+/// An attribute, and how its value is compared with which text, if it is.
+#[derive(Clone, Copy, Drop)]
+pub struct MiniAttr<'a> {
+    pub key: &'a str,
+    pub test: Option<(Operator, &'a str)>,
+}
+
+/// A selector of one step: a name, an id, classes and attributes, and how it stands to the step before. Each text is a slice of the
+/// text that was read.
+#[derive(Drop)]
+pub struct MiniSelector<'a> {
+    pub(crate) lead: Option<Combinator>,
+    pub(crate) name: Option<&'a str>,
+    pub(crate) id: Option<&'a str>,
+    pub(crate) classes: Vec<&'a str>,
+    pub(crate) attrs: Vec<MiniAttr<'a>>,
+}
+
+impl<'a> Model for MiniSelector<'a> {
+    ghost use Rattle.std.specs.Prelude.{map};
+    ghost use Rattle.std.specs.Option.{option_copied};
+    ghost use Rattle.dom_select.specs.MiniSyntax.{Mini, asked_of, texts_of};
+
+    ghost Value = { Mini };
+
+    ghost view = { λ mini. record {
+      lead = mini.lead;
+      name = option_copied mini.name;
+      id = option_copied mini.id;
+      classes = texts_of mini.classes.items;
+      attrs = map asked_of mini.attrs.items;
+    } };
+}
+
+impl<'a> MiniSelector<'a> {
+    ghost use Rattle.std.specs.Prelude.{◌≡◌, map};
+    ghost use Rattle.std.specs.Option.{option_copied};
+    ghost use Rattle.dom_select.specs.MiniSyntax.{asked_of, combinator_of, has_part, texts_of};
+
+    /// The local name that is asked for.
+    pub fn name(&self) -> Option<&'a str>
+        ensures { option_copied result ≡ self.now.name }
+    {
+        self.name
+    }
+
+    /// The value of `id` that is asked for.
+    pub fn id(&self) -> Option<&'a str>
+        ensures { option_copied result ≡ self.now.id }
+    {
+        self.id
+    }
+
+    /// The classes that are asked for, in order.
+    pub fn classes(&self) -> &[&'a str]
+        ensures { texts_of result.now ≡ self.now.classes }
+    {
+        self.classes.as_slice()
+    }
+
+    /// The attributes that are asked for, in order.
+    pub fn attrs(&self) -> &[MiniAttr<'a>]
+        ensures { map asked_of result.now ≡ self.now.attrs }
+    {
+        self.attrs.as_slice()
+    }
+
+    /// How a node stands to the one of the step before; without a sign it is below it.
+    pub fn combinator(&self) -> Combinator
+        ensures { result ≡ combinator_of self.now }
+    {
+        match self.lead {
+            Some(combinator) => combinator,
+            None => Combinator::Descendant,
+        }
+    }
+
+    /// Whether it asks for anything, or has a sign.
+    pub(crate) fn has_part(&self) -> bool
+        ensures { result ≡ has_part self.now }
+    {
+        self.lead.is_some()
+            || self.name.is_some()
+            || self.id.is_some()
+            || !self.classes.is_empty()
+            || !self.attrs.is_empty()
+    }
+}

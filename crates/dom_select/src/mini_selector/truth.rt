@@ -1,0 +1,106 @@
+//! Whether a mini selector is true of a node. No memory is taken.
+
+ghost use Rattle.std.specs.Prelude.{◌≡◌, map};
+ghost use Rattle.std.specs.List.{list_all};
+ghost use Rattle.std.specs.Option.{option_copied};
+ghost use Rattle.dom_nodes.specs.Words.{class_words, is_among};
+ghost use Rattle.dom_select.specs.MiniSyntax.{asked_of, shown_test, texts_of};
+ghost use Rattle.dom_select.specs.MiniTruth.{asked_holds, attr_passes, element_passes, id_holds, name_holds, node_passes, test_passes};
+
+use crate::matcher::comparisons::compares;
+use crate::matcher::syntax::Operator;
+use crate::mini_selector::selector::{MiniAttr, MiniSelector};
+use dom_nodes::case_sensitivity::CaseSensitivity;
+use dom_nodes::name::Attr;
+use dom_nodes::node_data::{Element, NodeData};
+
+fn name_holds(name: Option<&str>, element: &Element) -> bool
+    ensures { result ≡ name_holds (option_copied name.entry) element.now }
+{
+    match name {
+        Some(name) => element.node_name() == name,
+        None => true,
+    }
+}
+
+fn id_holds(id: Option<&str>, element: &Element) -> bool
+    ensures { result ≡ id_holds (option_copied id.entry) element.now }
+{
+    let Some(id) = id else {
+        return true;
+    };
+    match element.id() {
+        Some(value) => value == id,
+        None => false,
+    }
+}
+
+fn classes_hold(classes: &[&str], element: &Element) -> bool
+    ensures { result ≡ list_all (λ class. is_among class (class_words element.now.attrs)) (texts_of classes.now) }
+{
+    for class in classes {
+        if !element.has_class(class) {
+            return false;
+        }
+    }
+    true
+}
+
+/// Whether the value isn't empty and is as the operator says.
+fn test_passes(operator: Operator, wanted: &str, value: &str) -> bool
+    ensures { result ≡ test_passes (operator, wanted.now) value.now }
+{
+    !value.is_empty() && compares(operator, CaseSensitivity::CaseSensitive, value, wanted)
+}
+
+fn attr_passes(key: &str, operator: Operator, wanted: &str, attr: &Attr) -> bool
+    ensures { result ≡ attr_passes key.now (operator, wanted.now) attr.now }
+{
+    attr.name.local.as_str() == key && test_passes(operator, wanted, attr.value.as_str())
+}
+
+fn asked_holds(asked: &MiniAttr<'_>, element: &Element) -> bool
+    ensures { result ≡ asked_holds element.now (asked_of asked.now).key (asked_of asked.now).test }
+{
+    let Some((operator, wanted)) = asked.test else {
+        return element.attr(asked.key).is_some();
+    };
+    for attr in element.attrs.as_slice() {
+        if attr_passes(asked.key, operator, wanted, attr) {
+            return true;
+        }
+    }
+    false
+}
+
+fn attrs_hold(attrs: &[MiniAttr<'_>], element: &Element) -> bool
+    ensures { result ≡ list_all (λ asked. asked_holds element.now asked.key asked.test) (map asked_of attrs.now) }
+{
+    for asked in attrs {
+        if !asked_holds(asked, element) {
+            return false;
+        }
+    }
+    true
+}
+
+impl<'a> MiniSelector<'a> {
+    fn passes(&self, element: &Element) -> bool
+        ensures { result ≡ element_passes self.now element.now }
+    {
+        name_holds(self.name, element)
+            && id_holds(self.id, element)
+            && classes_hold(self.classes.as_slice(), element)
+            && attrs_hold(self.attrs.as_slice(), element)
+    }
+
+    /// Whether the node is an element that is all that is asked for.
+    pub(crate) fn match_data(&self, node: &NodeData) -> bool
+        ensures { result ≡ node_passes self.now node.now }
+    {
+        match node.as_element() {
+            Some(element) => self.passes(element),
+            None => false,
+        }
+    }
+}
