@@ -9,7 +9,7 @@ use Rattle.dom_select.specs.Selected.{Selected}
 use Rattle.dom_query.specs.declared.script.Command.{Command}
 use Rattle.dom_query.specs.declared.script.Command.TheVariants.{Nothing, Select, Count, Text, Html, Document}
 use Rattle.dom_query.specs.Out.{Does, DoesAll}
-use Rattle.dom_query.proofs.Writing.{beginning-then, beginning-more}
+use Rattle.dom_markup.proofs.WritingLemmas.{beginning-then, beginning-more}
 
 -- a selector selects one list of nodes at most
 abbrev pub OneSelection : Type 0

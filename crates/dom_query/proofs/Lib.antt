@@ -4,5 +4,5 @@ pub mod Writing
 pub mod Doing
 pub mod Scripts
 pub mod Outputs
-pub mod Telling
+pub mod Refusals
 pub mod Driving

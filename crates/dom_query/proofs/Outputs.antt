@@ -13,7 +13,7 @@ use Rattle.dom_query.specs.Runs.{Began}
 use Rattle.dom_query.specs.Script.{IsScript}
 use Rattle.dom_query.proofs.Doing.{OneSelection, does-all-once}
 use Rattle.dom_query.proofs.Scripts.{OneSelector, no-script-none, no-script-once, script-once}
-use Rattle.dom_query.proofs.Writing.{nothing-begun}
+use Rattle.dom_markup.proofs.WritingLemmas.{nothing-begun}
 
 -- a text spells one list of trees at most
 abbrev pub OneReading : Type 0

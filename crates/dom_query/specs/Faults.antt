@@ -1,5 +1,12 @@
 -- What the faults of single steps tell.
-use Rattle.std.specs.Prelude.{ℕ, List}
+use Rattle.std.specs.Prelude.{◌≡◌, ℕ, List}
+use Rattle.std.specs.Str.{IsUtf8}
+use Rattle.dom_links.specs.Forest.{Forest}
+use Rattle.dom_markup.specs.Markup.{Spells}
+use Rattle.dom_markup.specs.Numbered.{document_of}
+use Rattle.dom_markup.specs.ValueTrees.{ValueTrees}
+use Rattle.dom_markup.specs.declared.serializing.WriteFault.{WriteFault}
+use Rattle.dom_markup.specs.declared.serializing.WriteFault.TheVariants.{Write as NotWritten, Memory as NoRoom}
 use Rattle.dom_markup.specs.Refusals.{BeginsTooManyNodes}
 use Rattle.dom_query.specs.declared.runner.RunFault.{RunFault}
 use Rattle.dom_query.specs.declared.runner.RunFault.TheVariants.{BadScript, BadMarkup, Edit, TooManyNodes, Memory, Write}
@@ -12,6 +19,10 @@ use Rattle.dom_query.specs.Script.{IsNoScript}
 abbrev pub ScriptRefused : List ℕ → ScriptFault → Type 0
 ScriptRefused script (BadLine line) = IsNoScript script line
 ScriptRefused script NoMemory = Unit {0}
+
+-- the text is markup of the trees that the forest is
+abbrev pub IsMarkup : List ℕ → Forest → Type 0
+IsMarkup markup forest = (trees : ValueTrees) × IsUtf8 markup × Spells markup trees × (forest ≡ document_of trees)
 
 -- why a text was not read as markup
 abbrev pub MarkupRefused : List ℕ → RunFault → Type 0
@@ -35,3 +46,8 @@ GaveOut TooManyNodes = ⊥
 abbrev pub fault_of : ScriptFault → RunFault
 fault_of (BadLine line) = BadScript line
 fault_of NoMemory = Memory
+
+-- the fault of a run that tells of a fault in writing
+abbrev pub limit_of : WriteFault → RunFault
+limit_of NotWritten = Write
+limit_of NoRoom = Memory

@@ -2,4 +2,5 @@ pub mod Script
 pub mod Out
 pub mod Faults
 pub mod Runs
+pub mod Telling
 pub mod Drive

@@ -59,3 +59,9 @@ Out markup script text done =
     × DoesAll (document_of trees) (0 ∷ []) commands text
 Out markup script text (bad_script line) = IsNoScript script line × (text ≡ [])
 Out markup script text bad_markup = ((commands : List Command) × IsScript script commands) × IsNoMarkup markup × (text ≡ [])
+
+-- a run has one text and one ending at most
+abbrev pub HasOneOutput : List ℕ → List ℕ → Type 0
+HasOneOutput markup script =
+    (text other : List ℕ) (ending last : Ending) → Out markup script text ending → Out markup script other last
+    → (text ≡ other) × (ending ≡ last)

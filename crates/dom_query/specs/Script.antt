@@ -11,6 +11,10 @@ use Rattle.dom_query.specs.declared.script.Command.TheVariants.{Nothing, Select,
 abbrev pub HasArgument : List ℕ → List ℕ → List ℕ → Type 0
 HasArgument line word argument = (line ≡ word ++ 32 ∷ argument) ⊎ ((line ≡ word) × (argument ≡ []))
 
+-- the line isn't that word, with or without an argument
+abbrev pub HasNoArgument : List ℕ → List ℕ → Type 0
+HasNoArgument line word = (argument : List ℕ) → HasArgument line word argument → ⊥
+
 -- the text stands for no selector
 abbrev pub StandsForNothing : List ℕ → Type 0
 StandsForNothing text = (selector : SelectorList) → StandsFor text selector → ⊥

@@ -3,8 +3,10 @@
 
 mod driver;
 pub mod laws;
+mod numbers;
 mod runner;
 mod script;
+mod telling;
 #[cfg(test)]
 mod tests;
 

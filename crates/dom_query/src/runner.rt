@@ -1,18 +1,14 @@
 //! A script of lines, run over markup.
 
-ghost use Rattle.std.specs.Prelude.{◌≡◌, ◌∷◌, ◌++◌, [], ℕ, List, decimal, length, IfErr, IfOk, OnErr, OnOk};
-ghost use Rattle.std.specs.Io.KnownBytes.{Appends};
-ghost use Rattle.std.specs.Str.{IsUtf8};
+ghost use Rattle.std.specs.Prelude.{◌≡◌, ◌∷◌, [], decimal, length, IfErr, IfOk, OnErr, OnOk};
 ghost use Rattle.dom_markup.specs.Html.{html_of};
-ghost use Rattle.dom_markup.specs.Markup.{Spells};
-ghost use Rattle.dom_markup.specs.Numbered.{document_of};
-ghost use Rattle.dom_markup.specs.ValueTrees.{ValueTrees};
-ghost use Rattle.dom_markup.specs.Writing.{AppendsBeginning, Writes};
-ghost use Rattle.dom_query.specs.Faults.{GaveOut, MarkupRefused};
-ghost use Rattle.dom_query.specs.Out.{Does, DoesAll, first_html, line_of, texts_of};
+ghost use Rattle.dom_markup.specs.Writing.{Writes};
+ghost use Rattle.dom_query.specs.Faults.{GaveOut, IsMarkup, MarkupRefused};
+ghost use Rattle.dom_query.specs.Out.{first_html, line_of, texts_of};
 ghost use Rattle.dom_query.specs.Out.Ending.{done};
-ghost use Rattle.dom_query.specs.Runs.{Began, Ended, Tells};
+ghost use Rattle.dom_query.specs.Runs.{Began, Did, DidAll, DidAllBegin, DidBegin, Ended, Tells};
 
+use crate::numbers::write_number;
 use crate::script::{Command, ScriptFault, read_script};
 use dom_markup::document::Document;
 use dom_markup::serializing::{NodeMarkup, TraversalScope, WriteFault};
@@ -69,9 +65,9 @@ impl From<AllocError> for RunFault {
 }
 
 impl From<WriteFault> for RunFault {
-    ghost use Rattle.dom_query.specs.Faults.{GaveOut};
+    ghost use Rattle.dom_query.specs.Faults.{limit_of};
 
-    ghost from_gives = { λ _ fault. GaveOut fault };
+    ghost from_gives = { λ fault run. run ≡ limit_of fault };
 
     fn from(fault: WriteFault) -> RunFault {
         match fault {
@@ -95,18 +91,18 @@ impl From<ScriptFault> for RunFault {
 }
 
 /// Writes the number of the nodes, and a line feed.
-fn write_count<W: Write>(alloc: Global, selection: &[NodeId], out: &mut W) -> Result<(), RunFault>
-    ensures writes { Writes (W.contents out.old) (W.contents out.new) result (line_of (decimal (length selection.now))) }
-    ensures cause { IfErr result GaveOut }
+fn write_count<W: Write>(selection: &[NodeId], out: &mut W) -> Result<(), WriteFault>
+    ensures { Writes (W.contents out.old) (W.contents out.new) result
+        (line_of (decimal (length selection.now))) }
 {
-    let count = selection.len();
-    let line = format!(in alloc; "{count}\n")?;
-    Ok(write_bytes(out, line.as_bytes())?)
+    write_number(out, selection.len())?;
+    write_bytes(out, b"\n")
 }
 
 /// Writes the texts of the nodes, and a line feed.
 fn write_texts<W: Write>(tree: &Tree, selection: &[NodeId], out: &mut W) -> Result<(), RunFault>
-    ensures writes { Writes (W.contents out.old) (W.contents out.new) result (line_of (texts_of tree.now selection.now)) }
+    ensures writes { Writes (W.contents out.old) (W.contents out.new) result
+        (line_of (texts_of tree.now selection.now)) }
     ensures cause { IfErr result GaveOut }
 {
     for id in selection {
@@ -118,7 +114,8 @@ fn write_texts<W: Write>(tree: &Tree, selection: &[NodeId], out: &mut W) -> Resu
 
 /// Writes the HTML of a node, and a line feed.
 fn write_node<W: Write>(tree: &Tree, id: NodeId, out: &mut W) -> Result<(), WriteFault>
-    ensures { Writes (W.contents out.old) (W.contents out.new) result (line_of (html_of tree.now id)) }
+    ensures { Writes (W.contents out.old) (W.contents out.new) result
+        (line_of (html_of tree.now id)) }
 {
     NodeRef::new(id, tree).write_html(TraversalScope::IncludeNode, out)?;
     write_bytes(out, b"\n")
@@ -126,7 +123,8 @@ fn write_node<W: Write>(tree: &Tree, id: NodeId, out: &mut W) -> Result<(), Writ
 
 /// Writes the HTML of the first node, or nothing, and a line feed.
 fn write_first<W: Write>(tree: &Tree, selection: &[NodeId], out: &mut W) -> Result<(), WriteFault>
-    ensures { Writes (W.contents out.old) (W.contents out.new) result (line_of (first_html tree.now selection.now)) }
+    ensures { Writes (W.contents out.old) (W.contents out.new) result
+        (line_of (first_html tree.now selection.now)) }
 {
     match selection.first() {
         Some(id) => write_node(tree, *id, out),
@@ -141,15 +139,17 @@ fn do_command<W: Write>(
     command: &Command,
     out: &mut W,
 ) -> Result<Vec<NodeId>, RunFault>
-    ensures ok { IfOk result (λ selected. (text : List ℕ) × Does tree.now selection.items command.now text selected.items × Appends (W.contents out.old) (W.contents out.new) text) }
-    ensures begun { OnErr result ((text selected : List ℕ) → Does tree.now selection.items command.now text selected → AppendsBeginning (W.contents out.old) (W.contents out.new) text) }
+    ensures ok { IfOk result (λ selected. Did tree.now selection.items command.now
+        (W.contents out.old) (W.contents out.new) selected.items) }
+    ensures begun { OnErr result (DidBegin tree.now selection.items command.now
+        (W.contents out.old) (W.contents out.new)) }
     ensures cause { IfErr result GaveOut }
 {
     match command {
         Command::Nothing => Ok(selection),
         Command::Select(matcher) => Ok(select_below(tree, &NodeId::root(), matcher)?),
         Command::Count => {
-            write_count(tree.allocator(), &selection, out)?;
+            write_count(&selection, out)?;
             Ok(selection)
         }
         Command::Text => {
@@ -170,7 +170,7 @@ fn do_command<W: Write>(
 /// The root alone.
 fn root_alone(alloc: Global) -> Result<Vec<NodeId>, RunFault>
     ensures ok { IfOk result (λ selection. selection.items ≡ 0 ∷ []) }
-    ensures cause { IfErr result GaveOut }
+    ensures err { IfErr result (λ fault. fault ≡ RunFault.Memory) }
 {
     let mut selection = Vec::new(alloc);
     match selection.push(NodeId::root()) {
@@ -186,8 +186,10 @@ fn do_commands<W: Write>(
     commands: &[Command],
     out: &mut W,
 ) -> Result<(), RunFault>
-    ensures ok { OnOk result ((text : List ℕ) × DoesAll tree.now (0 ∷ []) commands.now text × Appends (W.contents out.old) (W.contents out.new) text) }
-    ensures begun { OnErr result ((text : List ℕ) → DoesAll tree.now (0 ∷ []) commands.now text → AppendsBeginning (W.contents out.old) (W.contents out.new) text) }
+    ensures ok { OnOk result (DidAll tree.now (0 ∷ []) commands.now
+        (W.contents out.old) (W.contents out.new)) }
+    ensures begun { OnErr result (DidAllBegin tree.now (0 ∷ []) commands.now
+        (W.contents out.old) (W.contents out.new)) }
     ensures cause { IfErr result GaveOut }
 {
     dom_select::laws::one_selection();
@@ -200,7 +202,7 @@ fn do_commands<W: Write>(
 
 /// The document that the bytes spell.
 fn read_markup(alloc: Global, markup: &[u8]) -> Result<Document, RunFault>
-    ensures ok { IfOk result (λ document. (trees : ValueTrees) × IsUtf8 markup.now × Spells markup.now trees × (document.tree ≡ document_of trees)) }
+    ensures ok { IfOk result (λ document. IsMarkup markup.now document.tree) }
     ensures refused { IfErr result (MarkupRefused markup.now) }
 {
     let Ok(text) = str::from_utf8(markup) else {
@@ -224,11 +226,14 @@ pub fn run<W: Write>(
     out: &mut W,
 ) -> Result<(), RunFault>
     // All that the run writes was written.
-    ensures done { OnOk result (Ended markup.now script.now (W.contents out.old) (W.contents out.new) done) }
+    ensures done { OnOk result (Ended markup.now script.now
+        (W.contents out.old) (W.contents out.new) done) }
     // After a fault a beginning of it was written, whatever gave out.
-    ensures begun { OnErr result (Began markup.now script.now (W.contents out.old) (W.contents out.new)) }
+    ensures begun { OnErr result (Began markup.now script.now
+        (W.contents out.old) (W.contents out.new)) }
     // When each fault comes.
-    ensures cause { IfErr result (Tells markup.now script.now (W.contents out.old) (W.contents out.new)) }
+    ensures cause { IfErr result (Tells markup.now script.now
+        (W.contents out.old) (W.contents out.new)) }
 {
     dom_markup::laws::one_reading();
     dom_select::laws::one_reading();

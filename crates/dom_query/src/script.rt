@@ -1,8 +1,10 @@
 //! The lines of a script, and the commands that they ask for.
 
-ghost use Rattle.std.specs.Prelude.{◌≡◌, ◌∷◌, ◌++◌, [], ℕ, List, chars, codes, IfErr, IfOk, OnOk, MatchBool, MatchOption, ◌≢◌};
+ghost use Rattle.std.specs.Prelude.{◌≡◌, ◌≢◌, ◌∷◌, ◌++◌, [], chars};
+ghost use Rattle.std.specs.Prelude.{IfErr, IfOk, OnOk, MatchBool, MatchOption};
 ghost use Rattle.dom_query.specs.Faults.{ScriptRefused};
-ghost use Rattle.dom_query.specs.Script.{HasArgument, IsBad, IsCommand, IsScript, StandsForNothing};
+ghost use Rattle.dom_query.specs.Script.{HasArgument, HasNoArgument, StandsForNothing};
+ghost use Rattle.dom_query.specs.Script.{IsBad, IsCommand, IsScript};
 ghost use Rattle.dom_select.specs.Grammar.{StandsFor};
 
 use dom_nodes::fault::OutOfMemory;
@@ -46,9 +48,11 @@ impl From<OutOfMemory> for ScriptFault {
     }
 }
 
-/// What stands behind the word and one space; nothing behind the word alone. None where the line is another.
+/// What stands behind the word and one space; nothing behind the word alone. None where the line is
+/// another.
 fn argument_of<'a>(line: &'a str, word: &str) -> Option<&'a str>
-    ensures { MatchOption result ((argument : List ℕ) → HasArgument line.now word.now argument → ⊥) (λ argument. HasArgument line.now word.now argument.now) }
+    ensures { MatchOption result (HasNoArgument line.now word.now)
+        (λ argument. HasArgument line.now word.now argument.now) }
 {
     let behind = line.strip_prefix(word)?;
     if behind.is_empty() {
@@ -59,7 +63,8 @@ fn argument_of<'a>(line: &'a str, word: &str) -> Option<&'a str>
 
 /// The selector, if the text is one.
 fn selector_of(alloc: Global, text: &str) -> Result<Option<Matcher>, OutOfMemory>
-    ensures { IfOk result (λ found. MatchOption found (StandsForNothing (chars text.now)) (StandsFor (chars text.now))) }
+    ensures { IfOk result (λ found.
+        MatchOption found (StandsForNothing (chars text.now)) (StandsFor (chars text.now))) }
 {
     match Matcher::new(alloc, text) {
         Ok(matcher) => Ok(Some(matcher)),

@@ -8,6 +8,7 @@ use std::process::Abort;
 use std::test::Fail;
 
 mod selecting;
+mod texts;
 
 const PAGE: &str = "<div><p class=\"x\">a</p></div>";
 
@@ -38,13 +39,13 @@ impl Write for Failing {
     }
 }
 
-/// A reader that fails.
+/// A reader that fails in that way.
 #[derive(Drop)]
-struct NoReader;
+struct NoReader(ErrorKind);
 
 impl Read for NoReader {
     fn read(&mut self, _buf: &mut [u8]) -> io::Result<usize> {
-        Err(io::Error::from(ErrorKind::BrokenPipe))
+        Err(io::Error::from(self.0))
     }
 }
 
@@ -121,6 +122,18 @@ fn drives(rt: HostRuntime) -> Result<(), Fail> {
     for (args, markup, status, line) in [
         (["document"].as_slice(), PAGE, 0, ""),
         (["x\ndocument"].as_slice(), PAGE, 2, "dq: script: line 1\n"),
+        (
+            ["\ncount\nhtml p"].as_slice(),
+            PAGE,
+            2,
+            "dq: script: line 3\n",
+        ),
+        (
+            ["\n\n\n\n\n\n\n\n\n\n\ntext "].as_slice(),
+            PAGE,
+            2,
+            "dq: script: line 12\n",
+        ),
         (["document"].as_slice(), "<p>", 3, "dq: markup: refused\n"),
         ([].as_slice(), PAGE, 64, usage),
         (["document", "document"].as_slice(), PAGE, 64, usage),
@@ -174,11 +187,19 @@ fn status_with(rt: &(impl Abort + Alloc<A = Global>), left: usize) -> Result<u8,
 fn streams_fail(rt: HostRuntime) -> Result<(), Fail> {
     let alloc = rt.alloc();
     let args = words(alloc, &["document"])?;
-    let mut out: Vec<u8> = Vec::new(alloc);
-    let mut err: Vec<u8> = Vec::new(alloc);
-    assert_eq!(rt; drive(alloc, &args, &mut NoReader, &mut out, &mut err), 5);
-    assert_eq!(rt; err.as_slice(), b"dq: read failed\n".as_slice());
-    assert!(rt; out.is_empty());
+    for (kind, line) in [
+        (ErrorKind::BrokenPipe, "dq: read failed\n"),
+        (ErrorKind::OutOfMemory, "dq: out of memory\n"),
+    ] {
+        let mut out: Vec<u8> = Vec::new(alloc);
+        let mut err: Vec<u8> = Vec::new(alloc);
+        assert_eq!(rt;
+            drive(alloc, &args, &mut NoReader(kind), &mut out, &mut err),
+            5
+        );
+        assert_eq!(rt; err.as_slice(), line.as_bytes());
+        assert!(rt; out.is_empty());
+    }
     for left in 0..18 {
         assert_eq!(rt; status_with(&rt, left)?, 5);
     }

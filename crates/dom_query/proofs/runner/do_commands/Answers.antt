@@ -1,7 +1,7 @@
 use Rattle.std.proofs.Common.{◌++◌}
 use Rattle.std.proofs.lemmas.Result.{err_from_is_err_and}
 use Rattle.dom_query.proofs.Doing.{reaches-all, reaches-fault, reaches-more, reaches-next}
-use Rattle.dom_query.proofs.Writing.{written-then}
+use Rattle.dom_markup.proofs.WritingLemmas.{written-then}
 use Rattle.dom_query.proofs.runner.do_commands.Goals as goal
 
 pub returns-in_err-selection-2-clause-begun : goal.returns-in_err-selection-2-clause-begun

@@ -2,7 +2,7 @@ use Rattle.std.proofs.Common.{subst, sym}
 use Rattle.std.proofs.lemmas.Result.{err_from_is_err_and, on_err_weaker}
 use Rattle.dom_query.specs.Runs.{Tells}
 use Rattle.dom_query.proofs.Outputs.{began-from, began-none}
-use Rattle.dom_query.proofs.Telling.{tells-markup}
+use Rattle.dom_query.proofs.Refusals.{tells-markup}
 use Rattle.dom_query.proofs.runner.run.Goals as goal
 
 pub returns-in_err-document-clause-begun : goal.returns-in_err-document-clause-begun

@@ -1,5 +1,6 @@
+use Rattle.std.proofs.Common.{refl}
 use Rattle.std.proofs.lemmas.Result.{err_from_is_err_and}
-use Rattle.dom_query.proofs.Writing.{beginning-more, then-writes}
+use Rattle.dom_markup.proofs.WritingLemmas.{beginning-more, then-writes}
 use Rattle.dom_query.proofs.runner.write_node.Goals as goal
 
 pub returns-in_err-write_html : goal.returns-in_err-write_html
@@ -8,4 +9,4 @@ returns-in_err-write_html g c =
     rw p.1 (beginning-more _ _ _ _ (rw c.new.ensures at c.in_err-write_html.ensures))
 
 pub returns : goal.returns
-returns g c = then-writes _ _ _ c.write_bytes.result _ _ (rw c.new.ensures at c.in_ok-write_html.ensures) c.write_bytes.ensures.written
+returns g c = then-writes _ _ _ c.write_bytes.result _ _ _ (rw c.new.ensures at c.in_ok-write_html.ensures) c.write_bytes.ensures.written refl

@@ -5,7 +5,8 @@ use Rattle.dom_links.specs.Texts.{text_of}
 use Rattle.dom_trees.specs.declared.node_ref.NodeRef.{NodeRef}
 use Rattle.dom_markup.specs.Writing.{AppendsBeginning}
 use Rattle.dom_query.specs.Out.{line_of, texts_of}
-use Rattle.dom_query.proofs.Writing.{beginning-then, joined-next, joined-so_far}
+use Rattle.dom_markup.proofs.WritingLemmas.{beginning-then}
+use Rattle.dom_query.proofs.Writing.{joined-next, joined-so_far}
 use Rattle.dom_query.proofs.runner.write_texts.Goals as goal
 
 pub returns-in_err-text-clause-writes : goal.returns-in_err-text-clause-writes

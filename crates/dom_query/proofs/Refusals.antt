@@ -6,7 +6,7 @@ use Rattle.dom_query.specs.declared.script.Command.{Command}
 use Rattle.dom_query.specs.Faults.{MarkupRefused}
 use Rattle.dom_query.specs.Runs.{Tells}
 use Rattle.dom_query.specs.Script.{IsScript}
-use Rattle.dom_query.proofs.Writing.{nothing-written}
+use Rattle.dom_markup.proofs.WritingLemmas.{nothing-written}
 
 pub tells-markup : (markup script : List ℕ) (old : Option (List ℕ)) (commands : List Command) (fault : RunFault)
     → IsScript script commands → MarkupRefused markup fault → Tells markup script old old fault
