@@ -175,11 +175,11 @@ content_got [] i d h = absurd (omega arith)
 content_got (node ∷ nodes) zero d h = refl
 content_got (node ∷ nodes) (suc i) d h = content_got nodes i d (omega arith)
 
--- a node that is no element is read as none
-pub element_read : (nodes : List TreeNode) (i x : ℕ) (d : TreeNode) → IsSoundArena nodes → i < length nodes → i ≡ x → element_at (forest_of nodes) x ≡ false → is_element (get_or nodes i d).content ≡ false
-element_read nodes i x d sound here same other =
-    let at : slice_get (forest_of nodes).content i ≡ Some (get_or nodes i d).content = ap (λ contents. slice_get contents i) (sym sound.arena.links.contents) ∙ content_got nodes i d here in
-    sym (ap (λ o. option_map_or is_element o false) at) ∙ ap (λ (k : ℕ). element_at (forest_of nodes) k) same ∙ other
+-- whether the node that is read is an element
+pub element_here : (nodes : List TreeNode) (i x : ℕ) (d : TreeNode) → IsArenaOf (forest_of nodes) nodes → i < length nodes → i ≡ x → element_at (forest_of nodes) x ≡ is_element (get_or nodes i d).content
+element_here nodes i x d arena here same =
+    let at : slice_get (forest_of nodes).content i ≡ Some (get_or nodes i d).content = ap (λ contents. slice_get contents i) (sym arena.links.contents) ∙ content_got nodes i d here in
+    ap (λ (k : ℕ). element_at (forest_of nodes) k) (sym same) ∙ ap (λ o. option_map_or is_element o false) at
 
 -- what the element at a place is asked for
 pub asks_read : (nodes : List TreeNode) (i x : ℕ) (d : TreeNode) (asking : Bool) → IsSoundArena nodes → i < length nodes → i ≡ x → (element_at (forest_of nodes) x && asking) ≡ false → (is_element (get_or nodes i d).content && asking) ≡ false

@@ -39,6 +39,11 @@ SomeOf ns P = (n : ℕ) × (stands_in n ns ≡ true) × P n
 abbrev pub BlockedRun : Forest → ℕ → ℕ → Type 0
 BlockedRun forest t x = (stays forest x ≡ true) ⊎ SomeOf (with_later forest x) (λ n. AtOrBelow forest n t)
 
+-- the same of all that is moved
+abbrev pub BlockedMove : Forest → ℕ → Moving → Type 0
+BlockedMove forest t moving =
+    (stays forest (mover moving) ≡ true) ⊎ SomeOf (moved_nodes forest moving) (λ n. AtOrBelow forest n t)
+
 -- the move of some nodes to a gap is allowed
 pub record AllowedList (forest : Forest) (gap : Gap) (moved : List ℕ) : Type 0 where
   pub target_known : target gap < length forest.content

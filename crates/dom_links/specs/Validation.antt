@@ -135,18 +135,59 @@ HoldsAlone nodes n = IfSome (contents_link nodes n) (λ c. (c ≢ 0)
     × (option_map_or is_fragment (slice_get (contents_of nodes) c) false ≡ true)
     × ((m : ℕ) → contents_link nodes m ≡ Some c → m ≡ n))
 
--- the cause that a fault tells
+-- what a fault says of the nodes
+abbrev pub Finds : List TreeNode → ValidateFault → Type 0
+Finds nodes NoRoot = nodes ≡ []
+Finds nodes RootPlaced = (p : ℕ) × (parent_link nodes 0 ≡ Some p)
+Finds nodes BadId = SomeIndex nodes (λ n. slice_get (ids_of nodes) n ≢ Some n)
+Finds nodes UnknownLink = SomeIndex nodes (λ n. LinksAstray nodes n)
+Finds nodes BadLink = SomeIndex nodes (λ n. Agrees nodes n → ⊥)
+Finds nodes Cycle = (n : ℕ) × Climbs nodes n n
+Finds nodes NotLinked = SomeIndex nodes (λ n. IsLinked nodes n → ⊥)
+Finds nodes SiblingCycle = HasRing (prev_link nodes)
+Finds nodes NoChildrenHere = SomeIndex nodes (λ n. IsBorne nodes n → ⊥)
+Finds nodes PlacedFragment = SomeIndex nodes (λ n. IsAlone nodes n → ⊥)
+Finds nodes BadContents = SomeIndex nodes (λ n. HoldsAlone nodes n → ⊥)
+Finds nodes TooManyNodes = 4294967295 < length nodes
+Finds nodes Memory = Unit {0}
+
+-- what the check for a fault tells where it doesn't find it. The check for cycles goes up to the parent, or where there
+-- is none to one that names the node as its contents
+abbrev pub Passes : List TreeNode → ValidateFault → Type 0
+Passes nodes NoRoot = 0 < length nodes
+Passes nodes RootPlaced = parent_link nodes 0 ≡ None
+Passes nodes BadId = EachIndex nodes (λ n. slice_get (ids_of nodes) n ≡ Some n)
+Passes nodes UnknownLink = EachIndex nodes (λ n. LinksKnown nodes n)
+Passes nodes BadLink = EachIndex nodes (λ n. Agrees nodes n)
+Passes nodes Cycle = (holders : List (Option ℕ)) × AreHolders nodes holders × ((n : ℕ) → Ends (step_up nodes holders) n)
+Passes nodes NotLinked = EachIndex nodes (λ n. IsLinked nodes n)
+Passes nodes SiblingCycle = (n : ℕ) → Ends (prev_link nodes) n
+Passes nodes NoChildrenHere = EachIndex nodes (λ n. IsBorne nodes n)
+Passes nodes PlacedFragment = EachIndex nodes (λ n. IsAlone nodes n)
+Passes nodes BadContents = EachIndex nodes (λ n. HoldsAlone nodes n)
+Passes nodes TooManyNodes = length nodes ≤ 4294967295
+Passes nodes Memory = Unit {0}
+
+-- the order of the checks. Memory can be refused before any
+abbrev pub rank : ValidateFault → ℕ
+rank Memory = 0
+rank NoRoot = 1
+rank RootPlaced = 2
+rank BadId = 3
+rank UnknownLink = 4
+rank BadLink = 5
+rank Cycle = 6
+rank NotLinked = 7
+rank SiblingCycle = 8
+rank NoChildrenHere = 9
+rank PlacedFragment = 10
+rank BadContents = 11
+rank TooManyNodes = 12
+
+-- the checks before that of a fault find nothing
+abbrev pub PassesBefore : List TreeNode → ValidateFault → Type 0
+PassesBefore nodes fault = (earlier : ValidateFault) → rank earlier < rank fault → Passes nodes earlier
+
+-- the cause that a fault tells: what it says is so, and no fault that is looked for before it was found
 abbrev pub Tells : List TreeNode → ValidateFault → Type 0
-Tells nodes NoRoot = nodes ≡ []
-Tells nodes RootPlaced = (p : ℕ) × (parent_link nodes 0 ≡ Some p)
-Tells nodes BadId = SomeIndex nodes (λ n. slice_get (ids_of nodes) n ≢ Some n)
-Tells nodes UnknownLink = SomeIndex nodes (λ n. LinksAstray nodes n)
-Tells nodes BadLink = SomeIndex nodes (λ n. Agrees nodes n → ⊥)
-Tells nodes Cycle = (n : ℕ) × Climbs nodes n n
-Tells nodes NotLinked = SomeIndex nodes (λ n. IsLinked nodes n → ⊥)
-Tells nodes SiblingCycle = HasRing (prev_link nodes)
-Tells nodes NoChildrenHere = SomeIndex nodes (λ n. IsBorne nodes n → ⊥)
-Tells nodes PlacedFragment = SomeIndex nodes (λ n. IsAlone nodes n → ⊥)
-Tells nodes BadContents = SomeIndex nodes (λ n. HoldsAlone nodes n → ⊥)
-Tells nodes TooManyNodes = 4294967295 < length nodes
-Tells nodes Memory = Unit {0}
+Tells nodes fault = Finds nodes fault × PassesBefore nodes fault

@@ -6,7 +6,6 @@ mod list_writes;
 pub mod lists;
 pub mod moves;
 pub mod placing;
-pub mod rows;
 pub mod siblings;
 pub mod templates;
 pub mod texts;

@@ -1,17 +1,17 @@
 //! Whether an edit is allowed, and which fault tells why not.
 
-ghost use Rattle.std.specs.Prelude.{◌≡◌, ◌<◌, MatchBool, MatchResult, Some, length, true};
+ghost use Rattle.std.specs.Prelude.{◌≡◌, ◌<◌, ◌≤◌, MatchResult, length, true};
+ghost use Rattle.dom_nodes.specs.declared.fault.EditFault.TheVariants.{TooManyNodes};
 ghost use Rattle.dom_links.specs.Forest.{forest_of};
 ghost use Rattle.dom_links.specs.ListMoves.{EachOf, MayReparent, MayWrap, moved_nodes, mover};
-ghost use Rattle.dom_links.specs.Lists.{first};
 ghost use Rattle.dom_links.specs.Sound.{IsSoundArena, MayPlace, is_open, target};
 ghost use Rattle.dom_trees.specs.Edits.{IsKnown, MayMove};
-ghost use Rattle.dom_trees.specs.Refusals.{IsBlocked, KnownCause, MoveCause, MovedCause, OpenCause, ReparentCause, WrapCause};
+ghost use Rattle.dom_trees.specs.Refusals.{KnownCause, MoveCause, MovedCause, OpenCause, ReparentCause, WrapCause};
 
 use dom_links::gap::{Gap, Moving};
 use dom_links::ops::TreeNodeOps;
 use dom_links::ops::placing::stays_put;
-use dom_links::ops::siblings::{first_child_of, first_sibling_of};
+use dom_links::ops::siblings::first_child_of;
 use dom_nodes::fault::EditFault;
 use dom_nodes::node_data::TreeNode;
 use dom_nodes::node_id::NodeId;
@@ -69,39 +69,8 @@ fn mover_of(moving: &Moving) -> NodeId
     }
 }
 
-/// The first node that is moved.
-fn first_moved(nodes: &[TreeNode], moving: &Moving) -> NodeId
-    requires sound { IsSoundArena nodes.now }
-    requires known { IsKnown (mover moving.now) (forest_of nodes.now) }
-    ensures known { IsKnown result (forest_of nodes.now) }
-    ensures first { first (moved_nodes (forest_of nodes.now) moving.now) ≡ Some result }
-{
-    match *moving {
-        Moving::Node(x) | Moving::WithLater(x) => x,
-        Moving::WholeList(x) => first_sibling_of(nodes, x),
-    }
-}
-
 /// Whether each of the moved nodes may go to a gap at t.
-fn may_go(nodes: &[TreeNode], t: NodeId, moving: &Moving) -> bool
-    requires sound { IsSoundArena nodes.now }
-    requires target_known { IsKnown t (forest_of nodes.now) }
-    requires known { IsKnown (mover moving.now) (forest_of nodes.now) }
-    ensures { let moved = moved_nodes (forest_of nodes.now) moving.now
-        in MatchBool result (EachOf moved (MayPlace (forest_of nodes.now) t))
-        (IsBlocked t moved (forest_of nodes.now)) }
-{
-    match *moving {
-        Moving::Node(x) => TreeNodeOps::may_place(nodes, t, x),
-        Moving::WithLater(x) => TreeNodeOps::may_place_run(nodes, t, x),
-        Moving::WholeList(x) => {
-            let start = first_sibling_of(nodes, x);
-            TreeNodeOps::may_place_run(nodes, t, start)
-        }
-    }
-}
-
-/// The same, with the fault that tells why not.
+#[tactic(auto, using(crate::proofs::Whole::mover_stands))]
 fn check_moved(nodes: &[TreeNode], t: NodeId, moving: &Moving) -> Result<(), EditFault>
     requires sound { IsSoundArena nodes.now }
     requires target_known { IsKnown t (forest_of nodes.now) }
@@ -110,14 +79,26 @@ fn check_moved(nodes: &[TreeNode], t: NodeId, moving: &Moving) -> Result<(), Edi
         in MatchResult result (λ _. EachOf moved (MayPlace (forest_of nodes.now) t))
         (MovedCause t moved (forest_of nodes.now)) }
 {
-    if may_go(nodes, t, moving) {
+    if TreeNodeOps::may_move(nodes, t, *moving) {
         return Ok(());
     }
-    let start = first_moved(nodes, moving);
-    if stays_put(nodes, start) {
+    if stays_put(nodes, mover_of(moving)) {
         Err(EditFault::RootOrFragment)
     } else {
         Err(EditFault::Cycle)
+    }
+}
+
+/// Whether there is a number left for a new node.
+pub(crate) fn check_room(nodes: &[TreeNode]) -> Result<(), EditFault>
+    requires { IsSoundArena nodes.now }
+    ensures { let count = length (forest_of nodes.now).content
+        in MatchResult result (λ _. count < 4294967295)
+        (λ fault. (fault ≡ TooManyNodes) × (4294967295 ≤ count)) }
+{
+    match NodeId::new(nodes.len()) {
+        Some(_) => Ok(()),
+        None => Err(EditFault::TooManyNodes),
     }
 }
 

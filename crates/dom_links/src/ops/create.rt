@@ -5,7 +5,7 @@ ghost use Rattle.dom_nodes.specs.Kinds.{contents_named};
 ghost use Rattle.dom_nodes.specs.declared.fault.EditFault.TheVariants.{Memory};
 ghost use Rattle.dom_nodes.specs.declared.node_data.TreeNode.{TreeNode};
 ghost use Rattle.dom_links.specs.Forest.{IsArenaOf, forest_of};
-ghost use Rattle.dom_links.specs.Growth.{Appended, Created, DataCause, HasFreeContents, Limit, MayAppend, NodeCause, lone, with_child, with_node};
+ghost use Rattle.dom_links.specs.Growth.{Appended, Created, DataCause, HasFreeContents, Limit, MayAppend, NoRoom, NodeCause, lone, with_child, with_node};
 ghost use Rattle.dom_links.specs.Sound.{IsSoundArena};
 
 use crate::ops::TreeNodeOps;
@@ -28,7 +28,7 @@ impl TreeNodeOps {
         ensures sound { IsSoundArena nodes.new.items }
     {
         check_contents(nodes, &content)?;
-        let id = add_node(nodes, content)?;
+        let id = push_alone(nodes, content)?;
         Ok(id)
     }
 
@@ -51,18 +51,6 @@ impl TreeNodeOps {
     }
 }
 
-/// Makes a node that stands alone. Whether its contents are free is the caller's condition for a forest.
-fn add_node(nodes: &mut Vec<TreeNode>, content: NodeData) -> Result<NodeId, EditFault>
-    requires linked { IsArenaOf (forest_of nodes.old.items) nodes.old.items }
-    ensures ok { OnOk result (Created nodes.old.items nodes.new.items content) }
-    ensures number { IfOk result (λ id. id ≡ vec_len nodes.old) }
-    ensures grown { OnOk result (vec_len nodes.new ≡ vec_len nodes.old + 1) }
-    ensures err { OnErr result (nodes.new.items ≡ nodes.old.items) }
-    ensures cause { IfErr result (λ fault. Limit (vec_len nodes.old) fault) }
-{
-    push_alone(nodes, content)
-}
-
 /// Makes a node that stands alone, behind the others. Whether its contents are free is the caller's condition for a
 /// forest.
 pub(crate) fn push_alone(nodes: &mut Vec<TreeNode>, content: NodeData) -> Result<NodeId, EditFault>
@@ -72,7 +60,7 @@ pub(crate) fn push_alone(nodes: &mut Vec<TreeNode>, content: NodeData) -> Result
     ensures grown { OnOk result (vec_len nodes.new ≡ vec_len nodes.old + 1) }
     ensures pushed { OnOk result ((node : TreeNode) × (nodes.new.items ≡ nodes.old.items ++ node ∷ [])) }
     ensures err { OnErr result (nodes.new.items ≡ nodes.old.items) }
-    ensures cause { IfErr result (λ fault. Limit (vec_len nodes.old) fault) }
+    ensures cause { IfErr result (λ fault. NoRoom (vec_len nodes.old) fault) }
 {
     let Some(id) = NodeId::new(nodes.as_slice().len()) else {
         return Err(EditFault::TooManyNodes);
@@ -98,9 +86,9 @@ fn add_child(nodes: &mut Vec<TreeNode>, t: NodeId, content: NodeData) -> Result<
     ensures number { IfOk result (λ id. id ≡ vec_len nodes.old) }
     ensures grown { OnOk result (vec_len nodes.new ≡ vec_len nodes.old + 1) }
     ensures err { OnErr result (nodes.new.items ≡ nodes.old.items) }
-    ensures cause { IfErr result (λ fault. Limit (vec_len nodes.old) fault) }
+    ensures cause { IfErr result (λ fault. NoRoom (vec_len nodes.old) fault) }
 {
-    let id = add_node(nodes, content)?;
+    let id = push_alone(nodes, content)?;
     TreeNodeOps::append_child_of(nodes, t, id);
     Ok(id)
 }
@@ -153,10 +141,10 @@ pub fn create_root(alloc: Global, content: NodeData) -> Result<Vec<TreeNode>, Ed
     requires { contents_named content ≡ None }
     ensures sound { IfOk result (λ nodes. IsSoundArena nodes.items) }
     ensures made { IfOk result (λ nodes. forest_of nodes.items ≡ lone content) }
-    ensures cause { IfErr result (λ fault. Limit 0 fault) }
+    ensures cause { IfErr result (λ fault. NoRoom 0 fault) }
 {
     let mut nodes = Vec::new(alloc);
-    add_node(&mut nodes, content)?;
+    push_alone(&mut nodes, content)?;
     Ok(nodes)
 }
 

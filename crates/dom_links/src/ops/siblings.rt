@@ -1,14 +1,16 @@
-//! What stands beside and above a node, and whether a node may be moved with its later siblings.
+//! What stands beside, above and below a node. An unknown number has nothing beside and below it.
 
-ghost use Rattle.std.specs.Prelude.{◌≡◌, ◌≢◌, ◌<◌, ◌⊎◌, IfSome, MatchBool, MatchOption, Some, [], false, length, not, true};
-ghost use Rattle.dom_links.specs.Forest.{IsArenaOf, forest_of, children_of, parent, siblings};
-ghost use Rattle.dom_links.specs.ListMoves.{BlockedRun, EachOf, element_above, element_at, with_later, wrapper};
-ghost use Rattle.dom_links.specs.Lists.{first, stands_in};
-ghost use Rattle.dom_links.specs.Sound.{IsForest, MayPlace, stays};
+ghost use Rattle.std.specs.Prelude.{◌≡◌, ◌<◌, IfSome, MatchOption, Some, [], false, find, length, not, true, if◌then◌else◌};
+ghost use Rattle.dom_links.specs.Forest.{IsArenaOf, forest_of, children_of, siblings};
+ghost use Rattle.dom_links.specs.ListMoves.{element_above, element_at, with_later, wrapper};
+ghost use Rattle.dom_links.specs.Lists.{first, last};
+ghost use Rattle.dom_links.specs.Sound.{IsSoundArena, stays};
+ghost use Rattle.dom_links.specs.Walk.{IsWithin, later, row_on};
 
+use crate::iters::{first_child_id, next_sibling_id, node_at, prev_sibling_id};
 use crate::ops::TreeNodeOps;
-use crate::ops::placing::{stays_put, step_up};
-use dom_nodes::node_data::{NodeData, TreeNode};
+use crate::ops::placing::stays_put;
+use dom_nodes::node_data::TreeNode;
 use dom_nodes::node_id::NodeId;
 
 impl TreeNodeOps {
@@ -21,29 +23,42 @@ impl TreeNodeOps {
         !stays_put(nodes, t)
     }
 
-    /// Whether a node and each of its later siblings may be moved to the children or beside another node.
-    pub fn may_place_run(nodes: &[TreeNode], t: NodeId, x: NodeId) -> bool
-        requires linked { IsArenaOf (forest_of nodes.now) nodes.now }
-        requires forest { IsForest (forest_of nodes.now) }
-        requires target_known { t < length nodes.now }
-        requires known { x < length nodes.now }
-        ensures { MatchBool result (EachOf (with_later (forest_of nodes.now) x) (MayPlace (forest_of nodes.now) t))
-            (BlockedRun (forest_of nodes.now) t x) }
+    /// The last of the siblings after a node.
+    pub fn last_sibling_of(nodes: &[TreeNode], id: &NodeId) -> Option<NodeId>
+        requires { IsSoundArena nodes.now }
+        ensures { result ≡ last (later (forest_of nodes.now) false id.now) }
     {
-        if stays_put(nodes, x) {
-            return false;
+        let mut found = None;
+        let mut next = next_sibling_id(nodes, id);
+        while let Some(at) = next {
+            found = Some(at);
+            next = node_at(nodes, at).next_sibling;
         }
-        let mut at = t;
-        for _step in 0..nodes.len() {
-            if shares_parent(nodes, x, at) {
-                return !is_at_or_after(nodes, x, at);
-            }
-            let Some(above) = step_up(nodes, at) else {
-                return true;
-            };
-            at = above;
-        }
-        true
+        found
+    }
+
+    /// The nearest element among the siblings after a node.
+    pub fn next_element_sibling_of(nodes: &[TreeNode], id: &NodeId) -> Option<NodeId>
+        requires { IsSoundArena nodes.now }
+        ensures { result ≡ find (element_at (forest_of nodes.now)) (later (forest_of nodes.now) false id.now) }
+    {
+        first_element_on(nodes, next_sibling_id(nodes, id), false)
+    }
+
+    /// The nearest element among the siblings before a node.
+    pub fn prev_element_sibling_of(nodes: &[TreeNode], id: &NodeId) -> Option<NodeId>
+        requires { IsSoundArena nodes.now }
+        ensures { result ≡ find (element_at (forest_of nodes.now)) (later (forest_of nodes.now) true id.now) }
+    {
+        first_element_on(nodes, prev_sibling_id(nodes, id), true)
+    }
+
+    /// The first element among the children of a node.
+    pub fn first_element_child_of(nodes: &[TreeNode], id: &NodeId) -> Option<NodeId>
+        requires { IsSoundArena nodes.now }
+        ensures { result ≡ find (element_at (forest_of nodes.now)) (children_of (forest_of nodes.now) id.now) }
+    {
+        first_element_on(nodes, first_child_id(nodes, id), false)
     }
 }
 
@@ -74,44 +89,6 @@ pub fn first_child_of(nodes: &[TreeNode], x: NodeId) -> Option<NodeId>
     nodes[x.value()].first_child
 }
 
-/// Whether n is x or one of its later siblings.
-fn is_at_or_after(nodes: &[TreeNode], x: NodeId, n: NodeId) -> bool
-    requires linked { IsArenaOf (forest_of nodes.now) nodes.now }
-    requires known { x < length nodes.now }
-    ensures { result ≡ stands_in n (with_later (forest_of nodes.now) x) }
-{
-    let mut at = x;
-    while at != n {
-        let Some(next) = nodes[at.value()].next_sibling else {
-            return false;
-        };
-        at = next;
-    }
-    true
-}
-
-/// Whether a node that isn't one of those that stand alone has the same parent as x, or no parent as x.
-fn shares_parent(nodes: &[TreeNode], x: NodeId, n: NodeId) -> bool
-    requires linked { IsArenaOf (forest_of nodes.now) nodes.now }
-    requires known { x < length nodes.now }
-    requires other_known { n < length nodes.now }
-    ensures { MatchBool result ((stays (forest_of nodes.now) n ≡ false) × (parent (forest_of nodes.now) n ≡ parent (forest_of nodes.now) x))
-        ((stays (forest_of nodes.now) n ≡ true) ⊎ (parent (forest_of nodes.now) n ≢ parent (forest_of nodes.now) x)) }
-{
-    if stays_put(nodes, n) {
-        return false;
-    }
-    nodes[n.value()].parent == nodes[x.value()].parent
-}
-
-fn is_element(nodes: &[TreeNode], n: NodeId) -> bool
-    requires linked { IsArenaOf (forest_of nodes.now) nodes.now }
-    requires known { n < length nodes.now }
-    ensures { result ≡ element_at (forest_of nodes.now) n }
-{
-    matches!(&nodes[n.value()].content, NodeData::Element(_))
-}
-
 /// The parent of a node, if it is an element.
 fn element_above_of(nodes: &[TreeNode], n: NodeId) -> Option<NodeId>
     requires linked { IsArenaOf (forest_of nodes.now) nodes.now }
@@ -119,7 +96,7 @@ fn element_above_of(nodes: &[TreeNode], n: NodeId) -> Option<NodeId>
     ensures { result ≡ element_above (forest_of nodes.now) n }
 {
     let parent = nodes[n.value()].parent?;
-    if is_element(nodes, parent) {
+    if nodes[parent.value()].is_element() {
         Some(parent)
     } else {
         None
@@ -135,4 +112,32 @@ pub fn wrapper_of(nodes: &[TreeNode], x: NodeId) -> Option<NodeId>
     let parent = element_above_of(nodes, x)?;
     element_above_of(nodes, parent)?;
     Some(parent)
+}
+
+/// The first element from a node on, forwards or backwards.
+fn first_element_on(nodes: &[TreeNode], from: Option<NodeId>, rev: bool) -> Option<NodeId>
+    requires sound { IsSoundArena nodes.now }
+    requires within { IsWithin (forest_of nodes.now) from }
+    ensures { result ≡ find (element_at (forest_of nodes.now)) (row_on (forest_of nodes.now) rev from) }
+{
+    let mut next = from;
+    while let Some(at) = next {
+        let node = node_at(nodes, at);
+        if node.is_element() {
+            return Some(at);
+        }
+        next = neighbour(node, rev);
+    }
+    None
+}
+
+/// The sibling after a node, or the one before it.
+fn neighbour(node: &TreeNode, rev: bool) -> Option<NodeId>
+    ensures { result ≡ (if rev then node.now.prev_sibling else node.now.next_sibling) }
+{
+    if rev {
+        node.prev_sibling
+    } else {
+        node.next_sibling
+    }
 }

@@ -3,7 +3,7 @@
 ghost use Rattle.std.specs.Prelude.{◌≡◌, ◌<◌, ◌+◌, ◌∷◌, ◌++◌, [], List, IfErr, IfOk, OnErr, OnOk, vec_len};
 ghost use Rattle.dom_nodes.specs.declared.node_data.TreeNode.{TreeNode};
 ghost use Rattle.dom_links.specs.Forest.{IsArenaOf, forest_of};
-ghost use Rattle.dom_links.specs.Growth.{AppendedTemplate, Created, Limit};
+ghost use Rattle.dom_links.specs.Growth.{AppendedTemplate, Created, NoRoom, NoRoomForTwo};
 
 use crate::ops::TreeNodeOps;
 use crate::ops::create::push_alone;
@@ -24,7 +24,7 @@ fn create_fragment(nodes: &mut Vec<TreeNode>) -> Result<(), EditFault>
     ensures ok { OnOk result (Created nodes.old.items nodes.new.items NodeData.Fragment) }
     ensures grown { OnOk result (vec_len nodes.new ≡ vec_len nodes.old + 1) }
     ensures err { OnErr result ((front : List TreeNode) (node : TreeNode) → nodes.old.items ≡ front ++ node ∷ [] → nodes.new.items ≡ front) }
-    ensures cause { IfErr result (λ fault. Limit (vec_len nodes.old) fault) }
+    ensures cause { IfErr result (λ fault. NoRoom (vec_len nodes.old) fault) }
 {
     match push_alone(nodes, NodeData::Fragment) {
         Ok(_) => Ok(()),
@@ -48,7 +48,7 @@ pub fn append_template_of(
     ensures number { IfOk result (λ id. id ≡ vec_len nodes.old) }
     ensures grown { OnOk result (vec_len nodes.new ≡ vec_len nodes.old + 2) }
     ensures err { OnErr result (nodes.new.items ≡ nodes.old.items) }
-    ensures cause { IfErr result (λ fault. Limit (vec_len nodes.old + 1) fault) }
+    ensures cause { IfErr result (λ fault. NoRoomForTwo (vec_len nodes.old) fault) }
 {
     let id = push_alone(nodes, content)?;
     create_fragment(nodes)?;

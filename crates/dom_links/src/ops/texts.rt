@@ -15,7 +15,7 @@ use std::alloc::Global;
 impl TreeNodeOps {
     /// The contents of the texts at the node and below, in walk order, joined; nothing for an unknown number. Template
     /// contents are not entered.
-    pub fn text_of(nodes: &[TreeNode], id: &NodeId, alloc: Global) -> Result<String, OutOfMemory>
+    pub fn text_of(alloc: Global, nodes: &[TreeNode], id: &NodeId) -> Result<String, OutOfMemory>
         requires { IsSoundArena nodes.now }
         ensures { IfOk result (λ text. string_bytes text ≡ text_of (forest_of nodes.now) id.now) }
     {

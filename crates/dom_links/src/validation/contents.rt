@@ -2,7 +2,8 @@
 
 ghost use Rattle.std.specs.Prelude.{◌≡◌, ◌<◌, EachIndex, IfErr, IfOk, MatchBool, MatchResult, Some, SomeIndex, length, slice_get};
 ghost use Rattle.dom_links.specs.Forest.{ids_of};
-ghost use Rattle.dom_links.specs.Validation.{AreHolders, ContentsHold, HoldsContents, IsAlone, IsBorne, IsRefused, LinksKnown, Tells};
+ghost use Rattle.dom_links.specs.Validation.{AreHolders, ContentsHold, HoldsContents, IsAlone, IsBorne, IsRefused, LinksKnown, PassesBefore, Tells};
+ghost use Rattle.dom_links.specs.declared.validation.ValidateFault.TheVariants.{NoChildrenHere};
 
 use crate::validation::ValidateFault;
 use crate::validation::links::leads_to;
@@ -17,6 +18,7 @@ pub(crate) fn check_contents(
 ) -> Result<(), ValidateFault>
     requires known { EachIndex nodes.now (λ n. LinksKnown nodes.now n) }
     requires holders { AreHolders nodes.now holders.now }
+    requires before { PassesBefore nodes.now NoChildrenHere }
     ensures sound { MatchResult result (λ _. ContentsHold nodes.now holders.now) (λ fault. IsRefused nodes.now fault) }
     ensures cause { IfErr result (λ fault. Tells nodes.now fault) }
 {

@@ -201,7 +201,7 @@ impl<'a> NodeRef<'a> {
     pub fn text(&self) -> Result<String, OutOfMemory>
         ensures { IfOk result (λ text. string_bytes text ≡ text_of self.now.tree.now self.now.id) }
     {
-        TreeNodeOps::text_of(self.tree.nodes(), &self.id, self.tree.allocator())
+        TreeNodeOps::text_of(self.tree.allocator(), self.tree.nodes(), &self.id)
     }
 }
 

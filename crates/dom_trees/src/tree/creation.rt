@@ -5,6 +5,7 @@ ghost use Rattle.dom_nodes.specs.declared.fault.EditFault.TheVariants.{Memory};
 ghost use Rattle.dom_trees.specs.Edits.{Makes, appending, making};
 ghost use Rattle.dom_trees.specs.NewNodes.{bare_element, html_name, text_node};
 
+use crate::checks::check_room;
 use crate::names::html_name;
 use crate::tree::Tree;
 use dom_links::ops::TreeNodeOps;
@@ -44,6 +45,7 @@ impl Tree {
     pub fn new_element(&mut self, name: &str) -> Result<NodeId, EditFault>
         ensures { Makes result self.old self.new (making (bare_element (html_name name.now))) }
     {
+        check_room(&self.nodes)?;
         let local = local_name(self.allocator(), name)?;
         self.new_element_qualname(html_name(local))
     }
@@ -61,6 +63,7 @@ impl Tree {
     pub fn new_text(&mut self, text: &str) -> Result<NodeId, EditFault>
         ensures { Makes result self.old self.new (making (text_node text.now)) }
     {
+        check_room(&self.nodes)?;
         let contents = owned_text(self.allocator(), text)?;
         self.create_node(NodeData::Text { contents })
     }

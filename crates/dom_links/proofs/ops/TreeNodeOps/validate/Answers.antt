@@ -1,4 +1,4 @@
-use Rattle.std.proofs.Common.{List, Option, ℕ, subst, sym}
+use Rattle.std.proofs.Common.{List, Option, ℕ, rules, subst, sym}
 use Rattle.std.proofs.lemmas.Result.{MatchResult-weaker}
 use Rattle.dom_links.specs.Validation.{AreHolders, ContentsHold, Ends, step_up}
 use Rattle.dom_links.proofs.Accepted.{accepted}
@@ -11,9 +11,11 @@ returns-then-branch-clause-sound c = λ sound.
     (rw c.if-branch.true at c.in_ok-has_step_ring.ensures))
 
 pub returns-then-branch-clause-cause : goal.returns-then-branch-clause-cause
-returns-then-branch-clause-cause c =
-    a_cycle c.args.nodes.now c.deref.result.now (subst (AreHolders c.args.nodes.now) (sym c.deref.ensures.value) c.in_ok-holders.ensures)
-    (rw c.if-branch.true at c.in_ok-has_step_ring.ensures)
+returns-then-branch-clause-cause c = (
+  a_cycle c.args.nodes.now c.deref.result.now (subst (AreHolders c.args.nodes.now) (sym c.deref.ensures.value) c.in_ok-holders.ensures)
+      (rw c.if-branch.true at c.in_ok-has_step_ring.ensures),
+  search rules,
+)
 
 pub returns-then-not-are_linked-clause-sound : goal.returns-then-not-are_linked-clause-sound
 returns-then-not-are_linked-clause-sound c = λ sound.

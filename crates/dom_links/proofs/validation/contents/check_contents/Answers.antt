@@ -1,3 +1,4 @@
+use Rattle.std.proofs.Common.{rules}
 use Rattle.dom_links.proofs.Sounds.{held_alone, sound_held}
 use Rattle.dom_links.proofs.validation.contents.check_contents.Goals as goal
 
@@ -8,5 +9,7 @@ returns-then-not-hold_contents-clause-sound c = λ sound.
 
 pub returns-then-not-hold_contents-clause-cause : goal.returns-then-not-hold_contents-clause-cause
 returns-then-not-hold_contents-clause-cause c =
-    let bad = c.if-not-hold_contents.ensures in
-    (bad.0, bad.1, λ alone. bad.2 (held_alone c.args.nodes.now c.args.holders.now bad.0 c.requires.holders alone))
+    let bad = c.if-not-hold_contents.ensures in (
+      (bad.0, bad.1, λ alone. bad.2 (held_alone c.args.nodes.now c.args.holders.now bad.0 c.requires.holders alone)),
+      search rules,
+    )
