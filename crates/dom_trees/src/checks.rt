@@ -1,76 +1,148 @@
-//! Whether a move is allowed, and which fault tells why not.
+//! Whether an edit is allowed, and which fault tells why not.
 
-ghost use Rattle.std.specs.Prelude.{MatchResult};
+ghost use Rattle.std.specs.Prelude.{◌≡◌, ◌<◌, ◌≤◌, MatchResult, length, true};
+ghost use Rattle.dom_nodes.specs.declared.fault.EditFault.TheVariants.{TooManyNodes};
 ghost use Rattle.dom_links.specs.Forest.{forest_of};
-ghost use Rattle.dom_links.specs.declared.gap.Gap.TheVariants.{Before as before_node, After as after_node, EndOf as end_of, FrontOf as front_of};
-ghost use Rattle.dom_links.specs.Sound.{Allowed, IsSoundArena};
-ghost use Rattle.dom_trees.specs.Refusals.{Cause};
+ghost use Rattle.dom_links.specs.ListMoves.{EachOf, MayReparent, MayWrap, moved_nodes, mover};
+ghost use Rattle.dom_links.specs.Sound.{IsSoundArena, MayPlace, is_open, target};
+ghost use Rattle.dom_trees.specs.Edits.{IsKnown, MayMove};
+ghost use Rattle.dom_trees.specs.Refusals.{KnownCause, MoveCause, MovedCause, OpenCause, ReparentCause, WrapCause};
 
-use dom_links::gap::Gap;
+use dom_links::gap::{Gap, Moving};
 use dom_links::ops::TreeNodeOps;
 use dom_links::ops::placing::stays_put;
+use dom_links::ops::siblings::first_child_of;
 use dom_nodes::fault::EditFault;
 use dom_nodes::node_data::TreeNode;
 use dom_nodes::node_id::NodeId;
 
-/// Whether x may be moved to the gap.
-pub(crate) fn check_move(nodes: &[TreeNode], gap: &Gap, x: NodeId) -> Result<(), EditFault>
+/// Whether there is a node of that number.
+pub(crate) fn check_known(nodes: &[TreeNode], x: NodeId) -> Result<(), EditFault>
     requires { IsSoundArena nodes.now }
-    ensures { MatchResult result (λ _. Allowed (forest_of nodes.now) gap.now x)
-        (λ fault. Cause (forest_of nodes.now) gap.now x fault) }
+    ensures { MatchResult result (λ _. IsKnown x (forest_of nodes.now))
+        (KnownCause x (forest_of nodes.now)) }
+{
+    if x.value() < nodes.len() {
+        Ok(())
+    } else {
+        Err(EditFault::UnknownNode)
+    }
+}
+
+/// Whether nodes may be put at the gap.
+pub(crate) fn check_open(nodes: &[TreeNode], gap: &Gap) -> Result<(), EditFault>
+    requires sound { IsSoundArena nodes.now }
+    requires known { IsKnown (target gap.now) (forest_of nodes.now) }
+    ensures { MatchResult result (λ _. is_open gap.now (forest_of nodes.now) ≡ true)
+        (OpenCause gap.now (forest_of nodes.now)) }
 {
     match *gap {
-        Gap::EndOf(t) => check_child_of(nodes, t, x),
-        Gap::FrontOf(t) => check_child_of(nodes, t, x),
-        Gap::Before(t) => check_sibling_of(nodes, t, x),
-        Gap::After(t) => check_sibling_of(nodes, t, x),
+        Gap::EndOf(t) | Gap::FrontOf(t) => {
+            if !TreeNodeOps::may_have_children(nodes, t) {
+                return Err(EditFault::NoChildrenHere);
+            }
+        }
+        Gap::Before(t) | Gap::After(t) => {
+            if !TreeNodeOps::may_have_siblings(nodes, t) {
+                return Err(EditFault::RootOrFragment);
+            }
+        }
+    }
+    Ok(())
+}
+
+/// The node that tells the gap.
+fn target_of(gap: &Gap) -> NodeId
+    ensures { result ≡ target gap.now }
+{
+    match *gap {
+        Gap::EndOf(t) | Gap::FrontOf(t) | Gap::Before(t) | Gap::After(t) => t,
     }
 }
 
-/// Whether x may be moved to the children of t.
-fn check_child_of(nodes: &[TreeNode], t: NodeId, x: NodeId) -> Result<(), EditFault>
-    requires { IsSoundArena nodes.now }
-    ensures end { MatchResult result (λ _. Allowed (forest_of nodes.now) (end_of t) x)
-        (λ fault. Cause (forest_of nodes.now) (end_of t) x fault) }
-    ensures front { MatchResult result (λ _. Allowed (forest_of nodes.now) (front_of t) x)
-        (λ fault. Cause (forest_of nodes.now) (front_of t) x fault) }
+/// The node that tells what is moved.
+fn mover_of(moving: &Moving) -> NodeId
+    ensures { result ≡ mover moving.now }
 {
-    if t.value() >= nodes.len() || x.value() >= nodes.len() {
-        return Err(EditFault::UnknownNode);
+    match *moving {
+        Moving::Node(x) | Moving::WithLater(x) | Moving::WholeList(x) => x,
     }
-    if !TreeNodeOps::may_have_children(nodes, t) {
-        return Err(EditFault::NoChildrenHere);
+}
+
+/// Whether each of the moved nodes may go to a gap at t.
+#[tactic(auto, using(crate::proofs::Whole::mover_stands))]
+fn check_moved(nodes: &[TreeNode], t: NodeId, moving: &Moving) -> Result<(), EditFault>
+    requires sound { IsSoundArena nodes.now }
+    requires target_known { IsKnown t (forest_of nodes.now) }
+    requires known { IsKnown (mover moving.now) (forest_of nodes.now) }
+    ensures { let moved = moved_nodes (forest_of nodes.now) moving.now
+        in MatchResult result (λ _. EachOf moved (MayPlace (forest_of nodes.now) t))
+        (MovedCause t moved (forest_of nodes.now)) }
+{
+    if TreeNodeOps::may_move(nodes, t, *moving) {
+        return Ok(());
     }
-    if stays_put(nodes, x) {
-        return Err(EditFault::RootOrFragment);
-    }
-    if TreeNodeOps::may_place(nodes, t, x) {
-        Ok(())
+    if stays_put(nodes, mover_of(moving)) {
+        Err(EditFault::RootOrFragment)
     } else {
         Err(EditFault::Cycle)
     }
 }
 
-/// Whether x may be moved to a place beside t.
-fn check_sibling_of(nodes: &[TreeNode], t: NodeId, x: NodeId) -> Result<(), EditFault>
+/// Whether there is a number left for a new node.
+pub(crate) fn check_room(nodes: &[TreeNode]) -> Result<(), EditFault>
     requires { IsSoundArena nodes.now }
-    ensures before { MatchResult result (λ _. Allowed (forest_of nodes.now) (before_node t) x)
-        (λ fault. Cause (forest_of nodes.now) (before_node t) x fault) }
-    ensures after { MatchResult result (λ _. Allowed (forest_of nodes.now) (after_node t) x)
-        (λ fault. Cause (forest_of nodes.now) (after_node t) x fault) }
+    ensures { let count = length (forest_of nodes.now).content
+        in MatchResult result (λ _. count < 4294967295)
+        (λ fault. (fault ≡ TooManyNodes) × (4294967295 ≤ count)) }
 {
-    if t.value() >= nodes.len() || x.value() >= nodes.len() {
-        return Err(EditFault::UnknownNode);
+    match NodeId::new(nodes.len()) {
+        Some(_) => Ok(()),
+        None => Err(EditFault::TooManyNodes),
     }
-    if stays_put(nodes, t) {
-        return Err(EditFault::RootOrFragment);
-    }
-    if stays_put(nodes, x) {
-        return Err(EditFault::RootOrFragment);
-    }
-    if TreeNodeOps::may_place(nodes, t, x) {
-        Ok(())
-    } else {
-        Err(EditFault::Cycle)
-    }
+}
+
+/// Whether the nodes may be moved to the gap.
+pub(crate) fn check_move(nodes: &[TreeNode], gap: &Gap, moving: &Moving) -> Result<(), EditFault>
+    requires { IsSoundArena nodes.now }
+    ensures { MatchResult result (λ _. MayMove gap.now moving.now (forest_of nodes.now))
+        (MoveCause gap.now moving.now (forest_of nodes.now)) }
+{
+    let t = target_of(gap);
+    check_known(nodes, t)?;
+    check_known(nodes, mover_of(moving))?;
+    check_open(nodes, gap)?;
+    check_moved(nodes, t, moving)
+}
+
+/// Whether the children of x may be moved to the end of those of another node, or out of x.
+pub(crate) fn check_reparent(
+    nodes: &[TreeNode],
+    x: NodeId,
+    parent: Option<NodeId>,
+) -> Result<(), EditFault>
+    requires { IsSoundArena nodes.now }
+    ensures { MatchResult result (λ _. IsKnown x (forest_of nodes.now) × MayReparent (forest_of nodes.now) x parent)
+        (ReparentCause x parent (forest_of nodes.now)) }
+{
+    check_known(nodes, x)?;
+    let Some(t) = parent else {
+        return Ok(());
+    };
+    check_known(nodes, t)?;
+    check_open(nodes, &Gap::EndOf(t))?;
+    let Some(first) = first_child_of(nodes, x) else {
+        return Ok(());
+    };
+    check_moved(nodes, t, &Moving::WithLater(first))
+}
+
+/// Whether x may be wrapped in w.
+pub(crate) fn check_wrap(nodes: &[TreeNode], x: NodeId, w: NodeId) -> Result<(), EditFault>
+    requires { IsSoundArena nodes.now }
+    ensures { MatchResult result (λ _. MayWrap (forest_of nodes.now) x w)
+        (WrapCause x w (forest_of nodes.now)) }
+{
+    check_move(nodes, &Gap::Before(x), &Moving::Node(w))?;
+    check_open(nodes, &Gap::EndOf(w))
 }

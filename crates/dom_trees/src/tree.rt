@@ -1,21 +1,17 @@
 //! A tree that owns its nodes.
 
-ghost use Rattle.std.specs.Prelude.{◌≡◌, ◌<◌, ◌≤◌, ◌∷◌, [], false, length, IfErr, IfOk, IsErrAnd, MatchOption, None, OnErr, OnOk};
+ghost use Rattle.std.specs.Prelude.{◌≡◌, ◌≤◌, [], length, IfErr, IfOk, IsErrAnd, MatchOption};
 ghost use Rattle.dom_links.specs.Forest.{forest_of, children_of};
-ghost use Rattle.dom_links.specs.Growth.{DataCause, MayAppend, lone, with_child};
+ghost use Rattle.dom_links.specs.Growth.{lone};
 ghost use Rattle.dom_links.specs.Lists.{IsDistinct};
-ghost use Rattle.dom_links.specs.Moves.{cut, moved_to};
-ghost use Rattle.dom_links.specs.declared.gap.Gap.TheVariants.{After as after_node, Before as before_node, EndOf as end_of, FrontOf as front_of};
-ghost use Rattle.dom_links.specs.Sound.{Allowed, IsSoundArena};
+ghost use Rattle.dom_links.specs.Sound.{IsSoundArena};
 ghost use Rattle.dom_links.specs.Trees.{ancestors, in_order, limited, walk_below};
 ghost use Rattle.dom_links.specs.Walk.{IsNodeOf, leaves_among};
 ghost use Rattle.dom_links.specs.Validation.{IsRefused, Tells};
 ghost use Rattle.dom_links.specs.declared.validation.ValidateFault.TheVariants.{Memory, NoRoot};
-ghost use Rattle.dom_trees.specs.Refusals.{Cause, RemovalCause, RootCause};
+ghost use Rattle.dom_trees.specs.Refusals.{RootCause};
+ghost use Rattle.dom_trees.specs.Views.{ListsNumbers};
 
-use crate::checks::check_move;
-use crate::node_ref::NodeRef;
-use dom_links::gap::{Gap, Moving};
 use dom_links::iters::{AncestorNodes, ChildNodes, DescendantNodes, find_node};
 use dom_links::ops::{TreeNodeOps, create};
 use dom_links::validation::ValidateFault;
@@ -23,12 +19,12 @@ use dom_nodes::fault::{EditFault, OutOfMemory};
 use dom_nodes::node_data::{NodeData, TreeNode};
 use dom_nodes::node_id::NodeId;
 use std::alloc::Global;
+use std::fmt;
 use std::marker::Model;
 
 mod changes;
 mod creation;
-mod lists;
-mod page;
+mod moves;
 mod reading;
 mod templates;
 
@@ -47,6 +43,13 @@ impl Model for Tree {
     ghost view = { λ tree. forest_of tree.nodes.items };
 
     ghost invariant = { λ tree. IsSoundArena tree.nodes.items };
+}
+
+/// Prints `Tree` alone.
+impl fmt::Debug for Tree {
+    fn fmt<W: fmt::Write>(&self, f: &mut fmt::Formatter<W>) -> fmt::Result {
+        f.write_str("Tree")
+    }
 }
 
 impl Tree {
@@ -68,13 +71,6 @@ impl Tree {
         ensures { result ≡ 0 }
     {
         NodeId::root()
-    }
-
-    /// The root.
-    pub fn root(&self) -> NodeRef<'_>
-        ensures { result ≡ record { id = 0; tree = self.entry } }
-    {
-        NodeRef::new(NodeId::root(), self)
     }
 
     /// The tree of raw nodes. Where they are no forest's, or memory is refused, they come back as they were given.
@@ -135,7 +131,7 @@ impl Tree {
 
     /// The children of a node, in order.
     pub fn child_ids_of(&self, id: &NodeId) -> Result<Vec<NodeId>, OutOfMemory>
-        ensures { IfOk result (λ ids. ids.items ≡ children_of self.now id.now) }
+        ensures { ListsNumbers result (children_of self.now id.now) }
     {
         Ok(self.child_ids_of_it(id, false).collect(self.allocator())?)
     }
@@ -153,7 +149,7 @@ impl Tree {
         id: &NodeId,
         max_depth: Option<usize>,
     ) -> Result<Vec<NodeId>, OutOfMemory>
-        ensures { IfOk result (λ ids. ids.items ≡ limited max_depth (ancestors self.now id.now)) }
+        ensures { ListsNumbers result (limited max_depth (ancestors self.now id.now)) }
     {
         Ok(
             self.ancestor_ids_of_it(id, max_depth)
@@ -174,88 +170,8 @@ impl Tree {
 
     /// The nodes below a node, each before what is below it.
     pub fn descendant_ids_of(&self, id: &NodeId) -> Result<Vec<NodeId>, OutOfMemory>
-        ensures { IfOk result (λ ids. ids.items ≡ walk_below self.now id.now) }
+        ensures { ListsNumbers result (walk_below self.now id.now) }
     {
         Ok(self.descendant_ids_of_it(id).collect(self.allocator())?)
-    }
-
-    /// Makes a node as the last child of another. With the contents that it names it counts as moved there.
-    pub fn append_child_data_of(
-        &mut self,
-        id: &NodeId,
-        content: NodeData,
-    ) -> Result<NodeId, EditFault>
-        ensures ok { OnOk result (self.new ≡ with_child id.now content self.old) }
-        ensures number { IfOk result (λ made. made ≡ length self.old.content) }
-        ensures allowed { OnOk result (MayAppend self.old id.now content) }
-        ensures err { OnErr result (self.new ≡ self.old) }
-        ensures cause { IfErr result (λ fault. DataCause self.old id.now content fault) }
-    {
-        TreeNodeOps::append_child_data_of(&mut self.nodes, *id, content)
-    }
-
-    /// Cuts a node out of its list. It is then a run of its own.
-    pub fn remove_from_parent(&mut self, id: &NodeId) -> Result<(), EditFault>
-        ensures ok { OnOk result (self.new ≡ cut (id.now ∷ []) self.old) }
-        ensures known { OnOk result (id.now < length self.old.content) }
-        ensures err { OnErr result (self.new ≡ self.old) }
-        ensures cause { IfErr result (λ fault. RemovalCause self.old id.now fault) }
-    {
-        if id.value() >= self.nodes.len() {
-            return Err(EditFault::UnknownNode);
-        }
-        TreeNodeOps::remove_from_parent(&mut self.nodes, *id);
-        Ok(())
-    }
-
-    /// Moves a node to a gap.
-    pub(crate) fn move_to(&mut self, gap: Gap, x: &NodeId) -> Result<(), EditFault>
-        ensures ok { OnOk result (self.new ≡ moved_to (x.now ∷ []) gap self.old) }
-        ensures allowed { OnOk result (Allowed self.old gap x.now) }
-        ensures err { OnErr result (self.new ≡ self.old) }
-        ensures cause { IfErr result (λ fault. Cause self.old gap x.now fault) }
-    {
-        check_move(&self.nodes, &gap, *x)?;
-        TreeNodeOps::move_to(&mut self.nodes, gap, Moving::Node(*x));
-        Ok(())
-    }
-
-    /// Moves a node to the end of the children of another.
-    pub fn append_child_of(&mut self, id: &NodeId, new_child: &NodeId) -> Result<(), EditFault>
-        ensures ok { OnOk result (self.new ≡ moved_to (new_child.now ∷ []) (end_of id.now) self.old) }
-        ensures allowed { OnOk result (Allowed self.old (end_of id.now) new_child.now) }
-        ensures err { OnErr result (self.new ≡ self.old) }
-        ensures cause { IfErr result (λ fault. Cause self.old (end_of id.now) new_child.now fault) }
-    {
-        self.move_to(Gap::EndOf(*id), new_child)
-    }
-
-    /// Moves a node to the front of the children of another.
-    pub fn prepend_child_of(&mut self, id: &NodeId, new_child: &NodeId) -> Result<(), EditFault>
-        ensures ok { OnOk result (self.new ≡ moved_to (new_child.now ∷ []) (front_of id.now) self.old) }
-        ensures allowed { OnOk result (Allowed self.old (front_of id.now) new_child.now) }
-        ensures err { OnErr result (self.new ≡ self.old) }
-        ensures cause { IfErr result (λ fault. Cause self.old (front_of id.now) new_child.now fault) }
-    {
-        self.move_to(Gap::FrontOf(*id), new_child)
-    }
-
-    /// Moves a node to the place right before another.
-    pub fn insert_before_of(&mut self, id: &NodeId, new_sibling: &NodeId) -> Result<(), EditFault>
-        ensures ok { OnOk result (self.new ≡ moved_to (new_sibling.now ∷ []) (before_node id.now) self.old) }
-        ensures allowed { OnOk result (Allowed self.old (before_node id.now) new_sibling.now) }
-        ensures err { OnErr result (self.new ≡ self.old) }
-        ensures cause { IfErr result (λ fault. Cause self.old (before_node id.now) new_sibling.now fault) }
-    {
-        self.move_to(Gap::Before(*id), new_sibling)
-    }
-    /// Moves a node to the place right after another.
-    pub fn insert_after_of(&mut self, id: &NodeId, new_sibling: &NodeId) -> Result<(), EditFault>
-        ensures ok { OnOk result (self.new ≡ moved_to (new_sibling.now ∷ []) (after_node id.now) self.old) }
-        ensures allowed { OnOk result (Allowed self.old (after_node id.now) new_sibling.now) }
-        ensures err { OnErr result (self.new ≡ self.old) }
-        ensures cause { IfErr result (λ fault. Cause self.old (after_node id.now) new_sibling.now fault) }
-    {
-        self.move_to(Gap::After(*id), new_sibling)
     }
 }

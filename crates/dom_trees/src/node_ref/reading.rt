@@ -1,17 +1,19 @@
 //! What is read of a node: its kind, its attributes and its names. An unknown number answers nothing, false or the
 //! default.
 
-ghost use Rattle.std.specs.Prelude.{◌≡◌, ◌<◌, ◌≤◌, MatchOption, codes, is_some, length};
+ghost use Rattle.std.specs.Prelude.{◌≡◌, ◌<◌, ◌≤◌, IfOk, MatchOption, codes, is_some, length, slice_get, string_bytes, unwrap_or};
 ghost use Rattle.std.specs.Fn.{FnOnceReturnsAt};
-ghost use Rattle.std.specs.Option.{option_copied, option_map_or};
+ghost use Rattle.std.specs.Option.{option_copied};
 ghost use Rattle.dom_nodes.specs.Kinds.{is_comment, is_doctype, is_document, is_element, is_fragment, is_text, may_bear};
 ghost use Rattle.dom_nodes.specs.Words.{class_words, is_among};
 ghost use Rattle.dom_nodes.specs.Classes.{is_blank};
-ghost use Rattle.dom_links.specs.Walk.{IsNodeOf};
-ghost use Rattle.dom_trees.specs.Views.{has_local_name, is_filled_text, node_attr, node_attrs, node_element, node_is, node_qual_name};
+ghost use Rattle.dom_links.specs.Texts.{text_of};
+ghost use Rattle.dom_trees.specs.Views.{IsAnswerOf, base_uri, has_local_name, is_filled_text, is_link_at, node_attr, node_attrs, node_element, node_is, node_name, node_qual_name};
 
 use crate::node_ref::NodeRef;
-use dom_nodes::name::QualName;
+use dom_links::ops::TreeNodeOps;
+use dom_nodes::fault::OutOfMemory;
+use dom_nodes::name::{Attr, QualName};
 use dom_nodes::node_data::{Element, NodeData, TreeNode};
 
 impl<'a> NodeRef<'a> {
@@ -19,10 +21,9 @@ impl<'a> NodeRef<'a> {
     pub fn query<T, F: FnOnce(&TreeNode) -> T + Drop>(&self, f: F) -> Option<T>
         requires { F.IsAlwaysCallable f }
         ensures { MatchOption result (length self.now.tree.now.content ≤ self.now.id)
-            (λ answer. (node : TreeNode) × IsNodeOf self.now.tree.now self.now.id node × FnOnceReturnsAt F.FnOnce f node answer) }
+            (IsAnswerOf (FnOnceReturnsAt F.FnOnce f) self.now.tree.now self.now.id) }
     {
-        let node = self.tree.get(&self.id)?;
-        Some(f(node))
+        self.tree.query_node(&self.id, f)
     }
 
     /// What the closure answers of the node, or the default.
@@ -30,76 +31,133 @@ impl<'a> NodeRef<'a> {
         requires { F.IsAlwaysCallable f }
         ensures unknown { length self.now.tree.now.content ≤ self.now.id → result ≡ default }
         ensures known { self.now.id < length self.now.tree.now.content →
-            (node : TreeNode) × IsNodeOf self.now.tree.now self.now.id node × FnOnceReturnsAt F.FnOnce f node result }
+            IsAnswerOf (FnOnceReturnsAt F.FnOnce f) self.now.tree.now self.now.id result }
     {
-        match self.tree.get(&self.id) {
-            Some(node) => f(node),
-            None => default,
-        }
+        self.tree.query_node_or(&self.id, default, f)
+    }
+
+    /// What the node is.
+    fn content(&self) -> Option<&'a NodeData>
+        ensures { option_copied result ≡ slice_get self.now.tree.now.content self.now.id }
+    {
+        self.tree.content(&self.id)
     }
 
     pub fn is_document(&self) -> bool
         ensures { result ≡ node_is is_document self.now.tree.now self.now.id }
     {
-        let Some(node) = self.tree.get(&self.id) else {
-            return false;
-        };
-        node.is_document()
+        self.content().is_some_and(|content| content.is_document())
     }
 
     pub fn is_fragment(&self) -> bool
         ensures { result ≡ node_is is_fragment self.now.tree.now self.now.id }
     {
-        let Some(node) = self.tree.get(&self.id) else {
-            return false;
-        };
-        node.is_fragment()
+        self.content().is_some_and(|content| content.is_fragment())
     }
 
     pub fn is_element(&self) -> bool
         ensures { result ≡ node_is is_element self.now.tree.now self.now.id }
     {
-        let Some(node) = self.tree.get(&self.id) else {
-            return false;
-        };
-        node.is_element()
+        self.content().is_some_and(|content| content.is_element())
     }
 
     pub fn is_text(&self) -> bool
         ensures { result ≡ node_is is_text self.now.tree.now self.now.id }
     {
-        let Some(node) = self.tree.get(&self.id) else {
-            return false;
-        };
-        node.is_text()
+        self.content().is_some_and(|content| content.is_text())
     }
 
     pub fn is_comment(&self) -> bool
         ensures { result ≡ node_is is_comment self.now.tree.now self.now.id }
     {
-        let Some(node) = self.tree.get(&self.id) else {
-            return false;
-        };
-        node.is_comment()
+        self.content().is_some_and(|content| content.is_comment())
     }
 
     pub fn is_doctype(&self) -> bool
         ensures { result ≡ node_is is_doctype self.now.tree.now self.now.id }
     {
-        let Some(node) = self.tree.get(&self.id) else {
-            return false;
-        };
-        node.is_doctype()
+        self.content().is_some_and(|content| content.is_doctype())
+    }
+
+    /// The root of a page: a document.
+    pub fn is_root(&self) -> bool
+        ensures { result ≡ node_is is_document self.now.tree.now self.now.id }
+    {
+        self.is_document()
     }
 
     /// A document, a fragment or an element may.
     pub fn may_have_children(&self) -> bool
         ensures { result ≡ node_is may_bear self.now.tree.now self.now.id }
     {
-        let Some(node) = self.tree.get(&self.id) else {
-            return false;
-        };
-        node.may_have_children()
+        self.content()
+            .is_some_and(|content| content.may_have_children())
+    }
+
+    /// Whether the node is a text that isn't white alone.
+    pub fn is_nonempty_text(&self) -> bool
+        ensures { result ≡ node_is is_filled_text self.now.tree.now self.now.id }
+    {
+        self.content().is_some_and(|content| is_filled_text(content))
+    }
+
+    /// The element that the node is.
+    pub fn element_ref(&self) -> Option<&'a Element>
+        ensures { option_copied result ≡ node_element self.now.tree.now self.now.id }
+    {
+        self.tree.element(&self.id)
+    }
+
+    /// The name of the element that the node is.
+    pub fn qual_name_ref(&self) -> Option<&'a QualName>
+        ensures { option_copied result ≡ node_qual_name self.now.tree.now self.now.id }
+    {
+        self.tree.get_name(&self.id)
+    }
+
+    /// The local name of an element.
+    pub fn node_name(&self) -> Option<&'a str>
+        ensures { option_copied result ≡ node_name self.now.tree.now self.now.id }
+    {
+        Some(self.element_ref()?.node_name())
+    }
+
+    /// Whether the node is an element of that local name.
+    pub fn has_name(&self, name: &str) -> bool
+        ensures { result ≡ has_local_name self.now.tree.now self.now.id name.now }
+    {
+        self.node_name().is_some_and(|local| local == name)
+    }
+
+    /// Whether the node is a link: an `a`, `area` or `link` with an attribute `href`.
+    pub fn is_link(&self) -> bool
+        ensures { result ≡ is_link_at self.now.tree.now self.now.id }
+    {
+        self.element_ref().is_some_and(|element| element.is_link())
+    }
+
+    /// The attributes; none for an unknown number or no element.
+    pub fn attrs(&self) -> &'a [Attr]
+        ensures { result.now ≡ node_attrs self.now.tree.now self.now.id }
+    {
+        match self.element_ref() {
+            Some(element) => element.attrs.as_slice(),
+            None => &[],
+        }
+    }
+
+    /// The value of the first attribute of that local name.
+    pub fn attr(&self, name: &str) -> Option<&'a str>
+        ensures { option_copied result ≡ node_attr self.now.tree.now self.now.id name.now }
+    {
+        self.element_ref()?.attr(name)
+    }
+
+    /// The value of the first attribute of that local name, or the default.
+    pub fn attr_or(&self, name: &str, default: &'a str) -> &'a str
+        ensures { result.now ≡ unwrap_or (node_attr self.now.tree.now self.now.id name.now) default.now }
+    {
+        self.attr(name).unwrap_or(default)
     }
 
     /// Whether there is an attribute of that local name.
@@ -109,44 +167,19 @@ impl<'a> NodeRef<'a> {
         self.attr(name).is_some()
     }
 
-    /// Whether the name is a word of the first attribute `class`. An empty name isn't.
-    pub fn has_class(&self, name: &str) -> bool
-        ensures { result ≡ is_among name.now (class_words (node_attrs self.now.tree.now self.now.id)) }
-    {
-        let Some(node) = self.tree.get(&self.id) else {
-            return false;
-        };
-        match node.content.as_element() {
-            Some(element) => element.has_class(name),
-            None => false,
-        }
-    }
-
-    /// Whether the node is an element of that local name.
-    pub fn has_name(&self, name: &str) -> bool
-        ensures { result ≡ has_local_name self.now.tree.now self.now.id name.now }
-    {
-        match self.node_name() {
-            Some(local) => local == name,
-            None => false,
-        }
-    }
-
-    /// The value of the first attribute of that local name, or the default.
-    pub fn attr_or(&self, name: &str, default: &'a str) -> &'a str
-        ensures { result.now ≡ option_map_or (λ value. value) (node_attr self.now.tree.now self.now.id name.now) default.now }
-    {
-        match self.attr(name) {
-            Some(value) => value,
-            None => default,
-        }
-    }
-
     /// The value of the first attribute `class`.
     pub fn class(&self) -> Option<&'a str>
         ensures { option_copied result ≡ node_attr self.now.tree.now self.now.id (codes "class") }
     {
         self.attr("class")
+    }
+
+    /// Whether the name is a word of the first attribute `class`. An empty name isn't.
+    pub fn has_class(&self, name: &str) -> bool
+        ensures { result ≡ is_among name.now (class_words (node_attrs self.now.tree.now self.now.id)) }
+    {
+        self.element_ref()
+            .is_some_and(|element| element.has_class(name))
     }
 
     /// The value of the first attribute `id`.
@@ -156,31 +189,29 @@ impl<'a> NodeRef<'a> {
         self.attr("id")
     }
 
-    /// The element that the node is.
-    pub fn element_ref(&self) -> Option<&'a Element>
-        ensures { option_copied result ≡ node_element self.now.tree.now self.now.id }
+    /// As `Tree::base_uri`.
+    pub fn base_uri(&self) -> Option<&'a str>
+        ensures { option_copied result ≡ base_uri self.now.tree.now }
     {
-        self.tree.get(&self.id)?.content.as_element()
+        self.tree.base_uri()
     }
 
-    /// The name of the element that the node is.
-    pub fn qual_name_ref(&self) -> Option<&'a QualName>
-        ensures { option_copied result ≡ node_qual_name self.now.tree.now self.now.id }
+    /// The contents of the texts at the node and below, in walk order, joined; nothing for an
+    /// unknown number. Template contents are not entered.
+    pub fn text(&self) -> Result<String, OutOfMemory>
+        ensures { IfOk result (λ text. string_bytes text ≡ text_of self.now.tree.now self.now.id) }
     {
-        Some(&self.tree.get(&self.id)?.content.as_element()?.name)
+        TreeNodeOps::text_of(self.tree.allocator(), self.tree.nodes(), &self.id)
     }
+}
 
-    /// Whether the node is a text that isn't white alone.
-    pub fn is_nonempty_text(&self) -> bool
-        ensures { result ≡ node_is is_filled_text self.now.tree.now self.now.id }
-    {
-        let Some(node) = self.tree.get(&self.id) else {
-            return false;
-        };
-        match &node.content {
-            NodeData::Text { contents } => !is_blank(contents.as_str()),
-            _ => false,
-        }
+/// Whether it is a text that isn't white alone.
+fn is_filled_text(content: &NodeData) -> bool
+    ensures { result ≡ is_filled_text content.now }
+{
+    match content {
+        NodeData::Text { contents } => !is_blank(contents.as_str()),
+        _ => false,
     }
 }
 

@@ -4,8 +4,10 @@ ghost use Rattle.std.specs.Prelude.{◌≡◌, ◌<◌, false, IfErr, OnErr, OnO
 ghost use Rattle.std.specs.Fn.{FnOnceReturnsAtMut};
 ghost use Rattle.dom_nodes.specs.Change.{asks, changed};
 ghost use Rattle.dom_links.specs.Contents.{IsUpdatedAt, with_content};
-ghost use Rattle.dom_trees.specs.Refusals.{ChangeCause, RemovalCause};
+ghost use Rattle.dom_trees.specs.Edits.{Edits, changing};
+ghost use Rattle.dom_trees.specs.Refusals.{KnownCause};
 
+use crate::checks::check_known;
 use crate::tree::Tree;
 use dom_links::ops::changes;
 use dom_nodes::fault::EditFault;
@@ -13,22 +15,22 @@ use dom_nodes::node_data::{Change, NodeEdit};
 use dom_nodes::node_id::NodeId;
 
 impl Tree {
-    /// Lets the closure change what a node is: the name and the attributes of an element, or the contents of a text or
-    /// a comment. Its kind and its template contents stay. Takes no memory. Only an `UnknownNode` is refused.
+    /// Lets the closure change what a node is: the name and the attributes of an element, or the
+    /// contents of a text or a comment. Its kind and its template contents stay. Takes no memory.
+    /// Only an `UnknownNode` is refused.
     pub fn update_node<F: FnOnce(&mut NodeEdit) + Drop>(
         &mut self,
         id: &NodeId,
         change: F,
     ) -> Result<(), EditFault>
         requires { F.IsAlwaysCallable change }
-        ensures ok { OnOk result (IsUpdatedAt (λ edit left. FnOnceReturnsAtMut F.FnOnce change edit tt left) id.now self.old self.new) }
+        ensures ok { OnOk result (IsUpdatedAt (λ edit left. FnOnceReturnsAtMut F.FnOnce change edit tt left)
+            id.now self.old self.new) }
         ensures known { OnOk result (id.now < length self.old.content) }
         ensures err { OnErr result (self.new ≡ self.old) }
-        ensures cause { IfErr result (λ fault. RemovalCause self.old id.now fault) }
+        ensures cause { IfErr result (KnownCause id.now self.old) }
     {
-        if id.value() >= self.nodes.len() {
-            return Err(EditFault::UnknownNode);
-        }
+        check_known(&self.nodes, *id)?;
         self.change_node(id, change);
         Ok(())
     }
@@ -36,22 +38,19 @@ impl Tree {
     /// As `update_node`; an unknown node changes nothing.
     pub(crate) fn change_node<F: FnOnce(&mut NodeEdit) + Drop>(&mut self, id: &NodeId, change: F)
         requires { F.IsAlwaysCallable change }
-        ensures { IsUpdatedAt (λ edit left. FnOnceReturnsAtMut F.FnOnce change edit tt left) id.now self.old self.new }
+        ensures { IsUpdatedAt (λ edit left. FnOnceReturnsAtMut F.FnOnce change edit tt left)
+            id.now self.old self.new }
     {
         let alloc = self.allocator();
         changes::update(&mut self.nodes, alloc, *id, change);
     }
 
-    /// Makes a change of a node. Refused as `UnknownNode`, and as `Memory` of an element.
+    /// Makes a change of a node. Refused as `UnknownNode`, and as `Memory` of an element, where the
+    /// change asks for memory.
     pub(crate) fn try_change_of(&mut self, id: &NodeId, change: Change) -> Result<(), EditFault>
-        ensures ok { OnOk result (self.new ≡ with_content id.now (changed change.entry) self.old) }
-        ensures known { OnOk result (id.now < length self.old.content) }
-        ensures err { OnErr result (self.new ≡ self.old) }
-        ensures cause { IfErr result (λ fault. ChangeCause self.old id.now fault) }
+        ensures { Edits result self.old self.new (changing id.now change.entry) }
     {
-        if id.value() >= self.nodes.len() {
-            return Err(EditFault::UnknownNode);
-        }
+        check_known(&self.nodes, *id)?;
         match changes::apply(&mut self.nodes, *id, change) {
             Ok(()) => Ok(()),
             Err(_) => Err(EditFault::Memory),

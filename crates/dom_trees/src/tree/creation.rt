@@ -1,72 +1,75 @@
-//! New nodes that stand alone.
+//! New nodes.
 
-ghost use Rattle.std.specs.Prelude.{◌≡◌, IfErr, IfOk, MatchResult, OnErr, OnOk, length};
-ghost use Rattle.dom_links.specs.Growth.{HasFreeContents, Limit, NodeCause, with_node};
+ghost use Rattle.std.specs.Prelude.{◌≡◌, MatchResult};
 ghost use Rattle.dom_nodes.specs.declared.fault.EditFault.TheVariants.{Memory};
-ghost use Rattle.dom_trees.specs.Made.{bare_element, html_name, text_node};
+ghost use Rattle.dom_trees.specs.Edits.{Makes, appending, making};
+ghost use Rattle.dom_trees.specs.NewNodes.{bare_element, html_name, text_node};
 
+use crate::checks::check_room;
+use crate::names::html_name;
 use crate::tree::Tree;
 use dom_links::ops::TreeNodeOps;
 use dom_nodes::fault::EditFault;
-use dom_nodes::name::{LocalName, Namespace, QualName};
+use dom_nodes::name::{LocalName, QualName};
 use dom_nodes::node_data::{Attrs, Element, NodeData};
 use dom_nodes::node_id::NodeId;
 use dom_nodes::text::Text;
 use std::alloc::Global;
 
 impl Tree {
-    /// Makes a node that stands alone, with the contents that it names. Refused as `BadContents`, where these are no
-    /// free fragment; as `TooManyNodes` or `Memory`.
+    /// Makes a node that stands alone, with the contents that it names. Refused as `BadContents`,
+    /// where these are no free fragment; as `TooManyNodes` or `Memory`.
     pub fn create_node(&mut self, content: NodeData) -> Result<NodeId, EditFault>
-        ensures ok { OnOk result (self.new ≡ with_node content self.old) }
-        ensures number { IfOk result (λ made. made ≡ length self.old.content) }
-        ensures allowed { OnOk result (HasFreeContents self.old content) }
-        ensures err { OnErr result (self.new ≡ self.old) }
-        ensures cause { IfErr result (λ fault. NodeCause self.old content fault) }
+        ensures { Makes result self.old self.new (making content) }
     {
         TreeNodeOps::create_node(&mut self.nodes, content)
     }
 
-    /// Makes an HTML element of that local name, without prefix and attributes. It stands alone. Refused as
-    /// `TooManyNodes` or `Memory`.
-    pub fn new_element(&mut self, name: &str) -> Result<NodeId, EditFault>
-        ensures ok { OnOk result (self.new ≡ with_node (bare_element (html_name name.now)) self.old) }
-        ensures number { IfOk result (λ made. made ≡ length self.old.content) }
-        ensures err { OnErr result (self.new ≡ self.old) }
-        ensures cause { IfErr result (λ fault. Limit (length self.old.content) fault) }
+    /// Makes a node as the last child of another. With the contents that it names it counts as
+    /// moved there. Refused as `UnknownNode`; as `NoChildrenHere` by the other one; as
+    /// `RootOrFragment`, where it is a document or a fragment; as `BadContents`, where its contents
+    /// are no free fragment, and `Cycle`, where they reach the other one; as `TooManyNodes` or
+    /// `Memory`.
+    pub fn append_child_data_of(
+        &mut self,
+        id: &NodeId,
+        content: NodeData,
+    ) -> Result<NodeId, EditFault>
+        ensures { Makes result self.old self.new (appending id.now content) }
     {
-        let local = local_name(self.allocator(), name)?;
-        self.new_element_qualname(QualName {
-            prefix: None,
-            ns: Namespace::Html,
-            local,
-        })
+        TreeNodeOps::append_child_data_of(&mut self.nodes, *id, content)
     }
 
-    /// Makes an element of that name without attributes. It stands alone. Refused as `TooManyNodes` or `Memory`.
+    /// Makes an HTML element of that local name, without prefix and attributes. It stands alone.
+    /// Refused as `TooManyNodes` or `Memory`.
+    pub fn new_element(&mut self, name: &str) -> Result<NodeId, EditFault>
+        ensures { Makes result self.old self.new (making (bare_element (html_name name.now))) }
+    {
+        check_room(&self.nodes)?;
+        let local = local_name(self.allocator(), name)?;
+        self.new_element_qualname(html_name(local))
+    }
+
+    /// Makes an element of that name without attributes. It stands alone. Refused as
+    /// `TooManyNodes` or `Memory`.
     pub fn new_element_qualname(&mut self, name: QualName) -> Result<NodeId, EditFault>
-        ensures ok { OnOk result (self.new ≡ with_node (bare_element name) self.old) }
-        ensures number { IfOk result (λ made. made ≡ length self.old.content) }
-        ensures err { OnErr result (self.new ≡ self.old) }
-        ensures cause { IfErr result (λ fault. Limit (length self.old.content) fault) }
+        ensures { Makes result self.old self.new (making (bare_element name)) }
     {
         let attrs = Attrs::new(self.allocator());
-        let element = NodeData::Element(Element::new(name, attrs, None, false));
-        TreeNodeOps::create_node(&mut self.nodes, element)
+        self.create_node(NodeData::Element(Element::new(name, attrs, None, false)))
     }
 
     /// Makes a text. It stands alone. Refused as `TooManyNodes` or `Memory`.
     pub fn new_text(&mut self, text: &str) -> Result<NodeId, EditFault>
-        ensures ok { OnOk result (self.new ≡ with_node (text_node text.now) self.old) }
-        ensures number { IfOk result (λ made. made ≡ length self.old.content) }
-        ensures err { OnErr result (self.new ≡ self.old) }
-        ensures cause { IfErr result (λ fault. Limit (length self.old.content) fault) }
+        ensures { Makes result self.old self.new (making (text_node text.now)) }
     {
+        check_room(&self.nodes)?;
         let contents = owned_text(self.allocator(), text)?;
-        TreeNodeOps::create_node(&mut self.nodes, NodeData::Text { contents })
+        self.create_node(NodeData::Text { contents })
     }
 }
 
+/// The text. Refused as `Memory`.
 fn owned_text(alloc: Global, text: &str) -> Result<Text, EditFault>
     ensures { MatchResult result (λ made. made ≡ text.now) (λ fault. fault ≡ Memory) }
 {

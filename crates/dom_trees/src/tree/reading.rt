@@ -1,19 +1,13 @@
 //! Reading calls by number. An unknown number answers nothing or the default.
 
-ghost use Rattle.std.specs.Prelude.{◌≡◌, ◌<◌, ◌≤◌, ◌⊎◌, IfOk, MatchOption, false, length};
+ghost use Rattle.std.specs.Prelude.{◌≡◌, ◌<◌, ◌≤◌, ◌⊎◌, MatchOption, length, slice_get};
 ghost use Rattle.std.specs.Fn.{FnOnceReturnsAt, FnOnceReturnsAtPair};
 ghost use Rattle.std.specs.Option.{option_copied};
-ghost use Rattle.dom_links.specs.Forest.{children_of, parent, siblings};
-ghost use Rattle.dom_links.specs.Lists.{after, before, first, last};
-ghost use Rattle.dom_links.specs.Trees.{ancestors, limited};
-ghost use Rattle.dom_links.specs.Walk.{IsNodeOf, later};
-ghost use Rattle.dom_trees.specs.Views.{is_integration_point, node_qual_name, ref_to, refs_to};
+ghost use Rattle.dom_trees.specs.Views.{IsAnswerOf, IsAnswerOfTwo, is_integration_point, node_element, node_qual_name};
 
-use crate::node_ref::NodeRef;
 use crate::tree::Tree;
-use dom_nodes::fault::OutOfMemory;
 use dom_nodes::name::QualName;
-use dom_nodes::node_data::TreeNode;
+use dom_nodes::node_data::{Element, NodeData, TreeNode};
 use dom_nodes::node_id::NodeId;
 
 impl Tree {
@@ -21,7 +15,7 @@ impl Tree {
     pub fn query_node<T, F: FnOnce(&TreeNode) -> T + Drop>(&self, id: &NodeId, f: F) -> Option<T>
         requires { F.IsAlwaysCallable f }
         ensures { MatchOption result (length self.now.content ≤ id.now)
-            (λ answer. (node : TreeNode) × IsNodeOf self.now id.now node × FnOnceReturnsAt F.FnOnce f node answer) }
+            (IsAnswerOf (FnOnceReturnsAt F.FnOnce f) self.now id.now) }
     {
         let node = self.get(id)?;
         Some(f(node))
@@ -37,7 +31,7 @@ impl Tree {
         requires { F.IsAlwaysCallable f }
         ensures unknown { length self.now.content ≤ id.now → result ≡ default }
         ensures known { id.now < length self.now.content →
-            (node : TreeNode) × IsNodeOf self.now id.now node × FnOnceReturnsAt F.FnOnce f node result }
+            IsAnswerOf (FnOnceReturnsAt F.FnOnce f) self.now id.now result }
     {
         match self.get(id) {
             Some(node) => f(node),
@@ -54,7 +48,7 @@ impl Tree {
     ) -> Option<T>
         requires { F.IsAlwaysCallable f }
         ensures { MatchOption result ((length self.now.content ≤ a.now) ⊎ (length self.now.content ≤ b.now))
-            (λ answer. (x : TreeNode) × (y : TreeNode) × IsNodeOf self.now a.now x × IsNodeOf self.now b.now y × FnOnceReturnsAtPair F.FnOnce f x y answer) }
+            (IsAnswerOfTwo (FnOnceReturnsAtPair F.FnOnce f) self.now a.now b.now) }
     {
         let first = self.get(a)?;
         let second = self.get(b)?;
@@ -65,88 +59,28 @@ impl Tree {
     pub fn get_name(&self, id: &NodeId) -> Option<&QualName>
         ensures { option_copied result ≡ node_qual_name self.now id.now }
     {
-        Some(&self.get(id)?.content.as_element()?.name)
-    }
-
-    /// The node of that number, without a look whether it is one.
-    pub fn get_unchecked(&self, id: &NodeId) -> NodeRef<'_>
-        ensures { result ≡ record { id = id.now; tree = self.entry } }
-    {
-        NodeRef {
-            id: *id,
-            tree: self,
-        }
+        Some(&self.element(id)?.name)
     }
 
     /// Whether the node is an element that is flagged as a MathML annotation's integration point.
     pub fn is_mathml_annotation_xml_integration_point(&self, node_id: &NodeId) -> bool
         ensures { result ≡ is_integration_point self.now node_id.now }
     {
-        match NodeRef::new(*node_id, self).element_ref() {
-            Some(element) => element.mathml_annotation_xml_integration_point,
-            None => false,
-        }
+        self.element(node_id)
+            .is_some_and(|element| element.mathml_annotation_xml_integration_point)
     }
 
-    /// The parent of a node.
-    pub fn parent_of(&self, id: &NodeId) -> Option<NodeRef<'_>>
-        ensures { result ≡ ref_to self.entry (parent self.now id.now) }
+    /// What the node is.
+    pub(crate) fn content(&self, id: &NodeId) -> Option<&NodeData>
+        ensures { option_copied result ≡ slice_get self.now.content id.now }
     {
-        NodeRef::new(*id, self).parent()
+        Some(&self.get(id)?.content)
     }
 
-    /// The first child of a node.
-    pub fn first_child_of(&self, id: &NodeId) -> Option<NodeRef<'_>>
-        ensures { result ≡ ref_to self.entry (first (children_of self.now id.now)) }
+    /// The element that the node is.
+    pub(crate) fn element(&self, id: &NodeId) -> Option<&Element>
+        ensures { option_copied result ≡ node_element self.now id.now }
     {
-        NodeRef::new(*id, self).first_child()
-    }
-
-    /// The last child of a node.
-    pub fn last_child_of(&self, id: &NodeId) -> Option<NodeRef<'_>>
-        ensures { result ≡ ref_to self.entry (last (children_of self.now id.now)) }
-    {
-        NodeRef::new(*id, self).last_child()
-    }
-
-    /// Who stands right before a node.
-    pub fn prev_sibling_of(&self, id: &NodeId) -> Option<NodeRef<'_>>
-        ensures { result ≡ ref_to self.entry (before (siblings self.now id.now) id.now) }
-    {
-        NodeRef::new(*id, self).prev_sibling()
-    }
-
-    /// Who stands right after a node.
-    pub fn next_sibling_of(&self, id: &NodeId) -> Option<NodeRef<'_>>
-        ensures { result ≡ ref_to self.entry (after (siblings self.now id.now) id.now) }
-    {
-        NodeRef::new(*id, self).next_sibling()
-    }
-
-    /// The last of a node's later siblings; none where it is the last of its list.
-    pub fn last_sibling_of(&self, id: &NodeId) -> Option<NodeRef<'_>>
-        ensures { result ≡ ref_to self.entry (last (later self.now false id.now)) }
-    {
-        NodeRef::new(*id, self).last_sibling()
-    }
-
-    /// The children of a node, in order.
-    pub fn children_of(&self, id: &NodeId) -> Result<Vec<NodeRef<'_>>, OutOfMemory>
-        ensures { IfOk result (λ refs. refs.items ≡ refs_to self.entry (children_of self.now id.now)) }
-    {
-        let children = NodeRef::new(*id, self).children_it(false);
-        Ok(children.collect(self.allocator())?)
-    }
-
-    /// The ancestors of a node, from its parent on; at most `max_depth` of them, where that is neither none nor 0.
-    pub fn ancestors_of(
-        &self,
-        id: &NodeId,
-        max_depth: Option<usize>,
-    ) -> Result<Vec<NodeRef<'_>>, OutOfMemory>
-        ensures { IfOk result (λ refs. refs.items ≡ refs_to self.entry (limited max_depth (ancestors self.now id.now))) }
-    {
-        let above = NodeRef::new(*id, self).ancestors_it(max_depth);
-        Ok(above.collect(self.allocator())?)
+        self.content(id)?.as_element()
     }
 }

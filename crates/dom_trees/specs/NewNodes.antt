@@ -1,5 +1,6 @@
 -- What the nodes are that calls make.
-use Rattle.std.specs.Prelude.{ℕ, false, List, [], None}
+use Rattle.std.specs.Prelude.{ℕ, false, List, [], Option, None, Some}
+use Rattle.dom_nodes.specs.declared.name.Attr.{Attr}
 use Rattle.dom_nodes.specs.declared.name.QualName.{QualName}
 use Rattle.dom_nodes.specs.declared.name.Namespace.TheVariants.{Html}
 use Rattle.dom_nodes.specs.declared.node_data.NodeData.{NodeData}
@@ -11,7 +12,21 @@ html_name name = record { prefix = None; ns = Html; local = name }
 
 -- the element of that name, without attributes and contents
 abbrev pub bare_element : QualName → NodeData
-bare_element name = Element (record { name = name; attrs = []; template_contents = None; mathml_annotation_xml_integration_point = false })
+bare_element name = Element (record {
+  name = name;
+  attrs = [];
+  template_contents = None;
+  mathml_annotation_xml_integration_point = false;
+})
+
+-- the element of that name and these attributes, with these contents
+abbrev pub element_with : QualName → List Attr → ℕ → NodeData
+element_with name attrs contents = Element (record {
+  name = name;
+  attrs = attrs;
+  template_contents = Some contents;
+  mathml_annotation_xml_integration_point = false;
+})
 
 abbrev pub text_node : List ℕ → NodeData
 text_node text = Text text

@@ -1,0 +1,130 @@
+-- Edits of a tree, and what a call promises that makes one.
+use Rattle.std.specs.Prelude.{ℕ, ◌≡◌, ◌<◌, ◌+◌, true, List, [], ◌∷◌, Option, Result, IfErr, IfOk, OnErr, OnOk, length}
+use Rattle.dom_nodes.specs.Change.{changed}
+use Rattle.dom_nodes.specs.declared.fault.EditFault.{EditFault}
+use Rattle.dom_nodes.specs.declared.name.Attr.{Attr}
+use Rattle.dom_nodes.specs.declared.name.QualName.{QualName}
+use Rattle.dom_nodes.specs.declared.node_data.NodeData.{NodeData}
+use Rattle.dom_nodes.specs.declared.node_data.changing.Change.{Change}
+use Rattle.dom_links.specs.Contents.{with_content}
+use Rattle.dom_links.specs.Forest.{Forest, children_of}
+use Rattle.dom_links.specs.Growth.{DataCause, HasFreeContents, MayAppend, NodeCause, with_child, with_node, with_template}
+use Rattle.dom_links.specs.ListMoves.{AllowedList, MayReparent, MayWrap, moved_nodes, mover, reparented, replaced, unwrapped, wrapped}
+use Rattle.dom_links.specs.Moves.{cut, moved_to}
+use Rattle.dom_links.specs.Sound.{bears}
+use Rattle.dom_links.specs.declared.gap.Gap.{Gap}
+use Rattle.dom_links.specs.declared.gap.Gap.TheVariants.{Before}
+use Rattle.dom_links.specs.declared.gap.Moving.{Moving}
+use Rattle.dom_links.specs.declared.gap.Moving.TheVariants.{Node}
+use Rattle.dom_trees.specs.NewNodes.{element_with}
+use Rattle.dom_trees.specs.Refusals.{ChangeCause, KnownCause, MoveCause, ReparentCause, TemplateCause, WrapCause}
+
+-- An edit: the forest that it leaves, when it is allowed, and the cause that a fault tells of its refusal
+pub record TreeEdit : Type 1 where
+  pub after : Forest → Forest
+  pub Allowed : Forest → Type 0
+  pub Cause : Forest → EditFault → Type 0
+
+-- The edit is made, and was allowed; or it is refused with its cause, and nothing changes
+pub record Edits {A : Type 0} (result : Result A EditFault) (old new : Forest) (edit : TreeEdit) : Type 0 where
+  pub ok : OnOk result (new ≡ edit.after old)
+  pub allowed : OnOk result (edit.Allowed old)
+  pub err : OnErr result (new ≡ old)
+  pub cause : IfErr result (edit.Cause old)
+
+-- The same of an edit that makes a node: it answers the next number
+pub record Makes (result : Result ℕ EditFault) (old new : Forest) (edit : TreeEdit) : Type 0 where
+  pub ok : OnOk result (new ≡ edit.after old)
+  pub number : IfOk result (λ made. made ≡ length old.content)
+  pub allowed : OnOk result (edit.Allowed old)
+  pub err : OnErr result (new ≡ old)
+  pub cause : IfErr result (edit.Cause old)
+
+-- there is a node of that number
+abbrev pub IsKnown : ℕ → Forest → Type 0
+IsKnown x forest = x < length forest.content
+
+-- nodes are known, and may go to the gap
+pub record MayMove (gap : Gap) (moving : Moving) (forest : Forest) : Type 0 where
+  pub known : mover moving < length forest.content
+  pub list : AllowedList forest gap (moved_nodes forest moving)
+
+-- nodes go to a gap
+abbrev pub moving_to : Gap → Moving → TreeEdit
+moving_to gap moving = record {
+  after = λ forest. moved_to (moved_nodes forest moving) gap forest;
+  Allowed = MayMove gap moving;
+  Cause = MoveCause gap moving;
+}
+
+-- x is cut out of its list
+abbrev pub removing : ℕ → TreeEdit
+removing x = record { after = cut (x ∷ []); Allowed = IsKnown x; Cause = KnownCause x }
+
+-- the children of x are cut out
+abbrev pub removing_children : ℕ → TreeEdit
+removing_children x = record {
+  after = λ forest. cut (children_of forest x) forest;
+  Allowed = IsKnown x;
+  Cause = KnownCause x;
+}
+
+-- the children of x go to the end of those of another node, or are a run of their own
+abbrev pub reparenting : ℕ → Option ℕ → TreeEdit
+reparenting x p = record {
+  after = reparented x p;
+  Allowed = λ forest. IsKnown x forest × MayReparent forest x p;
+  Cause = ReparentCause x p;
+}
+
+-- y is put before x, and x is cut out
+abbrev pub replacing : ℕ → ℕ → TreeEdit
+replacing x y = record {
+  after = replaced x y;
+  Allowed = MayMove (Before x) (Node y);
+  Cause = MoveCause (Before x) (Node y);
+}
+
+-- w is put before x, and x to the end of the children of w
+abbrev pub wrapping : ℕ → ℕ → TreeEdit
+wrapping x w = record {
+  after = wrapped x w;
+  Allowed = λ forest. MayWrap forest x w;
+  Cause = WrapCause x w;
+}
+
+-- the children of the parent of x are put in the parent's place, where it and its parent are elements
+abbrev pub unwrapping : ℕ → TreeEdit
+unwrapping x = record { after = unwrapped x; Allowed = IsKnown x; Cause = KnownCause x }
+
+-- what x is changes
+abbrev pub changing : ℕ → Change → TreeEdit
+changing x change = record {
+  after = with_content x (changed change);
+  Allowed = IsKnown x;
+  Cause = ChangeCause x change;
+}
+
+-- a node is made, which stands alone
+abbrev pub making : NodeData → TreeEdit
+making content = record {
+  after = with_node content;
+  Allowed = λ forest. HasFreeContents forest content;
+  Cause = λ forest fault. NodeCause forest content fault;
+}
+
+-- a node is made as the last child of t
+abbrev pub appending : ℕ → NodeData → TreeEdit
+appending t content = record {
+  after = with_child t content;
+  Allowed = λ forest. MayAppend forest t content;
+  Cause = λ forest fault. DataCause forest t content fault;
+}
+
+-- an element is made as the last child of t, and then the fragment that is its contents
+abbrev pub appending_template : ℕ → QualName → List Attr → TreeEdit
+appending_template t name attrs = record {
+  after = λ forest. with_template t (element_with name attrs (length forest.content + 1)) forest;
+  Allowed = λ forest. IsKnown t forest × (bears forest t ≡ true);
+  Cause = TemplateCause t;
+}

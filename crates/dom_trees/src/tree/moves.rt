@@ -1,0 +1,155 @@
+//! The moves: what is moved is cut out of its list, and put at a gap or left a run of its own. They take no memory.
+
+ghost use Rattle.dom_links.specs.declared.gap.Gap.TheVariants.{After, Before, EndOf, FrontOf};
+ghost use Rattle.dom_links.specs.declared.gap.Moving.TheVariants.{Node, WholeList, WithLater};
+ghost use Rattle.dom_trees.specs.Edits.{Edits, moving_to, removing, removing_children, reparenting, replacing, unwrapping, wrapping};
+
+use crate::checks::{check_known, check_move, check_reparent, check_wrap};
+use crate::tree::Tree;
+use dom_links::gap::{Gap, Moving};
+use dom_links::ops::{TreeNodeOps, lists};
+use dom_nodes::fault::EditFault;
+use dom_nodes::node_id::NodeId;
+
+impl Tree {
+    /// Moves nodes to a gap. Refused as `UnknownNode`; as `NoChildrenHere`, where the gap is among
+    /// the children of a node that has none; as `RootOrFragment` by the node beside the gap or a
+    /// moved node; as `Cycle` by a moved node.
+    pub fn move_to(&mut self, gap: Gap, moving: Moving) -> Result<(), EditFault>
+        ensures { Edits result self.old self.new (moving_to gap moving) }
+    {
+        check_move(&self.nodes, &gap, &moving)?;
+        TreeNodeOps::move_to(&mut self.nodes, gap, moving);
+        Ok(())
+    }
+
+    /// Moves a node to the end of the children of another.
+    pub fn append_child_of(&mut self, id: &NodeId, new_child: &NodeId) -> Result<(), EditFault>
+        ensures { Edits result self.old self.new (moving_to (EndOf id.now) (Node new_child.now)) }
+    {
+        self.move_to(Gap::EndOf(*id), Moving::Node(*new_child))
+    }
+
+    /// Moves a node to the front of the children of another.
+    pub fn prepend_child_of(&mut self, id: &NodeId, new_child: &NodeId) -> Result<(), EditFault>
+        ensures { Edits result self.old self.new (moving_to (FrontOf id.now) (Node new_child.now)) }
+    {
+        self.move_to(Gap::FrontOf(*id), Moving::Node(*new_child))
+    }
+
+    /// Moves a node to the place right before another.
+    pub fn insert_before_of(&mut self, id: &NodeId, new_sibling: &NodeId) -> Result<(), EditFault>
+        ensures { Edits result self.old self.new (moving_to (Before id.now) (Node new_sibling.now)) }
+    {
+        self.move_to(Gap::Before(*id), Moving::Node(*new_sibling))
+    }
+
+    /// Moves a node to the place right after another.
+    pub fn insert_after_of(&mut self, id: &NodeId, new_sibling: &NodeId) -> Result<(), EditFault>
+        ensures { Edits result self.old self.new (moving_to (After id.now) (Node new_sibling.now)) }
+    {
+        self.move_to(Gap::After(*id), Moving::Node(*new_sibling))
+    }
+
+    /// Moves a node and its later siblings to the end of the children of another.
+    pub fn append_children_of(&mut self, id: &NodeId, new_child: &NodeId) -> Result<(), EditFault>
+        ensures { Edits result self.old self.new (moving_to (EndOf id.now) (WithLater new_child.now)) }
+    {
+        self.move_to(Gap::EndOf(*id), Moving::WithLater(*new_child))
+    }
+
+    /// Moves the whole list of a node, it and all its siblings, to the front of the children of
+    /// another.
+    pub fn prepend_children_of(&mut self, id: &NodeId, new_child: &NodeId) -> Result<(), EditFault>
+        ensures { Edits result self.old self.new (moving_to (FrontOf id.now) (WholeList new_child.now)) }
+    {
+        self.move_to(Gap::FrontOf(*id), Moving::WholeList(*new_child))
+    }
+
+    /// Moves a node and its later siblings to the place right before another.
+    pub fn insert_siblings_before(
+        &mut self,
+        id: &NodeId,
+        new_sibling: &NodeId,
+    ) -> Result<(), EditFault>
+        ensures { Edits result self.old self.new (moving_to (Before id.now) (WithLater new_sibling.now)) }
+    {
+        self.move_to(Gap::Before(*id), Moving::WithLater(*new_sibling))
+    }
+
+    /// Moves a node and its later siblings to the place right after another.
+    pub fn insert_siblings_after(
+        &mut self,
+        id: &NodeId,
+        new_sibling: &NodeId,
+    ) -> Result<(), EditFault>
+        ensures { Edits result self.old self.new (moving_to (After id.now) (WithLater new_sibling.now)) }
+    {
+        self.move_to(Gap::After(*id), Moving::WithLater(*new_sibling))
+    }
+
+    /// Cuts a node out of its list. It is then a run of its own. Only an `UnknownNode` is refused.
+    pub fn remove_from_parent(&mut self, id: &NodeId) -> Result<(), EditFault>
+        ensures { Edits result self.old self.new (removing id.now) }
+    {
+        check_known(&self.nodes, *id)?;
+        TreeNodeOps::remove_from_parent(&mut self.nodes, *id);
+        Ok(())
+    }
+
+    /// Cuts the children of a node out. They are then a run of their own. Only an `UnknownNode` is
+    /// refused.
+    pub fn remove_children_of(&mut self, id: &NodeId) -> Result<(), EditFault>
+        ensures { Edits result self.old self.new (removing_children id.now) }
+    {
+        check_known(&self.nodes, *id)?;
+        lists::remove_children(&mut self.nodes, *id);
+        Ok(())
+    }
+
+    /// Moves the children of a node to the end of those of another; without one they are then a run
+    /// of their own. Refused as `UnknownNode`; as `NoChildrenHere` by the other one, also where
+    /// there are no children to move; as `Cycle` by one of the children.
+    pub fn reparent_children_of(
+        &mut self,
+        id: &NodeId,
+        new_parent: Option<NodeId>,
+    ) -> Result<(), EditFault>
+        ensures { Edits result self.old self.new (reparenting id.now new_parent) }
+    {
+        let parent = new_parent;
+        check_reparent(&self.nodes, *id, parent)?;
+        TreeNodeOps::reparent_children_of(&mut self.nodes, *id, new_parent);
+        Ok(())
+    }
+
+    /// Puts a node right before another, and cuts that one out. Refused where the first step is.
+    pub fn replace_with(&mut self, id: &NodeId, new_node: &NodeId) -> Result<(), EditFault>
+        ensures { Edits result self.old self.new (replacing id.now new_node.now) }
+    {
+        check_move(&self.nodes, &Gap::Before(*id), &Moving::Node(*new_node))?;
+        lists::replace_with(&mut self.nodes, *id, *new_node);
+        Ok(())
+    }
+
+    /// Puts the wrapper right before a node, and then the node to the end of the children of the
+    /// wrapper. Refused where one of the steps is.
+    pub fn wrap_node(&mut self, id: &NodeId, wrapper: &NodeId) -> Result<(), EditFault>
+        ensures { Edits result self.old self.new (wrapping id.now wrapper.now) }
+    {
+        check_wrap(&self.nodes, *id, *wrapper)?;
+        lists::wrap_node(&mut self.nodes, *id, *wrapper);
+        Ok(())
+    }
+
+    /// Where the parent of a node and its parent are elements, puts the parent's children right
+    /// before the parent and cuts the parent out. Else nothing changes. Only an `UnknownNode` is
+    /// refused.
+    pub fn unwrap_node(&mut self, id: &NodeId) -> Result<(), EditFault>
+        ensures { Edits result self.old self.new (unwrapping id.now) }
+    {
+        check_known(&self.nodes, *id)?;
+        lists::unwrap_node(&mut self.nodes, *id);
+        Ok(())
+    }
+}
