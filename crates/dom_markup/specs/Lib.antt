@@ -19,7 +19,7 @@ pub mod Escaping
 pub mod Html
 pub mod Scopes
 pub mod Cutting
-pub mod Ops
+pub mod Pending
 pub mod Plain
 pub mod ReadingBack
 pub mod Documents
