@@ -5,9 +5,9 @@ use Rattle.std.specs.List.{list_all}
 use Rattle.std.specs.Char.{to_ascii_lowercase}
 use Rattle.std.proofs.lemmas.Bool.{true≢false, cases_Bool, and_parts, and_from}
 use Rattle.std.proofs.lemmas.Bool.Decides.{nat_tests}
-use Rattle.dom_markup.specs.Letters.{is_whitespace, is_name_byte, folded}
+use Rattle.dom_markup.specs.Bytes.{is_whitespace, is_name_byte, folded}
 use Rattle.dom_markup.specs.Markup.{Fails, Closes, BeginsQuoted, BeginsWord, BeginsDoctype, begins_markup}
-use Rattle.dom_markup.specs.Written.{AfterPublic, EndsDoctype, IsWord, Splits}
+use Rattle.dom_markup.specs.Stretches.{AfterPublic, EndsDoctype, IsWord, Splits}
 use Rattle.dom_markup.proofs.Spans.{span_same}
 use Rattle.dom_markup.proofs.Reading.{name_no_space, space_no_name, name_first, not_itself, close_same, behind_first}
 

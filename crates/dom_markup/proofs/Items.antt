@@ -2,7 +2,7 @@
 use Rattle.std.proofs.Common.{◌≡◌, ◌≢◌, ◌<◌, ℕ, List, [], ◌∷◌, ◌++◌, length, length-append, true, false, refl, sym, ap, ◌∙◌, subst, arith, append_assoc, inl, inr}
 use Rattle.std.specs.Prelude.{Bool, codes, ◌==◌, ◌||◌, ◌&&◌}
 use Rattle.std.proofs.lemmas.Bool.{false≢true, eqb-true}
-use Rattle.dom_markup.specs.Letters.{folded}
+use Rattle.dom_markup.specs.Bytes.{folded}
 use Rattle.dom_nodes.specs.Words.{is_among}
 use Rattle.dom_markup.specs.Names.{Mode, markup, text_of, raw_text_of, mode_in, void_names}
 use Rattle.dom_nodes.specs.declared.fault.MarkupFaultKind.{MarkupFaultKind}
@@ -15,8 +15,8 @@ use Rattle.dom_markup.specs.declared.document.tokens.TokenKind.TheVariants as ki
 use Rattle.dom_markup.specs.ValueTrees.{Attribute}
 use Rattle.dom_markup.specs.Markup.{Item, NamesElement, EndsTag, BeginsStart, BeginsEnd, BeginsQuoted, BeginsWord, BeginsIdentifiers, BeginsDoctype, Begins, BeginsNothing, EndsAtTag, begins_markup, text_front, kept_after, mode_after, LacksEnd}
 use Rattle.dom_markup.specs.Markup.Item.{start_tag, end_tag, characters, comment, doctype}
-use Rattle.dom_markup.specs.Written.{Splits}
-use Rattle.dom_markup.specs.Letters.{is_letter, is_name_byte, is_whitespace}
+use Rattle.dom_markup.specs.Stretches.{Splits}
+use Rattle.dom_markup.specs.Bytes.{is_letter, is_name_byte, is_whitespace}
 use Rattle.dom_markup.proofs.Reading.{no_letter, behind_first, other_second, comment_behind, EndsTag-suffix}
 use Rattle.dom_markup.proofs.Doctypes.{doctype_first}
 use Rattle.dom_markup.proofs.Texts.{no_front, begins_less, some_front}

@@ -18,7 +18,7 @@ pub mod CutLemmas
 pub mod EscapeLemmas
 pub mod TagLemmas
 pub mod RowLemmas
-pub mod OpsLemmas
+pub mod PendingLemmas
 pub mod InertLemmas
 pub mod Marks
 pub mod Firsts

@@ -3,7 +3,7 @@ use Rattle.std.proofs.Common.{◌≡◌, ◌≢◌, ◌<◌, ℕ, List, [], ◌�
 use Rattle.std.specs.Prelude.{codes, ◌==◌, ◌||◌, MatchBool, ◌⊎◌}
 use Rattle.std.specs.List.{list_all}
 use Rattle.std.proofs.lemmas.Bool.{true≢false, and_parts, eqb-true, eq-eqb, ne_eqb}
-use Rattle.dom_markup.specs.Letters.{is_whitespace, is_letter, is_name_byte, folded}
+use Rattle.dom_markup.specs.Bytes.{is_whitespace, is_letter, is_name_byte, folded}
 use Rattle.dom_nodes.specs.Words.{is_among}
 use Rattle.dom_markup.specs.Names.{markup, void_names}
 use Rattle.dom_markup.specs.References.{decoded}
@@ -11,7 +11,7 @@ use Rattle.dom_markup.specs.ValueTrees.{Attribute}
 use Rattle.dom_markup.specs.Markup.{IsSpace, after_space, is_bare_byte, Fails, BeginsValue, begins_equals, HasValue, IsTagName, NamesElement, BeginsAttribute, Closes, EndsTag, BeginsStart, BeginsEnd, EndsAtMark, Begins, begins_markup, kept_after}
 use Rattle.dom_markup.specs.Markup.Item.{comment}
 use Rattle.dom_markup.specs.Refusals.{BeginsNoStart, EndsInSlash}
-use Rattle.dom_markup.specs.Written.{Splits, SameEnd}
+use Rattle.dom_markup.specs.Stretches.{Splits, SameEnd}
 use Rattle.dom_markup.proofs.Spans.{span_same, letter-name, space-name, name-space}
 
 -- a non-empty front of name bytes begins with no whitespace

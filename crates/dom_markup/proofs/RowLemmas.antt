@@ -19,7 +19,7 @@ use Rattle.dom_links.proofs.Places.{cases_Option, siblings_run}
 use Rattle.dom_links.proofs.Depth.{trees-none, trees-some}
 use Rattle.dom_links.proofs.Later.{begins}
 use Rattle.dom_markup.specs.Html.{html_of, inner_html_of, is_void_node, is_kept, keeps_texts, opening, trees_text}
-use Rattle.dom_markup.specs.Ops.{row_text, text_below}
+use Rattle.dom_markup.specs.Pending.{row_text, text_below}
 
 -- a number at which something is read is one of the forest's
 pub known_node : {X : Type 0} (xs : List X) (n : ℕ) (x : X) → slice_get xs n ≡ Some x → n < length xs

@@ -8,11 +8,11 @@ use Rattle.std.proofs.lemmas.List.{take-append-drop}
 use Rattle.std.proofs.lemmas.List.Sums.{prefix_len-le-length, prefix_len_passes, prefix_len_stops}
 use Rattle.std.proofs.lemmas.Str.{IsCharBoundary-after_ascii, IsCharBoundary-start}
 use Rattle.std.specs.Str.{IsUtf8, IsCharBoundary}
-use Rattle.dom_markup.specs.declared.document.scan.Letters.{Letters}
-use Rattle.dom_markup.specs.declared.document.scan.Letters.TheVariants.{Whitespace, Name, Bare}
+use Rattle.dom_markup.specs.declared.document.scan.Stretch.{Stretch}
+use Rattle.dom_markup.specs.declared.document.scan.Stretch.TheVariants.{Whitespace, Name, Bare}
 use Rattle.dom_markup.specs.Markup.{Fails, is_bare_byte}
-use Rattle.dom_markup.specs.Written.{Splits, passes}
-use Rattle.dom_markup.specs.Letters.{is_whitespace, is_letter, is_name_byte}
+use Rattle.dom_markup.specs.Stretches.{Splits, passes}
+use Rattle.dom_markup.specs.Bytes.{is_whitespace, is_letter, is_name_byte}
 
 pub span_same : (p : ℕ → Bool) (xs ys us vs : List ℕ) → list_all p xs ≡ true → Fails p ys → list_all p us ≡ true → Fails p vs → xs ++ ys ≡ us ++ vs → (xs ≡ us) × (ys ≡ vs)
 span_same p [] ys [] vs a f b g e = (refl, e)
@@ -91,7 +91,7 @@ stops_boundary p xs small = (prefix_len-le-length p xs, λ l h. absurd (go l h))
         omega arith
 
 -- a text may be cut behind such a front
-pub front_boundary : (letters : Letters) (xs : List ℕ) → IsUtf8 xs → IsCharBoundary xs (prefix_len (passes letters) xs)
+pub front_boundary : (stretch : Stretch) (xs : List ℕ) → IsUtf8 xs → IsCharBoundary xs (prefix_len (passes stretch) xs)
 front_boundary Whitespace xs u = go (prefix_len is_whitespace xs) (prefix_len-le-length is_whitespace xs) (λ k l. prefix_len_passes is_whitespace xs k 0 l)
   where
     go : (n : ℕ) → n ≤ length xs → ((k : ℕ) → k < n → is_whitespace (get_or xs k 0) ≡ true) → IsCharBoundary xs n

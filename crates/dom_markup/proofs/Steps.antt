@@ -18,7 +18,7 @@ use Rattle.dom_nodes.specs.declared.name.QualName.{QualName}
 use Rattle.dom_links.specs.Growth.{DataCause, with_child, with_template}
 use Rattle.dom_links.specs.Sound.{bears}
 use Rattle.dom_trees.specs.Refusals.{TemplateCause, element_with}
-use Rattle.dom_markup.specs.Letters.{folded}
+use Rattle.dom_markup.specs.Bytes.{folded}
 use Rattle.dom_nodes.specs.Words.{is_among}
 use Rattle.dom_markup.specs.Names.{Mode, markup, text_of, raw_text_of, is_template, void_names}
 use Rattle.dom_markup.specs.References.{decoded}

@@ -5,7 +5,7 @@ use Rattle.std.proofs.lemmas.Bool.{and_parts, eqb-true, eq-eqb, ne_eqb}
 use Rattle.std.proofs.lemmas.List.{drop-drop}
 use Rattle.std.specs.Str.{IsCharBoundary}
 use Rattle.memchr.specs.Find.{Nowhere, NoneBefore, Passes, is_byte}
-use Rattle.dom_markup.specs.Letters.{is_letter}
+use Rattle.dom_markup.specs.Bytes.{is_letter}
 use Rattle.dom_markup.specs.Markup.{begins_markup, text_front}
 
 -- where markup begins, no text does

@@ -6,7 +6,7 @@ use Rattle.std.proofs.lemmas.List.{take-append-drop, take_more}
 use Rattle.std.proofs.lemmas.Grind.{flat_map-append}
 use Rattle.std.specs.Io.KnownBytes.{Appends}
 use Rattle.dom_markup.specs.Writing.{AppendsBeginning, Writes}
-use Rattle.dom_markup.specs.Ops.{WritesSome}
+use Rattle.dom_markup.specs.Pending.{WritesSome}
 
 pub nothing-written : (old : Option (List ℕ)) → Appends old old []
 nothing-written None = tt

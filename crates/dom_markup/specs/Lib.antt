@@ -1,11 +1,11 @@
-pub mod Letters
+pub mod Bytes
 pub mod Taking
 pub mod Names
 pub mod References
 pub mod Referring
 pub mod ValueTrees
 pub mod Markup
-pub mod Written
+pub mod Stretches
 pub mod Attributes
 pub mod Token
 pub mod Tokens
@@ -19,7 +19,7 @@ pub mod Escaping
 pub mod Html
 pub mod Scopes
 pub mod Cutting
-pub mod Ops
+pub mod Pending
 pub mod Plain
 pub mod ReadingBack
 pub mod Documents

@@ -2,12 +2,13 @@
 use Rattle.std.specs.Prelude.{◌≡◌, ◌≢◌, ℕ, ◌≤◌, ◌==◌, ◌||◌, ◌&&◌, not, List, [], ◌∷◌, ◌++◌, length, drop, Bool, true, false, MatchBool, ◌⊎◌, codes, if◌then◌else◌}
 use Rattle.std.specs.List.{list_all, list_any}
 use Rattle.std.specs.Str.{bytes_eq}
-use Rattle.dom_markup.specs.Letters.{is_whitespace, is_letter, is_name_byte, folded}
+use Rattle.dom_markup.specs.Bytes.{is_whitespace, is_letter, is_name_byte, folded}
 use Rattle.dom_nodes.specs.Words.{is_among}
 use Rattle.dom_markup.specs.Names.{Mode, markup, text_of, raw_text_of, mode_in, void_names}
 use Rattle.dom_markup.specs.References.{decoded}
 use Rattle.dom_markup.specs.ValueTrees.{Attribute, ValueTrees}
 use Rattle.dom_markup.specs.ValueTrees.ValueTrees.{no_trees, text_node, comment_node, doctype_node, element_node}
+use Rattle.dom_nodes.specs.Ascii.{double_quote, equals_sign, exclamation_mark, greater_than, less_than, question_mark, single_quote, slash}
 
 -- a tag, a text, a comment or a doctype: the smallest parts that mean something
 pub data Item : Type 0 where
@@ -39,7 +40,7 @@ after_space (b ∷ bs) = if is_whitespace b then after_space bs else b ∷ bs
 -- ---- attributes
 
 abbrev pub is_bare_byte : ℕ → Bool
-is_bare_byte b = not (is_whitespace b || b == 62)
+is_bare_byte b = not (is_whitespace b || b == greater_than)
 
 -- text is empty, or its first byte fails
 abbrev pub Fails : (ℕ → Bool) → List ℕ → Type 0
@@ -50,13 +51,13 @@ Fails p (b ∷ bs) = p b ≡ false
 abbrev pub BeginsValue : List ℕ → List ℕ → List ℕ → Type 0
 BeginsValue [] written rest = ⊥
 BeginsValue (c ∷ more) written rest =
-    MatchBool (c == 34 || c == 39)
+    MatchBool (c == double_quote || c == single_quote)
     ((list_all (λ b. not (b == c)) written ≡ true) × (more ≡ written ++ c ∷ rest))
     ((c ∷ more ≡ written ++ rest) × (written ≢ []) × (list_all is_bare_byte written ≡ true) × Fails is_bare_byte rest)
 
 abbrev pub begins_equals : List ℕ → Bool
 begins_equals [] = false
-begins_equals (b ∷ bs) = b == 61
+begins_equals (b ∷ bs) = b == equals_sign
 
 -- after is `=` and a value, with whitespace allowed round the `=`, and then rest; or there is none, and the value is empty
 abbrev pub HasValue : List ℕ → List ℕ → List ℕ → Type 0
@@ -80,14 +81,14 @@ pub record BeginsAttribute (text : List ℕ) (attribute : Attribute) (rest : Lis
 
 -- text is optional whitespace, where it may be a slash, and `>`, and then rest
 abbrev pub Closes : Bool → List ℕ → List ℕ → Type 0
-Closes slash text rest = (space : List ℕ) × IsSpace space
-    × ((text ≡ space ++ (62 ∷ rest)) ⊎ ((slash ≡ true) × (text ≡ space ++ (47 ∷ 62 ∷ rest))))
+Closes may_slash text rest = (space : List ℕ) × IsSpace space
+    × ((text ≡ space ++ (greater_than ∷ rest)) ⊎ ((may_slash ≡ true) × (text ≡ space ++ (slash ∷ greater_than ∷ rest))))
 
 -- text is these attributes as they are written, the end of the tag, and then rest
 abbrev pub EndsTag : Bool → List ℕ → List Attribute → List ℕ → Type 0
-EndsTag slash text [] rest = Closes slash text rest
-EndsTag slash text (attribute ∷ attributes) rest =
-    (after : List ℕ) × BeginsAttribute text attribute after × EndsTag slash after attributes rest
+EndsTag may_slash text [] rest = Closes may_slash text rest
+EndsTag may_slash text (attribute ∷ attributes) rest =
+    (after : List ℕ) × BeginsAttribute text attribute after × EndsTag may_slash after attributes rest
 
 abbrev pub has_name : List ℕ → List Attribute → Bool
 has_name name attributes = list_any (λ a. bytes_eq a.name name) attributes
@@ -105,7 +106,7 @@ pub record BeginsStart (text name : List ℕ) (attributes : List Attribute) (res
   pub written : List ℕ
   pub more : List ℕ
   pub all : List Attribute
-  pub is : text ≡ 60 ∷ (written ++ more)
+  pub is : text ≡ less_than ∷ (written ++ more)
   pub names : NamesElement written name
   pub ends : EndsTag (is_among name void_names) more all rest
   pub kept : attributes ≡ kept_after [] all
@@ -114,7 +115,7 @@ pub record BeginsStart (text name : List ℕ) (attributes : List Attribute) (res
 pub record BeginsEnd (text name rest : List ℕ) : Type 0 where
   pub written : List ℕ
   pub space : List ℕ
-  pub is : text ≡ 60 ∷ 47 ∷ (written ++ (space ++ (62 ∷ rest)))
+  pub is : text ≡ less_than ∷ slash ∷ (written ++ (space ++ (greater_than ∷ rest)))
   pub names : NamesElement written name
   pub is_space : IsSpace space
 
@@ -124,7 +125,7 @@ pub record BeginsEnd (text name rest : List ℕ) : Type 0 where
 abbrev pub begins_markup : List ℕ → Bool
 begins_markup [] = false
 begins_markup (a ∷ []) = false
-begins_markup (a ∷ b ∷ bs) = a == 60 && (is_letter b || b == 47 || b == 33 || b == 63)
+begins_markup (a ∷ b ∷ bs) = a == less_than && (is_letter b || b == slash || b == exclamation_mark || b == question_mark)
 
 -- the text up to the first place where markup begins
 abbrev pub text_front : List ℕ → List ℕ
@@ -156,7 +157,7 @@ pub record BeginsQuoted (text value rest : List ℕ) : Type 0 where
   pub is : text ≡ space ++ (quote ∷ (value ++ (quote ∷ rest)))
   pub is_space : IsSpace space
   pub some_space : space ≢ []
-  pub is_quote : (quote ≡ 34) ⊎ (quote ≡ 39)
+  pub is_quote : (quote ≡ double_quote) ⊎ (quote ≡ single_quote)
   pub within : list_all (λ b. not (b == quote)) value ≡ true
 
 -- text is whitespace, the word in any case, and then rest
@@ -183,7 +184,7 @@ pub record BeginsDoctype (text name public system rest : List ℕ) : Type 0 wher
   pub written : List ℕ
   pub more : List ℕ
   pub close : List ℕ
-  pub is : text ≡ 60 ∷ 33 ∷ (word ++ (space ++ (written ++ more)))
+  pub is : text ≡ less_than ∷ exclamation_mark ∷ (word ++ (space ++ (written ++ more)))
   pub is_word : folded word ≡ codes "doctype"
   pub is_space : IsSpace space
   pub some_space : space ≢ []

@@ -7,7 +7,7 @@ use Rattle.dom_nodes.specs.declared.name.Namespace.TheVariants.{None as NoNamesp
 use Rattle.dom_nodes.specs.declared.node_data.NodeData.{NodeData}
 use Rattle.dom_nodes.specs.declared.node_data.NodeData.TheVariants.{Document, Doctype, Comment, Text, Element}
 use Rattle.dom_links.specs.Forest.{Forest, children_of}
-use Rattle.dom_markup.specs.Letters.{is_name_byte, folded}
+use Rattle.dom_markup.specs.Bytes.{is_name_byte, folded}
 use Rattle.dom_nodes.specs.Words.{is_among}
 use Rattle.dom_markup.specs.Names.{Mode, markup, text_of, raw_text_of, mode_in, is_template, void_names, raw_names}
 use Rattle.dom_markup.specs.Escaping.{escaped_text}

@@ -6,7 +6,7 @@ use Rattle.dom_nodes.specs.declared.fault.MarkupFaultKind.TheVariants.{BadTag, U
 use Rattle.dom_markup.specs.ValueTrees.{Attribute, ValueTrees}
 use Rattle.dom_nodes.specs.Ascii.{less_than, slash}
 use Rattle.dom_nodes.specs.Words.{is_among}
-use Rattle.dom_markup.specs.Letters.{folded, is_letter}
+use Rattle.dom_markup.specs.Bytes.{folded, is_letter}
 use Rattle.dom_markup.specs.Frames.{Frame, FramesInPlace, is_top, opened_items}
 use Rattle.dom_markup.specs.Markup.{Item, AreInPlace, Begins, BeginsNothing, BeginsStart, EndsTag, IsTagName, LacksEnd, SpellsItemsUpTo, SpellsNothing, items_of, mode_past}
 use Rattle.dom_markup.specs.Markup.Item.{start_tag, end_tag, characters, comment, doctype}

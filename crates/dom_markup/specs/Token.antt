@@ -1,6 +1,6 @@
 -- What a token is: one item of its kind, and where it stands.
 use Rattle.std.specs.Prelude.{◌≡◌, ◌+◌, ℕ, List, ◌++◌, length}
-use Rattle.dom_markup.specs.Letters.{folded}
+use Rattle.dom_markup.specs.Bytes.{folded}
 use Rattle.dom_markup.specs.Names.{Mode, markup, text_of, raw_text_of}
 use Rattle.dom_markup.specs.References.{decoded}
 use Rattle.dom_markup.specs.Markup.{Item, Begins, mode_after}

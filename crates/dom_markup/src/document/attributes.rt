@@ -4,12 +4,12 @@ ghost use Rattle.std.specs.Prelude.{◌≡◌, ◌∷◌, [], List, ℕ, Bool, I
 ghost use Rattle.std.specs.List.{list_any};
 ghost use Rattle.dom_nodes.specs.Changes.{is_named};
 ghost use Rattle.dom_markup.specs.Attributes.{Gains, IsNoted};
-ghost use Rattle.dom_markup.specs.Letters.{folded};
+ghost use Rattle.dom_markup.specs.Bytes.{folded};
 ghost use Rattle.dom_markup.specs.Markup.{EndsTag, kept_after};
 ghost use Rattle.dom_markup.specs.Numbered.{read_attr};
 ghost use Rattle.dom_markup.specs.References.{decoded};
 ghost use Rattle.dom_markup.specs.ValueTrees.{Attribute};
-ghost use Rattle.dom_markup.specs.Written.{attribute_of};
+ghost use Rattle.dom_markup.specs.Stretches.{attribute_of};
 
 use crate::document::scan::{Written, attribute_at};
 use crate::references::decode;

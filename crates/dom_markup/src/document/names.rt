@@ -3,7 +3,7 @@
 ghost use Rattle.std.specs.Prelude.{◌≡◌, List, ℕ, MatchBool, true};
 ghost use Rattle.std.specs.List.{list_all, list_any};
 ghost use Rattle.std.specs.Str.{bytes_eq};
-ghost use Rattle.dom_markup.specs.Letters.{folded, is_letter, is_name_byte};
+ghost use Rattle.dom_markup.specs.Bytes.{folded, is_letter, is_name_byte};
 ghost use Rattle.dom_markup.specs.Markup.{NamesElement};
 ghost use Rattle.dom_nodes.specs.Words.{is_among};
 ghost use Rattle.dom_markup.specs.Names.{is_template, raw_names, text_names, void_names};

@@ -2,7 +2,7 @@
 
 ghost use Rattle.std.specs.Prelude.{IfNone, IfSome};
 ghost use Rattle.dom_markup.specs.Taking.{Leaves};
-ghost use Rattle.dom_markup.specs.Letters.{folded};
+ghost use Rattle.dom_markup.specs.Bytes.{folded};
 ghost use Rattle.dom_markup.specs.Markup.{BeginsEnd, EndsAtTag, LacksEnd};
 
 use crate::document::scan::{bytes_from, strip_all};

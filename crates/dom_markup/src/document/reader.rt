@@ -6,7 +6,7 @@ ghost use Rattle.dom_links.specs.Growth.{with_child, with_template};
 ghost use Rattle.dom_trees.specs.Made.{html_name};
 ghost use Rattle.dom_trees.specs.Refusals.{element_with};
 ghost use Rattle.dom_markup.specs.Frames.{children_place, with_element};
-ghost use Rattle.dom_markup.specs.Letters.{folded};
+ghost use Rattle.dom_markup.specs.Bytes.{folded};
 ghost use Rattle.dom_markup.specs.Limits.{IsLimit, IsPlainData, limit_kind};
 ghost use Rattle.dom_markup.specs.Markup.{Item, Begins, BeginsDoctype, BeginsEnd, BeginsStart};
 ghost use Rattle.dom_markup.specs.Names.{markup};
@@ -19,7 +19,7 @@ use crate::document::attributes::{attrs_of, folded_name};
 use crate::document::doctypes::{Doctype, doctype_at};
 use crate::document::names::is_template;
 use crate::document::scan::{
-    Letters, Written, attribute_at, comment_at, split_front, strip, strip_all,
+    Stretch, Written, attribute_at, comment_at, split_front, strip, strip_all,
 };
 use crate::document::tokens::{Token, TokenKind};
 use crate::document::within::Within;
@@ -69,7 +69,7 @@ fn start_tag_of(alloc: Global, tag: &str) -> Result<Started<'_>, OutOfMemory>
         → BeginsStart tag.now name all rest → IsStarted started name all) }
 {
     let inner = behind(tag, '<');
-    let (written, rest) = split_front(Letters::Name, inner);
+    let (written, rest) = split_front(Stretch::Name, inner);
     let attrs = attrs_of(alloc, rest)?;
     let name = html_name(alloc, written)?;
     Ok(Started {
@@ -84,7 +84,7 @@ fn end_tag_of(tag: &str) -> &str
     ensures { (name rest : List ℕ) → BeginsEnd tag.now name rest → folded result.now ≡ name }
 {
     let inner = behind(behind(tag, '<'), '/');
-    let (name, _) = split_front(Letters::Name, inner);
+    let (name, _) = split_front(Stretch::Name, inner);
     name
 }
 

@@ -3,20 +3,21 @@
 ghost use Rattle.std.specs.Prelude.{◌≡◌, ◌≤◌, ◌<◌, ◌==◌, ◌||◌, not, true, List, ℕ, ◌∷◌, ◌++◌};
 ghost use Rattle.std.specs.Prelude.{IfNone, IfSome, codes, drop, length};
 ghost use Rattle.std.specs.List.{list_all, prefix_len};
-ghost use Rattle.dom_markup.specs.Letters.{is_letter, is_whitespace};
+ghost use Rattle.dom_nodes.specs.Ascii.{exclamation_mark, question_mark, slash};
+ghost use Rattle.dom_markup.specs.Bytes.{is_letter, is_whitespace};
 ghost use Rattle.dom_markup.specs.References.{decoded};
 ghost use Rattle.dom_markup.specs.ValueTrees.{Attribute};
 ghost use Rattle.dom_markup.specs.Markup.{BeginsAttribute, BeginsValue, Closes, EndsAtMark};
 ghost use Rattle.dom_markup.specs.Markup.{HasValue, begins_markup, text_front};
 ghost use Rattle.dom_markup.specs.Taking.{Leaves, Takes};
-ghost use Rattle.dom_markup.specs.Written.{attribute_of, passes, SameEnd, Splits};
+ghost use Rattle.dom_markup.specs.Stretches.{attribute_of, passes, SameEnd, Splits};
 
 use crate::document::names::is_letter;
 use memchr::memchr;
 
 /// What a stretch of markup is made of.
 #[derive(Clone, Copy)]
-pub enum Letters {
+pub enum Stretch {
     Whitespace,
     Name,
     Bare,
@@ -29,28 +30,28 @@ fn is_whitespace(byte: u8) -> bool
     matches!(byte, b'\t' | b'\n' | 0x0c | b'\r' | b' ')
 }
 
-impl Letters {
+impl Stretch {
     /// Whether a byte is of this kind.
     fn pass(self, byte: u8) -> bool
         ensures { result ≡ passes self byte }
     {
         match self {
-            Letters::Whitespace => is_whitespace(byte),
-            Letters::Name => {
+            Stretch::Whitespace => is_whitespace(byte),
+            Stretch::Name => {
                 !(is_whitespace(byte)
                     || matches!(byte, b'/' | b'>' | b'<' | b'=' | b'"' | b'\'' | 0))
             }
-            Letters::Bare => !(is_whitespace(byte) || byte == b'>'),
+            Stretch::Bare => !(is_whitespace(byte) || byte == b'>'),
         }
     }
 }
 
 /// How many bytes of this kind stand at the front.
-fn front_len(letters: Letters, bytes: &[u8]) -> usize
-    ensures { result ≡ prefix_len (passes letters) bytes.now }
+fn front_len(stretch: Stretch, bytes: &[u8]) -> usize
+    ensures { result ≡ prefix_len (passes stretch) bytes.now }
 {
     for (index, byte) in bytes.iter().enumerate() {
-        if !letters.pass(*byte) {
+        if !stretch.pass(*byte) {
             return index;
         }
     }
@@ -58,10 +59,10 @@ fn front_len(letters: Letters, bytes: &[u8]) -> usize
 }
 
 /// The front that is of this kind, as far as it goes, and what follows it.
-pub fn split_front(letters: Letters, text: &str) -> (&str, &str)
-    ensures { Splits (passes letters) text.now result.0.now result.1.now }
+pub fn split_front(stretch: Stretch, text: &str) -> (&str, &str)
+    ensures { Splits (passes stretch) text.now result.0.now result.1.now }
 {
-    text.split_at(front_len(letters, text.as_bytes()))
+    text.split_at(front_len(stretch, text.as_bytes()))
 }
 
 /// What follows the letter at the front, if it stands there.
@@ -83,7 +84,7 @@ pub fn strip_all<'a>(text: &'a str, front: &str) -> Option<&'a str>
 
 /// Whether markup begins at a `<` with this byte behind it.
 fn opens_markup(byte: u8) -> bool
-    ensures { result ≡ (is_letter byte || byte == 47 || byte == 33 || byte == 63) }
+    ensures { result ≡ (is_letter byte || byte == slash || byte == exclamation_mark || byte == question_mark) }
 {
     is_letter(byte) || matches!(byte, b'/' | b'!' | b'?')
 }
@@ -168,7 +169,7 @@ fn value_at(text: &str) -> Option<(&str, &str)>
         let found = split_letter(inner, b'\'')?;
         return Some(found);
     }
-    let (bare, rest) = split_front(Letters::Bare, text);
+    let (bare, rest) = split_front(Stretch::Bare, text);
     if bare.is_empty() {
         return None;
     }
@@ -181,11 +182,11 @@ fn value_behind(after: &str) -> Option<(&str, &str)>
     ensures some { IfSome result (λ found. HasValue after.now (decoded found.0.now) found.1.now) }
     ensures none { IfNone result ((value rest : List ℕ) → HasValue after.now value rest → ⊥) }
 {
-    let (_, equals) = split_front(Letters::Whitespace, after);
+    let (_, equals) = split_front(Stretch::Whitespace, after);
     let Some(behind) = strip(equals, '=') else {
         return Some(("", after));
     };
-    let (_, text) = split_front(Letters::Whitespace, behind);
+    let (_, text) = split_front(Stretch::Whitespace, behind);
     let found = value_at(text)?;
     Some(found)
 }
@@ -204,8 +205,8 @@ pub fn attribute_at(text: &str) -> Option<(Written<'_>, &str)>
     ensures none { IfNone result ((attribute : Attribute) (rest : List ℕ)
         → BeginsAttribute text.now attribute rest → ⊥) }
 {
-    let (space, behind) = split_front(Letters::Whitespace, text);
-    let (name, behind) = split_front(Letters::Name, behind);
+    let (space, behind) = split_front(Stretch::Whitespace, text);
+    let (name, behind) = split_front(Stretch::Name, behind);
     if space.is_empty() || name.is_empty() {
         return None;
     }
@@ -217,7 +218,7 @@ pub fn attribute_at(text: &str) -> Option<(Written<'_>, &str)>
 pub fn close_at(text: &str, slash: bool) -> Option<&str>
     ensures { Leaves (Closes slash text.now) result }
 {
-    let (_, end) = split_front(Letters::Whitespace, text);
+    let (_, end) = split_front(Stretch::Whitespace, text);
     if let Some(rest) = strip(end, '>') {
         return Some(rest);
     }

@@ -1,13 +1,13 @@
 //! Where tags end.
 
 ghost use Rattle.std.specs.Prelude.{◌++◌, List, ℕ, codes, IfNone, IfSome, MatchResult};
-ghost use Rattle.dom_markup.specs.Letters.{folded};
+ghost use Rattle.dom_markup.specs.Bytes.{folded};
 ghost use Rattle.dom_markup.specs.ValueTrees.{Attribute};
 ghost use Rattle.dom_markup.specs.Markup.{BeginsEnd, BeginsStart};
 ghost use Rattle.dom_markup.specs.Refusals.{StartCause};
 
 use crate::document::names::{is_void, names_element};
-use crate::document::scan::{Letters, attributes_end, close_at, split_front, strip};
+use crate::document::scan::{Stretch, attributes_end, close_at, split_front, strip};
 use dom_nodes::fault::MarkupFaultKind;
 
 /// The name of the start tag behind its `<`, as it is written, and what follows the tag.
@@ -16,7 +16,7 @@ pub fn start_tag_end(tag: &str) -> Result<(&str, &str), MarkupFaultKind>
         (λ found. (all : List Attribute) × BeginsStart text (folded found.0.now) all found.1.now)
         (StartCause text) }
 {
-    let (name, behind) = split_front(Letters::Name, tag);
+    let (name, behind) = split_front(Stretch::Name, tag);
     if !names_element(name) {
         return Err(MarkupFaultKind::BadTag);
     }
@@ -37,8 +37,8 @@ pub fn end_tag_end(tag: &str) -> Option<(&str, &str)>
     ensures none { IfNone result ((name rest : List ℕ)
         → BeginsEnd (codes "</" ++ tag.now) name rest → ⊥) }
 {
-    let (name, behind) = split_front(Letters::Name, tag);
-    let (_, behind) = split_front(Letters::Whitespace, behind);
+    let (name, behind) = split_front(Stretch::Name, tag);
+    let (_, behind) = split_front(Stretch::Whitespace, behind);
     if !names_element(name) {
         return None;
     }

@@ -2,7 +2,7 @@
 
 ghost use Rattle.std.specs.Prelude.{◌≡◌, ◌++◌, ◌≢◌, [], List, ℕ, length, MatchResult};
 ghost use Rattle.std.specs.Iterator.{at_most};
-ghost use Rattle.dom_markup.specs.Letters.{folded};
+ghost use Rattle.dom_markup.specs.Bytes.{folded};
 ghost use Rattle.dom_markup.specs.Names.{markup};
 ghost use Rattle.dom_markup.specs.Refusals.{StartCause};
 ghost use Rattle.dom_markup.specs.Token.{IsTextIn, mode_of};

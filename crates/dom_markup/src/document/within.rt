@@ -1,7 +1,7 @@
 //! How what follows a tag is read.
 
 ghost use Rattle.std.specs.Prelude.{◌≡◌};
-ghost use Rattle.dom_markup.specs.Letters.{folded};
+ghost use Rattle.dom_markup.specs.Bytes.{folded};
 ghost use Rattle.dom_markup.specs.Names.{mode_in};
 ghost use Rattle.dom_markup.specs.Token.{mode_of};
 

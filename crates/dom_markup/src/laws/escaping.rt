@@ -2,18 +2,19 @@
 
 ghost use Rattle.std.specs.Prelude.{◌≡◌, true, ℕ, List};
 ghost use Rattle.std.specs.Str.{IsUtf8};
+ghost use Rattle.dom_nodes.specs.Ascii.{double_quote, greater_than, less_than};
 ghost use Rattle.dom_markup.specs.Escaping.{escaped_text, escaped_value, lacks};
 ghost use Rattle.dom_markup.specs.References.{decoded};
 
 /// An escaped text begins no tag and ends none.
 pub fn text_is_inert()
-    ensures less { (text : List ℕ) → lacks 60 (escaped_text text) ≡ true }
-    ensures greater { (text : List ℕ) → lacks 62 (escaped_text text) ≡ true }
+    ensures less { (text : List ℕ) → lacks less_than (escaped_text text) ≡ true }
+    ensures greater { (text : List ℕ) → lacks greater_than (escaped_text text) ≡ true }
 {}
 
 /// An escaped value doesn't end its quotes.
 pub fn value_is_inert()
-    ensures { (text : List ℕ) → lacks 34 (escaped_value text) ≡ true }
+    ensures { (text : List ℕ) → lacks double_quote (escaped_value text) ≡ true }
 {}
 
 /// An escaped text with its references read is the text again.

@@ -1,12 +1,14 @@
 //! The walk that puts a tree's text, by a stack of what is still to be put. Each node is pushed and
 //! popped once.
 
-ghost use Rattle.std.specs.Prelude.{◌≡◌, ◌<◌, ◌≤◌, ◌+◌, ◌++◌, [], ◌∷◌, OnErr, OnOk, Some};
+ghost use Rattle.std.specs.Prelude.{◌≡◌, ◌+◌, ◌∷◌, [], MatchOption, OnErr, OnOk, Some};
 ghost use Rattle.dom_links.specs.Forest.{forest_of};
 ghost use Rattle.dom_links.specs.Sound.{IsSoundArena};
 ghost use Rattle.dom_links.specs.Walk.{IsNodeOf, IsWithin};
 ghost use Rattle.dom_markup.specs.Html.{html_of, inner_html_of, is_kept};
-ghost use Rattle.dom_markup.specs.Ops.{AreWithin, IsOpWithin, WritesSome, op_text, op_weight, ops_text, row_text, row_weight, text_below, weight, weight_below};
+ghost use Rattle.dom_markup.specs.Pending.{AreWithin, IsOpWithin, Pushes, Steps};
+ghost use Rattle.dom_markup.specs.Pending.{op_text, op_weight, ops_text};
+ghost use Rattle.dom_markup.specs.Pending.{row_text, row_weight, text_below, weight_below};
 ghost use Rattle.dom_markup.specs.Writing.{Writes};
 
 use crate::escaping::Escaper;
@@ -17,14 +19,59 @@ use dom_nodes::fault::OutOfMemory;
 use dom_nodes::node_data::{NodeData, TreeNode};
 use dom_nodes::node_id::NodeId;
 use dom_trees::tree::Tree;
+use std::alloc::Global;
+use std::marker::Model;
 
-/// What is still to be put.
+/// A part of what is still to be put.
 #[derive(Clone, Copy)]
 enum SerializeOp {
     /// The node and its later siblings; their texts as they are, where `raw` says so.
     Open { id: NodeId, raw: bool },
     /// The end tag of the element.
     Close { id: NodeId },
+}
+
+/// What is still to be put, the next entry first.
+#[derive(Drop)]
+struct Stack {
+    ops: Vec<SerializeOp>,
+}
+
+impl Model for Stack {
+    ghost use Rattle.std.specs.Prelude.{List, reverse};
+    ghost use Rattle.dom_markup.specs.declared.serializing.stack.SerializeOp.{SerializeOp};
+
+    ghost Value = { List SerializeOp };
+
+    ghost view = { λ stack. reverse stack.ops.items };
+}
+
+impl Stack {
+    fn new(alloc: Global) -> Stack
+        ensures { result ≡ [] }
+    {
+        Stack {
+            ops: Vec::new(alloc),
+        }
+    }
+
+    /// Puts an entry before all others.
+    fn push(&mut self, op: SerializeOp) -> Result<(), OutOfMemory>
+        ensures ok { OnOk result (self.new ≡ op ∷ self.old) }
+        ensures err { OnErr result (self.new ≡ self.old) }
+    {
+        match self.ops.push(op) {
+            Ok(()) => Ok(()),
+            Err(_) => Err(OutOfMemory),
+        }
+    }
+
+    /// Takes the next entry off.
+    fn pop(&mut self) -> Option<SerializeOp>
+        ensures { MatchOption result (self.old ≡ []) (λ op. self.old ≡ op ∷ self.new) }
+    {
+        self.ops.pop()
+    }
 }
 
 /// Puts the node; nothing for an unknown number.
@@ -36,7 +83,7 @@ pub(super) fn put_node<P: PutText<W>, W>(tree: &Tree, id: NodeId, w: &mut W) -> 
         return Ok(());
     };
     let escaper = Escaper::new();
-    let mut ops = Vec::new(tree.allocator());
+    let mut ops = Stack::new(tree.allocator());
     push_following(nodes, id, node, &mut ops)?;
     put_opening::<P, W>(w, &escaper, &node.content, is_kept(nodes, id))?;
     put_ops::<P, W>(nodes, &escaper, ops, w)
@@ -57,7 +104,7 @@ pub(super) fn put_children<P: PutText<W>, W>(
     if is_void_node(&node.content) {
         return Ok(());
     }
-    let mut ops = Vec::new(tree.allocator());
+    let mut ops = Stack::new(tree.allocator());
     push_open(
         nodes,
         node.first_child,
@@ -81,17 +128,17 @@ fn is_kept(nodes: &[TreeNode], id: NodeId) -> bool
     }
 }
 
-/// Puts all that is on the stack, the last entry first.
+/// Puts all that is on the stack.
 fn put_ops<P: PutText<W>, W>(
     nodes: &[TreeNode],
     escaper: &Escaper,
-    mut ops: Vec<SerializeOp>,
+    mut ops: Stack,
     w: &mut W,
 ) -> Result<(), P::Fault>
     requires sound { IsSoundArena nodes.now }
-    requires all_within { AreWithin (forest_of nodes.now) ops.items }
+    requires all_within { AreWithin (forest_of nodes.now) ops }
     ensures { Writes (P.written w.old) (P.written w.new) result
-        (ops_text (forest_of nodes.now) ops.items) }
+        (ops_text (forest_of nodes.now) ops) }
 {
     while let Some(op) = ops.pop() {
         put_op::<P, W>(nodes, escaper, op, &mut ops, w)?;
@@ -104,18 +151,15 @@ fn put_op<P: PutText<W>, W>(
     nodes: &[TreeNode],
     escaper: &Escaper,
     op: SerializeOp,
-    ops: &mut Vec<SerializeOp>,
+    ops: &mut Stack,
     w: &mut W,
 ) -> Result<(), P::Fault>
     requires sound { IsSoundArena nodes.now }
     requires known { IsOpWithin (forest_of nodes.now) op }
-    requires all_within { AreWithin (forest_of nodes.now) ops.old.items }
-    ensures text { WritesSome (P.written w.old) (P.written w.new) result
-        (op_text (forest_of nodes.now) op ++ ops_text (forest_of nodes.now) ops.old.items)
-        (ops_text (forest_of nodes.now) ops.new.items) }
-    ensures all_within { OnOk result (AreWithin (forest_of nodes.now) ops.new.items) }
-    ensures weight { OnOk result (weight (forest_of nodes.now) ops.new.items
-        < op_weight (forest_of nodes.now) op + weight (forest_of nodes.now) ops.old.items) }
+    requires all_within { AreWithin (forest_of nodes.now) ops.old }
+    ensures { let forest = forest_of nodes.now in
+        Steps forest (P.written w.old) (P.written w.new) result ops.old ops.new
+            (op_text forest op) (op_weight forest op) }
 {
     match op {
         SerializeOp::Open { id, raw } => put_open::<P, W>(nodes, escaper, id, raw, ops, w),
@@ -129,18 +173,15 @@ fn put_open<P: PutText<W>, W>(
     escaper: &Escaper,
     id: NodeId,
     raw: bool,
-    ops: &mut Vec<SerializeOp>,
+    ops: &mut Stack,
     w: &mut W,
 ) -> Result<(), P::Fault>
     requires sound { IsSoundArena nodes.now }
     requires known { IsWithin (forest_of nodes.now) (Some id) }
-    requires all_within { AreWithin (forest_of nodes.now) ops.old.items }
-    ensures text { WritesSome (P.written w.old) (P.written w.new) result
-        (row_text (forest_of nodes.now) raw (Some id) ++ ops_text (forest_of nodes.now) ops.old.items)
-        (ops_text (forest_of nodes.now) ops.new.items) }
-    ensures all_within { OnOk result (AreWithin (forest_of nodes.now) ops.new.items) }
-    ensures weight { OnOk result (weight (forest_of nodes.now) ops.new.items
-        < row_weight (forest_of nodes.now) (Some id) + weight (forest_of nodes.now) ops.old.items) }
+    requires all_within { AreWithin (forest_of nodes.now) ops.old }
+    ensures { let forest = forest_of nodes.now in
+        Steps forest (P.written w.old) (P.written w.new) result ops.old ops.new
+            (row_text forest raw (Some id)) (row_weight forest (Some id)) }
 {
     let node = node_at(nodes, id);
     push_open(nodes, node.next_sibling, raw, ops)?;
@@ -153,21 +194,19 @@ fn push_following(
     nodes: &[TreeNode],
     id: NodeId,
     node: &TreeNode,
-    ops: &mut Vec<SerializeOp>,
+    ops: &mut Stack,
 ) -> Result<(), OutOfMemory>
     requires sound { IsSoundArena nodes.now }
     requires node { IsNodeOf (forest_of nodes.now) id node.now }
-    requires all_within { AreWithin (forest_of nodes.now) ops.old.items }
-    ensures text { OnOk result (ops_text (forest_of nodes.now) ops.new.items
-        ≡ text_below (forest_of nodes.now) id node.now.content ++ ops_text (forest_of nodes.now) ops.old.items) }
-    ensures all_within { AreWithin (forest_of nodes.now) ops.new.items }
-    ensures weight { OnOk result (weight (forest_of nodes.now) ops.new.items
-        ≤ 1 + weight_below (forest_of nodes.now) id + weight (forest_of nodes.now) ops.old.items) }
+    requires all_within { AreWithin (forest_of nodes.now) ops.old }
+    ensures { let forest = forest_of nodes.now in
+        Pushes forest ops.old ops.new result
+            (text_below forest id node.now.content) (1 + weight_below forest id) }
 {
     match &node.content {
         NodeData::Document | NodeData::Fragment => push_open(nodes, node.first_child, false, ops),
         NodeData::Element(element) if !is_void_node(&node.content) => {
-            push_op(ops, SerializeOp::Close { id })?;
+            ops.push(SerializeOp::Close { id })?;
             push_open(nodes, node.first_child, keeps_texts(&node.content), ops)?;
             push_open(nodes, element.template_contents(), false, ops)
         }
@@ -180,29 +219,15 @@ fn push_open(
     nodes: &[TreeNode],
     first: Option<NodeId>,
     raw: bool,
-    ops: &mut Vec<SerializeOp>,
+    ops: &mut Stack,
 ) -> Result<(), OutOfMemory>
     requires within { IsWithin (forest_of nodes.now) first }
-    requires all_within { AreWithin (forest_of nodes.now) ops.old.items }
-    ensures text { OnOk result (ops_text (forest_of nodes.now) ops.new.items
-        ≡ row_text (forest_of nodes.now) raw first ++ ops_text (forest_of nodes.now) ops.old.items) }
-    ensures all_within { AreWithin (forest_of nodes.now) ops.new.items }
-    ensures weight { OnOk result (weight (forest_of nodes.now) ops.new.items
-        ≡ row_weight (forest_of nodes.now) first + weight (forest_of nodes.now) ops.old.items) }
+    requires all_within { AreWithin (forest_of nodes.now) ops.old }
+    ensures { let forest = forest_of nodes.now in
+        Pushes forest ops.old ops.new result (row_text forest raw first) (row_weight forest first) }
 {
     if let Some(id) = first {
-        push_op(ops, SerializeOp::Open { id, raw })?;
+        ops.push(SerializeOp::Open { id, raw })?;
     }
     Ok(())
-}
-
-/// Pushes one entry.
-fn push_op(ops: &mut Vec<SerializeOp>, op: SerializeOp) -> Result<(), OutOfMemory>
-    ensures ok { OnOk result (ops.new.items ≡ ops.old.items ++ op ∷ []) }
-    ensures err { OnErr result (ops.new.items ≡ ops.old.items) }
-{
-    match ops.push(op) {
-        Ok(()) => Ok(()),
-        Err(_) => Err(OutOfMemory),
-    }
 }

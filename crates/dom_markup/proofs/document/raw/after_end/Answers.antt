@@ -1,6 +1,6 @@
 use Rattle.std.proofs.Common.{ℕ, List, subst}
 use Rattle.std.proofs.lemmas.Bool.{false≢true}
-use Rattle.dom_markup.specs.Letters.{folded}
+use Rattle.dom_markup.specs.Bytes.{folded}
 use Rattle.dom_markup.specs.Markup.{BeginsEnd}
 use Rattle.dom_markup.proofs.Ends.{other_end}
 use Rattle.dom_markup.proofs.document.raw.after_end.Goals as goal

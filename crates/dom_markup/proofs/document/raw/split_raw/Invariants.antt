@@ -1,5 +1,5 @@
 use Rattle.std.proofs.Common.{◌-◌, length}
-use Rattle.dom_markup.specs.Letters.{folded}
+use Rattle.dom_markup.specs.Bytes.{folded}
 use Rattle.dom_markup.proofs.Ends.{Searched}
 use Rattle.dom_markup.proofs.document.raw.split_raw.Given as goal
 

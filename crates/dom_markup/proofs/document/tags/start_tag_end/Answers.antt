@@ -1,6 +1,6 @@
 use Rattle.std.proofs.Common.{List, [], ℕ, Bool, refl, subst, rules}
 use Rattle.dom_nodes.specs.Words.{is_among}
-use Rattle.dom_markup.specs.Letters.{folded}
+use Rattle.dom_markup.specs.Bytes.{folded}
 use Rattle.dom_markup.specs.Names.{void_names}
 use Rattle.dom_markup.specs.Markup.{Closes, NamesElement, kept_after}
 use Rattle.dom_markup.proofs.Reading.{no_slashed_start, no_start, slash_shape, slashed_start, start_shape}

@@ -1,6 +1,6 @@
 use Rattle.std.proofs.Common.{◌≡◌, ℕ, List, refl, sym, subst, false}
 use Rattle.std.proofs.lemmas.Result.{MatchResult-weaker}
-use Rattle.dom_markup.specs.Letters.{folded}
+use Rattle.dom_markup.specs.Bytes.{folded}
 use Rattle.dom_markup.specs.References.{decoded}
 use Rattle.dom_markup.specs.Markup.{BeginsDoctype, BeginsEnd, begins_markup, text_front}
 use Rattle.dom_markup.specs.Markup.Item.{end_tag, characters, comment, doctype}

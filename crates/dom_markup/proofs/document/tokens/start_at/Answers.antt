@@ -1,6 +1,6 @@
 use Rattle.std.proofs.Common.{List, ℕ, refl, subst, sym}
 use Rattle.std.proofs.lemmas.Result.{err_from_is_err_and}
-use Rattle.dom_markup.specs.Letters.{folded}
+use Rattle.dom_markup.specs.Bytes.{folded}
 use Rattle.dom_markup.specs.declared.document.tokens.TokenKind.TheVariants as kinds
 use Rattle.dom_markup.specs.Markup.{BeginsStart}
 use Rattle.dom_markup.specs.Refusals.{StartCause}

@@ -1,4 +1,4 @@
-use Rattle.dom_markup.specs.Letters.{folded}
+use Rattle.dom_markup.specs.Bytes.{folded}
 use Rattle.dom_markup.specs.Token.{mode_of}
 use Rattle.dom_markup.proofs.Items.{found_end, found_text, no_end_left, unclosed_cause}
 use Rattle.dom_markup.proofs.document.tokens.text_at.Goals as goal

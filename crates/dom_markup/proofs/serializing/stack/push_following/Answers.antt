@@ -1,9 +1,9 @@
-use Rattle.std.proofs.Common.{◌++◌, ◌+◌, false, Some, rules, ◌∙◌, ap, subst, sym}
+use Rattle.std.proofs.Common.{◌++◌, ◌+◌, ◌≤◌, false, Some, rules, ◌∙◌, ap, subst, sym}
 use Rattle.dom_links.specs.Forest.{forest_of}
 use Rattle.dom_links.specs.Walk.{IsWithin}
 use Rattle.dom_markup.specs.declared.serializing.stack.SerializeOp.TheVariants.{Close}
-use Rattle.dom_markup.specs.Ops.{ops_text, row_text, row_weight, weight}
-use Rattle.dom_markup.proofs.OpsLemmas.{pushed, element-below, element-weight, top-below, top-weight, children-within, on_ok}
+use Rattle.dom_markup.specs.Pending.{ops_text, row_text, row_weight, weight}
+use Rattle.dom_markup.proofs.PendingLemmas.{pushed, element-below, element-weight, top-below, top-weight, children-within, on_ok}
 use Rattle.dom_markup.proofs.RowLemmas.{contents_within, known_node}
 use Rattle.dom_markup.proofs.serializing.stack.push_following.Goals as goal
 
@@ -13,7 +13,7 @@ push_open-requires-clause-within c = children-within (forest_of c.args.nodes.now
 pub push_open-requires-clause-all_within : goal.push_open-requires-clause-all_within
 push_open-requires-clause-all_within c =
     let known = known_node _ c.args.id _ c.requires.node.content_is in
-    (pushed (forest_of c.args.nodes.now) c.args.ops.now.items c.push_op.new.ops.items (Close c.args.id) known c.requires.all_within c.in_ok-push_op-in-Element.ensures.ok).all_within
+    (pushed (forest_of c.args.nodes.now) c.args.ops.now c.push.new.self (Close c.args.id) known c.requires.all_within c.in_ok-push-in-Element.ensures.ok).all_within
 
 pub push_open-requires-in-Element-clause-within : goal.push_open-requires-in-Element-clause-within
 push_open-requires-in-Element-clause-within c =
@@ -24,27 +24,30 @@ push_open-requires-in-Element-clause-within c =
 pub push_open-requires-in-Document-clause-within : goal.push_open-requires-in-Document-clause-within
 push_open-requires-in-Document-clause-within c = children-within (forest_of c.args.nodes.now) c.requires.sound.forest c.args.id c.args.node.now c.requires.node
 
-pub returns-in_ok-push_open-in-Element-clause-text : goal.returns-in_ok-push_open-in-Element-clause-text
-returns-in_ok-push_open-in-Element-clause-text c =
+pub returns-in_ok-push_open-in-Element : goal.returns-in_ok-push_open-in-Element
+returns-in_ok-push_open-in-Element c =
     let forest = forest_of c.args.nodes.now in
-    let one = (pushed forest c.args.ops.now.items c.push_op.new.ops.items (Close c.args.id) (known_node _ c.args.id _ c.requires.node.content_is) c.requires.all_within c.in_ok-push_op-in-Element.ensures.ok).text in
-    on_ok c.push_open-in-Element.result
-    (λ three. element-below forest c.requires.sound.forest c.args.id c.args.node.now c.in-Element.element c.requires.node c.in-Element.is (sym c.if-not-is_void_node.ensures) c.keeps_texts.result c.keeps_texts.ensures _ _ _ _
-    one c.in_ok-push_open-in-Element.ensures.text (three ∙ ap (λ at. row_text forest false at ++ ops_text forest c.push_open.new.ops.items) c.template_contents.ensures))
-    c.push_open-in-Element.ensures.text
+    let one = pushed forest c.args.ops.now c.push.new.self (Close c.args.id) (known_node _ c.args.id _ c.requires.node.content_is) c.requires.all_within c.in_ok-push-in-Element.ensures.ok in
+    let two = c.in_ok-push_open-in-Element.ensures in
+    let three = c.push_open-in-Element.ensures in
+    record {
+      text_is = on_ok c.push_open-in-Element.result
+          (λ text. element-below forest c.requires.sound.forest c.args.id c.args.node.now c.in-Element.element c.requires.node c.in-Element.is (sym c.if-not-is_void_node.ensures) c.keeps_texts.result c.keeps_texts.ensures _ _ _ _
+          one.text two.text_is (text ∙ ap (λ at. row_text forest false at ++ ops_text forest c.push_open.new.ops) c.template_contents.ensures))
+          three.text_is;
+      within = three.within;
+      fewer = on_ok c.push_open-in-Element.result
+          (λ fewer. element-weight forest c.requires.sound.forest c.args.id c.args.node.now c.in-Element.element c.requires.node c.in-Element.is _ _ _ _
+          one.weight two.fewer (subst (λ at. weight forest c.push_open-in-Element.new.ops ≤ row_weight forest at + weight forest c.push_open.new.ops) c.template_contents.ensures fewer))
+          three.fewer;
+    }
 
-pub returns-in_ok-push_open-in-Element-clause-weight : goal.returns-in_ok-push_open-in-Element-clause-weight
-returns-in_ok-push_open-in-Element-clause-weight c =
+pub returns-in-Document : goal.returns-in-Document
+returns-in-Document c =
     let forest = forest_of c.args.nodes.now in
-    let one = (pushed forest c.args.ops.now.items c.push_op.new.ops.items (Close c.args.id) (known_node _ c.args.id _ c.requires.node.content_is) c.requires.all_within c.in_ok-push_op-in-Element.ensures.ok).weight in
-    on_ok c.push_open-in-Element.result
-    (λ three. element-weight forest c.requires.sound.forest c.args.id c.args.node.now c.in-Element.element c.requires.node c.in-Element.is _ _ _ _
-    one c.in_ok-push_open-in-Element.ensures.weight (three ∙ ap (λ at. row_weight forest at + weight forest c.push_open.new.ops.items) c.template_contents.ensures))
-    c.push_open-in-Element.ensures.weight
-
-pub returns-in-Document-clause-text : goal.returns-in-Document-clause-text
-returns-in-Document-clause-text c = on_ok c.push_open-in-Document.result (top-below (forest_of c.args.nodes.now) c.requires.sound.forest c.args.id c.args.node.now c.requires.node false (search rules) _ _) c.push_open-in-Document.ensures.text
-
-pub returns-in-Document-clause-weight : goal.returns-in-Document-clause-weight
-returns-in-Document-clause-weight c =
-    on_ok c.push_open-in-Document.result (top-weight (forest_of c.args.nodes.now) c.requires.sound.forest c.args.id c.args.node.now c.requires.node _ _) c.push_open-in-Document.ensures.weight
+    let made = c.push_open-in-Document.ensures in
+    record {
+      text_is = on_ok c.push_open-in-Document.result (top-below forest c.requires.sound.forest c.args.id c.args.node.now c.requires.node false (search rules) _ _) made.text_is;
+      within = made.within;
+      fewer = on_ok c.push_open-in-Document.result (top-weight forest c.requires.sound.forest c.args.id c.args.node.now c.requires.node _ _) made.fewer;
+    }

@@ -1,16 +1,16 @@
-use Rattle.std.proofs.Common.{arith, refl}
+use Rattle.std.proofs.Common.{arith, refl, rules}
 use Rattle.dom_links.specs.Forest.{forest_of}
-use Rattle.dom_markup.proofs.OpsLemmas.{row_pushed}
+use Rattle.dom_markup.proofs.PendingLemmas.{row_pushed}
 use Rattle.dom_markup.proofs.RowLemmas.{no_row}
 use Rattle.dom_markup.proofs.serializing.stack.push_open.Goals as goal
 
-pub returns-in_ok-push_op : goal.returns-in_ok-push_op
-returns-in_ok-push_op c =
-    let p = row_pushed (forest_of c.args.nodes.now) c.args.raw c.args.first c.in-Some.id c.args.ops.now.items c.push_op.new.ops.items c.in-Some.is c.requires.within c.requires.all_within c.in_ok-push_op.ensures.ok in
-    record { text = p.text; all_within = p.all_within; weight = p.weight }
+pub returns-in_ok-push : goal.returns-in_ok-push
+returns-in_ok-push c =
+    let p = row_pushed (forest_of c.args.nodes.now) c.args.raw c.args.first c.in-Some.id c.args.ops.now c.push.new.self c.in-Some.is c.requires.within c.requires.all_within c.in_ok-push.ensures.ok in
+    let weight = p.weight in
+    record { text_is = p.text; within = p.all_within; fewer = omega arith }
 
-pub returns-in_default-clause-text : goal.returns-in_default-clause-text
-returns-in_default-clause-text c = rw (no_row (forest_of c.args.nodes.now) c.args.first c.in_default.is) refl
-
-pub returns-in_default-clause-weight : goal.returns-in_default-clause-weight
-returns-in_default-clause-weight c = rw (no_row (forest_of c.args.nodes.now) c.args.first c.in_default.is) (omega arith)
+pub returns-in_default : goal.returns-in_default
+returns-in_default c =
+    let none = no_row (forest_of c.args.nodes.now) c.args.first c.in_default.is in
+    record { text_is = rw none refl; within = c.requires.all_within; fewer = rw none (omega arith) }

@@ -1,9 +1,9 @@
 use Rattle.std.proofs.Common.{◌≡◌, [], List, ℕ, ◌∙◌, ap, sym, subst}
 use Rattle.dom_links.specs.Forest.{forest_of}
 use Rattle.dom_markup.specs.Html.{inner_html_of}
-use Rattle.dom_markup.specs.Ops.{ops_text, row_text}
+use Rattle.dom_markup.specs.Pending.{ops_text, row_text}
 use Rattle.dom_markup.specs.Writing.{Writes}
-use Rattle.dom_markup.proofs.OpsLemmas.{children-within, only}
+use Rattle.dom_markup.proofs.PendingLemmas.{children-within, only}
 use Rattle.dom_markup.proofs.RowLemmas.{inner-piece, inner-bare, inner-unknown}
 use Rattle.dom_markup.proofs.WritingLemmas.{nothing-written}
 use Rattle.dom_markup.proofs.serializing.stack.put_children.Goals as goal
@@ -25,6 +25,6 @@ push_open-requires-clause-within g c = children-within (forest_of c.nodes-nodes.
 
 pub returns : goal.returns
 returns g c =
-    let pushed = only (forest_of c.nodes-nodes.result.now) c.new-ops.result.items (ops_text (forest_of c.nodes-nodes.result.now) c.push_open.new.ops.items) (row_text (forest_of c.nodes-nodes.result.now) c.keeps_texts.result c.in-Some.node.now.first_child) c.new-ops.ensures.items c.in_ok-push_open.ensures.text in
-    let all = inner-piece (forest_of c.nodes-nodes.result.now) c.args.tree.now c.nodes-nodes.ensures.sound.forest c.nodes-nodes.ensures.value c.args.id c.in-Some.node.now c.in-Some.ensures (sym c.is_void_node.ensures ∙ c.if-is_void_node.false) c.keeps_texts.result (ops_text (forest_of c.nodes-nodes.result.now) c.push_open.new.ops.items) c.keeps_texts.ensures pushed in
+    let pushed = only (forest_of c.nodes-nodes.result.now) c.new-ops.result (ops_text (forest_of c.nodes-nodes.result.now) c.push_open.new.ops) (row_text (forest_of c.nodes-nodes.result.now) c.keeps_texts.result c.in-Some.node.now.first_child) c.new-ops.ensures c.in_ok-push_open.ensures.text_is in
+    let all = inner-piece (forest_of c.nodes-nodes.result.now) c.args.tree.now c.nodes-nodes.ensures.sound.forest c.nodes-nodes.ensures.value c.args.id c.in-Some.node.now c.in-Some.ensures (sym c.is_void_node.ensures ∙ c.if-is_void_node.false) c.keeps_texts.result (ops_text (forest_of c.nodes-nodes.result.now) c.push_open.new.ops) c.keeps_texts.ensures pushed in
     subst (λ (text : List ℕ). Writes (g.P.PutText.written c.args.w.now) (g.P.PutText.written c.put_ops.new.w) c.put_ops.result text) all c.put_ops.ensures

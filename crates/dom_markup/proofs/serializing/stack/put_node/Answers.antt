@@ -2,8 +2,8 @@ use Rattle.std.proofs.Common.{◌≡◌, [], refl}
 use Rattle.std.proofs.lemmas.Result.{err_from_is_err_and}
 use Rattle.dom_links.specs.Forest.{forest_of}
 use Rattle.dom_markup.specs.Html.{html_of, opening}
-use Rattle.dom_markup.specs.Ops.{ops_text, text_below}
-use Rattle.dom_markup.proofs.OpsLemmas.{only}
+use Rattle.dom_markup.specs.Pending.{ops_text, text_below}
+use Rattle.dom_markup.proofs.PendingLemmas.{only}
 use Rattle.dom_markup.proofs.RowLemmas.{html-pieces, html-unknown}
 use Rattle.dom_markup.proofs.WritingLemmas.{nothing-written, nothing-begun, fault-first, then-writes}
 use Rattle.dom_markup.proofs.serializing.stack.put_node.Goals as goal
@@ -26,6 +26,6 @@ returns-in_err-put_opening g c =
 
 pub returns : goal.returns
 returns g c =
-    let pushed = only (forest_of c.nodes-nodes.result.now) c.new-ops.result.items (ops_text (forest_of c.nodes-nodes.result.now) c.push_following.new.ops.items) (text_below (forest_of c.nodes-nodes.result.now) c.args.id c.in-Some.node.now.content) c.new-ops.ensures.items c.in_ok-push_following.ensures.text in
-    let all = html-pieces (forest_of c.nodes-nodes.result.now) c.args.tree.now c.nodes-nodes.ensures.sound.forest c.nodes-nodes.ensures.value c.args.id c.in-Some.node.now.content c.in-Some.ensures.content_is c.is_kept.result (ops_text (forest_of c.nodes-nodes.result.now) c.push_following.new.ops.items) c.is_kept.ensures pushed in
-    then-writes (g.P.PutText.written c.args.w.now) (g.P.PutText.written c.put_opening.new.w) (g.P.PutText.written c.put_ops.new.w) c.put_ops.result (opening c.in-Some.node.now.content c.is_kept.result) (ops_text (forest_of c.nodes-nodes.result.now) c.push_following.new.ops.items) (html_of c.args.tree.now c.args.id) c.in_ok-put_opening.ensures c.put_ops.ensures all
+    let pushed = only (forest_of c.nodes-nodes.result.now) c.new-ops.result (ops_text (forest_of c.nodes-nodes.result.now) c.push_following.new.ops) (text_below (forest_of c.nodes-nodes.result.now) c.args.id c.in-Some.node.now.content) c.new-ops.ensures c.in_ok-push_following.ensures.text_is in
+    let all = html-pieces (forest_of c.nodes-nodes.result.now) c.args.tree.now c.nodes-nodes.ensures.sound.forest c.nodes-nodes.ensures.value c.args.id c.in-Some.node.now.content c.in-Some.ensures.content_is c.is_kept.result (ops_text (forest_of c.nodes-nodes.result.now) c.push_following.new.ops) c.is_kept.ensures pushed in
+    then-writes (g.P.PutText.written c.args.w.now) (g.P.PutText.written c.put_opening.new.w) (g.P.PutText.written c.put_ops.new.w) c.put_ops.result (opening c.in-Some.node.now.content c.is_kept.result) (ops_text (forest_of c.nodes-nodes.result.now) c.push_following.new.ops) (html_of c.args.tree.now c.args.id) c.in_ok-put_opening.ensures c.put_ops.ensures all

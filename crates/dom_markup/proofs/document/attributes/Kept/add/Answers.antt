@@ -4,10 +4,10 @@ use Rattle.std.proofs.lemmas.Result.{on_ok_weaker}
 use Rattle.dom_nodes.specs.declared.name.Attr.{Attr}
 use Rattle.dom_nodes.specs.declared.name.Namespace.TheVariants.{None as NoNamespace}
 use Rattle.dom_nodes.specs.Changes.{is_named}
-use Rattle.dom_markup.specs.Letters.{folded}
+use Rattle.dom_markup.specs.Bytes.{folded}
 use Rattle.dom_markup.specs.References.{decoded}
 use Rattle.dom_markup.specs.Numbered.{read_attr}
-use Rattle.dom_markup.specs.Written.{attribute_of}
+use Rattle.dom_markup.specs.Stretches.{attribute_of}
 use Rattle.dom_markup.proofs.AttrLemmas.{left_out, added}
 use Rattle.dom_markup.proofs.document.attributes.Kept.add.Goals as goal
 

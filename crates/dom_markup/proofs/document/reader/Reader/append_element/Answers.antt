@@ -1,5 +1,5 @@
 use Rattle.std.proofs.Common.{◌≡◌, true, false}
-use Rattle.dom_markup.specs.Letters.{folded}
+use Rattle.dom_markup.specs.Bytes.{folded}
 use Rattle.dom_markup.specs.Names.{is_template}
 use Rattle.dom_markup.proofs.Steps.{plain_made, template_made}
 use Rattle.dom_markup.proofs.document.reader.Reader.append_element.Goals as goal

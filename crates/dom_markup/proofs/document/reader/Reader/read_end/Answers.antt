@@ -1,7 +1,7 @@
 use Rattle.std.proofs.Common.{◌≡◌, ◌-◌, take, ℕ, List, [], ◌∷◌, ◌++◌, sym, ◌∙◌, ap, subst, map, refl}
 use Rattle.std.proofs.lemmas.List.{map-append}
 use Rattle.std.proofs.lemmas.Bool.{false≢true}
-use Rattle.dom_markup.specs.Letters.{folded}
+use Rattle.dom_markup.specs.Bytes.{folded}
 use Rattle.dom_markup.specs.Markup.Item.{end_tag}
 use Rattle.dom_markup.specs.declared.document.reader.Open.{Open}
 use Rattle.dom_markup.specs.Frames.{HasRead, Opened}

@@ -12,26 +12,8 @@ use Rattle.dom_links.proofs.Later.{begins, follows, tree_at}
 use Rattle.dom_markup.specs.declared.serializing.stack.SerializeOp.{SerializeOp}
 use Rattle.dom_markup.specs.declared.serializing.stack.SerializeOp.TheVariants.{Open, Close}
 use Rattle.dom_markup.specs.Html.{closing, end_tag, is_void_node, is_void, is_raw, keeps_texts, opening, trees_text}
-use Rattle.dom_markup.specs.Ops.{AreWithin, IsOpWithin, op_text, op_weight, ops_text, row_text, row_weight, text_below, trees_weight, weight, weight_below}
+use Rattle.dom_markup.specs.Pending.{AreWithin, IsOpWithin, op_text, op_weight, ops_text, row_text, row_weight, text_below, trees_weight, weight, weight_below}
 use Rattle.dom_markup.proofs.RowLemmas.{contents_row}
-
--- the last entry is written first
-pub ops_text-push : (forest : Forest) (ops : List SerializeOp) (op : SerializeOp) → ops_text forest (ops ++ op ∷ []) ≡ op_text forest op ++ ops_text forest ops
-ops_text-push forest [] op = sym (append-nil (op_text forest op))
-ops_text-push forest (o ∷ ops) op = ap (λ t. t ++ op_text forest o) (ops_text-push forest ops op) ∙ append_assoc (op_text forest op) (ops_text forest ops) (op_text forest o)
-
-AreWithin-push : (forest : Forest) (ops : List SerializeOp) (op : SerializeOp) → AreWithin forest ops → IsOpWithin forest op → AreWithin forest (ops ++ op ∷ [])
-AreWithin-push forest [] op all here = (here, tt)
-AreWithin-push forest (o ∷ ops) op all here = (all.0, AreWithin-push forest ops op all.1 here)
-
--- the entries before the last, and the last
-AreWithin-pop : (forest : Forest) (ops : List SerializeOp) (op : SerializeOp) → AreWithin forest (ops ++ op ∷ []) → AreWithin forest ops × IsOpWithin forest op
-AreWithin-pop forest [] op all = (tt, all.0)
-AreWithin-pop forest (o ∷ ops) op all = let rest = AreWithin-pop forest ops op all.1 in ((all.0, rest.0), rest.1)
-
-weight-push : (forest : Forest) (ops : List SerializeOp) (op : SerializeOp) → weight forest (ops ++ op ∷ []) ≡ op_weight forest op + weight forest ops
-weight-push forest [] op = refl
-weight-push forest (o ∷ ops) op = omega (arith, weight-push forest ops op)
 
 -- ---- pushing
 
@@ -40,11 +22,11 @@ pub record IsPushed (forest : Forest) (old new : List SerializeOp) (op : Seriali
   pub all_within : AreWithin forest new
   pub weight : weight forest new ≡ op_weight forest op + weight forest old
 
-pub pushed : (forest : Forest) (old new : List SerializeOp) (op : SerializeOp) → IsOpWithin forest op → AreWithin forest old → new ≡ old ++ op ∷ [] → IsPushed forest old new op
+pub pushed : (forest : Forest) (old new : List SerializeOp) (op : SerializeOp) → IsOpWithin forest op → AreWithin forest old → new ≡ op ∷ old → IsPushed forest old new op
 pushed forest old new op within all same = record {
-  text = ap (ops_text forest) same ∙ ops_text-push forest old op;
-  all_within = subst (AreWithin forest) (sym same) (AreWithin-push forest old op all within);
-  weight = ap (weight forest) same ∙ weight-push forest old op;
+  text = ap (ops_text forest) same;
+  all_within = subst (AreWithin forest) (sym same) (within, all);
+  weight = ap (weight forest) same;
 }
 
 -- a row that is not empty was pushed
@@ -53,7 +35,7 @@ pub record IsRowPushed (forest : Forest) (raw : Bool) (first : Option ℕ) (old 
   pub all_within : AreWithin forest new
   pub weight : weight forest new ≡ row_weight forest first + weight forest old
 
-pub row_pushed : (forest : Forest) (raw : Bool) (first : Option ℕ) (id : ℕ) (old new : List SerializeOp) → first ≡ Some id → IsWithin forest first → AreWithin forest old → new ≡ old ++ Open id raw ∷ [] → IsRowPushed forest raw first old new
+pub row_pushed : (forest : Forest) (raw : Bool) (first : Option ℕ) (id : ℕ) (old new : List SerializeOp) → first ≡ Some id → IsWithin forest first → AreWithin forest old → new ≡ Open id raw ∷ old → IsRowPushed forest raw first old new
 row_pushed forest raw first id old new is within all items =
     let p = pushed forest old new (Open id raw) (subst (IsWithin forest) is within) all items in
     record {
@@ -66,7 +48,7 @@ row_pushed forest raw first id old new is within all items =
 pub only : (forest : Forest) (old : List SerializeOp) (new text : List ℕ) → old ≡ [] → new ≡ text ++ ops_text forest old → new ≡ text
 only forest old new text empty is = is ∙ (ap (λ ops. text ++ ops_text forest ops) empty ∙ append-nil text)
 
--- ---- taking the last entry off
+-- ---- taking the next entry off
 
 pub record IsPopped (forest : Forest) (ops rest : List SerializeOp) (op : SerializeOp) : Type 0 where
   pub text : ops_text forest ops ≡ op_text forest op ++ ops_text forest rest
@@ -74,23 +56,23 @@ pub record IsPopped (forest : Forest) (ops rest : List SerializeOp) (op : Serial
   pub within : IsOpWithin forest op
   pub weight : weight forest ops ≡ op_weight forest op + weight forest rest
 
-pub popped : (forest : Forest) (ops rest : List SerializeOp) (op : SerializeOp) → ops ≡ rest ++ op ∷ [] → AreWithin forest ops → IsPopped forest ops rest op
+pub popped : (forest : Forest) (ops rest : List SerializeOp) (op : SerializeOp) → ops ≡ op ∷ rest → AreWithin forest ops → IsPopped forest ops rest op
 popped forest ops rest op same all =
-    let pop = AreWithin-pop forest rest op (subst (AreWithin forest) same all) in
+    let both : IsOpWithin forest op × AreWithin forest rest = subst (AreWithin forest) same all in
     record {
-      text = ap (ops_text forest) same ∙ ops_text-push forest rest op;
-      all_within = pop.0;
-      within = pop.1;
-      weight = ap (weight forest) same ∙ weight-push forest rest op;
+      text = ap (ops_text forest) same;
+      all_within = both.1;
+      within = both.0;
+      weight = ap (weight forest) same;
     }
 
--- after the last entry was taken off, some of the text was written and the rest pushed
+-- after the next entry was taken off, some of the text was written and the rest pushed
 pub stepped : (forest : Forest) (ops rest new : List SerializeOp) (op : SerializeOp) (front some all : List ℕ) → IsPopped forest ops rest op →
     some ++ ops_text forest new ≡ op_text forest op ++ ops_text forest rest → front ++ ops_text forest ops ≡ all → (front ++ some) ++ ops_text forest new ≡ all
 stepped forest ops rest new op front some all pop wrote whole =
     append_assoc front some (ops_text forest new) ∙ (ap (λ t. front ++ t) (wrote ∙ sym pop.text) ∙ whole)
 
--- after the last entry was taken off, its text and that of the others is left
+-- after the next entry was taken off, its text and that of the others is left
 pub still_left : (forest : Forest) (ops rest : List SerializeOp) (op : SerializeOp) (front all : List ℕ) → IsPopped forest ops rest op →
     front ++ ops_text forest ops ≡ all → front ++ (op_text forest op ++ ops_text forest rest) ≡ all
 still_left forest ops rest op front all pop whole = ap (λ t. front ++ t) (sym pop.text) ∙ whole
@@ -128,7 +110,7 @@ opened-text forest good raw n node is known old one new first second =
     ap (λ t. t ++ old) (row-tree forest good raw n node is known) ∙ (append_assoc (begin ++ inside) after old ∙ (append_assoc begin inside (after ++ old) ∙ ap (λ t. begin ++ t) (sym joined)))
 
 pub opened-weight : (forest : Forest) → IsForest forest → (n : ℕ) (node : TreeNode) → IsNodeOf forest n node → n < length forest.content → (old one new : ℕ) →
-    one ≡ row_weight forest node.next_sibling + old → new ≤ 1 + weight_below forest n + one →
+    one ≤ row_weight forest node.next_sibling + old → new ≤ 1 + weight_below forest n + one →
     new < row_weight forest (Some n) + old
 opened-weight forest good n node is known old one new first second = omega (arith, row-weight forest good n node is known, first, second)
 
@@ -166,13 +148,13 @@ element-below forest good n node e is shape void raw keeps rest closed opened al
     let joined : all ≡ inner ++ (children ++ (tag ++ rest)) = third ∙ ap (λ t. inner ++ t) (second ∙ ap (λ t. children ++ t) (one ∙ ap (λ t. t ++ rest) ends)) in
     joined ∙ (ap (λ t. inner ++ t) (sym (append_assoc children tag rest)) ∙ (sym (append_assoc inner (children ++ tag) rest) ∙ ap (λ t. t ++ rest) (sym follows)))
 
-pub top-weight : (forest : Forest) → IsForest forest → (n : ℕ) (node : TreeNode) → IsNodeOf forest n node → (old new : ℕ) → new ≡ row_weight forest node.first_child + old → new ≤ 1 + weight_below forest n + old
+pub top-weight : (forest : Forest) → IsForest forest → (n : ℕ) (node : TreeNode) → IsNodeOf forest n node → (old new : ℕ) → new ≤ row_weight forest node.first_child + old → new ≤ 1 + weight_below forest n + old
 top-weight forest good n node is old new wrote =
     let children = ap (λ ns. trees_weight (trees forest ns)) (children-row forest good n node is) in
     omega (arith, wrote, children)
 
 pub element-weight : (forest : Forest) → IsForest forest → (n : ℕ) (node : TreeNode) (e : Element) → IsNodeOf forest n node → node.content ≡ AnElement e → (old closed opened new : ℕ) →
-    closed ≡ 1 + old → opened ≡ row_weight forest node.first_child + closed → new ≡ row_weight forest e.template_contents + opened → new ≤ 1 + weight_below forest n + old
+    closed ≡ 1 + old → opened ≤ row_weight forest node.first_child + closed → new ≤ row_weight forest e.template_contents + opened → new ≤ 1 + weight_below forest n + old
 element-weight forest good n node e is shape old closed opened new one two three =
     let children = ap (λ ns. trees_weight (trees forest ns)) (children-row forest good n node is) in
     let contents = ap (λ ns. trees_weight (trees forest ns)) (contents_row forest good n e (is.content_is ∙ ap Some shape)) in

@@ -1,5 +1,5 @@
--- The stack of what is still to be written, the last entry first.
-use Rattle.std.specs.Prelude.{◌≡◌, ℕ, ◌+◌, ◌<◌, Bool, false, List, [], ◌++◌, ◌∷◌, length, Option, Some, Result, MatchResult, slice_get}
+-- What is still to be written, the next entry first.
+use Rattle.std.specs.Prelude.{◌≡◌, ℕ, ◌+◌, ◌<◌, ◌≤◌, Bool, false, List, [], ◌++◌, ◌∷◌, length, Option, Some, Result, MatchResult, OnOk, slice_get}
 use Rattle.std.specs.Io.KnownBytes.{Appends}
 use Rattle.std.specs.Option.{option_map_or}
 use Rattle.dom_nodes.specs.declared.node_data.NodeData.{NodeData}
@@ -21,9 +21,9 @@ op_text forest (Close id) = option_map_or closing (slice_get forest.content id) 
 
 abbrev pub ops_text : Forest → List SerializeOp → List ℕ
 ops_text forest [] = []
-ops_text forest (op ∷ ops) = ops_text forest ops ++ op_text forest op
+ops_text forest (op ∷ ops) = op_text forest op ++ ops_text forest ops
 
--- the nodes named on the stack are in the forest
+-- the nodes that are named are in the forest
 abbrev pub IsOpWithin : Forest → SerializeOp → Type 0
 IsOpWithin forest (Open id raw) = id < length forest.content
 IsOpWithin forest (Close id) = id < length forest.content
@@ -60,3 +60,16 @@ weight_below forest n = trees_weight (trees forest (contents_list forest n)) + t
 -- some of the text was written and the rest is still to be written, or after a fault a beginning of it was written
 abbrev pub WritesSome : {T E : Type 0} → Option (List ℕ) → Option (List ℕ) → Result T E → (text rest : List ℕ) → Type 0
 WritesSome old new result text rest = MatchResult result (λ _. (front : List ℕ) × (front ++ rest ≡ text) × Appends old new front) (λ _. AppendsBeginning old new text)
+
+-- where memory isn't refused, this text comes first now, in so many steps at most
+pub record Pushes {T E : Type 0} (forest : Forest) (old new : List SerializeOp) (result : Result T E) (text : List ℕ) (steps : ℕ) : Type 0 where
+  pub text_is : OnOk result (ops_text forest new ≡ text ++ ops_text forest old)
+  pub within : AreWithin forest new
+  pub fewer : OnOk result (weight forest new ≤ steps + weight forest old)
+
+-- some of this text and what comes then is written and the rest is left, in fewer steps; after a fault a beginning was
+-- written
+pub record Steps {T E : Type 0} (forest : Forest) (before after : Option (List ℕ)) (result : Result T E) (old new : List SerializeOp) (text : List ℕ) (steps : ℕ) : Type 0 where
+  pub some : WritesSome before after result (text ++ ops_text forest old) (ops_text forest new)
+  pub within : OnOk result (AreWithin forest new)
+  pub fewer : OnOk result (weight forest new < steps + weight forest old)

@@ -1,14 +1,14 @@
 -- What a stretch of markup is made of, and stands for.
 use Rattle.std.specs.Prelude.{◌≡◌, ◌≢◌, ℕ, List, [], ◌++◌, Bool, true, false, ◌⊎◌}
 use Rattle.std.specs.List.{list_all}
-use Rattle.dom_markup.specs.Letters.{is_whitespace, is_name_byte, folded}
+use Rattle.dom_markup.specs.Bytes.{is_whitespace, is_name_byte, folded}
 use Rattle.dom_markup.specs.References.{decoded}
 use Rattle.dom_markup.specs.ValueTrees.{Attribute}
 use Rattle.dom_markup.specs.Markup.{BeginsIdentifiers, BeginsQuoted, Closes, EndsTag, Fails, is_bare_byte}
-use Rattle.dom_markup.specs.declared.document.scan.Letters.{Letters}
-use Rattle.dom_markup.specs.declared.document.scan.Letters.TheVariants.{Whitespace, Name, Bare}
+use Rattle.dom_markup.specs.declared.document.scan.Stretch.{Stretch}
+use Rattle.dom_markup.specs.declared.document.scan.Stretch.TheVariants.{Whitespace, Name, Bare}
 
-abbrev pub passes : Letters → ℕ → Bool
+abbrev pub passes : Stretch → ℕ → Bool
 passes Whitespace = is_whitespace
 passes Name = is_name_byte
 passes Bare = is_bare_byte
