@@ -1,5 +1,6 @@
 pub mod CellLemmas
 pub mod ChunkLemmas
 pub mod FenceLemmas
+pub mod SolidLemmas
 pub mod StackLemmas
 pub mod StepLemmas

@@ -20,9 +20,12 @@ use Rattle.dom_links.proofs.Later.{begins, follows, tree_at}
 use Rattle.dom_markup.specs.Ops.{row_weight, trees_weight, weight_below}
 use Rattle.dom_md.specs.declared.formatting.stack.FormatOp.{FormatOp}
 use Rattle.dom_md.specs.declared.formatting.stack.FormatOp.TheVariants.{Open, Close}
-use Rattle.dom_md.specs.Formatted.{Event, events, folded, formatted_node, node_events, step}
-use Rattle.dom_md.specs.Formatted.Event.{closes}
-use Rattle.dom_md.specs.FormatOps.{AreWithin, IsOpWithin, begun, close_events, op_events, op_weight, ops_events, rest_events, row_events, weight}
+use Rattle.dom_nodes.specs.Kinds.{is_top}
+use Rattle.dom_links.specs.Texts.{text_of, text_at}
+use Rattle.dom_trees.specs.Views.{node_is}
+use Rattle.dom_md.specs.Formatted.{Event, events, events_below, folded, formatted_node, joined_texts, node_events, step}
+use Rattle.dom_md.specs.Formatted.Event.{opens, closes, has_text, keeps_text}
+use Rattle.dom_md.specs.FormatOps.{AreUtf8, AreWithin, IsFolded, IsOpWithin, IsPartFolded, close_events, first_events, op_events, op_weight, ops_events, rest_events, row_events, weight}
 
 events_assoc : (xs ys zs : List Event) → (xs ++ ys) ++ zs ≡ xs ++ (ys ++ zs)
 events_assoc [] ys zs = refl
@@ -96,40 +99,56 @@ popped forest ops rest op same all =
 
 -- ---- a node
 
--- the beginning of a node, and what follows within it, are its events
-node-fold : (forest : Forest) (n : ℕ) (old : List ℕ) (content : NodeData) →
-    folded old (node_events forest n content (events forest (trees forest (children_of forest n)))) ≡ folded (begun forest n old content) (rest_events forest n content)
-node-fold forest n old Document = refl
-node-fold forest n old Fragment = refl
-node-fold forest n old (Doctype a b c) = refl
-node-fold forest n old (Text a) = refl
-node-fold forest n old (Comment a) = refl
-node-fold forest n old (ProcessingInstruction a b) = refl
-node-fold forest n old (AnElement e) = elim (cases_Bool (bytes_eq e.name.local (codes "pre"))) as (λ t. folded old (node_events forest n (AnElement e) (events forest (trees forest (children_of forest n)))) ≡ folded (begun forest n old (AnElement e)) (rest_events forest n (AnElement e))) [
-  | inl t ↦ rw t refl
-  | inr f ↦ rw f refl
-]
+utf8-append : (xs ys : List Event) → AreUtf8 xs → AreUtf8 ys → AreUtf8 (xs ++ ys)
+utf8-append [] ys x y = y
+utf8-append (has_text t ∷ xs) ys x y = (x.0, utf8-append xs ys x.1 y)
+utf8-append (keeps_text t ∷ xs) ys x y = (x.0, utf8-append xs ys x.1 y)
+utf8-append (opens t ∷ xs) ys x y = utf8-append xs ys x y
+utf8-append (closes t ∷ xs) ys x y = utf8-append xs ys x y
+
+-- the text of an element is that of what is below it
+below-text : (forest : Forest) (n : ℕ) (e : Element) → slice_get forest.content n ≡ Some (AnElement e) → text_of forest n ≡ joined_texts forest (trees forest (children_of forest n))
+below-text forest n e read = rw read refl
+
+-- the events that a node begins with, and what follows within it, are its events
+node-parts : (forest : Forest) (n : ℕ) (content : NodeData) → slice_get forest.content n ≡ Some content →
+    node_events content (joined_texts forest (trees forest (children_of forest n))) (events_below forest n) ≡ first_events forest n content ++ rest_events forest n content
+node-parts forest n Document read = refl
+node-parts forest n Fragment read = refl
+node-parts forest n (Doctype a b c) read = refl
+node-parts forest n (Text a) read = refl
+node-parts forest n (Comment a) read = refl
+node-parts forest n (ProcessingInstruction a b) read = refl
+node-parts forest n (AnElement e) read =
+    elim (cases_Bool (bytes_eq e.name.local (codes "pre"))) as (λ t. node_events (AnElement e) (joined_texts forest (trees forest (children_of forest n))) (events_below forest n) ≡ first_events forest n (AnElement e) ++ rest_events forest n (AnElement e)) [
+      | inl t ↦ rw t (ap (λ text. opens e.name.local ∷ keeps_text text ∷ closes e.name.local ∷ []) (sym (below-text forest n e read)))
+      | inr f ↦ rw f refl
+    ]
 
 row-tree : (forest : Forest) → IsForest forest → (n : ℕ) (node : TreeNode) → IsNodeOf forest n node → n < length forest.content →
-    row_events forest (Some n) ≡ node_events forest n node.content (events forest (trees forest (children_of forest n))) ++ row_events forest node.next_sibling
+    row_events forest (Some n) ≡ (first_events forest n node.content ++ rest_events forest n node.content) ++ row_events forest node.next_sibling
 row-tree forest good n node is known =
     let rest = (follows forest false n node.next_sibling good is.next_is).rest in
-    rw (tree_at forest n good known, is.content_is, rest) refl
+    let whole : row_events forest (Some n) ≡ node_events node.content (joined_texts forest (trees forest (children_of forest n))) (events_below forest n) ++ row_events forest node.next_sibling =
+    rw (tree_at forest n good known, is.content_is, rest) refl in
+    whole ∙ ap (λ t. t ++ row_events forest node.next_sibling) (node-parts forest n node.content is.content_is)
 
 pub next-within : (forest : Forest) → IsForest forest → (n : ℕ) (node : TreeNode) → IsNodeOf forest n node → IsWithin forest node.next_sibling
 next-within forest good n node is = (follows forest false n node.next_sibling good is.next_is).within
 
 pub opened : (forest : Forest) → IsForest forest → (n : ℕ) (node : TreeNode) → IsNodeOf forest n node → n < length forest.content → (old new : List ℕ) (before one all : List Event) →
-    one ≡ row_events forest node.next_sibling ++ before → all ≡ rest_events forest n node.content ++ one → new ≡ begun forest n old node.content →
-    folded new all ≡ folded old (row_events forest (Some n) ++ before)
+    one ≡ row_events forest node.next_sibling ++ before → all ≡ rest_events forest n node.content ++ one → IsFolded old new (first_events forest n node.content) →
+    IsPartFolded old new (row_events forest (Some n) ++ before) all
 opened forest good n node is known old new before one all first second text =
-    let mine = node_events forest n node.content (events forest (trees forest (children_of forest n))) in
+    let front = first_events forest n node.content in
+    let rest = rest_events forest n node.content in
     let after = row_events forest node.next_sibling in
-    let left : folded new all ≡ folded (folded (begun forest n old node.content) (rest_events forest n node.content)) (after ++ before) =
-    rw (text, second, first) (folded-append (begun forest n old node.content) (rest_events forest n node.content) (after ++ before)) in
-    let right : folded old (row_events forest (Some n) ++ before) ≡ folded (folded old mine) (after ++ before) =
-    ap (λ t. folded old (t ++ before)) (row-tree forest good n node is known) ∙ (ap (folded old) (events_assoc mine after before) ∙ folded-append old mine (after ++ before)) in
-    left ∙ (ap (λ t. folded t (after ++ before)) (sym (node-fold forest n old node.content)) ∙ sym right)
+    let whole : row_events forest (Some n) ++ before ≡ front ++ all =
+    ap (λ t. t ++ before) (row-tree forest good n node is known) ∙ (events_assoc (front ++ rest) after before ∙ (events_assoc front rest (after ++ before) ∙ ap (λ t. front ++ t) (sym (second ∙ ap (λ t. rest ++ t) first)))) in
+    record {
+      is = ap (λ t. folded t all) text.is ∙ (sym (folded-append old front all) ∙ ap (folded old) (sym whole));
+      utf8 = λ valid. subst AreUtf8 (sym whole) (utf8-append front all text.utf8 valid);
+    }
 
 pub children-within : (forest : Forest) → IsForest forest → (n : ℕ) (node : TreeNode) → IsNodeOf forest n node → IsWithin forest node.first_child
 children-within forest good n node is = (begins forest false n node.first_child good is.first_is).within
@@ -160,16 +179,56 @@ children-weight forest good n node is old one new first second =
     let children = ap (λ ns. trees_weight (trees forest ns)) (children-row forest good n node is) in
     omega (arith, first, second, children)
 
+-- where no entry of its own was pushed, what follows the beginning of another node
+pub other-rest : (forest : Forest) → IsForest forest → (n : ℕ) (node : TreeNode) → IsNodeOf forest n node → rest_events forest n node.content ≡ events_below forest n →
+    (before all : List Event) → all ≡ row_events forest node.first_child ++ before → all ≡ rest_events forest n node.content ++ before
+other-rest forest good n node is rest before all second =
+    second ∙ ap (λ t. t ++ before) (ap (λ ns. events forest (trees forest ns)) (sym (children-row forest good n node is)) ∙ sym rest)
+
+pub record IsOther (forest : Forest) (n : ℕ) (old : List ℕ) (content : NodeData) : Type 0 where
+  pub first : IsFolded old old (first_events forest n content)
+  pub rest : rest_events forest n content ≡ events_below forest n
+
+-- a node that is no text and no element
+pub other-node : (forest : Forest) (n : ℕ) (old : List ℕ) (content : NodeData) → ((text : List ℕ) → content ≡ Text text → ⊥) → ((e : Element) → content ≡ AnElement e → ⊥) → IsOther forest n old content
+other-node forest n old Document no_text no_element = record { first = record { is = refl; utf8 = tt }; rest = refl }
+other-node forest n old Fragment no_text no_element = record { first = record { is = refl; utf8 = tt }; rest = refl }
+other-node forest n old (Doctype a b c) no_text no_element = record { first = record { is = refl; utf8 = tt }; rest = refl }
+other-node forest n old (Text a) no_text no_element = absurd (no_text a refl)
+other-node forest n old (Comment a) no_text no_element = record { first = record { is = refl; utf8 = tt }; rest = refl }
+other-node forest n old (ProcessingInstruction a b) no_text no_element = record { first = record { is = refl; utf8 = tt }; rest = refl }
+other-node forest n old (AnElement e) no_text no_element = absurd (no_element e refl)
+
+pub other-weight : (forest : Forest) → IsForest forest → (n : ℕ) (node : TreeNode) → IsNodeOf forest n node → (old new : ℕ) → new ≡ row_weight forest node.first_child + old → new ≤ 1 + weight_below forest n + old
+other-weight forest good n node is old new second =
+    let children = ap (λ ns. trees_weight (trees forest ns)) (children-row forest good n node is) in
+    omega (arith, second, children)
+
 -- one entry is done
-pub stepped : (forest : Forest) (ops rest new : List FormatOp) (op : FormatOp) (at next all : List ℕ) → IsPopped forest ops rest op →
-    folded next (ops_events forest new) ≡ folded at (op_events forest op ++ ops_events forest rest) → folded at (ops_events forest ops) ≡ all → folded next (ops_events forest new) ≡ all
-stepped forest ops rest new op at next all pop step_is whole = step_is ∙ (ap (folded at) (sym pop.left) ∙ whole)
+pub stepped : (forest : Forest) (ops rest new : List FormatOp) (op : FormatOp) (start at next : List ℕ) (whole : List Event) → IsPopped forest ops rest op →
+    IsPartFolded at next (op_events forest op ++ ops_events forest rest) (ops_events forest new) → IsPartFolded start at whole (ops_events forest ops) → IsPartFolded start next whole (ops_events forest new)
+stepped forest ops rest new op start at next whole pop part before = record {
+  is = part.is ∙ (ap (folded at) (sym pop.left) ∙ before.is);
+  utf8 = λ valid. before.utf8 (subst AreUtf8 (sym pop.left) (part.utf8 valid));
+}
+
+pub begun : (start : List ℕ) (whole : List Event) → IsPartFolded start start whole whole
+begun start whole = record { is = refl; utf8 = λ valid. valid }
+
+pub ended : (forest : Forest) (ops : List FormatOp) (start now : List ℕ) (whole : List Event) → ops ≡ [] → IsPartFolded start now whole (ops_events forest ops) → IsFolded start now whole
+ended forest ops start now whole none part = record {
+  is = sym (ap (λ o. folded now (ops_events forest o)) none) ∙ part.is;
+  utf8 = part.utf8 (subst (λ o. AreUtf8 (ops_events forest o)) (sym none) tt);
+}
 
 pub closed : (forest : Forest) (n : ℕ) (content : NodeData) (op : FormatOp) → op ≡ Close n → slice_get forest.content n ≡ Some content → (at next : List ℕ) (before : List Event) →
-    next ≡ folded at (close_events content) → folded next before ≡ folded at (op_events forest op ++ before)
+    IsFolded at next (close_events content) → IsPartFolded at next (op_events forest op ++ before) before
 closed forest n content op is read at next before done =
     let mine : op_events forest op ≡ close_events content = rw (is, read) refl in
-    ap (λ t. folded t before) done ∙ (sym (folded-append at (close_events content) before) ∙ ap (λ t. folded at (t ++ before)) (sym mine))
+    record {
+      is = ap (λ t. folded t before) done.is ∙ (sym (folded-append at (close_events content) before) ∙ ap (λ t. folded at (t ++ before)) (sym mine));
+      utf8 = λ valid. subst (λ t. AreUtf8 (t ++ before)) (sym mine) (utf8-append (close_events content) before done.utf8 valid);
+    }
 
 -- ---- the whole
 
@@ -177,37 +236,56 @@ children-here : (forest : Forest) → IsForest forest → (n : ℕ) (node : Tree
 children-here forest good n node is = ap (λ ns. events forest (trees forest ns)) (sym (children-row forest good n node is))
 
 pub children-all : (forest tree : Forest) → IsForest forest → forest ≡ tree → (n : ℕ) (node : TreeNode) → IsNodeOf forest n node → (start text : List ℕ) → start ≡ [] → (ops new : List FormatOp) → ops ≡ [] →
-    ops_events forest new ≡ row_events forest node.first_child ++ ops_events forest ops → text ≡ folded start (ops_events forest new) → text ≡ folded [] (events tree (trees tree (children_of tree n)))
+    ops_events forest new ≡ row_events forest node.first_child ++ ops_events forest ops → IsFolded start text (ops_events forest new) → IsFolded [] text (events_below tree n)
 children-all forest tree good same n node is start text empty ops new none pushed_is done =
-    let all : ops_events forest new ≡ events forest (trees forest (children_of forest n)) =
+    let all : ops_events forest new ≡ events_below forest n =
     pushed_is ∙ (ap (λ o. row_events forest node.first_child ++ ops_events forest o) none ∙ (events_nil (row_events forest node.first_child) ∙ children-here forest good n node is)) in
-    done ∙ (ap (λ t. folded t (ops_events forest new)) empty ∙ (ap (folded []) all ∙ ap (λ f. folded [] (events f (trees f (children_of f n)))) same))
+    let whole : ops_events forest new ≡ events_below tree n = all ∙ ap (λ f. events_below f n) same in
+    record {
+      is = done.is ∙ (ap (λ t. folded t (ops_events forest new)) empty ∙ ap (folded []) whole);
+      utf8 = subst AreUtf8 whole done.utf8;
+    }
 
-pub children-unknown : (forest tree : Forest) (n : ℕ) → IsForest forest → forest ≡ tree → length forest.content ≤ n → folded [] (events tree (trees tree (children_of tree n))) ≡ []
-children-unknown forest tree n good same past = ap (λ f. folded [] (events f (trees f (children_of f n)))) (sym same) ∙ rw (children_past forest n good.once past, trees-none forest) refl
+pub children-unknown : (forest tree : Forest) (n : ℕ) → IsForest forest → forest ≡ tree → length forest.content ≤ n → (text : List ℕ) → text ≡ [] → IsFolded [] text (events_below tree n)
+children-unknown forest tree n good same past text empty =
+    let none : events_below tree n ≡ [] = ap (λ f. events_below f n) (sym same) ∙ rw (children_past forest n good.once past, trees-none forest) refl in
+    record { is = empty ∙ sym (ap (folded []) none); utf8 = subst AreUtf8 (sym none) tt }
 
-pub node-all : (forest tree : Forest) → IsForest forest → forest ≡ tree → (n : ℕ) (node : TreeNode) → IsNodeOf forest n node → (start begin text : List ℕ) → start ≡ [] → (ops new : List FormatOp) → ops ≡ [] →
-    ops_events forest new ≡ rest_events forest n node.content ++ ops_events forest ops → begin ≡ begun forest n start node.content → text ≡ folded begin (ops_events forest new) → text ≡ formatted_node tree n
+pub node-all : (forest tree : Forest) → IsForest forest → forest ≡ tree → (n : ℕ) (node : TreeNode) → IsNodeOf forest n node → is_top node.content ≡ false → (start begin text : List ℕ) → start ≡ [] → (ops new : List FormatOp) → ops ≡ [] →
+    ops_events forest new ≡ rest_events forest n node.content ++ ops_events forest ops → IsFolded start begin (first_events forest n node.content) → IsFolded begin text (ops_events forest new) → text ≡ formatted_node tree n
 unfolding formatted_node
-node-all forest tree good same n node is start begin text empty ops new none pushed_is began done =
+node-all forest tree good same n node is other start begin text empty ops new none pushed_is began done =
     let known = known_node forest.content n node.content is.content_is in
     let one = trees-some forest n [] good (λ m s. elim (cases_Bool (n == m)) [
       | inl t ↦ subst (λ (k : ℕ). k < length forest.content) (eqb-true n m t) known
-      | inr f ↦ (let other = rw f at s in absurd (cc))
+      | inr f ↦ (let missing = rw f at s in absurd (cc))
     ]) in
-    let mine = node_events forest n node.content (events forest (trees forest (children_of forest n))) in
+    let front = first_events forest n node.content in
+    let rest = rest_events forest n node.content in
+    let mine = node_events node.content (joined_texts forest (trees forest (children_of forest n))) (events_below forest n) in
     let whole : events forest (trees forest (n ∷ [])) ≡ mine = rw (one, is.content_is, trees-none forest) (events_nil mine) in
-    let all : ops_events forest new ≡ rest_events forest n node.content = pushed_is ∙ (ap (λ o. rest_events forest n node.content ++ ops_events forest o) none ∙ events_nil (rest_events forest n node.content)) in
-    done ∙ (ap (λ t. folded t (ops_events forest new)) (began ∙ ap (λ t. begun forest n t node.content) empty) ∙ (ap (folded (begun forest n [] node.content)) all
-    ∙ (sym (node-fold forest n [] node.content) ∙ (ap (folded []) (sym whole) ∙ ap (λ f. folded [] (events f (trees f (n ∷ [])))) same))))
+    let all : ops_events forest new ≡ rest = pushed_is ∙ (ap (λ o. rest ++ ops_events forest o) none ∙ events_nil rest) in
+    let here : text ≡ folded [] (events forest (trees forest (n ∷ []))) =
+    done.is ∙ (ap (λ t. folded t (ops_events forest new)) (began.is ∙ ap (λ t. folded t front) empty) ∙ (ap (folded (folded [] front)) all
+    ∙ (sym (folded-append [] front rest) ∙ ap (folded []) (sym (whole ∙ node-parts forest n node.content is.content_is))))) in
+    let plain : node_is is_top forest n ≡ false = rw (is.content_is) other in
+    let shown : formatted_node forest n ≡ folded [] (events forest (trees forest (n ∷ []))) = rw plain refl in
+    here ∙ (sym shown ∙ ap (λ f. formatted_node f n) same)
 
-pub node-unknown : (forest tree : Forest) (n : ℕ) → forest ≡ tree → length forest.content ≤ n → formatted_node tree n ≡ []
+pub node-top : (forest tree : Forest) → forest ≡ tree → (n : ℕ) (node : TreeNode) → IsNodeOf forest n node → is_top node.content ≡ true → formatted_node tree n ≡ []
+unfolding formatted_node
+node-top forest tree same n node is top =
+    let whole : node_is is_top forest n ≡ true = rw (is.content_is) top in
+    ap (λ f. formatted_node f n) (sym same) ∙ rw whole refl
+
+pub node-unknown : (forest tree : Forest) (n : ℕ) → IsForest forest → forest ≡ tree → length forest.content ≤ n → formatted_node tree n ≡ []
 unfolding formatted_node trees
-node-unknown forest tree n same past = ap (λ f. folded [] (events f (trees f (n ∷ [])))) (sym same) ∙ nothing (length forest.content)
+node-unknown forest tree n good same past = ap (λ f. formatted_node f n) (sym same) ∙ rw (slice_get_past forest.content n past) (nothing (length forest.content))
   where
     nothing : (most : ℕ) → folded [] (events forest (trees_to forest most (n ∷ []))) ≡ []
     nothing zero = refl
-    nothing (suc most) = rw (slice_get_past forest.content n past) refl
+    nothing (suc zero) = rw (slice_get_past forest.content n past, children_past forest n good.once past) refl
+    nothing (suc (suc most)) = rw (slice_get_past forest.content n past, children_past forest n good.once past) refl
 
 -- ---- results
 

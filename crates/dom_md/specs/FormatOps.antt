@@ -1,18 +1,18 @@
 -- The stack of what is still to be formatted, the last entry first.
 use Rattle.std.specs.Prelude.{◌≡◌, ℕ, ◌+◌, ◌<◌, false, List, [], ◌++◌, ◌∷◌, length, Option, Some, OnOk, Result, slice_get, codes, if◌then◌else◌}
-use Rattle.std.specs.Str.{bytes_eq}
+use Rattle.std.specs.Str.{IsUtf8, bytes_eq}
 use Rattle.std.specs.Option.{option_map_or}
 use Rattle.dom_nodes.specs.declared.node_data.NodeData.{NodeData}
 use Rattle.dom_nodes.specs.declared.node_data.NodeData.TheVariants.{Text, Element as AnElement}
-use Rattle.dom_links.specs.Forest.{Forest, children_of}
+use Rattle.dom_links.specs.Forest.{Forest}
 use Rattle.dom_links.specs.Texts.{text_of}
 use Rattle.dom_links.specs.Trees.{trees}
 use Rattle.dom_links.specs.Walk.{row_on}
 use Rattle.dom_markup.specs.Ops.{row_weight}
 use Rattle.dom_md.specs.declared.formatting.stack.FormatOp.{FormatOp}
 use Rattle.dom_md.specs.declared.formatting.stack.FormatOp.TheVariants.{Open, Close}
-use Rattle.dom_md.specs.Formatted.{Event, events, folded, with_open, with_text}
-use Rattle.dom_md.specs.Formatted.Event.{closes}
+use Rattle.dom_md.specs.Formatted.{Event, events, events_below, folded}
+use Rattle.dom_md.specs.Formatted.Event.{opens, closes, has_text, keeps_text}
 
 -- the events of a node and its later siblings
 abbrev pub row_events : Forest → Option ℕ → List Event
@@ -48,21 +48,38 @@ abbrev pub weight : Forest → List FormatOp → ℕ
 weight forest [] = 0
 weight forest (op ∷ ops) = op_weight forest op + weight forest ops
 
--- the text after the beginning of node n
-abbrev pub begun : Forest → ℕ → List ℕ → NodeData → List ℕ
-begun forest n old (Text contents) = with_text old contents
-begun forest n old (AnElement e) = if bytes_eq e.name.local (codes "pre") then with_open old e.name.local ++ text_of forest n else with_open old e.name.local
-begun forest n old _ = old
+-- the first events of node n
+abbrev pub first_events : Forest → ℕ → NodeData → List Event
+first_events forest n (Text contents) = has_text contents ∷ []
+first_events forest n (AnElement e) = opens e.name.local ∷ (if bytes_eq e.name.local (codes "pre") then keeps_text (text_of forest n) ∷ [] else [])
+first_events forest n _ = []
 
 -- what then follows within it
 abbrev pub rest_events : Forest → ℕ → NodeData → List Event
-rest_events forest n (AnElement e) = (if bytes_eq e.name.local (codes "pre") then [] else events forest (trees forest (children_of forest n))) ++ closes e.name.local ∷ []
-rest_events forest n _ = []
+rest_events forest n (AnElement e) = (if bytes_eq e.name.local (codes "pre") then [] else events_below forest n) ++ closes e.name.local ∷ []
+rest_events forest n _ = events_below forest n
+
+-- the texts of the events are valid
+abbrev pub AreUtf8 : List Event → Type 0
+AreUtf8 [] = Unit {0}
+AreUtf8 (has_text text ∷ es) = IsUtf8 text × AreUtf8 es
+AreUtf8 (keeps_text text ∷ es) = IsUtf8 text × AreUtf8 es
+AreUtf8 (e ∷ es) = AreUtf8 es
+
+-- the text with the events, whose texts are valid
+pub record IsFolded (old new : List ℕ) (es : List Event) : Type 0 where
+  pub is : new ≡ folded old es
+  pub utf8 : AreUtf8 es
+
+-- some of the events before were added to the text, and the others are those after
+pub record IsPartFolded (old new : List ℕ) (before after : List Event) : Type 0 where
+  pub is : folded new after ≡ folded old before
+  pub utf8 : AreUtf8 after → AreUtf8 before
 
 -- the events were added to the text
 abbrev pub Formats : {T E : Type 0} → (old new : List ℕ) → Result T E → List Event → Type 0
-Formats old new result es = OnOk result (new ≡ folded old es)
+Formats old new result es = OnOk result (IsFolded old new es)
 
 -- some of the events that were to come were added, and the others are still to come
 abbrev pub FormatsSome : {T E : Type 0} → (old new : List ℕ) → Result T E → (before after : List Event) → Type 0
-FormatsSome old new result before after = OnOk result (folded new after ≡ folded old before)
+FormatsSome old new result before after = OnOk result (IsPartFolded old new before after)

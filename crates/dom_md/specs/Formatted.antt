@@ -1,14 +1,17 @@
 -- Formatted text: a fold over what opens and closes in a tree, and over its texts.
 use Rattle.std.specs.Prelude.{ℕ, ◌-◌, ◌==◌, ◌&&◌, ◌||◌, nat_lt, not, Bool, true, false, List, [], ◌∷◌, ◌++◌, length, drop, slice_get, codes, encode_utf8_all, if◌then◌else◌}
 use Rattle.std.specs.Char.{is_whitespace}
+use Rattle.std.specs.List.{flat_map}
 use Rattle.std.specs.Option.{option_map_or}
 use Rattle.std.specs.Str.{bytes_eq, chars, trim_start, trim_end}
 use Rattle.dom_nodes.specs.Ascii.{space}
 use Rattle.dom_nodes.specs.declared.node_data.NodeData.{NodeData}
 use Rattle.dom_nodes.specs.declared.node_data.NodeData.TheVariants.{Text, Element as AnElement}
 use Rattle.dom_links.specs.Forest.{Forest, children_of}
-use Rattle.dom_links.specs.Texts.{text_of}
-use Rattle.dom_links.specs.Trees.{Trees, NoTrees, Tree, trees}
+use Rattle.dom_links.specs.Texts.{text_at}
+use Rattle.dom_links.specs.Trees.{Trees, NoTrees, Tree, trees, walk}
+use Rattle.dom_nodes.specs.Kinds.{is_top}
+use Rattle.dom_trees.specs.Views.{node_is}
 use Rattle.dom_markup.specs.Names.{is_among}
 
 -- ---- names
@@ -108,27 +111,36 @@ folded old (e ∷ es) = folded (step old e) es
 
 -- ---- the events of trees
 
--- what stands between the tags of an element: a `pre` keeps its text
-abbrev pub inner_events : Forest → ℕ → List ℕ → List Event → List Event
-inner_events forest n name below = if bytes_eq name (codes "pre") then keeps_text (text_of forest n) ∷ [] else below
+-- the texts of trees, joined
+abbrev pub joined_texts : Forest → Trees → List ℕ
+joined_texts forest ts = flat_map (text_at forest) (walk ts)
 
-abbrev pub node_events : Forest → ℕ → NodeData → List Event → List Event
-node_events forest n (Text contents) below = has_text contents ∷ []
-node_events forest n (AnElement e) below = opens e.name.local ∷ inner_events forest n e.name.local below ++ closes e.name.local ∷ []
-node_events forest n _ below = []
+-- what stands between the tags of an element: a `pre` keeps its text
+abbrev pub inner_events : (name text : List ℕ) → List Event → List Event
+inner_events name text below = if bytes_eq name (codes "pre") then keeps_text text ∷ [] else below
+
+-- a text or the tags of an element, and what is below the node, whose text is given, too
+abbrev pub node_events : NodeData → (text : List ℕ) → List Event → List Event
+node_events (Text contents) text below = has_text contents ∷ below
+node_events (AnElement e) text below = opens e.name.local ∷ inner_events e.name.local text below ++ closes e.name.local ∷ []
+node_events _ text below = below
 
 abbrev pub events : Forest → Trees → List Event
 events forest NoTrees = []
 events forest (Tree n contents children later) =
-    option_map_or (λ content. node_events forest n content (events forest children)) (slice_get forest.content n) [] ++ events forest later
+    option_map_or (λ content. node_events content (joined_texts forest children) (events forest children)) (slice_get forest.content n) (events forest children)
+    ++ events forest later
+
+abbrev pub events_below : Forest → ℕ → List Event
+events_below forest n = events forest (trees forest (children_of forest n))
 
 -- what is below a node, formatted
 abbrev pub untrimmed_below : Forest → ℕ → List ℕ
-untrimmed_below forest n = folded [] (events forest (trees forest (children_of forest n)))
+untrimmed_below forest n = folded [] (events_below forest n)
 
--- the formatted text of what is below a node, and of a node with its own tags
+-- the formatted text of what is below a node, and of a node with its own tags; a document or fragment has none
 unfoldable pub formatted_below : Forest → ℕ → List ℕ
 formatted_below forest n = trim_end (untrimmed_below forest n)
 
 unfoldable pub formatted_node : Forest → ℕ → List ℕ
-formatted_node forest n = folded [] (events forest (trees forest (n ∷ [])))
+formatted_node forest n = if node_is is_top forest n then [] else folded [] (events forest (trees forest (n ∷ [])))

@@ -8,3 +8,4 @@ pub mod Marks
 pub mod Options
 pub mod Resolved
 pub mod Scopes
+pub mod Solid

@@ -11,6 +11,7 @@ pub trait NodeMd {
     ghost use Rattle.std.specs.Prelude.{◌≡◌, ℕ, IfOk, string_bytes};
     ghost use Rattle.dom_links.specs.Forest.{Forest};
     ghost use Rattle.dom_md.specs.Formatted.{formatted_below};
+    ghost use Rattle.dom_md.specs.Solid.{KeepsWords};
 
     // The forest of the node's tree.
     ghost forest: { Self → Forest };
@@ -19,10 +20,13 @@ pub trait NodeMd {
     ghost number: { Self → ℕ };
 
     /// The formatted text of what is below the node, without whitespace at its end; empty for an
-    /// unknown number.
+    /// unknown number. Without any whitespace, that of a node that may have children is its `text`
+    /// without whitespace.
     fn formatted_text(&self) -> Result<String, OutOfMemory>
-        ensures { IfOk result (λ text. string_bytes text
-            ≡ formatted_below (forest self.now) (number self.now)) };
+        ensures text { IfOk result (λ text. string_bytes text
+            ≡ formatted_below (forest self.now) (number self.now)) }
+        ensures words { IfOk result (λ text. KeepsWords (forest self.now) (number self.now)
+            (string_bytes text)) };
 
     /// The Markdown of what is below the node; empty for an unknown number. Elements of the names in
     /// `skip_tags` are left out: `script`, `style`, `meta` and `head` where none are given.
@@ -48,13 +52,16 @@ pub trait DocumentMd {
     ghost use Rattle.std.specs.Prelude.{◌≡◌, IfOk, string_bytes};
     ghost use Rattle.dom_links.specs.Forest.{Forest};
     ghost use Rattle.dom_md.specs.Formatted.{formatted_below};
+    ghost use Rattle.dom_md.specs.Solid.{KeepsWords};
 
     // The forest of the document.
     ghost forest: { Self → Forest };
 
-    /// The formatted text of what is below the root, without whitespace at its end.
+    /// The formatted text of what is below the root, without whitespace at its end. Without any
+    /// whitespace it is the text of the document without whitespace.
     fn formatted_text(&self) -> Result<String, OutOfMemory>
-        ensures { IfOk result (λ text. string_bytes text ≡ formatted_below (forest self.now) 0) };
+        ensures text { IfOk result (λ text. string_bytes text ≡ formatted_below (forest self.now) 0) }
+        ensures words { IfOk result (λ text. KeepsWords (forest self.now) 0 (string_bytes text)) };
 
     /// The Markdown of what is below the root.
     fn md(&self, skip_tags: Option<&[&str]>) -> Result<String, OutOfMemory>;

@@ -3,13 +3,14 @@
 
 ghost use Rattle.std.specs.Prelude.{◌≡◌, ◌<◌, ◌≤◌, ◌+◌, ◌++◌, [], ◌∷◌};
 ghost use Rattle.std.specs.Prelude.{IfOk, OnErr, OnOk, Some, string_bytes};
+ghost use Rattle.std.specs.Str.{IsUtf8};
 ghost use Rattle.dom_links.specs.Forest.{forest_of};
 ghost use Rattle.dom_links.specs.Sound.{IsSoundArena};
 ghost use Rattle.dom_links.specs.Texts.{text_of};
 ghost use Rattle.dom_links.specs.Walk.{IsNodeOf, IsWithin};
 ghost use Rattle.dom_markup.specs.Ops.{row_weight, weight_below};
-ghost use Rattle.dom_md.specs.Formatted.{formatted_node, untrimmed_below};
-ghost use Rattle.dom_md.specs.FormatOps.{AreWithin, Formats, FormatsSome, IsOpWithin, begun};
+ghost use Rattle.dom_md.specs.Formatted.{events_below, formatted_node};
+ghost use Rattle.dom_md.specs.FormatOps.{AreWithin, Formats, FormatsSome, IsFolded, IsOpWithin, first_events};
 ghost use Rattle.dom_md.specs.FormatOps.{close_events, op_events, op_weight, ops_events};
 ghost use Rattle.dom_md.specs.FormatOps.{rest_events, row_events, weight};
 
@@ -32,7 +33,7 @@ enum FormatOp {
 
 /// Formats what is below the node; nothing for an unknown number.
 pub(super) fn format_children(tree: &Tree, id: NodeId) -> Result<String, OutOfMemory>
-    ensures { IfOk result (λ text. string_bytes text ≡ untrimmed_below tree.now id) }
+    ensures { IfOk result (λ text. IsFolded [] (string_bytes text) (events_below tree.now id)) }
 {
     let nodes = tree.nodes();
     let mut text = String::new(tree.allocator());
@@ -45,7 +46,7 @@ pub(super) fn format_children(tree: &Tree, id: NodeId) -> Result<String, OutOfMe
     Ok(text)
 }
 
-/// Formats the node; nothing for an unknown number.
+/// Formats the node; nothing for a document, a fragment or an unknown number.
 pub(super) fn format_node(tree: &Tree, id: NodeId) -> Result<String, OutOfMemory>
     ensures { IfOk result (λ text. string_bytes text ≡ formatted_node tree.now id) }
 {
@@ -54,6 +55,9 @@ pub(super) fn format_node(tree: &Tree, id: NodeId) -> Result<String, OutOfMemory
     let Some(node) = find_node(nodes, id) else {
         return Ok(text);
     };
+    if node.content.is_top() {
+        return Ok(text);
+    }
     let mut ops = Vec::new(tree.allocator());
     begin_node(nodes, id, node, &mut ops, &mut text)?;
     format_ops(nodes, ops, &mut text)?;
@@ -145,8 +149,8 @@ fn begin_node(
     requires sound { IsSoundArena nodes.now }
     requires node { IsNodeOf (forest_of nodes.now) id node.now }
     requires all_within { AreWithin (forest_of nodes.now) ops.old.items }
-    ensures text { OnOk result (string_bytes text.new
-        ≡ begun (forest_of nodes.now) id (string_bytes text.old) node.now.content) }
+    ensures text { Formats (string_bytes text.old) (string_bytes text.new) result
+        (first_events (forest_of nodes.now) id node.now.content) }
     ensures rest { OnOk result (ops_events (forest_of nodes.now) ops.new.items
         ≡ rest_events (forest_of nodes.now) id node.now.content
         ++ ops_events (forest_of nodes.now) ops.old.items) }
@@ -155,7 +159,10 @@ fn begin_node(
         ≤ 1 + weight_below (forest_of nodes.now) id + weight (forest_of nodes.now) ops.old.items) }
 {
     match &node.content {
-        NodeData::Text { contents } => Ok(add_text(text, contents.as_str())?),
+        NodeData::Text { contents } => {
+            add_text(text, contents.as_str())?;
+            push_open(nodes, node.first_child, ops)
+        }
         NodeData::Element(element) => {
             open_element(text, element.node_name())?;
             push_op(ops, FormatOp::Close { id })?;
@@ -164,15 +171,16 @@ fn begin_node(
             }
             push_open(nodes, node.first_child, ops)
         }
-        _ => Ok(()),
+        _ => push_open(nodes, node.first_child, ops),
     }
 }
 
 /// Adds the text of the node as it is.
 fn keep_text(nodes: &[TreeNode], id: NodeId, text: &mut String) -> Result<(), OutOfMemory>
     requires { IsSoundArena nodes.now }
-    ensures { OnOk result (string_bytes text.new
+    ensures text { OnOk result (string_bytes text.new
         ≡ string_bytes text.old ++ text_of (forest_of nodes.now) id) }
+    ensures utf8 { OnOk result (IsUtf8 (text_of (forest_of nodes.now) id)) }
 {
     let kept = TreeNodeOps::text_of(nodes, &id, *text.allocator())?;
     Ok(text.push_str(kept.as_str())?)

@@ -1,10 +1,9 @@
-use Rattle.std.proofs.Common.{◌∙◌, sym}
 use Rattle.dom_links.specs.Forest.{forest_of}
 use Rattle.dom_md.proofs.StackLemmas.{children-within, children-all, children-unknown}
 use Rattle.dom_md.proofs.formatting.stack.format_children.Goals as goal
 
 pub returns-in_default : goal.returns-in_default
-returns-in_default c = c.new-text.ensures.bytes ∙ sym (children-unknown (forest_of c.nodes-nodes.result.now) c.args.tree.now c.args.id c.nodes-nodes.ensures.sound.forest c.nodes-nodes.ensures.value c.in_default.ensures)
+returns-in_default c = children-unknown (forest_of c.nodes-nodes.result.now) c.args.tree.now c.args.id c.nodes-nodes.ensures.sound.forest c.nodes-nodes.ensures.value c.in_default.ensures _ c.new-text.ensures.bytes
 
 pub push_open-requires-clause-within : goal.push_open-requires-clause-within
 push_open-requires-clause-within c = children-within (forest_of c.nodes-nodes.result.now) c.nodes-nodes.ensures.sound.forest c.args.id c.in-Some.node.now c.in-Some.ensures

@@ -1,12 +1,11 @@
-use Rattle.std.proofs.Common.{◌≡◌, string_bytes}
+use Rattle.std.proofs.Common.{string_bytes}
 use Rattle.dom_links.specs.Forest.{forest_of}
-use Rattle.dom_md.specs.Formatted.{folded}
-use Rattle.dom_md.specs.FormatOps.{AreWithin, ops_events, weight}
+use Rattle.dom_md.specs.FormatOps.{AreWithin, IsPartFolded, ops_events, weight}
 use Rattle.dom_md.proofs.formatting.stack.format_ops.Given as goal
 
 abbrev pub invariant-loop-op : goal.invariant-loop-op
 invariant-loop-op l = record {
-  whole : folded (string_bytes l.text) (ops_events (forest_of l.nodes) l.ops.items) ≡ folded (string_bytes l.fn.text) (ops_events (forest_of l.nodes) l.fn.ops.items);
+  whole : IsPartFolded (string_bytes l.fn.text) (string_bytes l.text) (ops_events (forest_of l.nodes) l.fn.ops.items) (ops_events (forest_of l.nodes) l.ops.items);
   all_within : AreWithin (forest_of l.nodes) l.ops.items;
 }
 
