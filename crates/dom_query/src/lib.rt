@@ -23,7 +23,7 @@ pub use dom_select::css::{CssLocalName, CssString, ToCss};
 pub use dom_select::fault::SelectorFault;
 pub use dom_select::matcher::Matcher;
 pub use dom_select::node_select::NodeSelect;
-pub use dom_select::selection::DescendantMatches;
+pub use dom_select::matcher::descendants::DescendantMatches;
 pub use dom_trees::node_mut::NodeMut;
 pub use dom_trees::node_ref::{AncestorRefs, ChildRefs, DescendantRefs, NodeRef};
 pub use dom_trees::tree::Tree;

@@ -19,7 +19,7 @@ use dom_markup::serializing::{NodeMarkup, TraversalScope, WriteFault};
 use dom_markup::writing::write_bytes;
 use dom_nodes::fault::{EditFault, MarkupFaultKind, OutOfMemory};
 use dom_nodes::node_id::NodeId;
-use dom_select::selection::select_below;
+use dom_select::matcher::descendants::select_below;
 use dom_trees::node_ref::NodeRef;
 use dom_trees::tree::Tree;
 use std::alloc::{AllocError, Global};

@@ -5,7 +5,7 @@ use Rattle.dom_links.specs.Forest.{Forest}
 use Rattle.dom_select.specs.declared.fault.SelectorFault.{SelectorFault}
 use Rattle.dom_select.specs.declared.fault.SelectorFault.TheVariants.{Syntax, UnknownPseudoClass, Number, NestedHas, TooDeep, Memory}
 use Rattle.dom_select.specs.Grammar.{Refused, StandsFor}
-use Rattle.dom_select.specs.Matches.{IsMatch}
+use Rattle.dom_select.specs.Descendants.{IsMatch}
 use Rattle.dom_select.specs.Syntax.{SelectorList}
 use Rattle.dom_select.proofs.SelectorLemmas.{stands_once}
 

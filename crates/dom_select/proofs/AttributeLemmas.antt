@@ -1,14 +1,14 @@
 -- Attribute parts have one reading.
 use Rattle.std.proofs.Common.{◌≡◌, ℕ, List, [], ◌∷◌, Bool, true, false, nat_eq, refl, sym, ap, ◌∙◌, subst, true≢false, MatchBool, Option, Some, None, arith}
 use Rattle.std.proofs.lemmas.Bool.Decides.{nat_tests}
-use Rattle.dom_select.specs.declared.selector.Operator.{Operator}
-use Rattle.dom_select.specs.declared.selector.CaseSensitivity.{CaseSensitivity}
-use Rattle.dom_select.specs.declared.selector.CaseSensitivity.TheVariants.{CaseSensitive}
+use Rattle.dom_select.specs.declared.matcher.syntax.Operator.{Operator}
+use Rattle.dom_select.specs.declared.matcher.syntax.CaseSensitivity.{CaseSensitivity}
+use Rattle.dom_select.specs.declared.matcher.syntax.CaseSensitivity.TheVariants.{CaseSensitive}
 use Rattle.dom_select.specs.Spelling.{SpellsNone}
-use Rattle.dom_select.specs.Letters.{after_white, begins}
+use Rattle.dom_select.specs.Characters.{after_white, begins}
 use Rattle.dom_select.specs.Names.{SpellsName}
-use Rattle.dom_select.specs.declared.selector.Comparison.{Comparison}
-use Rattle.dom_select.specs.declared.selector.Attribute.{Attribute}
+use Rattle.dom_select.specs.declared.matcher.syntax.Comparison.{Comparison}
+use Rattle.dom_select.specs.declared.matcher.syntax.Attribute.{Attribute}
 use Rattle.dom_select.specs.Strings.{is_quote}
 use Rattle.dom_select.specs.Attributes.{SpellsOperator, SpellsValue, SpellsFlag, SpellsCase, SpellsComparison, SpellsAsked, SpellsAttribute, flag_of}
 use Rattle.dom_select.proofs.Runs.{IsOnce}

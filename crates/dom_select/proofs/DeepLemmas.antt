@@ -1,12 +1,12 @@
 -- The colons and parentheses of a part are the whole text's.
 use Rattle.std.proofs.Common.{◌≡◌, ℕ, ◌+◌, ◌≤◌, List, ◌∷◌, ap, arith}
 use Rattle.dom_select.specs.declared.fault.SelectorFault.{SelectorFault}
-use Rattle.dom_select.specs.declared.selector.Combinator.{Combinator}
-use Rattle.dom_select.specs.declared.selector.Part.{Part}
+use Rattle.dom_select.specs.declared.matcher.syntax.Combinator.{Combinator}
+use Rattle.dom_select.specs.declared.matcher.syntax.Part.{Part}
 use Rattle.dom_select.specs.Spelling.{Many, Refuses}
-use Rattle.dom_select.specs.Letters.{after_white, how_many}
+use Rattle.dom_select.specs.Characters.{after_white, how_many}
 use Rattle.dom_select.specs.Syntax.{CompoundSelector, Steps}
-use Rattle.dom_select.specs.Items.{Item}
+use Rattle.dom_select.specs.ListsAsTrees.{Item}
 use Rattle.dom_select.specs.Grammar.{SpellsType, SpellsItem, SpellsCompound, SpellsCombinator, SpellsStep, SpellsSelector, SpellsLater, SpellsInner}
 use Rattle.dom_select.proofs.FaultLemmas.{refuses_more}
 use Rattle.dom_select.proofs.KeepLemmas.{Grows, many_grows, many_keeps, white_keeps, type_keeps, combinator_keeps, item_keeps, compound_keeps, step_keeps, selector_keeps, later_keeps, inner_keeps}

@@ -8,13 +8,13 @@ use Rattle.dom_links.specs.Forest.{Forest}
 use Rattle.dom_links.specs.Laws.{AreLines}
 use Rattle.dom_links.specs.Lists.{stands_in}
 use Rattle.dom_links.specs.Trees.{ancestors}
-use Rattle.dom_select.specs.declared.selector.Combinator.{Combinator}
-use Rattle.dom_select.specs.declared.selector.Combinator.TheVariants.{Descendant, Child, NextSibling, LaterSibling}
-use Rattle.dom_select.specs.Items.{steps_of}
-use Rattle.dom_select.specs.Lines.{earlier, element_at, ends_at, left_of, line}
+use Rattle.dom_select.specs.declared.matcher.syntax.Combinator.{Combinator}
+use Rattle.dom_select.specs.declared.matcher.syntax.Combinator.TheVariants.{Descendant, Child, NextSibling, LaterSibling}
+use Rattle.dom_select.specs.ListsAsTrees.{steps_of}
+use Rattle.dom_select.specs.Leftward.{earlier, element_at, ends_at, left_of, line}
 use Rattle.dom_select.specs.Meaning.{Holds, Leads, MayBeside, Reaches, Stands}
 use Rattle.dom_select.specs.Syntax.{CompoundSelector}
-use Rattle.dom_select.specs.Ways.{AreTighter, EndHolds, EndsLoosely, Followed, FollowedFrom, IsOrPrecedes, Precedes, ReachesSome, looseness}
+use Rattle.dom_select.specs.Chains.{AreTighter, EndHolds, EndsLoosely, Followed, FollowedFrom, IsOrPrecedes, Precedes, ReachesSome, looseness}
 use Rattle.dom_select.proofs.ReachLemmas.{IsMeant, SomeOnLine, from_far, from_line, left_here, line_some, reaches_by_last, to_line}
 use Rattle.dom_select.proofs.Weights.{steps_weight}
 use Rattle.dom_select.proofs.RowLemmas.{among_elements, comes_first, drop_swap, drop_twice, element_among, elements_before, first_element, first_stands, on_above, on_earlier, on_elements, parent_first, same_above, stands_farther}

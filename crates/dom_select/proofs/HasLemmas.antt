@@ -4,10 +4,10 @@ use Rattle.std.proofs.Common.{◌≡◌, ◌⊎◌, ◌↔◌, ℕ, suc, List, [
 use Rattle.std.specs.Prelude.{◌==◌, if◌then◌else◌}
 use Rattle.std.proofs.lemmas.List.{drop_more}
 use Rattle.std.proofs.lemmas.Bool.{eqb-true, eq-eqb, or_left, or_right, or_cases}
-use Rattle.dom_select.specs.declared.selector.Selector.{Selector, out-Selector}
-use Rattle.dom_select.specs.declared.selector.Step.{Step}
-use Rattle.dom_select.specs.Items.{steps_of}
-use Rattle.dom_select.specs.Reading.{read_compound, read_list, read_step}
+use Rattle.dom_select.specs.declared.matcher.syntax.Selector.{Selector, out-Selector}
+use Rattle.dom_select.specs.declared.matcher.syntax.Step.{Step}
+use Rattle.dom_select.specs.ListsAsTrees.{steps_of}
+use Rattle.dom_select.specs.ValuesAsTrees.{read_compound, read_list, read_step}
 use Rattle.dom_select.proofs.Layers.{read_selector_is}
 use Rattle.dom_select.proofs.Weights.{selectors_weight}
 use Rattle.dom_links.specs.Forest.{Forest, siblings}
@@ -15,14 +15,15 @@ use Rattle.dom_links.specs.Laws.{AreLines}
 use Rattle.dom_links.specs.Lists.{stands_in, after}
 use Rattle.dom_links.specs.Trees.{ancestors, walk_below}
 use Rattle.dom_links.specs.Walk.{later, row_on}
-use Rattle.dom_select.specs.declared.selector.Combinator.{Combinator}
-use Rattle.dom_select.specs.declared.selector.Combinator.TheVariants.{Descendant, Child, NextSibling, LaterSibling}
-use Rattle.dom_select.specs.declared.matching.Start.{Start}
-use Rattle.dom_select.specs.declared.matching.Start.TheVariants.{Anywhere, From}
-use Rattle.dom_select.specs.Lines.{earlier, element_at, ends_at, left_of, line}
+use Rattle.dom_select.specs.declared.matcher.syntax.Combinator.{Combinator}
+use Rattle.dom_select.specs.declared.matcher.syntax.Combinator.TheVariants.{Descendant, Child, NextSibling, LaterSibling}
+use Rattle.dom_select.specs.declared.matcher.has.Start.{Start}
+use Rattle.dom_select.specs.declared.matcher.has.Start.TheVariants.{Anywhere, From}
+use Rattle.dom_select.specs.Leftward.{earlier, element_at, ends_at, left_of, line}
 use Rattle.dom_select.specs.Meaning.{IsJoined, Leads, LeadsOn, LeadsToSome, MayBeside, Reaches, Stands}
 use Rattle.dom_select.specs.Syntax.{CompoundSelector, Steps, no_steps, step, alternative}
-use Rattle.dom_select.specs.Ways.{Begins, IsReached, Precedes, ReachesWithin, is_sideways, may_end, tops, tops_on}
+use Rattle.dom_select.specs.Chains.{Precedes}
+use Rattle.dom_select.specs.Has.{Begins, IsReached, ReachesWithin, is_sideways, may_end, tops, tops_on}
 use Rattle.dom_select.proofs.FollowLemmas.{apart, precedes_then, stands_precedes, stands_on_line}
 use Rattle.dom_select.proofs.ReachLemmas.{SomeOnLine, left_ends, left_farther, left_here, left_nowhere, line_some, to_line}
 use Rattle.dom_select.proofs.RowLemmas.{first_stands, on_above, on_earlier, same_above, stands_farther}

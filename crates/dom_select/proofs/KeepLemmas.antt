@@ -2,9 +2,9 @@
 use Rattle.std.proofs.Common.{ℕ, zero, suc, ◌+◌, ◌≤◌, List, [], ◌∷◌, length, drop, Bool, true, false, ◌&&◌, cond, nat_eq, ap, arith}
 use Rattle.std.specs.Char.{is_ascii_whitespace}
 use Rattle.std.specs.List.{prefix_len}
-use Rattle.dom_select.specs.declared.selector.Pseudo.{Pseudo}
+use Rattle.dom_select.specs.declared.matcher.syntax.Pseudo.{Pseudo}
 use Rattle.dom_select.specs.Spelling.{Many}
-use Rattle.dom_select.specs.Letters.{after_white, begins, how_many, is_line_end, is_name_char}
+use Rattle.dom_select.specs.Characters.{after_white, begins, how_many, is_line_end, is_name_char}
 use Rattle.dom_select.specs.Names.{SpellsEscape, SpellsNameChar, SpellsName, after_space, hex_len, is_hex, starts_name}
 use Rattle.dom_select.specs.Strings.{SpellsStringEscape, SpellsPiece, SpellsString, after_line_end, is_quote}
 use Rattle.dom_select.specs.Attributes.{SpellsOperator, SpellsValue, SpellsCase, SpellsComparison, SpellsAsked, SpellsAttribute}

@@ -1,15 +1,15 @@
 -- What a value of the program reads as, by its parts.
 use Rattle.std.proofs.Common.{◌≡◌, map, sym, ap, ◌∙◌, Vec, Global}
-use Rattle.dom_select.specs.declared.selector.Compound.{Compound, fold_out-Compound}
-use Rattle.dom_select.specs.declared.selector.Nested.{Is, Not, Has}
-use Rattle.dom_select.specs.declared.selector.Nested.TheOpen.{Nested-F}
-use Rattle.dom_select.specs.declared.selector.Nested.TheVariants.{rolls-Is, rolls-Not, rolls-Has}
-use Rattle.dom_select.specs.declared.selector.Nested.TheFolds.{fold-roll-Nested}
-use Rattle.dom_select.specs.declared.selector.Selector.{Selector, out-Selector, fold_out-Selector}
-use Rattle.dom_select.specs.declared.selector.Step.{Step, fold_out-Step}
+use Rattle.dom_select.specs.declared.matcher.syntax.Compound.{Compound, fold_out-Compound}
+use Rattle.dom_select.specs.declared.matcher.syntax.Nested.{Is, Not, Has}
+use Rattle.dom_select.specs.declared.matcher.syntax.Nested.TheOpen.{Nested-F}
+use Rattle.dom_select.specs.declared.matcher.syntax.Nested.TheVariants.{rolls-Is, rolls-Not, rolls-Has}
+use Rattle.dom_select.specs.declared.matcher.syntax.Nested.TheFolds.{fold-roll-Nested}
+use Rattle.dom_select.specs.declared.matcher.syntax.Selector.{Selector, out-Selector, fold_out-Selector}
+use Rattle.dom_select.specs.declared.matcher.syntax.Step.{Step, fold_out-Step}
 use Rattle.dom_select.specs.Syntax.{compound, is_some, is_none, leads_on}
-use Rattle.dom_select.specs.Items.{lists_of, steps_of, selector_list}
-use Rattle.dom_select.specs.Reading.{read_nested, read_compound, read_selector, read_step, nested_layer, compound_layer, selector_layer, step_layer}
+use Rattle.dom_select.specs.ListsAsTrees.{lists_of, steps_of, selector_list}
+use Rattle.dom_select.specs.ValuesAsTrees.{read_nested, read_compound, read_selector, read_step, nested_layer, compound_layer, selector_layer, step_layer}
 
 pub read_compound_is : (c : Compound) → read_compound c ≡ compound c.parts.items (lists_of (map read_nested c.nested.items))
 read_compound_is = fold_out-Compound _ _ _ _ nested_layer compound_layer selector_layer step_layer

@@ -4,7 +4,7 @@ use Rattle.std.specs.Char.{is_ascii_whitespace}
 use Rattle.std.specs.List.{prefix_len}
 use Rattle.std.proofs.lemmas.Bool.{or_cases}
 use Rattle.std.proofs.lemmas.Bool.Decides.{when_true}
-use Rattle.dom_select.specs.Letters.{after_white, begins}
+use Rattle.dom_select.specs.Characters.{after_white, begins}
 use Rattle.dom_select.specs.Grammar.{SpellsItem, is_combinator, SpellsCombinator, SpellsStep, begins_compound, SpellsLater, SpellsInner}
 use Rattle.dom_select.proofs.Runs.{Shortens}
 use Rattle.dom_select.proofs.KeepLemmas.{length_grows, inner_keeps, item_rest, combinator_keeps, compound_keeps, selector_keeps, white_keeps}

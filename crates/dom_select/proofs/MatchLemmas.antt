@@ -5,7 +5,7 @@ use Rattle.dom_links.specs.Forest.{Forest}
 use Rattle.dom_trees.specs.declared.node_ref.NodeRef.{NodeRef}
 use Rattle.dom_select.specs.Syntax.{SelectorList}
 use Rattle.dom_select.specs.Selected.{Picks}
-use Rattle.dom_select.specs.Matches.{Matches, IsMatch, ToCome, GivesMatch}
+use Rattle.dom_select.specs.Descendants.{Matches, IsMatch, ToCome, GivesMatch}
 
 abbrev pub walk_of : List ℕ → Bor Forest → SelectorList → Matches
 walk_of left tree selector = record { left = left; tree = tree; selector = selector }

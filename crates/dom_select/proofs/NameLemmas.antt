@@ -6,7 +6,7 @@ use Rattle.std.proofs.Math.Nat.{pow-le-pow_right}
 use Rattle.std.proofs.lemmas.Str.{encodes-append}
 use Rattle.std.proofs.lemmas.List.{append-nil}
 use Rattle.dom_select.specs.Spelling.{Many, SpellsNone}
-use Rattle.dom_select.specs.Letters.{is_name_char}
+use Rattle.dom_select.specs.Characters.{is_name_char}
 use Rattle.dom_select.specs.Names.{is_hex, hex_len, after_space, SpellsEscape, SpellsNameChar, SpellsName, goes_on}
 use Rattle.dom_select.proofs.Runs.{IsOnce, GoesOn, Shortens, run_once, run_none}
 

@@ -9,7 +9,7 @@ use Rattle.std.proofs.lemmas.Bool.Decides.{nat_tests}
 use Rattle.std.proofs.lemmas.Int.Digits.{digits_value_push}
 use Rattle.std.proofs.lemmas.Str.{digit_value-digit_char}
 use Rattle.dom_select.specs.Css.{css_char, css_string, hex_of, is_control, shown}
-use Rattle.dom_select.specs.Letters.{is_line_end}
+use Rattle.dom_select.specs.Characters.{is_line_end}
 use Rattle.dom_select.specs.Names.{SpellsEscape, after_space, char_of, hex_len, is_hex}
 use Rattle.dom_select.specs.Spelling.{Many}
 use Rattle.dom_select.specs.Strings.{SpellsPiece, SpellsString, SpellsStringEscape, present}

@@ -7,10 +7,10 @@ use Rattle.dom_links.specs.Laws.{AreLines}
 use Rattle.dom_links.specs.Lists.{stands_in, before}
 use Rattle.dom_links.specs.Trees.{ancestors}
 use Rattle.dom_links.specs.Walk.{row_on}
-use Rattle.dom_select.specs.declared.selector.Combinator.{Combinator}
-use Rattle.dom_select.specs.declared.selector.Combinator.TheVariants.{Descendant, Child, NextSibling, LaterSibling}
-use Rattle.dom_select.specs.Items.{steps_of}
-use Rattle.dom_select.specs.Lines.{earlier, element_at, left_of, line, ends_at}
+use Rattle.dom_select.specs.declared.matcher.syntax.Combinator.{Combinator}
+use Rattle.dom_select.specs.declared.matcher.syntax.Combinator.TheVariants.{Descendant, Child, NextSibling, LaterSibling}
+use Rattle.dom_select.specs.ListsAsTrees.{steps_of}
+use Rattle.dom_select.specs.Leftward.{earlier, element_at, left_of, line, ends_at}
 use Rattle.dom_select.specs.Syntax.{CompoundSelector, Steps}
 use Rattle.dom_select.specs.Meaning.{ComesFirst, Stands, MayBeside, IsJoined, Holds, Leads, Reaches}
 

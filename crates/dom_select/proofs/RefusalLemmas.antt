@@ -1,19 +1,19 @@
 -- Where a part of a selector is refused the whole is.
 use Rattle.std.proofs.Common.{◌≡◌, ℕ, zero, suc, ◌-◌, List, [], ◌∷◌, ◌++◌, true, false, nat_eq, drop, append_assoc, refl, sym, ap, ◌∙◌, subst, true≢false, Some, None, arith}
 use Rattle.std.proofs.lemmas.Bool.Decides.{when_true, when_false}
-use Rattle.dom_select.specs.declared.selector.Part.{Part}
-use Rattle.dom_select.specs.declared.selector.Pseudo.{Pseudo}
-use Rattle.dom_select.specs.declared.selector.Pseudo.TheVariants.{SomeOf, NoneOf}
-use Rattle.dom_select.specs.declared.selector.Combinator.{Combinator}
+use Rattle.dom_select.specs.declared.matcher.syntax.Part.{Part}
+use Rattle.dom_select.specs.declared.matcher.syntax.Pseudo.{Pseudo}
+use Rattle.dom_select.specs.declared.matcher.syntax.Pseudo.TheVariants.{SomeOf, NoneOf}
+use Rattle.dom_select.specs.declared.matcher.syntax.Combinator.{Combinator}
 use Rattle.dom_select.specs.Spelling.{Many, Run, SpellsNone}
-use Rattle.dom_select.specs.Letters.{after_white, begins}
+use Rattle.dom_select.specs.Characters.{after_white, begins}
 use Rattle.dom_select.specs.Names.{SpellsName, starts_name}
 use Rattle.dom_select.specs.Syntax.{CompoundSelector, SelectorList, Steps, NestedList, NestedLists, nested}
-use Rattle.dom_select.specs.Items.{Item, simple, listed, parts_among, lists_among, lists_of}
+use Rattle.dom_select.specs.ListsAsTrees.{Item, simple, listed, parts_among, lists_among, lists_of}
 use Rattle.dom_select.specs.Pseudos.{pseudo_of}
 use Rattle.dom_select.specs.Attributes.{SpellsAttribute}
 use Rattle.dom_select.specs.Grammar.{StandsFor, SpellsListed, SpellsForm, SpellsPseudo, SpellsItem, begins_item, is_star, SpellsType, begins_compound, SpellsCompound, SpellsCombinator, SpellsStep, begins_step, SpellsSelector, begins_comma, SpellsLater, SpellsList, SpellsInner}
-use Rattle.dom_select.specs.Reading.{PushesItem, lists_then}
+use Rattle.dom_select.specs.ValuesAsTrees.{PushesItem, lists_then}
 use Rattle.dom_select.proofs.Runs.{IsOnce, run_none}
 use Rattle.dom_select.proofs.NameLemmas.{name_once}
 use Rattle.dom_select.proofs.SelectorLemmas.{list_once, inner_once, type_once, combinator_once, item_once, item_goes_on, compound_once, step_once, step_goes_on, selector_once, later_once, later_goes_on}

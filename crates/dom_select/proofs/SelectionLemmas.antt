@@ -10,8 +10,8 @@ use Rattle.dom_links.specs.Trees.{walk_below}
 use Rattle.dom_select.specs.Syntax.{SelectorList}
 use Rattle.dom_select.specs.Meaning.{Means}
 use Rattle.dom_select.specs.Selected.{Selected, Picks, first_occurrences, walks_below}
-use Rattle.dom_select.specs.Lines.{element_at}
-use Rattle.dom_select.specs.Selection.{IsSelection}
+use Rattle.dom_select.specs.Leftward.{element_at}
+use Rattle.dom_select.specs.Selected.{IsSelection}
 
 module _ (P : ℕ → Type 0) where
   pub picks_once : (ns a b : List ℕ) → Picks P ns a → Picks P ns b → a ≡ b

@@ -1,15 +1,15 @@
 -- Selectors have one reading, if the lists between their parentheses have.
 use Rattle.std.proofs.Common.{◌≡◌, ℕ, zero, suc, List, [], ◌∷◌, ◌++◌, nat_eq, drop, sym, ap, ◌∙◌, subst, arith}
 use Rattle.std.proofs.lemmas.Bool.Decides.{nat_tests}
-use Rattle.dom_select.specs.declared.selector.Combinator.{Combinator}
-use Rattle.dom_select.specs.declared.selector.Part.{Part}
-use Rattle.dom_select.specs.declared.selector.Part.TheVariants.{Id, Class, Attribute, Root, Link, Never}
-use Rattle.dom_select.specs.declared.selector.Pseudo.{Pseudo}
+use Rattle.dom_select.specs.declared.matcher.syntax.Combinator.{Combinator}
+use Rattle.dom_select.specs.declared.matcher.syntax.Part.{Part}
+use Rattle.dom_select.specs.declared.matcher.syntax.Part.TheVariants.{Id, Class, Attribute, Root, Link, Never}
+use Rattle.dom_select.specs.declared.matcher.syntax.Pseudo.{Pseudo}
 use Rattle.dom_select.specs.Spelling.{Run}
-use Rattle.dom_select.specs.Letters.{after_white, begins}
+use Rattle.dom_select.specs.Characters.{after_white, begins}
 use Rattle.dom_select.specs.Names.{SpellsName, starts_name}
 use Rattle.dom_select.specs.Syntax.{CompoundSelector, compound, SelectorList, is_some, is_none, Steps}
-use Rattle.dom_select.specs.Items.{simple, listed, parts_among, lists_among, steps_of, selector_list}
+use Rattle.dom_select.specs.ListsAsTrees.{simple, listed, parts_among, lists_among, steps_of, selector_list}
 use Rattle.dom_select.specs.Grammar.{StandsFor, SpellsPlain, SpellsListed, SpellsForm, SpellsPseudo, SpellsItem, begins_item, is_star, SpellsType, SpellsCompound, is_combinator, SpellsCombinator, SpellsStep, begins_step, SpellsSelector, begins_comma, SpellsLater, SpellsList, SpellsInner}
 use Rattle.dom_select.proofs.Runs.{IsOnce, GoesOn, run_once}
 use Rattle.dom_select.proofs.NameLemmas.{both, told, name_once}

@@ -1,10 +1,10 @@
 -- The steps of a selector, cut before the last.
 use Rattle.std.proofs.Common.{◌≡◌, ℕ, ◌+◌, List, [], ◌∷◌, ◌++◌, map, ap, ◌∙◌, arith, ◌↔◌}
-use Rattle.dom_select.specs.declared.selector.Combinator.{Combinator}
-use Rattle.dom_select.specs.declared.selector.Step.{Step}
+use Rattle.dom_select.specs.declared.matcher.syntax.Combinator.{Combinator}
+use Rattle.dom_select.specs.declared.matcher.syntax.Step.{Step}
 use Rattle.dom_select.specs.Syntax.{CompoundSelector}
-use Rattle.dom_select.specs.Items.{steps_of}
-use Rattle.dom_select.specs.Reading.{read_step, read_compound}
+use Rattle.dom_select.specs.ListsAsTrees.{steps_of}
+use Rattle.dom_select.specs.ValuesAsTrees.{read_step, read_compound}
 use Rattle.dom_select.proofs.Layers.{read_step_is}
 use Rattle.dom_links.specs.Forest.{Forest}
 use Rattle.dom_select.specs.Meaning.{Reaches}

@@ -3,7 +3,7 @@ use Rattle.std.proofs.Common.{◌≡◌, ℕ, ◌≤◌, List, [], ◌∷◌, �
 use Rattle.std.proofs.lemmas.Str.{encodes-append}
 use Rattle.std.proofs.lemmas.Bool.Decides.{nat_tests}
 use Rattle.dom_select.specs.Spelling.{Many, Run, SpellsNone}
-use Rattle.dom_select.specs.Letters.{is_line_end, begins}
+use Rattle.dom_select.specs.Characters.{is_line_end, begins}
 use Rattle.dom_select.specs.Strings.{SpellsStringEscape, SpellsPiece, SpellsString, after_line_end, goes_on_in, present}
 use Rattle.dom_select.proofs.Runs.{IsOnce, GoesOn, Shortens, run_once, run_none}
 use Rattle.dom_select.proofs.NameLemmas.{both, told, escape_once, escape_shortens}

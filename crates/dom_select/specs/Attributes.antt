@@ -1,12 +1,12 @@
 -- What stands between the brackets of an attribute part.
 use Rattle.std.specs.Prelude.{◌≡◌, ℕ, List, [], ◌∷◌, ◌||◌, nat_eq, cond, Option, Some, None, MatchBool}
-use Rattle.dom_select.specs.declared.selector.Operator.{Operator}
-use Rattle.dom_select.specs.declared.selector.Operator.TheVariants.{Equal, Includes, DashMatch, Prefix, Suffix, Substring}
-use Rattle.dom_select.specs.declared.selector.CaseSensitivity.{CaseSensitivity}
-use Rattle.dom_select.specs.declared.selector.CaseSensitivity.TheVariants.{CaseSensitive, AsciiCaseInsensitive}
-use Rattle.dom_select.specs.declared.selector.Comparison.{Comparison}
-use Rattle.dom_select.specs.declared.selector.Attribute.{Attribute}
-use Rattle.dom_select.specs.Letters.{after_white, begins}
+use Rattle.dom_select.specs.declared.matcher.syntax.Operator.{Operator}
+use Rattle.dom_select.specs.declared.matcher.syntax.Operator.TheVariants.{Equal, Includes, DashMatch, Prefix, Suffix, Substring}
+use Rattle.dom_select.specs.declared.matcher.syntax.CaseSensitivity.{CaseSensitivity}
+use Rattle.dom_select.specs.declared.matcher.syntax.CaseSensitivity.TheVariants.{CaseSensitive, AsciiCaseInsensitive}
+use Rattle.dom_select.specs.declared.matcher.syntax.Comparison.{Comparison}
+use Rattle.dom_select.specs.declared.matcher.syntax.Attribute.{Attribute}
+use Rattle.dom_select.specs.Characters.{after_white, begins}
 use Rattle.dom_select.specs.Names.{SpellsName}
 use Rattle.dom_select.specs.Strings.{SpellsString, is_quote}
 

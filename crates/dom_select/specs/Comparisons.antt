@@ -3,12 +3,12 @@ use Rattle.std.specs.Prelude.{ℕ, ◌-◌, List, [], ◌∷◌, Bool, true, fal
 use Rattle.std.specs.Char.{to_ascii_lowercase}
 use Rattle.std.specs.List.{list_any}
 use Rattle.dom_nodes.specs.Words.{words_of}
-use Rattle.dom_select.specs.Letters.{begins}
-use Rattle.dom_select.specs.declared.selector.Comparison.{Comparison}
-use Rattle.dom_select.specs.declared.selector.Operator.{Operator}
-use Rattle.dom_select.specs.declared.selector.Operator.TheVariants.{Equal, Includes, DashMatch, Prefix, Suffix, Substring}
-use Rattle.dom_select.specs.declared.selector.CaseSensitivity.{CaseSensitivity}
-use Rattle.dom_select.specs.declared.selector.CaseSensitivity.TheVariants.{CaseSensitive, AsciiCaseInsensitive}
+use Rattle.dom_select.specs.Characters.{begins}
+use Rattle.dom_select.specs.declared.matcher.syntax.Comparison.{Comparison}
+use Rattle.dom_select.specs.declared.matcher.syntax.Operator.{Operator}
+use Rattle.dom_select.specs.declared.matcher.syntax.Operator.TheVariants.{Equal, Includes, DashMatch, Prefix, Suffix, Substring}
+use Rattle.dom_select.specs.declared.matcher.syntax.CaseSensitivity.{CaseSensitivity}
+use Rattle.dom_select.specs.declared.matcher.syntax.CaseSensitivity.TheVariants.{CaseSensitive, AsciiCaseInsensitive}
 
 -- the bytes are equal, those of ASCII letters without their case where it doesn't count
 abbrev pub same_byte : CaseSensitivity → ℕ → ℕ → Bool

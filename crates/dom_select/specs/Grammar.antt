@@ -5,19 +5,19 @@ use Rattle.std.specs.Prelude.{◌≡◌, ◌≤◌, ℕ, zero, suc, List, [], �
 use Rattle.std.specs.Char.{is_ascii_whitespace}
 use Rattle.std.specs.List.{list_all}
 use Rattle.dom_select.specs.declared.fault.SelectorFault.{SelectorFault}
-use Rattle.dom_select.specs.declared.selector.Attribute as attributes
-use Rattle.dom_select.specs.declared.selector.Combinator.{Combinator}
-use Rattle.dom_select.specs.declared.selector.Combinator.TheVariants.{Descendant, Child, NextSibling, LaterSibling}
-use Rattle.dom_select.specs.declared.selector.Part.{Part}
-use Rattle.dom_select.specs.declared.selector.Part.TheVariants.{Universal, Id, Class, Attribute, Root, Link, Never}
-use Rattle.dom_select.specs.declared.selector.Pseudo.{Pseudo}
+use Rattle.dom_select.specs.declared.matcher.syntax.Attribute as attributes
+use Rattle.dom_select.specs.declared.matcher.syntax.Combinator.{Combinator}
+use Rattle.dom_select.specs.declared.matcher.syntax.Combinator.TheVariants.{Descendant, Child, NextSibling, LaterSibling}
+use Rattle.dom_select.specs.declared.matcher.syntax.Part.{Part}
+use Rattle.dom_select.specs.declared.matcher.syntax.Part.TheVariants.{Universal, Id, Class, Attribute, Root, Link, Never}
+use Rattle.dom_select.specs.declared.matcher.syntax.Pseudo.{Pseudo}
 use Rattle.dom_select.specs.Pseudos.{pseudo_of}
 use Rattle.dom_select.specs.Spelling.{Run, Refuses}
-use Rattle.dom_select.specs.Letters.{after_white, begins, how_many}
+use Rattle.dom_select.specs.Characters.{after_white, begins, how_many}
 use Rattle.dom_select.specs.Names.{SpellsName, starts_name}
 use Rattle.dom_select.specs.Attributes.{SpellsAttribute}
 use Rattle.dom_select.specs.Syntax.{CompoundSelector, compound, is_some, is_none, SelectorList, Steps}
-use Rattle.dom_select.specs.Items.{Item, simple, listed, parts_among, lists_among, steps_of, selector_list}
+use Rattle.dom_select.specs.ListsAsTrees.{Item, simple, listed, parts_among, lists_among, steps_of, selector_list}
 
 abbrev pub is_star : ℕ → Bool
 is_star c = nat_eq c 42

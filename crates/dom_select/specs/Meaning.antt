@@ -3,10 +3,10 @@ use Rattle.std.specs.Prelude.{◌≡◌, ◌<◌, length, ℕ, List, [], ◌∷�
 use Rattle.dom_links.specs.Forest.{Forest, parent}
 use Rattle.dom_links.specs.Lists.{stands_in}
 use Rattle.dom_links.specs.Trees.{ancestors}
-use Rattle.dom_select.specs.declared.selector.Combinator.{Combinator}
-use Rattle.dom_select.specs.declared.selector.Combinator.TheVariants.{Descendant, Child, NextSibling, LaterSibling}
-use Rattle.dom_select.specs.declared.selector.Part.{Part}
-use Rattle.dom_select.specs.Lines.{element_at, earlier}
+use Rattle.dom_select.specs.declared.matcher.syntax.Combinator.{Combinator}
+use Rattle.dom_select.specs.declared.matcher.syntax.Combinator.TheVariants.{Descendant, Child, NextSibling, LaterSibling}
+use Rattle.dom_select.specs.declared.matcher.syntax.Part.{Part}
+use Rattle.dom_select.specs.Leftward.{element_at, earlier}
 use Rattle.dom_select.specs.Parts.{EachHolds}
 use Rattle.dom_select.specs.Syntax.{CompoundSelector, compound, NestedLists, no_lists, nested, NestedList, is_some, is_none, leads_on, SelectorList, no_selectors, alternative, Steps, no_steps, step}
 

@@ -5,7 +5,7 @@ use Rattle.std.specs.List.{prefix_len}
 use Rattle.std.specs.Str.Parse.{digits_value}
 use Rattle.std.proofs.Math.Utf8.{scalar}
 use Rattle.dom_select.specs.Spelling.{Run}
-use Rattle.dom_select.specs.Letters.{is_line_end, is_name_start, is_name_char, begins}
+use Rattle.dom_select.specs.Characters.{is_line_end, is_name_start, is_name_char, begins}
 
 abbrev pub is_hex : ℕ → Bool
 is_hex c = is_digit c 16

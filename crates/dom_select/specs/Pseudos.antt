@@ -1,8 +1,8 @@
 -- The pseudo-classes by their names.
 use Rattle.std.specs.Prelude.{ℕ, List, cond, ◌||◌, Bool, Option, Some, None, codes}
 use Rattle.std.specs.Str.{str_eq_ignore_ascii_case}
-use Rattle.dom_select.specs.declared.selector.Pseudo.{Pseudo}
-use Rattle.dom_select.specs.declared.selector.Pseudo.TheVariants.{Root, Link, Never, SomeOf, NoneOf}
+use Rattle.dom_select.specs.declared.matcher.syntax.Pseudo.{Pseudo}
+use Rattle.dom_select.specs.declared.matcher.syntax.Pseudo.TheVariants.{Root, Link, Never, SomeOf, NoneOf}
 
 -- a name in any case
 abbrev pub is_word : List ℕ → List ℕ → Bool

@@ -2,10 +2,10 @@
 use Rattle.std.specs.Prelude.{◌≡◌, ℕ, ◌⊎◌, true, List, [], ◌∷◌, if◌then◌else◌}
 use Rattle.std.specs.List.{flat_map}
 use Rattle.dom_links.specs.Forest.{Forest}
-use Rattle.dom_links.specs.Lists.{stands_in}
+use Rattle.dom_links.specs.Lists.{stands_in, IsDistinct}
 use Rattle.dom_links.specs.Trees.{walk_below}
 use Rattle.dom_select.specs.Syntax.{SelectorList}
-use Rattle.dom_select.specs.Lines.{element_at}
+use Rattle.dom_select.specs.Leftward.{element_at}
 use Rattle.dom_select.specs.Meaning.{Means}
 
 -- the first occurrence of each number, but for those that were there before
@@ -25,3 +25,11 @@ walks_below forest roots = first_occurrences [] (flat_map (walk_below forest) ro
 -- the selector selects these below the roots: the elements in the walks that it means, each once, in their order
 unfoldable pub Selected : Forest → List ℕ → SelectorList → List ℕ → Type 0
 Selected forest roots selector picked = Picks (λ n. (element_at forest n ≡ true) × Means selector forest n) (walks_below forest roots) picked
+
+-- the nodes picked below the roots are the elements there that the selector means, each once
+pub record IsSelection (forest : Forest) (roots : List ℕ) (selector : SelectorList) (picked : List ℕ) : Type 0 where
+  pub below : (n : ℕ) → stands_in n picked ≡ true → stands_in n (flat_map (walk_below forest) roots) ≡ true
+  pub elements : (n : ℕ) → stands_in n picked ≡ true → element_at forest n ≡ true
+  pub meant : (n : ℕ) → stands_in n picked ≡ true → Means selector forest n
+  pub all : (n : ℕ) → stands_in n (flat_map (walk_below forest) roots) ≡ true → element_at forest n ≡ true → Means selector forest n → stands_in n picked ≡ true
+  pub once : IsDistinct picked

@@ -1,7 +1,7 @@
 -- Strings in quotes.
 use Rattle.std.specs.Prelude.{◌≡◌, ℕ, List, [], ◌∷◌, Bool, true, false, ◌&&◌, ◌||◌, nat_eq, cond, Option, Some, None, encode_utf8_all, MatchBool}
 use Rattle.dom_select.specs.Spelling.{Run}
-use Rattle.dom_select.specs.Letters.{is_line_end, begins}
+use Rattle.dom_select.specs.Characters.{is_line_end, begins}
 use Rattle.dom_select.specs.Names.{SpellsEscape}
 
 abbrev pub is_quote : ℕ → Bool

@@ -1,7 +1,7 @@
 -- Selectors as trees.
 use Rattle.std.specs.Prelude.{List}
-use Rattle.dom_select.specs.declared.selector.Combinator.{Combinator}
-use Rattle.dom_select.specs.declared.selector.Part.{Part}
+use Rattle.dom_select.specs.declared.matcher.syntax.Combinator.{Combinator}
+use Rattle.dom_select.specs.declared.matcher.syntax.Part.{Part}
 
 mutual
   -- what is asked of one node

@@ -8,8 +8,8 @@ use Rattle.dom_links.specs.Forest.{Forest, children_of}
 use Rattle.dom_links.specs.Trees.{walk_below}
 use Rattle.dom_trees.specs.Views.{is_filled_text}
 use Rattle.dom_select.specs.Comparisons.{has_within}
-use Rattle.dom_select.specs.declared.selector.CaseSensitivity.TheVariants.{CaseSensitive}
-use Rattle.dom_select.specs.Lines.{element_at}
+use Rattle.dom_select.specs.declared.matcher.syntax.CaseSensitivity.TheVariants.{CaseSensitive}
+use Rattle.dom_select.specs.Leftward.{element_at}
 
 -- a text that isn't blank
 abbrev pub filled_at : Forest → ℕ → Bool

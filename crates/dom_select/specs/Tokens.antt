@@ -1,8 +1,8 @@
 -- A selector list as a list of tokens, from which it can be read back: the code that tells the values of a matcher apart.
 use Rattle.std.specs.Prelude.{◌≡◌, List, [], ◌∷◌, refl}
 use Rattle.std.proofs.Common.{ap, ◌∙◌}
-use Rattle.dom_select.specs.declared.selector.Combinator.{Combinator}
-use Rattle.dom_select.specs.declared.selector.Part.{Part}
+use Rattle.dom_select.specs.declared.matcher.syntax.Combinator.{Combinator}
+use Rattle.dom_select.specs.declared.matcher.syntax.Part.{Part}
 use Rattle.dom_select.specs.Syntax.{CompoundSelector, compound, NestedLists, no_lists, nested, NestedList, is_some, is_none, leads_on, SelectorList, no_selectors, alternative, Steps, no_steps, step}
 
 pub data Token : Type 0 where

@@ -7,7 +7,7 @@ ghost use Rattle.dom_select.specs.Syntax.{SelectorList};
 ghost use Rattle.dom_select.specs.Css.{css_string, shown};
 ghost use Rattle.dom_select.specs.Grammar.{StandsFor};
 ghost use Rattle.dom_select.specs.Selected.{Selected};
-ghost use Rattle.dom_select.specs.Selection.{IsSelection};
+ghost use Rattle.dom_select.specs.Selected.{IsSelection};
 
 /// A text stands for one list of parts at most.
 pub fn one_reading()

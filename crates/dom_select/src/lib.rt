@@ -1,20 +1,10 @@
 //! Selectors: what their text stands for, and which nodes they mean.
 #![tactic(auto)]
 
-mod attributes;
-mod comparisons;
 pub mod css;
 pub mod fault;
 pub mod laws;
 pub mod matcher;
-mod matching;
-mod names;
 pub mod node_select;
-mod parser;
-mod parts;
-pub mod selection;
-pub mod selector;
-mod strings;
 #[cfg(test)]
 mod tests;
-mod texts;

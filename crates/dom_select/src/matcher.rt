@@ -1,12 +1,26 @@
 //! A list of selectors that nodes are asked for.
 
 use crate::fault::SelectorFault;
-use crate::matching::means;
-use crate::parser::{letters, parse};
-use crate::selector::Selector;
+use crate::matcher::matches::means;
+use crate::matcher::parser::{letters, parse};
+use crate::matcher::syntax::Selector;
 use dom_trees::node_ref::NodeRef;
 use std::alloc::Global;
 use std::marker::Model;
+
+pub(crate) mod attributes;
+pub(crate) mod chains;
+pub(crate) mod comparisons;
+pub mod descendants;
+pub(crate) mod has;
+pub(crate) mod matches;
+pub(crate) mod names;
+pub(crate) mod parser;
+pub(crate) mod parts;
+pub(crate) mod positions;
+pub(crate) mod strings;
+pub mod syntax;
+pub(crate) mod texts;
 
 /// What a selector's text stands for. A contract sees it as the list of its selectors.
 #[derive(Drop)]
@@ -24,7 +38,7 @@ impl Model for Matcher {
 
     ghost coded = { code_by (List Token) (Prim.hlevel codes) tokens_of list_of read_back };
 
-    ghost use Rattle.dom_select.specs.Reading.{read_list};
+    ghost use Rattle.dom_select.specs.ValuesAsTrees.{read_list};
 
     ghost view = { λ matcher. read_list matcher.selectors.items };
 }

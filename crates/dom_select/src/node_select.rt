@@ -3,12 +3,12 @@
 ghost use Rattle.std.specs.Prelude.{◌≡◌, false, chars, IfOk, MatchBool};
 ghost use Rattle.dom_select.specs.declared.fault.SelectorFault.TheVariants.{Memory};
 ghost use Rattle.dom_select.specs.Grammar.{StandsFor};
-ghost use Rattle.dom_select.specs.Matches.{IsMatch};
+ghost use Rattle.dom_select.specs.Descendants.{IsMatch};
 ghost use Rattle.dom_select.specs.Syntax.{SelectorList};
 
 use crate::fault::SelectorFault;
 use crate::matcher::Matcher;
-use crate::selection::is_selected;
+use crate::matcher::descendants::is_selected;
 use dom_nodes::fault::OutOfMemory;
 use dom_trees::node_ref::NodeRef;
 

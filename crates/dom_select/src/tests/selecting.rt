@@ -1,8 +1,8 @@
 //! What selectors select in small trees.
 
 use crate::matcher::Matcher;
+use crate::matcher::descendants::{DescendantMatches, select_below};
 use crate::node_select::NodeSelect;
-use crate::selection::{DescendantMatches, select_below};
 use dom_nodes::name::{Attr, LocalName, Namespace, QualName};
 use dom_nodes::node_data::{Attrs, Element, NodeData};
 use dom_nodes::node_id::NodeId;

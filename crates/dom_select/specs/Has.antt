@@ -1,0 +1,48 @@
+-- Where the relative selectors of `:has` begin, and what they can lead to.
+use Rattle.std.specs.Prelude.{if◌then◌else◌, Bool, true, false, Option, Some, None, ◌≡◌, ◌⊎◌, ℕ, List, [], ◌∷◌}
+use Rattle.dom_links.specs.Forest.{Forest}
+use Rattle.dom_links.specs.Lists.{stands_in}
+use Rattle.dom_links.specs.Trees.{walk_below}
+use Rattle.dom_links.specs.Walk.{later}
+use Rattle.dom_select.specs.declared.matcher.has.Start.{Start}
+use Rattle.dom_select.specs.declared.matcher.has.Start.TheVariants.{Anywhere, From}
+use Rattle.dom_select.specs.declared.matcher.syntax.Combinator.{Combinator}
+use Rattle.dom_select.specs.declared.matcher.syntax.Combinator.TheVariants.{Descendant, Child, NextSibling, LaterSibling}
+use Rattle.dom_select.specs.Leftward.{element_at}
+use Rattle.dom_select.specs.Meaning.{Holds, IsJoined, Reaches}
+use Rattle.dom_select.specs.Syntax.{CompoundSelector, Steps}
+
+-- a first node holds its compound, and where a start is asked it stands to the right of that as the combinator says
+abbrev pub Begins : Start → CompoundSelector → Forest → ℕ → Type 0
+Begins Anywhere first forest w = Holds first forest w
+Begins (From k x) first forest w = IsJoined forest x k x w × Holds first forest w
+
+-- what is reached from a start is an element
+abbrev pub may_end : Start → Forest → ℕ → Bool
+may_end Anywhere forest n = true
+may_end (From k x) forest n = element_at forest n
+
+-- the compounds lead to n, from the start
+abbrev pub IsReached : Start → CompoundSelector → Steps → Forest → ℕ → Type 0
+IsReached Anywhere first steps forest n = Reaches (Holds first forest) steps forest n n
+IsReached (From k x) first steps forest n = (element_at forest n ≡ true) × Reaches (Begins (From k x) first forest) steps forest n n
+
+-- what it leads to stands in the same list
+abbrev pub is_sideways : Combinator → Bool
+is_sideways Descendant = false
+is_sideways Child = false
+is_sideways NextSibling = true
+is_sideways LaterSibling = true
+
+-- The nodes at and below which lies all that a selector with that lead can lead to: the node itself, or its later siblings
+abbrev pub tops : Forest → Combinator → ℕ → List ℕ
+tops forest k x = if is_sideways k then later forest false x else x ∷ []
+
+-- one of them and those that follow
+abbrev pub tops_on : Forest → Combinator → Option ℕ → List ℕ
+tops_on forest k None = []
+tops_on forest k (Some t) = t ∷ (if is_sideways k then later forest false t else [])
+
+-- the compounds lead to a node at or below t
+abbrev pub ReachesWithin : Start → CompoundSelector → Steps → Forest → ℕ → Type 0
+ReachesWithin start first steps forest t = (y : ℕ) × ((y ≡ t) ⊎ (stands_in y (walk_below forest t) ≡ true)) × IsReached start first steps forest y

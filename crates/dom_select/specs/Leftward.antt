@@ -1,0 +1,43 @@
+-- The way to the left, which a combinator's nodes lie on.
+use Rattle.std.specs.Prelude.{ℕ, Bool, true, false, Option, List, slice_get}
+use Rattle.std.specs.Option.{option_map_or}
+use Rattle.dom_nodes.specs.declared.node_data.NodeData.{NodeData}
+use Rattle.dom_nodes.specs.declared.node_data.NodeData.TheVariants.{Element}
+use Rattle.dom_links.specs.Forest.{Forest, parent, siblings}
+use Rattle.dom_links.specs.Lists.{before}
+use Rattle.dom_links.specs.Trees.{ancestors}
+use Rattle.dom_links.specs.Walk.{later}
+use Rattle.dom_select.specs.declared.matcher.syntax.Combinator.{Combinator}
+use Rattle.dom_select.specs.declared.matcher.syntax.Combinator.TheVariants.{Descendant, Child, NextSibling, LaterSibling}
+
+abbrev pub is_element : NodeData → Bool
+is_element (Element element) = true
+is_element _ = false
+
+abbrev pub element_at : Forest → ℕ → Bool
+element_at forest n = option_map_or is_element (slice_get forest.content n) false
+
+-- the siblings before a node, the nearest first
+abbrev pub earlier : Forest → ℕ → List ℕ
+earlier forest n = later forest true n
+
+-- the next node on the way to the left
+abbrev pub left_of : Forest → Combinator → ℕ → Option ℕ
+left_of forest Descendant n = parent forest n
+left_of forest Child n = parent forest n
+left_of forest NextSibling n = before (siblings forest n) n
+left_of forest LaterSibling n = before (siblings forest n) n
+
+-- the nodes on the way, the nearest first
+abbrev pub line : Forest → Combinator → ℕ → List ℕ
+line forest Descendant n = ancestors forest n
+line forest Child n = ancestors forest n
+line forest NextSibling n = earlier forest n
+line forest LaterSibling n = earlier forest n
+
+-- no node farther on the way stands to the right as the combinator says
+abbrev pub ends_at : Forest → Combinator → ℕ → Bool
+ends_at forest Descendant n = false
+ends_at forest Child n = true
+ends_at forest NextSibling n = element_at forest n
+ends_at forest LaterSibling n = false

@@ -1,0 +1,96 @@
+//! Which nodes a selector selects.
+
+ghost use Rattle.std.specs.Prelude.{◌≡◌, ◌∷◌, [], ℕ, List, length, IfOk, MatchBool};
+ghost use Rattle.std.specs.Iterator.{at_most};
+ghost use Rattle.dom_links.specs.Trees.{walk_below};
+ghost use Rattle.dom_select.specs.Descendants.{GivesMatch, IsMatch, ToCome};
+ghost use Rattle.dom_select.specs.Selected.{Selected};
+
+use crate::matcher::Matcher;
+use crate::matcher::parts::is_element;
+use dom_links::iters::DescendantNodes;
+use dom_nodes::fault::OutOfMemory;
+use dom_nodes::node_id::NodeId;
+use dom_trees::node_ref::NodeRef;
+use dom_trees::tree::Tree;
+use std::marker::Model;
+
+/// The elements below a node that a selector means, each before those below it. It takes no memory.
+#[derive(Drop)]
+pub struct DescendantMatches<'a, 'b> {
+    ids: DescendantNodes<'a>,
+    tree: &'a Tree,
+    matcher: &'b Matcher,
+}
+
+impl<'a, 'b> Model for DescendantMatches<'a, 'b> {
+    ghost use Rattle.std.specs.Prelude.{List};
+    ghost use Rattle.std.specs.Coded.{code_by, codes};
+    ghost use Rattle.dom_select.specs.Descendants.{Matches};
+    ghost use Rattle.dom_select.specs.Tokens.{Token, list_of, read_back, tokens_of};
+
+    ghost Value = { Matches };
+
+    ghost coded = { Prim.hlevel (codes, code_by (List Token) (Prim.hlevel codes) tokens_of list_of read_back) };
+
+    ghost view = { λ it. record { left = it.ids.left; tree = it.tree; selector = it.matcher.now } };
+}
+
+impl<'a, 'b> DescendantMatches<'a, 'b> {
+    /// What is to come is what the selector selects below the node.
+    pub fn new(node: NodeRef<'a>, matcher: &'b Matcher) -> Self
+        ensures all { result.left ≡ walk_below node.entry.tree.now node.entry.id }
+        ensures tree { result.tree ≡ node.entry.tree }
+        ensures selector { result.selector ≡ matcher.now }
+        ensures selected { (ids : List ℕ) → ToCome result ids → Selected node.entry.tree.now (node.entry.id ∷ []) matcher.now ids }
+    {
+        let NodeRef { id, tree } = node;
+        DescendantMatches {
+            ids: tree.descendant_ids_of_it(&id),
+            tree,
+            matcher,
+        }
+    }
+}
+
+impl<'a, 'b> Iterator for DescendantMatches<'a, 'b> {
+    type Item = NodeRef<'a>;
+
+    ghost next_gives = { GivesMatch };
+
+    ghost remaining = { λ walk. at_most (length walk.left) };
+
+    fn next(&mut self) -> Option<NodeRef<'a>> {
+        loop {
+            let id = self.ids.next()?;
+            if is_selected(self.tree, id, self.matcher) {
+                return Some(NodeRef::new(id, self.tree));
+            }
+        }
+    }
+}
+
+/// The elements below the root that the selector means, each before those below it; an unknown number has none.
+pub fn select_below(
+    tree: &Tree,
+    root: &NodeId,
+    matcher: &Matcher,
+) -> Result<Vec<NodeId>, OutOfMemory>
+    ensures { IfOk result (λ ids. Selected tree.now (root.now ∷ []) matcher.now ids.items) }
+{
+    let mut picked = Vec::new(tree.allocator());
+    for node in DescendantMatches::new(NodeRef::new(*root, tree), matcher) {
+        picked.push(node.id)?;
+    }
+    Ok(picked)
+}
+
+/// Whether the node is an element that the selector means.
+pub(crate) fn is_selected(tree: &Tree, id: NodeId, matcher: &Matcher) -> bool
+    ensures { MatchBool result (IsMatch matcher.now tree.now id) (IsMatch matcher.now tree.now id → ⊥) }
+{
+    if !is_element(tree, &id) {
+        return false;
+    }
+    matcher.match_element(&NodeRef::new(id, tree))
+}

@@ -1,0 +1,282 @@
+//! Whether a selector means a node. Its compounds are followed from right to left, those first that bind more tightly: `+`,
+//! then `~`, then `>`, then whitespace. Where a combinator leaves a choice, the nearest node from which they can be followed
+//! is taken and never given up: what stands on the left of a farther one stands on the left of that one too.
+
+ghost use Rattle.std.specs.Prelude.{◌≡◌, ◌↔◌, ◌∷◌, [], map, IfSome, Some, IsTrue, MatchBool, MatchOption};
+ghost use Rattle.dom_select.specs.ListsAsTrees.{lists_of, steps_of};
+ghost use Rattle.dom_select.specs.Leftward.{ends_at};
+ghost use Rattle.dom_select.specs.Meaning.{Holds, LeadsOn, LeadsToSome, ListsHold, ListHolds, Means, PartsHold, Reaches};
+ghost use Rattle.dom_select.specs.ValuesAsTrees.{read_compound, read_list, read_nested, read_step};
+ghost use Rattle.dom_select.specs.Syntax.{no_lists, compound as the_compound};
+ghost use Rattle.dom_select.specs.Chains.{EndHolds, Followed, FollowedFrom, IsOrPrecedes, ReachesSome, looseness};
+ghost use Rattle.dom_select.specs.Has.{Begins, IsReached, ReachesWithin, may_end};
+
+use crate::matcher::chains::{ends_at, know_lines, looseness, may_beside, on_the_left};
+use crate::matcher::has::{Start, first_top, is_led, may_end, next_top};
+use crate::matcher::parts::{is_named_node, parts_hold};
+use crate::matcher::syntax::{Combinator, Compound, Nested, Part, Selector, Step};
+use dom_nodes::node_id::NodeId;
+use dom_nodes::text::Text;
+use dom_trees::tree::Tree;
+
+/// Looser than every combinator.
+const ALL: usize = 5;
+
+/// The name, where the compound is a type and nothing else.
+fn bare_type(compound: &Compound) -> Option<&Text>
+    ensures { IfSome result (λ name. read_compound compound.now ≡ the_compound (Part.«Type» name.now ∷ []) no_lists) }
+{
+    if !compound.nested.is_empty() {
+        return None;
+    }
+    match compound.parts.as_slice() {
+        [Part::Type(name)] => Some(name),
+        _ => None,
+    }
+}
+
+/// Whether the number is an element's that bears the name as a type.
+fn bears_name(tree: &Tree, id: &NodeId, name: &str) -> bool
+    ensures { MatchBool result (PartsHold (Part.«Type» name.now ∷ []) tree.now id.now) (PartsHold (Part.«Type» name.now ∷ []) tree.now id.now → ⊥) }
+{
+    match tree.get(id) {
+        Some(found) => is_named_node(&found.content, name),
+        None => false,
+    }
+}
+
+/// Whether the compound holds of the node. Of a type alone the names are compared, and nothing else is looked at.
+#[cycle(matching)]
+fn holds(compound: &Compound, tree: &Tree, id: NodeId) -> bool
+    ensures { IsTrue result ↔ Holds (read_compound compound.now) tree.now id }
+{
+    if let Some(name) = bare_type(compound) {
+        return bears_name(tree, &id, name.as_str());
+    }
+    parts_hold(&compound.parts, tree, &id) && lists_hold(&compound.nested, tree, id)
+}
+
+/// Whether each of the lists in a compound holds of the node.
+#[cycle(matching)]
+fn lists_hold(lists: &[Nested], tree: &Tree, id: NodeId) -> bool
+    ensures { IsTrue result ↔ ListsHold (lists_of (map read_nested lists.now)) tree.now id }
+{
+    for list in lists {
+        if !list_holds(list, tree, id) {
+            return false;
+        }
+    }
+    true
+}
+
+#[cycle(matching)]
+fn list_holds(list: &Nested, tree: &Tree, id: NodeId) -> bool
+    ensures { IsTrue result ↔ ListHolds (read_nested list.now) tree.now id }
+{
+    match list {
+        Nested::Is(selectors) => means(selectors, tree, id),
+        Nested::Not(selectors) => !means(selectors, tree, id),
+        Nested::Has(selectors) => leads_on(selectors, tree, id),
+    }
+}
+
+/// Whether one of the selectors means the node.
+#[cycle(matching)]
+pub(crate) fn means(selectors: &[Selector], tree: &Tree, id: NodeId) -> bool
+    ensures { IsTrue result ↔ Means (read_list selectors.now) tree.now id }
+{
+    let start = Start::Anywhere;
+    for selector in selectors {
+        if reaches(&start, &selector.first, &selector.rest, tree, id) {
+            return true;
+        }
+    }
+    false
+}
+
+/// Whether one of the selectors leads from the node to an element.
+#[cycle(matching)]
+fn leads_on(selectors: &[Selector], tree: &Tree, id: NodeId) -> bool
+    ensures { IsTrue result ↔ LeadsOn (read_list selectors.now) tree.now id }
+{
+    for selector in selectors {
+        if leads_to_some(selector.lead, &selector.first, &selector.rest, tree, id) {
+            return true;
+        }
+    }
+    false
+}
+
+/// Whether a selector leads from the node to an element: it is followed from each node that it could lead to.
+#[cycle(matching)]
+fn leads_to_some(
+    lead: Combinator,
+    first: &Compound,
+    steps: &[Step],
+    tree: &Tree,
+    id: NodeId,
+) -> bool
+    ensures { IsTrue result ↔ LeadsToSome lead (read_compound first.now) (steps_of (map read_step steps.now)) tree.now id }
+{
+    know_lines(tree);
+    let start = Start::From(lead, id);
+    let mut top = first_top(tree, lead, id);
+    while let Some(at) = top {
+        if leads_within(&start, first, steps, tree, at) {
+            return true;
+        }
+        top = next_top(tree, lead, at);
+    }
+    false
+}
+
+/// Whether the compounds lead from the start to this node or to one below it.
+#[cycle(matching)]
+fn leads_within(start: &Start, first: &Compound, steps: &[Step], tree: &Tree, top: NodeId) -> bool
+    ensures { MatchBool result (ReachesWithin start.now (read_compound first.now) (steps_of (map read_step steps.now)) tree.now top)
+        (ReachesWithin start.now (read_compound first.now) (steps_of (map read_step steps.now)) tree.now top → ⊥) }
+{
+    if reaches(start, first, steps, tree, top) {
+        return true;
+    }
+    for y in tree.descendant_ids_of_it(&top) {
+        if reaches(start, first, steps, tree, y) {
+            return true;
+        }
+    }
+    false
+}
+
+/// Whether there are nodes for the first compound and for those of the steps, the last of them this one.
+#[cycle(matching)]
+fn reaches(start: &Start, first: &Compound, steps: &[Step], tree: &Tree, id: NodeId) -> bool
+    ensures { IsTrue result ↔ IsReached start.now (read_compound first.now) (steps_of (map read_step steps.now)) tree.now id }
+{
+    if !may_end(start, tree, id) {
+        return false;
+    }
+    if steps.is_empty() {
+        return begins(start, first, tree, id);
+    }
+    follow(ALL, start, first, steps, tree, id, id).is_some()
+}
+
+/// Whether the node may be the first.
+#[cycle(matching)]
+fn begins(start: &Start, first: &Compound, tree: &Tree, id: NodeId) -> bool
+    ensures { IsTrue result ↔ Begins start.now (read_compound first.now) tree.now id }
+{
+    match start {
+        Start::Anywhere => holds(first, tree, id),
+        Start::From(lead, from) => {
+            if !is_led(tree, *lead, *from, id) {
+                return false;
+            }
+            holds(first, tree, id)
+        }
+    }
+}
+
+/// Whether the last compound holds of the node, which may stand as the combinator on its left asks.
+#[cycle(matching)]
+fn end_holds(
+    start: &Start,
+    first: &Compound,
+    steps: &[Step],
+    tree: &Tree,
+    spared: NodeId,
+    id: NodeId,
+) -> bool
+    ensures { MatchBool result (EndHolds tree.now spared (Begins start.now (read_compound first.now) tree.now) (map read_step steps.now) id)
+        (EndHolds tree.now spared (Begins start.now (read_compound first.now) tree.now) (map read_step steps.now) id → ⊥) }
+{
+    match steps.split_last() {
+        None => begins(start, first, tree, id),
+        Some((last, _)) => {
+            if !may_beside(tree, spared, last.combinator, id) {
+                return false;
+            }
+            holds(&last.compound, tree, id)
+        }
+    }
+}
+
+/// Where a chain was followed to: the steps that are left, and the node that they must reach.
+#[derive(Clone, Copy)]
+struct Place<'a> {
+    left: &'a [Step],
+    at: NodeId,
+}
+
+/// Follows the steps from the node to the left, over all that bind more tightly than `level`.
+#[cycle(matching)]
+fn follow<'a>(
+    level: usize,
+    start: &Start,
+    first: &Compound,
+    steps: &'a [Step],
+    tree: &Tree,
+    spared: NodeId,
+    id: NodeId,
+) -> Option<Place<'a>>
+    requires { IsOrPrecedes tree.now id spared }
+    ensures { MatchOption result (Reaches (Begins start.now (read_compound first.now) tree.now) (steps_of (map read_step steps.now)) tree.now spared id → ⊥)
+        (λ place. Followed tree.now spared (Begins start.now (read_compound first.now) tree.now) level (map read_step steps.now) (map read_step place.left.now) id place.at) }
+{
+    if level <= 1 {
+        if !end_holds(start, first, steps, tree, spared, id) {
+            return None;
+        }
+        return Some(Place {
+            left: steps,
+            at: id,
+        });
+    }
+    know_lines(tree);
+    let Some(mut place) = follow(level - 1, start, first, steps, tree, spared, id) else {
+        return None;
+    };
+    while let Some((last, front)) = place.left.split_last() {
+        if looseness(last.combinator) >= level {
+            return Some(place);
+        }
+        let Some(next) = follow_from(start, first, front, last.combinator, tree, spared, place.at)
+        else {
+            return None;
+        };
+        place = next;
+    }
+    Some(place)
+}
+
+/// Follows the steps from the nearest node that they can be followed from, of those that stand to this one as the combinator
+/// says.
+#[cycle(matching)]
+fn follow_from<'a>(
+    start: &Start,
+    first: &Compound,
+    steps: &'a [Step],
+    combinator: Combinator,
+    tree: &Tree,
+    spared: NodeId,
+    id: NodeId,
+) -> Option<Place<'a>>
+    requires { IsOrPrecedes tree.now id spared }
+    ensures { MatchOption result (ReachesSome tree.now spared (Begins start.now (read_compound first.now) tree.now) (map read_step steps.now) combinator id → ⊥)
+        (λ place. FollowedFrom tree.now spared (Begins start.now (read_compound first.now) tree.now) combinator (map read_step steps.now) (map read_step place.left.now) id place.at) }
+{
+    let mut at = id;
+    while let Some(v) = on_the_left(tree, combinator, at) {
+        if may_beside(tree, spared, combinator, v) {
+            let level = looseness(combinator);
+            if let Some(place) = follow(level, start, first, steps, tree, spared, v) {
+                return Some(place);
+            }
+        }
+        if ends_at(tree, combinator, v) {
+            return None;
+        }
+        at = v;
+    }
+    None
+}

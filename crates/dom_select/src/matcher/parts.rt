@@ -1,0 +1,195 @@
+//! Whether a part of a compound holds of a node.
+
+ghost use Rattle.std.specs.Prelude.{◌≡◌, ◌↔◌, ◌||◌, Some, slice_get, codes, IsTrue, MatchBool};
+ghost use Rattle.std.specs.List.{list_any};
+ghost use Rattle.std.specs.Str.{bytes_eq, str_to_ascii_lowercase};
+ghost use Rattle.dom_select.specs.Leftward.{element_at};
+ghost use Rattle.dom_select.specs.Meaning.{PartsHold};
+ghost use Rattle.dom_select.specs.Parts.{EachHolds, PartHolds, attr_passes, element_passes, is_attr, is_link, is_without, name_within, node_passes, asked_passes};
+
+use crate::matcher::comparisons::passes;
+use crate::matcher::positions::has_position;
+use crate::matcher::syntax::{Attribute, Comparison, Part};
+use crate::matcher::texts::{has_text, is_empty, is_only_text};
+use dom_nodes::name::{Attr, Namespace};
+use dom_nodes::node_data::{Element, NodeData};
+use dom_nodes::node_id::NodeId;
+use dom_trees::tree::Tree;
+
+/// Whether the number is a node's of which each part holds.
+pub(crate) fn parts_hold(parts: &[Part], tree: &Tree, id: &NodeId) -> bool
+    ensures { MatchBool result (PartsHold parts.now tree.now id.now) (PartsHold parts.now tree.now id.now → ⊥) }
+{
+    match tree.get(id) {
+        Some(found) => each_holds(parts, tree, id, &found.content),
+        None => false,
+    }
+}
+
+/// Whether the node is an element that bears the name as a type.
+pub(crate) fn is_named_node(node: &NodeData, name: &str) -> bool
+    ensures { result ≡ node_passes (Part.«Type» name.now) node.now }
+{
+    match node {
+        NodeData::Element(element) => is_named(&element.name.ns, element.node_name(), name),
+        _ => false,
+    }
+}
+
+pub(crate) fn is_element(tree: &Tree, id: &NodeId) -> bool
+    ensures { result ≡ element_at tree.now id.now }
+{
+    let Some(node) = tree.get(id) else {
+        return false;
+    };
+    node.content.as_element().is_some()
+}
+
+fn each_holds(parts: &[Part], tree: &Tree, id: &NodeId, node: &NodeData) -> bool
+    requires { slice_get tree.now.content id.now ≡ Some node.now }
+    ensures { IsTrue result ↔ EachHolds parts.now tree.now id.now }
+{
+    for part in parts {
+        if !part_holds(part, tree, id, node) {
+            return false;
+        }
+    }
+    true
+}
+
+/// Whether the part holds of the node, which is the tree's of that number.
+fn part_holds(part: &Part, tree: &Tree, id: &NodeId, node: &NodeData) -> bool
+    requires { slice_get tree.now.content id.now ≡ Some node.now }
+    ensures { IsTrue result ↔ PartHolds part.now tree.now id.now }
+{
+    match part {
+        Part::Position(position) => has_position(*position, tree, id),
+        Part::Empty => is_empty(tree, id),
+        Part::OnlyText => is_only_text(tree, id),
+        Part::HasText(text) => has_text(tree, id, text.as_str()),
+        _ => node_passes(part, node),
+    }
+}
+
+fn node_passes(part: &Part, node: &NodeData) -> bool
+    ensures { result ≡ node_passes part.now node.now }
+{
+    match part {
+        Part::Universal => true,
+        Part::Root => matches!(node, NodeData::Document),
+        _ => match node {
+            NodeData::Element(element) => element_passes(part, element),
+            _ => false,
+        },
+    }
+}
+
+fn element_passes(part: &Part, element: &Element) -> bool
+    ensures { result ≡ element_passes part.now element.now }
+{
+    match part {
+        Part::Universal => true,
+        Part::Type(name) => is_named(&element.name.ns, element.node_name(), name.as_str()),
+        Part::Id(value) => has_attr(element.attrs.as_slice(), "id", value.as_str()),
+        Part::Class(word) => element.has_class(word.as_str()),
+        Part::Attribute(asked) => attrs_pass(asked, element),
+        Part::Root => false,
+        Part::Link => is_link(element),
+        Part::Never => false,
+        Part::Empty => false,
+        Part::OnlyText => false,
+        Part::HasText(_) => false,
+        Part::Position(_) => false,
+    }
+}
+
+/// Whether a local name is a selector's name: with A to Z folded in HTML, as written elsewhere.
+fn is_named(ns: &Namespace, local: &str, name: &str) -> bool
+    ensures { result ≡ bytes_eq local.now (name_within ns.now name.now) }
+{
+    match ns {
+        Namespace::Html => is_folded(local.as_bytes(), name.as_bytes()),
+        _ => local == name,
+    }
+}
+
+/// Whether the local name is the other name with A to Z folded.
+fn is_folded(local: &[u8], name: &[u8]) -> bool
+    ensures { result ≡ bytes_eq local.now (str_to_ascii_lowercase name.now) }
+{
+    if local.len() != name.len() {
+        return false;
+    }
+    let mut n = 0;
+    while n < name.len() {
+        if local[n] != name[n].to_ascii_lowercase() {
+            return false;
+        }
+        n += 1;
+    }
+    true
+}
+
+fn has_attr(attrs: &[Attr], name: &str, value: &str) -> bool
+    ensures { result ≡ list_any (is_attr name.now value.now) attrs.now }
+{
+    attrs.iter().any(|attr| is_attr(attr, name, value))
+}
+
+fn is_attr(attr: &Attr, name: &str, value: &str) -> bool
+    ensures { result ≡ is_attr name.now value.now attr.now }
+{
+    attr.name.local.as_str() == name && attr.value.as_str() == value
+}
+
+/// Whether one of the element's attributes is as the part asks.
+fn attrs_pass(asked: &Attribute, element: &Element) -> bool
+    ensures { result ≡ list_any (attr_passes element.now.name.ns asked.now) element.now.attrs }
+{
+    let ns = &element.name.ns;
+    element
+        .attrs
+        .as_slice()
+        .iter()
+        .any(|attr| attr_passes(ns, asked, attr))
+}
+
+fn attr_passes(ns: &Namespace, asked: &Attribute, attr: &Attr) -> bool
+    ensures { result ≡ attr_passes ns.now asked.now attr.now }
+{
+    if !is_without(&attr.name.ns) {
+        return false;
+    }
+    if !is_named(ns, attr.name.local.as_str(), asked.name.as_str()) {
+        return false;
+    }
+    asked_passes(&asked.comparison, attr.value.as_str())
+}
+
+fn is_without(ns: &Namespace) -> bool
+    ensures { result ≡ is_without ns.now }
+{
+    matches!(ns, Namespace::None)
+}
+
+fn asked_passes(comparison: &Option<Comparison>, value: &str) -> bool
+    ensures { result ≡ asked_passes comparison.now value.now }
+{
+    match comparison {
+        Some(comparison) => passes(comparison, value),
+        None => true,
+    }
+}
+
+/// Whether the element may link elsewhere, and does.
+fn is_link(element: &Element) -> bool
+    ensures { result ≡ is_link element.now }
+{
+    is_linking(element.node_name()) && element.attr("href").is_some()
+}
+
+fn is_linking(local: &str) -> bool
+    ensures { result ≡ (bytes_eq local.now (codes "a") || bytes_eq local.now (codes "area") || bytes_eq local.now (codes "link")) }
+{
+    local == "a" || local == "area" || local == "link"
+}
