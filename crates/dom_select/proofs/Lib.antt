@@ -22,3 +22,4 @@ pub mod StepLemmas
 pub mod StringLemmas
 pub mod Weights
 pub mod HasLemmas
+pub mod JoinedLemmas

@@ -10,7 +10,9 @@ pub mod Leftward
 pub mod ListsAsTrees
 pub mod Meaning
 pub mod Names
+pub mod NodeAnswers
 pub mod Parts
+pub mod PseudoTexts
 pub mod Pseudos
 pub mod Selected
 pub mod Spelling

@@ -6,5 +6,6 @@ pub mod fault;
 pub mod laws;
 pub mod matcher;
 pub mod node_select;
+pub mod pseudo_class;
 #[cfg(test)]
 mod tests;
