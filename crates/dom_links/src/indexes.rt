@@ -77,7 +77,8 @@ fn counts(kind: IndexKind, node: &NodeData, other: &NodeData) -> bool
     }
 }
 
-fn are_of_one_type(node: &NodeData, other: &NodeData) -> bool
+/// Whether both are elements of equal qualified names.
+pub fn are_of_one_type(node: &NodeData, other: &NodeData) -> bool
     ensures { result ≡ of_one_type node.now other.now }
 {
     match node {

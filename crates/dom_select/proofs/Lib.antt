@@ -26,3 +26,4 @@ pub mod StepLemmas
 pub mod StringLemmas
 pub mod Weights
 pub mod HasLemmas
+pub mod JoinedLemmas

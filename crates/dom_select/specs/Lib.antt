@@ -14,7 +14,9 @@ pub mod MiniLetters
 pub mod MiniSyntax
 pub mod MiniTruth
 pub mod Names
+pub mod NodeAnswers
 pub mod Parts
+pub mod PseudoTexts
 pub mod Pseudos
 pub mod Selected
 pub mod Spelling

@@ -14,11 +14,11 @@ use Rattle.dom_nodes.specs.Words.{class_words, is_among}
 use Rattle.dom_links.specs.Forest.{Forest}
 use Rattle.dom_links.specs.Indexes.{IsNth, index_at}
 use Rattle.dom_select.specs.Comparisons.{passes}
-use Rattle.dom_select.specs.Texts.{empty_at, has_text_at, only_text_at}
+use Rattle.dom_select.specs.Texts.{empty_at, has_text_at, joined_contains_at, only_text_at}
 use Rattle.dom_select.specs.declared.matcher.syntax.Attribute as attributes
 use Rattle.dom_select.specs.declared.matcher.syntax.Comparison.{Comparison}
 use Rattle.dom_select.specs.declared.matcher.syntax.Part.{Part}
-use Rattle.dom_select.specs.declared.matcher.syntax.Part.TheVariants.{Universal, Id, Class, Attribute, Root, Link, Never, Position, Empty, OnlyText, HasText}
+use Rattle.dom_select.specs.declared.matcher.syntax.Part.TheVariants.{Universal, Id, Class, Attribute, Root, Link, Never, Position, Empty, OnlyText, HasText, Contains}
 
 -- a name of a selector as the elements of a namespace bear it: with A to Z folded in HTML, as written in others
 abbrev pub name_within : Namespace → List ℕ → List ℕ
@@ -52,6 +52,7 @@ element_passes Never element = false
 element_passes Empty element = false
 element_passes OnlyText element = false
 element_passes (HasText text) element = false
+element_passes (Contains text) element = false
 element_passes (Position position) element = false
 
 -- `*` holds of every node, `:root` of documents, any other part of elements alone
@@ -62,8 +63,11 @@ node_passes part (AnElement element) = element_passes part element
 node_passes part _ = false
 
 -- the same of a node by its number
+abbrev pub data_passes : Part → Forest → ℕ → Bool
+data_passes part forest n = option_map_or (node_passes part) (slice_get forest.content n) false
+
 abbrev pub passes_at : Part → Forest → ℕ → Type 0
-passes_at part forest n = option_map_or (node_passes part) (slice_get forest.content n) false ≡ true
+passes_at part forest n = data_passes part forest n ≡ true
 
 -- the part holds of the node of that number: by where it stands among its siblings, or by what it is
 abbrev pub PartHolds : Part → Forest → ℕ → Type 0
@@ -71,6 +75,7 @@ PartHolds (Position position) forest n = IsNth position.nth (index_at position.k
 PartHolds Empty forest n = empty_at forest n ≡ true
 PartHolds OnlyText forest n = only_text_at forest n ≡ true
 PartHolds (HasText text) forest n = has_text_at forest text n ≡ true
+PartHolds (Contains text) forest n = joined_contains_at forest text n ≡ true
 PartHolds Universal forest n = passes_at Universal forest n
 PartHolds (Part.«Type» name) forest n = passes_at (Part.«Type» name) forest n
 PartHolds (Id value) forest n = passes_at (Id value) forest n

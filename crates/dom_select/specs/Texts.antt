@@ -1,13 +1,14 @@
 -- What a node's children are, and the texts at and below it.
-use Rattle.std.specs.Prelude.{ℕ, Bool, false, ◌||◌, ◌&&◌, not, List, [], ◌∷◌, slice_get}
+use Rattle.std.specs.Prelude.{ℕ, Bool, false, ◌||◌, ◌&&◌, not, List, [], ◌∷◌, ◌++◌, slice_get}
 use Rattle.std.specs.List.{list_all, list_any}
 use Rattle.std.specs.Option.{option_map_or}
 use Rattle.dom_nodes.specs.declared.node_data.NodeData.{NodeData}
 use Rattle.dom_nodes.specs.declared.node_data.NodeData.TheVariants.{Text}
 use Rattle.dom_links.specs.Forest.{Forest, children_of}
+use Rattle.dom_links.specs.Texts.{text_of}
 use Rattle.dom_links.specs.Trees.{walk_below}
 use Rattle.dom_trees.specs.Views.{is_filled_text}
-use Rattle.dom_select.specs.Comparisons.{has_within}
+use Rattle.dom_select.specs.Comparisons.{begins_with, has_within}
 use Rattle.dom_nodes.specs.declared.case_sensitivity.CaseSensitivity.TheVariants.{CaseSensitive}
 use Rattle.dom_links.specs.ListMoves.{element_at}
 
@@ -38,3 +39,12 @@ contains_at forest inner n = option_map_or (text_contains inner) (slice_get fore
 -- one text at the node or below it contains the other
 abbrev pub has_text_at : Forest → List ℕ → ℕ → Bool
 has_text_at forest inner n = list_any (contains_at forest inner) (n ∷ walk_below forest n)
+
+-- the texts at the node and below it, joined, contain the other
+abbrev pub joined_contains_at : Forest → List ℕ → ℕ → Bool
+joined_contains_at forest inner n = has_within CaseSensitive (text_of forest n) inner
+
+-- the other begins somewhere in the text, and may go on in what follows that
+abbrev pub begins_among : List ℕ → List ℕ → List ℕ → Bool
+begins_among [] next inner = false
+begins_among (a ∷ more) next inner = begins_with CaseSensitive (a ∷ (more ++ next)) inner || begins_among more next inner

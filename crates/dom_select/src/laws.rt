@@ -4,6 +4,8 @@ ghost use Rattle.std.specs.Prelude.{◌≡◌, ◌++◌, ℕ, List, map, encode_
 ghost use Rattle.dom_links.specs.Forest.{Forest};
 ghost use Rattle.dom_select.specs.Strings.{SpellsString};
 ghost use Rattle.dom_select.specs.Syntax.{SelectorList};
+ghost use Rattle.dom_select.specs.declared.matcher.syntax.Part.TheVariants.{Contains, HasText};
+ghost use Rattle.dom_select.specs.Parts.{PartHolds};
 ghost use Rattle.dom_select.specs.Css.{css_string, shown};
 ghost use Rattle.dom_select.specs.Grammar.{StandsFor};
 ghost use Rattle.dom_select.specs.MiniGrammar.{Excludes, HasOneReading, IsBadMini, IsBadPath, SpellsMini, SpellsPath};
@@ -37,4 +39,9 @@ pub fn one_mini_reading()
     ensures mini_bad { Excludes SpellsMini IsBadMini }
     ensures path { HasOneReading SpellsPath }
     ensures path_bad { Excludes SpellsPath IsBadPath }
+{}
+
+/// Where one text at a node or below it contains another, the texts there contain it joined.
+pub fn contains_what_it_has()
+    ensures { (forest : Forest) (text : List ℕ) (n : ℕ) → PartHolds (HasText text) forest n → PartHolds (Contains text) forest n }
 {}

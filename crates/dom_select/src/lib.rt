@@ -7,5 +7,6 @@ pub mod laws;
 pub mod matcher;
 pub mod mini_selector;
 pub mod node_select;
+pub mod pseudo_class;
 #[cfg(test)]
 mod tests;

@@ -13,6 +13,7 @@ pub(crate) mod chains;
 pub(crate) mod comparisons;
 pub mod descendants;
 pub(crate) mod has;
+pub(crate) mod joined;
 pub(crate) mod matches;
 pub(crate) mod names;
 pub(crate) mod parser;

@@ -1,21 +1,48 @@
 //! Nodes that are asked whether a selector means them.
 
-ghost use Rattle.std.specs.Prelude.{◌≡◌, false, chars, IfOk, MatchBool};
+ghost use Rattle.std.specs.Prelude.{◌≡◌, ℕ, false, chars, IfOk, MatchBool};
+ghost use Rattle.std.specs.List.{list_any};
+ghost use Rattle.dom_nodes.specs.declared.name.Namespace.TheVariants.{Html};
+ghost use Rattle.dom_links.specs.Forest.{Forest};
+ghost use Rattle.dom_links.specs.Indexes.{same_type};
+ghost use Rattle.dom_trees.specs.Views.{has_local_name};
 ghost use Rattle.dom_select.specs.declared.fault.SelectorFault.TheVariants.{Memory};
-ghost use Rattle.dom_select.specs.Grammar.{StandsFor};
+ghost use Rattle.dom_select.specs.declared.matcher.syntax.Part.TheVariants.{Link, Root};
 ghost use Rattle.dom_select.specs.Descendants.{IsMatch};
+ghost use Rattle.dom_select.specs.Grammar.{StandsFor};
+ghost use Rattle.dom_select.specs.NodeAnswers.{has_id_at, has_namespace_at, is_id, pseudo_holds_at};
+ghost use Rattle.dom_select.specs.Parts.{data_passes};
 ghost use Rattle.dom_select.specs.Syntax.{SelectorList};
+ghost use Rattle.dom_select.specs.Texts.{empty_at, has_text_at, only_text_at};
 
+use crate::css::CssLocalName;
 use crate::fault::SelectorFault;
 use crate::matcher::Matcher;
+use crate::matcher::comparisons::same_text;
 use crate::matcher::descendants::is_selected;
+use crate::matcher::joined::contains_joined;
+use crate::matcher::parts::data_passes;
+use crate::matcher::syntax::Part;
+use dom_nodes::case_sensitivity::CaseSensitivity;
+use crate::matcher::texts::{has_text, is_empty, is_only_text};
+use crate::pseudo_class::NonTSPseudoClass;
+use dom_links::indexes::are_of_one_type;
 use dom_nodes::fault::OutOfMemory;
+use dom_nodes::name::{Attr, Namespace};
+use dom_nodes::node_id::NodeId;
 use dom_trees::node_ref::NodeRef;
+use dom_trees::tree::Tree;
 
 /// A node that selectors are asked of.
 pub trait NodeSelect {
     // It is an element that one of the selectors means.
     ghost meant: { Self → SelectorList → Type 0 };
+
+    // The forest of its tree.
+    ghost forest: { Self → Forest };
+
+    // Its number there.
+    ghost number: { Self → ℕ };
 
     /// Whether it is an element that one of the matcher's selectors means.
     fn is_match(&self, matcher: &Matcher) -> bool
@@ -26,10 +53,58 @@ pub trait NodeSelect {
         ensures { IfOk result (λ answer. MatchBool answer
             ((list : SelectorList) × StandsFor (chars selectors.now) list × meant self.now list)
             ((list : SelectorList) → StandsFor (chars selectors.now) list → meant self.now list → ⊥)) };
+
+    /// Whether one text at it or below it contains the other.
+    fn has_text(&self, text: &str) -> bool
+        ensures { result ≡ has_text_at (forest self.now) text.now (number self.now) };
+
+    /// Whether it has exactly one child, a text that isn't blank.
+    fn has_only_text(&self) -> bool
+        ensures { result ≡ only_text_at (forest self.now) (number self.now) };
+
+    /// Whether it is an element without elements and without a text that isn't blank.
+    fn is_empty_element(&self) -> bool
+        ensures { result ≡ empty_at (forest self.now) (number self.now) };
+
+    /// Whether it is an element `a`, `area` or `link` with an attribute `href`.
+    fn is_link(&self) -> bool
+        ensures { result ≡ data_passes Link (forest self.now) (number self.now) };
+
+    /// Whether it is a document.
+    fn is_root(&self) -> bool
+        ensures { result ≡ data_passes Root (forest self.now) (number self.now) };
+
+    /// Whether it is an element, as the node of the other's number in its tree is, of an equal qualified name.
+    fn is_same_type(&self, other: &Self) -> bool
+        ensures { result ≡ same_type (forest self.now) (number self.now) (number other.now) };
+
+    /// Whether it is an element of exactly that local name.
+    fn has_local_name(&self, name: &CssLocalName) -> bool
+        ensures { result ≡ has_local_name (forest self.now) (number self.now) name.now.0 };
+
+    /// Whether it is an element of that namespace.
+    fn has_namespace(&self, ns: &Namespace) -> bool
+        ensures { result ≡ has_namespace_at (forest self.now) (number self.now) ns.now };
+
+    /// Whether it is an element of HTML.
+    fn is_html_element_in_html_document(&self) -> bool
+        ensures { result ≡ has_namespace_at (forest self.now) (number self.now) Html };
+
+    /// Whether any of its attributes of the local name `id` has that value.
+    fn has_id(&self, id: &CssLocalName, case_sensitivity: CaseSensitivity) -> bool
+        ensures { result ≡ has_id_at case_sensitivity (forest self.now) (number self.now) id.now.0 };
+
+    /// Whether the pseudo-class holds of it.
+    fn match_non_ts_pseudo_class(&self, pseudo: &NonTSPseudoClass) -> bool
+        ensures { result ≡ pseudo_holds_at pseudo.now (forest self.now) (number self.now) };
 }
 
 impl<'a> NodeSelect for NodeRef<'a> {
     ghost meant = { λ node list. IsMatch list node.tree.now node.id };
+
+    ghost forest = { λ node. node.tree.now };
+
+    ghost number = { λ node. node.id };
 
     fn is_match(&self, matcher: &Matcher) -> bool {
         is_selected(self.tree, self.id, matcher)
@@ -40,6 +115,85 @@ impl<'a> NodeSelect for NodeRef<'a> {
             Ok(matcher) => Ok(is_selected(self.tree, self.id, &matcher)),
             Err(fault) => means_none(fault),
         }
+    }
+
+    fn has_text(&self, text: &str) -> bool {
+        has_text(self.tree, &self.id, text)
+    }
+
+    fn has_only_text(&self) -> bool {
+        is_only_text(self.tree, &self.id)
+    }
+
+    fn is_empty_element(&self) -> bool {
+        is_empty(self.tree, &self.id)
+    }
+
+    fn is_link(&self) -> bool {
+        data_passes(&Part::Link, self.tree, &self.id)
+    }
+
+    fn is_root(&self) -> bool {
+        data_passes(&Part::Root, self.tree, &self.id)
+    }
+
+    fn is_same_type(&self, other: &Self) -> bool {
+        let (Some(node), Some(other)) = (self.tree.get(&self.id), self.tree.get(&other.id)) else {
+            return false;
+        };
+        are_of_one_type(&node.content, &other.content)
+    }
+
+    fn has_local_name(&self, name: &CssLocalName) -> bool {
+        self.has_name(name.0.as_str())
+    }
+
+    fn has_namespace(&self, ns: &Namespace) -> bool {
+        match self.qual_name_ref() {
+            Some(name) => name.ns.is_same(ns),
+            None => false,
+        }
+    }
+
+    fn is_html_element_in_html_document(&self) -> bool {
+        match self.qual_name_ref() {
+            Some(name) => name.ns.is_same(&Namespace::Html),
+            None => false,
+        }
+    }
+
+    fn has_id(&self, id: &CssLocalName, case_sensitivity: CaseSensitivity) -> bool {
+        has_id(self.attrs(), case_sensitivity, id.0.as_str())
+    }
+
+    fn match_non_ts_pseudo_class(&self, pseudo: &NonTSPseudoClass) -> bool {
+        pseudo_holds(pseudo, self.tree, &self.id)
+    }
+}
+
+/// Whether one of the attributes is an `id` of that value.
+fn has_id(attrs: &[Attr], case: CaseSensitivity, id: &str) -> bool
+    ensures { result ≡ list_any (is_id case id.now) attrs.now }
+{
+    attrs.iter().any(|attr| is_id(attr, case, id))
+}
+
+fn is_id(attr: &Attr, case: CaseSensitivity, id: &str) -> bool
+    ensures { result ≡ is_id case id.now attr.now }
+{
+    attr.name.local.as_str() == "id" && same_text(case, attr.value.as_str().as_bytes(), id.as_bytes())
+}
+
+/// Whether the pseudo-class holds of the node.
+fn pseudo_holds(pseudo: &NonTSPseudoClass, tree: &Tree, id: &NodeId) -> bool
+    ensures { result ≡ pseudo_holds_at pseudo.now tree.now id.now }
+{
+    match pseudo {
+        NonTSPseudoClass::AnyLink | NonTSPseudoClass::Link => data_passes(&Part::Link, tree, id),
+        NonTSPseudoClass::OnlyText => is_only_text(tree, id),
+        NonTSPseudoClass::HasText(text) => has_text(tree, id, text.0.as_str()),
+        NonTSPseudoClass::Contains(text) => contains_joined(tree, id, text.0.as_str()),
+        _ => false,
     }
 }
 

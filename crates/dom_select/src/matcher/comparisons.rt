@@ -45,7 +45,7 @@ fn same_byte(case: CaseSensitivity, a: u8, b: u8) -> bool
     }
 }
 
-fn same_text(case: CaseSensitivity, text: &[u8], other: &[u8]) -> bool
+pub(crate) fn same_text(case: CaseSensitivity, text: &[u8], other: &[u8]) -> bool
     ensures { result ≡ same_text case text.now other.now }
 {
     if text.len() != other.len() {
@@ -73,7 +73,7 @@ fn has_word(case: CaseSensitivity, text: &str, value: &[u8]) -> bool
     false
 }
 
-fn begins_with(case: CaseSensitivity, text: &[u8], front: &[u8]) -> bool
+pub(crate) fn begins_with(case: CaseSensitivity, text: &[u8], front: &[u8]) -> bool
     ensures { result ≡ begins_with case text.now front.now }
 {
     if text.len() < front.len() {

@@ -5,9 +5,10 @@ ghost use Rattle.std.specs.List.{list_any};
 ghost use Rattle.std.specs.Str.{bytes_eq, str_to_ascii_lowercase};
 ghost use Rattle.dom_links.specs.ListMoves.{element_at};
 ghost use Rattle.dom_select.specs.Meaning.{PartsHold};
-ghost use Rattle.dom_select.specs.Parts.{EachHolds, PartHolds, attr_passes, element_passes, is_attr, is_without, name_within, node_passes, asked_passes};
+ghost use Rattle.dom_select.specs.Parts.{EachHolds, PartHolds, attr_passes, element_passes, is_attr, is_without, name_within, node_passes, asked_passes, data_passes};
 
 use crate::matcher::comparisons::passes;
+use crate::matcher::joined::contains_joined;
 use crate::matcher::positions::has_position;
 use crate::matcher::syntax::{Attribute, Comparison, Part};
 use crate::matcher::texts::{has_text, is_empty, is_only_text};
@@ -67,7 +68,18 @@ fn part_holds(part: &Part, tree: &Tree, id: &NodeId, node: &NodeData) -> bool
         Part::Empty => is_empty(tree, id),
         Part::OnlyText => is_only_text(tree, id),
         Part::HasText(text) => has_text(tree, id, text.as_str()),
+        Part::Contains(text) => contains_joined(tree, id, text.as_str()),
         _ => node_passes(part, node),
+    }
+}
+
+/// Whether the number is a node's of which the part holds by what the node is.
+pub(crate) fn data_passes(part: &Part, tree: &Tree, id: &NodeId) -> bool
+    ensures { result ≡ data_passes part.now tree.now id.now }
+{
+    match tree.get(id) {
+        Some(found) => node_passes(part, &found.content),
+        None => false,
     }
 }
 
@@ -99,6 +111,7 @@ fn element_passes(part: &Part, element: &Element) -> bool
         Part::Empty => false,
         Part::OnlyText => false,
         Part::HasText(_) => false,
+        Part::Contains(_) => false,
         Part::Position(_) => false,
     }
 }

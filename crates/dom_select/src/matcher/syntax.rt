@@ -81,6 +81,8 @@ pub enum Part {
     OnlyText,
     /// `:has-text(..)`: a text at or below the node contains this one.
     HasText(Text),
+    /// `:contains(..)`: the texts at and below the node, joined, contain this one.
+    Contains(Text),
     /// `:nth-child(..)` and its kin: an index among the siblings.
     Position(Position),
 }

@@ -1,0 +1,108 @@
+//! Whether the texts at a node and below it, joined, contain a text. They are gone over where they lie, and take no memory: what
+//! is sought may begin in one text and go on in those that follow it.
+
+ghost use Rattle.std.specs.Prelude.{◌≡◌, ◌++◌, drop, false, length, take, true, MatchOption};
+ghost use Rattle.std.specs.List.{flat_map};
+ghost use Rattle.dom_links.specs.Texts.{text_at, text_in};
+ghost use Rattle.dom_nodes.specs.declared.case_sensitivity.CaseSensitivity.TheVariants.{CaseSensitive as with_case};
+ghost use Rattle.dom_select.specs.Comparisons.{begins_with};
+ghost use Rattle.dom_select.specs.Texts.{begins_among, joined_contains_at};
+
+use crate::matcher::comparisons::begins_with;
+use dom_nodes::case_sensitivity::CaseSensitivity;
+use dom_links::iters::DescendantNodes;
+use dom_nodes::node_data::NodeData;
+use dom_nodes::node_id::NodeId;
+use dom_trees::tree::Tree;
+
+/// What the node itself holds as a text.
+fn text_at<'a>(tree: &'a Tree, id: &NodeId) -> &'a [u8]
+    ensures { result.now ≡ text_at tree.now id.now }
+{
+    match tree.get(id) {
+        Some(found) => text_in(&found.content),
+        None => &[],
+    }
+}
+
+fn text_in(node: &NodeData) -> &[u8]
+    ensures { result.now ≡ text_in node.now }
+{
+    match node {
+        NodeData::Text { contents } => contents.as_str().as_bytes(),
+        _ => &[],
+    }
+}
+
+/// What is left of the text that is sought behind these bytes, which are its beginning or begin with it.
+fn left_behind<'a>(text: &[u8], inner: &'a [u8]) -> Option<&'a [u8]>
+    ensures { MatchOption result (begins_with with_case text.now (take (length text.now) inner.now) ≡ false)
+        (λ left. (begins_with with_case text.now (take (length text.now) inner.now) ≡ true) × (left.now ≡ drop (length text.now) inner.now)) }
+{
+    let near = inner.len().min(text.len());
+    if !begins_with(CaseSensitivity::CaseSensitive, text, &inner[..near]) {
+        return None;
+    }
+    Some(&inner[near..])
+}
+
+/// Whether the texts that the walk still gives, joined, begin with the other.
+fn goes_on(tree: &Tree, rest: DescendantNodes<'_>, inner: &[u8]) -> bool
+    ensures { result ≡ begins_with with_case (flat_map (text_at tree.now) rest.entry.left) inner.now }
+{
+    let mut left = inner;
+    for id in rest {
+        let Some(behind) = left_behind(text_at(tree, &id), left) else {
+            return false;
+        };
+        if behind.is_empty() {
+            return true;
+        }
+        left = behind;
+    }
+    left.is_empty()
+}
+
+/// Whether this text, and then those that the walk still gives, begin with the other.
+fn begins_here(tree: &Tree, text: &[u8], rest: &DescendantNodes<'_>, inner: &[u8]) -> bool
+    ensures { result ≡ begins_with with_case (text.now ++ flat_map (text_at tree.now) rest.now.left) inner.now }
+{
+    let Some(behind) = left_behind(text, inner) else {
+        return false;
+    };
+    if behind.is_empty() {
+        return true;
+    }
+    goes_on(tree, rest.again(), behind)
+}
+
+/// Whether the other begins somewhere in this text; it may go on in those that the walk still gives.
+fn begins_among(tree: &Tree, text: &[u8], rest: &DescendantNodes<'_>, inner: &[u8]) -> bool
+    ensures { result ≡ begins_among text.now (flat_map (text_at tree.now) rest.now.left) inner.now }
+{
+    let mut n = 0;
+    while n < text.len() {
+        if begins_here(tree, &text[n..], rest, inner) {
+            return true;
+        }
+        n += 1;
+    }
+    false
+}
+
+/// Whether the texts at the node and below it, joined, contain the other.
+pub(crate) fn contains_joined(tree: &Tree, id: &NodeId, inner: &str) -> bool
+    ensures { result ≡ joined_contains_at tree.now inner.now id.now }
+{
+    let wanted = inner.as_bytes();
+    let mut rest = tree.descendant_ids_of_it(id);
+    if begins_among(tree, text_at(tree, id), &rest, wanted) {
+        return true;
+    }
+    while let Some(next) = rest.next() {
+        if begins_among(tree, text_at(tree, &next), &rest, wanted) {
+            return true;
+        }
+    }
+    wanted.is_empty()
+}
