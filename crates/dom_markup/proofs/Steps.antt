@@ -17,7 +17,8 @@ use Rattle.dom_nodes.specs.declared.name.Attr.{Attr}
 use Rattle.dom_nodes.specs.declared.name.QualName.{QualName}
 use Rattle.dom_links.specs.Growth.{DataCause, with_child, with_template}
 use Rattle.dom_links.specs.Sound.{bears}
-use Rattle.dom_trees.specs.Refusals.{TemplateCause, element_with}
+use Rattle.dom_trees.specs.Refusals.{TemplateCause}
+use Rattle.dom_trees.specs.NewNodes.{element_with}
 use Rattle.dom_markup.specs.Bytes.{folded}
 use Rattle.dom_nodes.specs.Words.{is_among}
 use Rattle.dom_markup.specs.Names.{Mode, markup, text_of, raw_text_of, is_template, void_names}
@@ -25,7 +26,7 @@ use Rattle.dom_markup.specs.References.{decoded}
 use Rattle.dom_markup.specs.ValueTrees.{Attribute, ValueTrees}
 use Rattle.dom_markup.specs.Markup.{Item, AreInPlace, Begins, BeginsNothing, BeginsStart, BeginsEnd, BeginsDoctype, SpellsItemsUpTo, Spells, SpellsNothing, items_of, mode_after, mode_past, text_front}
 use Rattle.dom_markup.specs.Markup.Item.{start_tag, end_tag, characters, comment, doctype}
-use Rattle.dom_trees.specs.Made.{html_name}
+use Rattle.dom_trees.specs.NewNodes.{html_name}
 use Rattle.dom_markup.specs.Numbered.{read_attr, read_element, document_of}
 use Rattle.dom_markup.specs.Refusals.{nodes_begun, Refused, Declines, StopsBefore, BeginsNothingAt, Cause, IsFaultAt, LeavesSomeOpen}
 use Rattle.dom_markup.specs.Token.{IsNext, Unread, contents_in, kind_of}
@@ -58,7 +59,7 @@ only_limits forest t content edit_faults.BadContents known bearing plain cause =
 only_limits forest t content (edit_faults.Markup fault) known bearing plain cause = cause
 
 -- so is an element with contents
-pub template_limits : (forest : Forest) (t : ℕ) (fault : EditFault) → t < length forest.content → bears forest t ≡ true → TemplateCause forest t fault → IsLimit fault
+pub template_limits : (forest : Forest) (t : ℕ) (fault : EditFault) → t < length forest.content → bears forest t ≡ true → TemplateCause t forest fault → IsLimit fault
 template_limits forest t edit_faults.UnknownNode known bearing cause = absurd (omega arith)
 template_limits forest t edit_faults.NoChildrenHere known bearing cause = true≢false (sym bearing ∙ cause)
 template_limits forest t edit_faults.RootOrFragment known bearing cause = cause

@@ -2,7 +2,7 @@
 use Rattle.std.specs.Prelude.{ℕ, ◌+◌, List, [], ◌∷◌, ◌++◌, map, Option, None, Some, false, if◌then◌else◌}
 use Rattle.dom_nodes.specs.declared.name.Attr.{Attr}
 use Rattle.dom_nodes.specs.declared.name.Namespace.TheVariants.{None as NoNamespace}
-use Rattle.dom_trees.specs.Made.{html_name}
+use Rattle.dom_trees.specs.NewNodes.{html_name}
 use Rattle.dom_nodes.specs.declared.node_data.NodeData.{NodeData}
 use Rattle.dom_nodes.specs.declared.node_data.NodeData.TheVariants.{Document, Fragment, Doctype, Comment, Text, Element}
 use Rattle.dom_links.specs.Forest.{Forest}

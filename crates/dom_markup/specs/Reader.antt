@@ -3,7 +3,7 @@ use Rattle.std.specs.Prelude.{◌≡◌, ◌-◌, ◌++◌, ◌∷◌, [], ℕ, 
 use Rattle.std.specs.Option.{option_map_or}
 use Rattle.dom_links.specs.Forest.{Forest}
 use Rattle.dom_nodes.specs.declared.fault.MarkupFaultKind.{MarkupFaultKind}
-use Rattle.dom_trees.specs.Made.{html_name}
+use Rattle.dom_trees.specs.NewNodes.{html_name}
 use Rattle.dom_markup.specs.Bytes.{folded}
 use Rattle.dom_markup.specs.Limits.{LacksNumbers}
 use Rattle.dom_markup.specs.Names.{Mode, markup}

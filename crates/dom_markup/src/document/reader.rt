@@ -3,8 +3,8 @@
 ghost use Rattle.std.specs.Prelude.{◌≡◌, ◌<◌, ◌+◌, ◌∷◌, [], List, ℕ, None, length};
 ghost use Rattle.std.specs.Prelude.{IfErr, IfOk, MatchResult};
 ghost use Rattle.dom_links.specs.Growth.{with_child, with_template};
-ghost use Rattle.dom_trees.specs.Made.{html_name};
-ghost use Rattle.dom_trees.specs.Refusals.{element_with};
+ghost use Rattle.dom_trees.specs.NewNodes.{html_name};
+ghost use Rattle.dom_trees.specs.NewNodes.{element_with};
 ghost use Rattle.dom_markup.specs.Frames.{children_place, with_element};
 ghost use Rattle.dom_markup.specs.Bytes.{folded};
 ghost use Rattle.dom_markup.specs.Limits.{IsLimit, IsPlainData, limit_kind};

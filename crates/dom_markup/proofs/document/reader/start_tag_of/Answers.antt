@@ -1,6 +1,6 @@
 use Rattle.std.proofs.Common.{◌≡◌, ℕ, List, ◌∷◌, sym, ◌∙◌, ap, map}
 use Rattle.dom_nodes.specs.Words.{is_among}
-use Rattle.dom_trees.specs.Made.{html_name}
+use Rattle.dom_trees.specs.NewNodes.{html_name}
 use Rattle.dom_markup.specs.Names.{void_names}
 use Rattle.dom_markup.specs.ValueTrees.{Attribute}
 use Rattle.dom_markup.specs.Numbered.{read_attr}
