@@ -6,6 +6,7 @@ ghost use Rattle.dom_links.specs.Indexes.{IsNth, above_zero, below_zero, index_a
 ghost use Rattle.dom_links.specs.Sound.{IsSoundArena};
 
 use crate::iters::{find_node, node_at};
+use crate::ops::siblings::neighbour;
 use dom_nodes::node_data::{NodeData, TreeNode};
 use dom_nodes::node_id::NodeId;
 
@@ -86,17 +87,6 @@ fn are_of_one_type(node: &NodeData, other: &NodeData) -> bool
             _ => false,
         },
         _ => false,
-    }
-}
-
-/// The sibling before a node, or the one after it.
-fn neighbour(node: &TreeNode, backwards: bool) -> Option<NodeId>
-    ensures { result ≡ (if backwards then node.now.prev_sibling else node.now.next_sibling) }
-{
-    if backwards {
-        node.prev_sibling
-    } else {
-        node.next_sibling
     }
 }
 

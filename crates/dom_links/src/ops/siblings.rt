@@ -132,7 +132,7 @@ fn first_element_on(nodes: &[TreeNode], from: Option<NodeId>, rev: bool) -> Opti
 }
 
 /// The sibling after a node, or the one before it.
-fn neighbour(node: &TreeNode, rev: bool) -> Option<NodeId>
+pub(crate) fn neighbour(node: &TreeNode, rev: bool) -> Option<NodeId>
     ensures { result ≡ (if rev then node.now.prev_sibling else node.now.next_sibling) }
 {
     if rev {
