@@ -106,7 +106,8 @@ pub fn is_nth(nth: Nth, index: u64) -> bool
 
 /// Whether steps of this size lead from one number to the other.
 fn is_reached(step: u64, from: u64, to: u64) -> bool
-    ensures { MatchBool result ((k : ℕ) × (from + step * k ≡ to)) ((k : ℕ) → from + step * k ≡ to → ⊥) }
+    ensures { MatchBool result ((k : ℕ) × (from + step * k ≡ to))
+        ((k : ℕ) → from + step * k ≡ to → ⊥) }
 {
     if to < from {
         return false;

@@ -45,7 +45,8 @@ impl NodeData {
 
     /// Makes the change; a node that is no element stays, and no memory is asked for.
     pub fn change(&mut self, change: Change) -> Result<(), OutOfMemory>
-        ensures { Tried result self.old self.new (changed change.entry self.old) (asks_of change.entry self.old) }
+        ensures { Tried result self.old self.new (changed change.entry self.old)
+            (asks_of change.entry self.old) }
     {
         match self {
             NodeData::Element(element) => element.change(change),
@@ -80,7 +81,8 @@ impl TreeNode {
 
     /// As `Element::remove_attr`.
     pub fn remove_attr(&mut self, name: &str)
-        ensures { self.new ≡ record self.old { content = with_attrs (without_name name.now) self.old.content } }
+        ensures { self.new
+            ≡ record self.old { content = with_attrs (without_name name.now) self.old.content } }
     {
         let _ = self.change(Change::RemoveAttr(name));
     }
