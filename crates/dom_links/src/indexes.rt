@@ -6,6 +6,7 @@ ghost use Rattle.dom_links.specs.Indexes.{IsNth, above_zero, below_zero, index_a
 ghost use Rattle.dom_links.specs.Sound.{IsSoundArena};
 
 use crate::iters::{find_node, node_at};
+use crate::ops::siblings::neighbour;
 use dom_nodes::node_data::{NodeData, TreeNode};
 use dom_nodes::node_id::NodeId;
 
@@ -90,17 +91,6 @@ pub fn are_of_one_type(node: &NodeData, other: &NodeData) -> bool
     }
 }
 
-/// The sibling before a node, or the one after it.
-fn neighbour(node: &TreeNode, backwards: bool) -> Option<NodeId>
-    ensures { result ≡ (if backwards then node.now.prev_sibling else node.now.next_sibling) }
-{
-    if backwards {
-        node.prev_sibling
-    } else {
-        node.next_sibling
-    }
-}
-
 /// Whether the index is one of those.
 pub fn is_nth(nth: Nth, index: u64) -> bool
     requires { index ≤ 4294967296 }
@@ -117,7 +107,8 @@ pub fn is_nth(nth: Nth, index: u64) -> bool
 
 /// Whether steps of this size lead from one number to the other.
 fn is_reached(step: u64, from: u64, to: u64) -> bool
-    ensures { MatchBool result ((k : ℕ) × (from + step * k ≡ to)) ((k : ℕ) → from + step * k ≡ to → ⊥) }
+    ensures { MatchBool result ((k : ℕ) × (from + step * k ≡ to))
+        ((k : ℕ) → from + step * k ≡ to → ⊥) }
 {
     if to < from {
         return false;

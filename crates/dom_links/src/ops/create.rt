@@ -19,12 +19,15 @@ impl TreeNodeOps {
     /// Makes a node that stands alone. Refused as `BadContents`, `TooManyNodes` or `Memory`.
     pub fn create_node(nodes: &mut Vec<TreeNode>, content: NodeData) -> Result<NodeId, EditFault>
         requires { IsSoundArena nodes.old.items }
-        ensures made { OnOk result (forest_of nodes.new.items ≡ with_node content (forest_of nodes.old.items)) }
+        ensures made { OnOk result
+            (forest_of nodes.new.items ≡ with_node content (forest_of nodes.old.items)) }
         ensures number { IfOk result (λ id. id ≡ vec_len nodes.old) }
         ensures allowed { OnOk result (HasFreeContents (forest_of nodes.old.items) content) }
         ensures err { OnErr result (nodes.new.items ≡ nodes.old.items) }
-        ensures cause { IfErr result (λ fault. NodeCause (forest_of nodes.old.items) content fault) }
-        ensures plain { contents_named content ≡ None → IfErr result (λ fault. Limit (vec_len nodes.old) fault) }
+        ensures cause { IfErr result
+            (λ fault. NodeCause (forest_of nodes.old.items) content fault) }
+        ensures plain { contents_named content ≡ None
+            → IfErr result (λ fault. Limit (vec_len nodes.old) fault) }
         ensures sound { IsSoundArena nodes.new.items }
     {
         check_contents(nodes, &content)?;
@@ -39,11 +42,13 @@ impl TreeNodeOps {
         content: NodeData,
     ) -> Result<NodeId, EditFault>
         requires { IsSoundArena nodes.old.items }
-        ensures made { OnOk result (forest_of nodes.new.items ≡ with_child t content (forest_of nodes.old.items)) }
+        ensures made { OnOk result
+            (forest_of nodes.new.items ≡ with_child t content (forest_of nodes.old.items)) }
         ensures number { IfOk result (λ id. id ≡ vec_len nodes.old) }
         ensures allowed { OnOk result (MayAppend (forest_of nodes.old.items) t content) }
         ensures err { OnErr result (nodes.new.items ≡ nodes.old.items) }
-        ensures cause { IfErr result (λ fault. DataCause (forest_of nodes.old.items) t content fault) }
+        ensures cause { IfErr result
+            (λ fault. DataCause (forest_of nodes.old.items) t content fault) }
         ensures sound { IsSoundArena nodes.new.items }
     {
         check_data(nodes, t, &content)?;
@@ -58,7 +63,8 @@ pub(crate) fn push_alone(nodes: &mut Vec<TreeNode>, content: NodeData) -> Result
     ensures ok { OnOk result (Created nodes.old.items nodes.new.items content) }
     ensures number { IfOk result (λ id. id ≡ vec_len nodes.old) }
     ensures grown { OnOk result (vec_len nodes.new ≡ vec_len nodes.old + 1) }
-    ensures pushed { OnOk result ((node : TreeNode) × (nodes.new.items ≡ nodes.old.items ++ node ∷ [])) }
+    ensures pushed { OnOk result
+        ((node : TreeNode) × (nodes.new.items ≡ nodes.old.items ++ node ∷ [])) }
     ensures err { OnErr result (nodes.new.items ≡ nodes.old.items) }
     ensures cause { IfErr result (λ fault. NoRoom (vec_len nodes.old) fault) }
 {

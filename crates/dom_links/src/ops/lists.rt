@@ -21,7 +21,8 @@ impl TreeNodeOps {
         requires linked { IsArenaOf (forest_of nodes.old) nodes.old }
         requires known { x < length nodes.old }
         requires target_known { IfSome parent (λ t. t < length nodes.old) }
-        requires apart { IfSome parent (λ t. stands_in t (children_of (forest_of nodes.old) x) ≡ false) }
+        requires apart { IfSome parent
+            (λ t. stands_in t (children_of (forest_of nodes.old) x) ≡ false) }
         ensures { Reparents nodes.old nodes.new x parent }
     {
         let Some(t) = parent else {

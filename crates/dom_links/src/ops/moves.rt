@@ -142,7 +142,8 @@ impl TreeNodeOps {
 fn cut_out(nodes: &mut [TreeNode], moving: Moving) -> NodeId
     requires linked { IsArenaOf (forest_of nodes.old) nodes.old }
     requires known { mover moving < length nodes.old }
-    ensures arena { IsArenaOf (cut (moved_nodes (forest_of nodes.old) moving) (forest_of nodes.old)) nodes.new }
+    ensures arena { IsArenaOf
+        (cut (moved_nodes (forest_of nodes.old) moving) (forest_of nodes.old)) nodes.new }
     ensures start { first (moved_nodes (forest_of nodes.old) moving) ≡ Some result }
     ensures start_known { result < length nodes.old }
 {

@@ -40,7 +40,8 @@ impl TreeNodeOps {
     /// The nearest element among the siblings after a node.
     pub fn next_element_sibling_of(nodes: &[TreeNode], id: &NodeId) -> Option<NodeId>
         requires { IsSoundArena nodes.now }
-        ensures { result ≡ find (element_at (forest_of nodes.now)) (later (forest_of nodes.now) false id.now) }
+        ensures { result ≡ find (element_at (forest_of nodes.now))
+            (later (forest_of nodes.now) false id.now) }
     {
         first_element_on(nodes, next_sibling_id(nodes, id), false)
     }
@@ -48,7 +49,8 @@ impl TreeNodeOps {
     /// The nearest element among the siblings before a node.
     pub fn prev_element_sibling_of(nodes: &[TreeNode], id: &NodeId) -> Option<NodeId>
         requires { IsSoundArena nodes.now }
-        ensures { result ≡ find (element_at (forest_of nodes.now)) (later (forest_of nodes.now) true id.now) }
+        ensures { result ≡ find (element_at (forest_of nodes.now))
+            (later (forest_of nodes.now) true id.now) }
     {
         first_element_on(nodes, prev_sibling_id(nodes, id), true)
     }
@@ -56,7 +58,8 @@ impl TreeNodeOps {
     /// The first element among the children of a node.
     pub fn first_element_child_of(nodes: &[TreeNode], id: &NodeId) -> Option<NodeId>
         requires { IsSoundArena nodes.now }
-        ensures { result ≡ find (element_at (forest_of nodes.now)) (children_of (forest_of nodes.now) id.now) }
+        ensures { result ≡ find (element_at (forest_of nodes.now))
+            (children_of (forest_of nodes.now) id.now) }
     {
         first_element_on(nodes, first_child_id(nodes, id), false)
     }
@@ -118,7 +121,8 @@ pub fn wrapper_of(nodes: &[TreeNode], x: NodeId) -> Option<NodeId>
 fn first_element_on(nodes: &[TreeNode], from: Option<NodeId>, rev: bool) -> Option<NodeId>
     requires sound { IsSoundArena nodes.now }
     requires within { IsWithin (forest_of nodes.now) from }
-    ensures { result ≡ find (element_at (forest_of nodes.now)) (row_on (forest_of nodes.now) rev from) }
+    ensures { result ≡ find (element_at (forest_of nodes.now))
+        (row_on (forest_of nodes.now) rev from) }
 {
     let mut next = from;
     while let Some(at) = next {
@@ -132,7 +136,7 @@ fn first_element_on(nodes: &[TreeNode], from: Option<NodeId>, rev: bool) -> Opti
 }
 
 /// The sibling after a node, or the one before it.
-fn neighbour(node: &TreeNode, rev: bool) -> Option<NodeId>
+pub(crate) fn neighbour(node: &TreeNode, rev: bool) -> Option<NodeId>
     ensures { result ≡ (if rev then node.now.prev_sibling else node.now.next_sibling) }
 {
     if rev {

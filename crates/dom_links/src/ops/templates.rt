@@ -13,7 +13,8 @@ use dom_nodes::node_id::NodeId;
 
 /// Takes the last node away.
 fn drop_last(nodes: &mut Vec<TreeNode>)
-    ensures { (front : List TreeNode) (node : TreeNode) → nodes.old.items ≡ front ++ node ∷ [] → nodes.new.items ≡ front }
+    ensures { (front : List TreeNode) (node : TreeNode) → nodes.old.items ≡ front ++ node ∷ []
+        → nodes.new.items ≡ front }
 {
     nodes.pop();
 }

@@ -19,7 +19,8 @@ pub(crate) fn check_contents(
     requires known { EachIndex nodes.now (λ n. LinksKnown nodes.now n) }
     requires holders { AreHolders nodes.now holders.now }
     requires before { PassesBefore nodes.now NoChildrenHere }
-    ensures sound { MatchResult result (λ _. ContentsHold nodes.now holders.now) (λ fault. IsRefused nodes.now fault) }
+    ensures sound { MatchResult result (λ _. ContentsHold nodes.now holders.now)
+        (λ fault. IsRefused nodes.now fault) }
     ensures cause { IfErr result (λ fault. Tells nodes.now fault) }
 {
     if !are_borne(nodes) {
@@ -71,7 +72,8 @@ fn is_borne(nodes: &[TreeNode], n: usize) -> bool
 /// Whether all parents may have children.
 pub(crate) fn are_borne(nodes: &[TreeNode]) -> bool
     requires { EachIndex nodes.now (λ n. LinksKnown nodes.now n) }
-    ensures { MatchBool result (EachIndex nodes.now (λ n. IsBorne nodes.now n)) (SomeIndex nodes.now (λ n. IsBorne nodes.now n → ⊥)) }
+    ensures { MatchBool result (EachIndex nodes.now (λ n. IsBorne nodes.now n))
+        (SomeIndex nodes.now (λ n. IsBorne nodes.now n → ⊥)) }
 {
     for n in 0..nodes.len() {
         if !is_borne(nodes, n) {
@@ -101,7 +103,8 @@ fn stays_alone(nodes: &[TreeNode], n: usize) -> bool
 
 /// Whether the root, the documents and the fragments stand alone.
 pub(crate) fn stay_alone(nodes: &[TreeNode]) -> bool
-    ensures { MatchBool result (EachIndex nodes.now (λ n. IsAlone nodes.now n)) (SomeIndex nodes.now (λ n. IsAlone nodes.now n → ⊥)) }
+    ensures { MatchBool result (EachIndex nodes.now (λ n. IsAlone nodes.now n))
+        (SomeIndex nodes.now (λ n. IsAlone nodes.now n → ⊥)) }
 {
     for n in 0..nodes.len() {
         if !stays_alone(nodes, n) {
@@ -115,7 +118,8 @@ pub(crate) fn stay_alone(nodes: &[TreeNode]) -> bool
 fn holds_contents(nodes: &[TreeNode], holders: &[Option<NodeId>], n: usize) -> bool
     requires holders { AreHolders nodes.now holders.now }
     requires here { n < length nodes.now }
-    ensures { MatchBool result (HoldsContents nodes.now holders.now n) (HoldsContents nodes.now holders.now n → ⊥) }
+    ensures { MatchBool result (HoldsContents nodes.now holders.now n)
+        (HoldsContents nodes.now holders.now n → ⊥) }
 {
     let Some(contents) = nodes[n].content.template_contents() else {
         return true;

@@ -12,7 +12,8 @@ use dom_nodes::node_id::NodeId;
 
 /// The checks that come before that for cycles.
 pub(crate) fn check_links(nodes: &[TreeNode]) -> Result<(), ValidateFault>
-    ensures sound { MatchResult result (λ _. LinksHold nodes.now) (λ fault. IsRefused nodes.now fault) }
+    ensures sound { MatchResult result (λ _. LinksHold nodes.now)
+        (λ fault. IsRefused nodes.now fault) }
     ensures cause { IfErr result (λ fault. Tells nodes.now fault) }
     ensures empty { nodes.now ≡ [] → result ≡ Err NoRoot }
 {
@@ -49,7 +50,8 @@ pub(crate) fn ids_are_places(nodes: &[TreeNode]) -> bool
 
 /// Whether the link, if there is one, names a node.
 fn is_known(nodes: &[TreeNode], link: Option<NodeId>) -> bool
-    ensures { MatchBool result (IsKnown nodes.now link) (IsSomeAnd link (λ k. length nodes.now ≤ k)) }
+    ensures { MatchBool result (IsKnown nodes.now link)
+        (IsSomeAnd link (λ k. length nodes.now ≤ k)) }
 {
     if let Some(id) = link {
         if id.value() >= nodes.len() {
@@ -82,7 +84,8 @@ fn knows(nodes: &[TreeNode], n: usize) -> bool
 
 /// Whether each link names a node.
 pub(crate) fn are_known(nodes: &[TreeNode]) -> bool
-    ensures { MatchBool result (EachIndex nodes.now (λ n. LinksKnown nodes.now n)) (SomeIndex nodes.now (λ n. LinksAstray nodes.now n)) }
+    ensures { MatchBool result (EachIndex nodes.now (λ n. LinksKnown nodes.now n))
+        (SomeIndex nodes.now (λ n. LinksAstray nodes.now n)) }
 {
     for n in 0..nodes.len() {
         if !knows(nodes, n) {
@@ -125,7 +128,8 @@ fn agrees(nodes: &[TreeNode], n: usize) -> bool
 /// Whether neighbours name each other.
 pub(crate) fn agree(nodes: &[TreeNode]) -> bool
     requires { EachIndex nodes.now (λ n. LinksKnown nodes.now n) }
-    ensures { MatchBool result (EachIndex nodes.now (λ n. Agrees nodes.now n)) (SomeIndex nodes.now (λ n. Agrees nodes.now n → ⊥)) }
+    ensures { MatchBool result (EachIndex nodes.now (λ n. Agrees nodes.now n))
+        (SomeIndex nodes.now (λ n. Agrees nodes.now n → ⊥)) }
 {
     for n in 0..nodes.len() {
         if !agrees(nodes, n) {
@@ -152,7 +156,8 @@ fn shares_parent(nodes: &[TreeNode], n: usize) -> bool
 /// Whether a link, if there is one, names a node whose parent is n.
 fn is_child(nodes: &[TreeNode], link: Option<NodeId>, n: usize) -> bool
     requires { IsKnown nodes.now link }
-    ensures { MatchBool result (IfSome link (λ c. parent_link nodes.now c ≡ Some n)) (IfSome link (λ c. parent_link nodes.now c ≡ Some n) → ⊥) }
+    ensures { MatchBool result (IfSome link (λ c. parent_link nodes.now c ≡ Some n))
+        (IfSome link (λ c. parent_link nodes.now c ≡ Some n) → ⊥) }
 {
     let Some(child) = link else {
         return true;
@@ -202,7 +207,8 @@ fn is_linked(nodes: &[TreeNode], n: usize) -> bool
 /// Whether nodes and their parents name each other.
 pub(crate) fn are_linked(nodes: &[TreeNode]) -> bool
     requires { EachIndex nodes.now (λ n. LinksKnown nodes.now n) }
-    ensures { MatchBool result (EachIndex nodes.now (λ n. IsLinked nodes.now n)) (SomeIndex nodes.now (λ n. IsLinked nodes.now n → ⊥)) }
+    ensures { MatchBool result (EachIndex nodes.now (λ n. IsLinked nodes.now n))
+        (SomeIndex nodes.now (λ n. IsLinked nodes.now n → ⊥)) }
 {
     for n in 0..nodes.len() {
         if !is_linked(nodes, n) {

@@ -14,7 +14,8 @@ fn meets_itself(links: &[Option<NodeId>], marks: &mut [usize], start: usize) -> 
     requires known { (n : ℕ) → IfSome (link_at links.now n) (λ m. m < length links.now) }
     requires here { start < length links.now }
     requires earlier { AreMarks links.now marks.old start }
-    ensures { MatchBool result (HasRing (link_at links.now)) (AreMarks links.now marks.new (start + 1)) }
+    ensures { MatchBool result (HasRing (link_at links.now))
+        (AreMarks links.now marks.new (start + 1)) }
 {
     let mut at = start;
     while marks[at] == 0 {
@@ -48,7 +49,8 @@ fn steps_up(
     holders: &[Option<NodeId>],
 ) -> Result<Vec<Option<NodeId>>, AllocError>
     requires { length holders.now ≡ length nodes.now }
-    ensures { IfOk result (λ ups. AreLinksBy ups.items (length nodes.now) (step_up nodes.now holders.now)) }
+    ensures { IfOk result
+        (λ ups. AreLinksBy ups.items (length nodes.now) (step_up nodes.now holders.now)) }
 {
     let mut ups = Vec::with_capacity(alloc, nodes.len())?;
     for n in 0..nodes.len() {
@@ -73,7 +75,8 @@ pub(crate) fn has_step_ring(
 
 /// The sibling before each node.
 fn siblings_before(alloc: Global, nodes: &[TreeNode]) -> Result<Vec<Option<NodeId>>, AllocError>
-    ensures { IfOk result (λ prevs. AreLinksBy prevs.items (length nodes.now) (prev_link nodes.now)) }
+    ensures { IfOk result
+        (λ prevs. AreLinksBy prevs.items (length nodes.now) (prev_link nodes.now)) }
 {
     let mut prevs = Vec::with_capacity(alloc, nodes.len())?;
     for node in nodes {
