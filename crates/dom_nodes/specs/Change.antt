@@ -1,12 +1,12 @@
 -- One change of a node, what it leaves, and whether it asks for memory.
-use Rattle.std.specs.Prelude.{◌≡◌, Bool, true, false, ◌&&◌, [], map, Result, IsOk, OnOk, OnErr}
+use Rattle.std.specs.Prelude.{◌≡◌, Bool, true, false, not, ◌&&◌, [], map, Result, IsOk, OnOk, OnErr}
 use Rattle.dom_nodes.specs.declared.fault.OutOfMemory.{OutOfMemory}
 use Rattle.dom_nodes.specs.declared.node_data.NodeData.{NodeData}
 use Rattle.dom_nodes.specs.declared.node_data.changing.Change.{Change}
 use Rattle.dom_nodes.specs.declared.node_data.changing.Change.TheVariants.{SetAttr, RemoveAttr, RemoveAttrs, RetainAttrs, RemoveAllAttrs, Rename, AddClass, RemoveClass}
 use Rattle.dom_nodes.specs.Kinds.{is_element}
 use Rattle.dom_nodes.specs.Changes.{on_element, only_names, renamed, with_attr, with_attrs, without_name, without_names}
-use Rattle.dom_nodes.specs.Classes.{with_classes, without_classes}
+use Rattle.dom_nodes.specs.Classes.{is_blank, with_classes, without_classes}
 
 -- the node after the change; one that is no element stays
 abbrev pub changed : Change → NodeData → NodeData
@@ -19,8 +19,10 @@ changed (Rename name) node = on_element (renamed name.now) node
 changed (AddClass classes) node = with_attrs (with_classes classes.now) node
 changed (RemoveClass classes) node = with_attrs (without_classes classes.now) node
 
--- the change may ask for memory
+-- the change may ask for memory. Blank classes are none
 abbrev pub asks : Change → Bool
+asks (AddClass classes) = not (is_blank classes.now)
+asks (RemoveClass classes) = not (is_blank classes.now)
 asks (RemoveAttr name) = false
 asks (RemoveAttrs names) = false
 asks (RetainAttrs names) = false

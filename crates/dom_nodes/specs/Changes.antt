@@ -1,6 +1,5 @@
 -- What changes leave of names and attributes.
 use Rattle.std.specs.Prelude.{ℕ, Bool, not, List, [], ◌∷◌, ◌++◌, None, is_some, codes, filter, if◌then◌else◌, ◌&&◌, ◌||◌}
-use Rattle.std.specs.List.{list_any}
 use Rattle.std.specs.Str.{bytes_eq}
 use Rattle.dom_nodes.specs.declared.name.Attr.{Attr}
 use Rattle.dom_nodes.specs.declared.name.QualName.{QualName}
@@ -9,18 +8,15 @@ use Rattle.dom_nodes.specs.declared.node_data.Element.{Element}
 use Rattle.dom_nodes.specs.declared.node_data.NodeData.{NodeData}
 use Rattle.dom_nodes.specs.declared.node_data.NodeData.TheVariants.{Element as AnElement}
 use Rattle.dom_nodes.specs.Attrs.{attr_of}
+use Rattle.dom_nodes.specs.Words.{is_among}
 
 -- the attribute has that local name
 abbrev pub is_named : List ℕ → Attr → Bool
 is_named name attr = bytes_eq attr.name.local name
 
--- the text is one of the names
-abbrev pub is_one_of : List (List ℕ) → List ℕ → Bool
-is_one_of names text = list_any (λ name. bytes_eq text name) names
-
 -- the attribute's local name is one of the names
 abbrev pub is_named_in : List (List ℕ) → Attr → Bool
-is_named_in names attr = is_one_of names attr.name.local
+is_named_in names attr = is_among attr.name.local names
 
 -- a local name without prefix and namespace
 abbrev pub plain_name : List ℕ → QualName

@@ -6,17 +6,18 @@ use Rattle.std.specs.Str.{bytes_eq, chars}
 use Rattle.dom_nodes.specs.declared.name.Attr.{Attr}
 use Rattle.dom_nodes.specs.declared.case_sensitivity.CaseSensitivity.{CaseSensitivity}
 use Rattle.dom_nodes.specs.declared.case_sensitivity.CaseSensitivity.TheVariants.{CaseSensitive, AsciiCaseInsensitive}
+use Rattle.dom_nodes.specs.Ascii.{space}
 use Rattle.dom_nodes.specs.Changes.{with_attr, with_value}
 use Rattle.dom_nodes.specs.Words.{class_words, is_among, words_of}
 
 -- the words with one space between any two
 abbrev pub words_joined : List (List ℕ) → List ℕ
-words_joined words = join_with_byte 32 words
+words_joined words = join_with_byte space words
 
 -- one more word at the end of such a text
 abbrev pub with_word : List ℕ → List ℕ → List ℕ
 with_word [] word = word
-with_word (c ∷ text) word = (c ∷ text) ++ 32 ∷ word
+with_word (c ∷ text) word = (c ∷ text) ++ space ∷ word
 
 -- each word at its first occurrence
 abbrev pub distinct : List (List ℕ) → List (List ℕ)

@@ -1,7 +1,7 @@
 //! What is true of numbers, attributes and classes, told to the crates above. The functions do
 //! nothing.
 
-ghost use Rattle.std.specs.Prelude.{◌≡◌, ◌==◌, ℕ, List, false, None, Some};
+ghost use Rattle.std.specs.Prelude.{◌≡◌, ◌==◌, ◌&&◌, ℕ, List, false, None, Some};
 ghost use Rattle.std.specs.Hash.{u32 as hashed_u32};
 ghost use Rattle.std.specs.Ordering.{nat_cmp};
 ghost use Rattle.std.specs.Str.{bytes_eq};
@@ -9,8 +9,10 @@ ghost use Rattle.dom_nodes.specs.declared.name.Attr.{Attr};
 ghost use Rattle.dom_nodes.specs.Attrs.{attr_of};
 ghost use Rattle.dom_nodes.specs.Changes.{with_attr, without_name};
 ghost use Rattle.dom_nodes.specs.Classes.{is_blank, with_classes, without_classes, words_with, words_without};
+ghost use Rattle.dom_nodes.specs.Names.{same_name};
 ghost use Rattle.dom_nodes.specs.Words.{class_words, words_of};
 
+use crate::name::{Attr, QualName};
 use crate::node_id::NodeId;
 use std::hash::Hash;
 
@@ -20,6 +22,17 @@ pub fn comparisons_of_numbers(id: NodeId, other: NodeId)
     ensures cmp { ⟦<NodeId as Ord>⟧.cmp id other ≡ nat_cmp id other }
     ensures partial_cmp { ⟦<NodeId as PartialOrd>⟧.partial_cmp id other ≡ Some (nat_cmp id other) }
     ensures hash { ⟦<NodeId as Hash>⟧.hash_input id ≡ hashed_u32 id }
+{}
+
+/// `==` of names is that of prefix, namespace and local name.
+pub fn comparisons_of_names(name: &QualName, other: &QualName)
+    ensures { ⟦<QualName as PartialEq>⟧.eq name.now other.now ≡ same_name name.now other.now }
+{}
+
+/// `==` of attributes is that of names and values.
+pub fn comparisons_of_attributes(attr: &Attr, other: &Attr)
+    ensures { ⟦<Attr as PartialEq>⟧.eq attr.now other.now
+        ≡ (same_name attr.now.name other.now.name && bytes_eq attr.now.value other.now.value) }
 {}
 
 /// An attribute that is set has the value, one of another name keeps its own, and one that is

@@ -1,7 +1,6 @@
 //! The kinds of nodes, and a node with its links.
 
 ghost use Rattle.std.specs.Prelude.{◌≡◌};
-ghost use Rattle.dom_nodes.specs.Words.{is_among, words_of};
 
 mod any_node;
 mod attributes;
@@ -16,13 +15,14 @@ use crate::fault::OutOfMemory;
 use crate::name::{Attr, QualName};
 use crate::node_id::NodeId;
 use crate::text::Text;
+use crate::words::has_word;
 pub use changing::Change;
 pub use node_edit::NodeEdit;
 use std::alloc::Global;
 use std::marker::Model;
 
 /// The attributes of an element, in order. A contract sees them as a list.
-#[derive(Drop)]
+#[derive(Debug, Drop)]
 pub struct Attrs {
     items: Vec<Attr>,
 }
@@ -72,7 +72,7 @@ impl Attrs {
 }
 
 /// An element's own data.
-#[derive(Drop)]
+#[derive(Debug, Drop)]
 pub struct Element {
     pub name: QualName,
     pub attrs: Attrs,
@@ -157,20 +157,8 @@ impl Element {
     }
 }
 
-/// Whether the text has that word, between whitespace.
-fn has_word(text: &str, word: &str) -> bool
-    ensures { result ≡ is_among word.now (words_of text.now) }
-{
-    for found in text.split_ascii_whitespace() {
-        if found == word {
-            return true;
-        }
-    }
-    false
-}
-
 /// What a node is.
-#[derive(Drop)]
+#[derive(Debug, Drop)]
 pub enum NodeData {
     Document,
     Fragment,
@@ -193,7 +181,7 @@ pub enum NodeData {
 }
 
 /// A node of an arena: its number, its links, and what it is.
-#[derive(Drop)]
+#[derive(Debug, Drop)]
 pub struct TreeNode {
     pub id: NodeId,
     pub parent: Option<NodeId>,

@@ -4,7 +4,8 @@ use crate::fault::{EditFault, MarkupFault, MarkupFaultKind, OutOfMemory};
 use crate::name::{Attr, LocalName, Namespace, QualName};
 use crate::node_data::{Attrs, Element, NodeData};
 use crate::node_id::NodeId;
-use crate::text::Text;
+use crate::text::{RareText, Text};
+use crate::words;
 use std::alloc::{AllocError, Global};
 use std::test::Fail;
 
@@ -92,5 +93,112 @@ fn kinds_are_told_apart(rt: HostRuntime) -> Result<(), Fail> {
     assert!(rt; element.may_have_children() && !comment.may_have_children());
     assert!(rt; element.template_contents() == NodeId::new(3));
     assert!(rt; comment.template_contents().is_none());
+    Ok(())
+}
+
+/// A name of every namespace, and one with a prefix.
+fn names(alloc: Global) -> Result<Vec<QualName>, Fail> {
+    let mut names = Vec::new(alloc);
+    for ns in [
+        Namespace::None,
+        Namespace::Html,
+        Namespace::Svg,
+        Namespace::MathMl,
+        Namespace::XLink,
+        Namespace::Xml,
+        Namespace::XmlNs,
+        Namespace::Other(RareText::new(alloc, "urn:x")?),
+    ] {
+        names.push(QualName {
+            prefix: None,
+            ns,
+            local: LocalName::new(alloc, "rare-name")?,
+        })?;
+    }
+    names.push(QualName {
+        prefix: Some(RareText::new(alloc, "xlink")?),
+        ns: Namespace::XLink,
+        local: LocalName::new(alloc, "href")?,
+    })?;
+    Ok(names)
+}
+
+#[test]
+fn copies_of_names_are_the_same(rt: HostRuntime) -> Result<(), Fail> {
+    for name in &names(rt.alloc())? {
+        let copy = name.try_clone()?;
+        assert!(rt; copy == *name);
+        assert!(rt; copy.is_same(name));
+    }
+    Ok(())
+}
+
+#[test]
+fn names_differ_by_each_part(rt: HostRuntime) -> Result<(), Fail> {
+    let names = names(rt.alloc())?;
+    for i in 0..names.len() {
+        for j in 0..names.len() {
+            assert!(rt; (names[i] == names[j]) == (i == j));
+        }
+    }
+    Ok(())
+}
+
+/// Data of every kind.
+fn kinds(alloc: Global) -> Result<Vec<NodeData>, Fail> {
+    let mut kinds = Vec::new(alloc);
+    kinds.push(NodeData::Document)?;
+    kinds.push(NodeData::Fragment)?;
+    kinds.push(NodeData::Doctype {
+        name: Text::new(alloc, "html")?,
+        public_id: Text::new(alloc, "p")?,
+        system_id: Text::new(alloc, "s")?,
+    })?;
+    kinds.push(NodeData::Text {
+        contents: Text::new(alloc, "a text of more than thirty bytes in all")?,
+    })?;
+    kinds.push(NodeData::Comment {
+        contents: Text::new(alloc, "c")?,
+    })?;
+    kinds.push(NodeData::Element(template(alloc)?))?;
+    kinds.push(NodeData::ProcessingInstruction {
+        target: Text::new(alloc, "t")?,
+        contents: Text::new(alloc, "c")?,
+    })?;
+    Ok(kinds)
+}
+
+#[test]
+fn copies_of_each_kind_are_the_same(rt: HostRuntime) -> Result<(), Fail> {
+    let alloc = rt.alloc();
+    for data in &kinds(alloc)? {
+        let copy = data.try_clone()?;
+        let copied = format!(in alloc; "{copy:?}")?;
+        let shown = format!(in alloc; "{data:?}")?;
+        assert_eq!(rt; copied.as_str(), shown.as_str());
+    }
+    Ok(())
+}
+
+#[test]
+fn values_print_for_a_programmer(rt: HostRuntime) -> Result<(), Fail> {
+    let alloc = rt.alloc();
+    let attr = Attr {
+        name: html_name(alloc, "id")?,
+        value: Text::new(alloc, "a\"b")?,
+    };
+    let shown = format!(in alloc; "{attr:?}")?;
+    assert_eq!(rt;
+        shown.as_str(),
+        "Attr { name: QualName { prefix: None, ns: Html, local: \"id\" }, value: \"a\\\"b\" }"
+    );
+    Ok(())
+}
+
+#[test]
+fn texts_have_words(rt: HostRuntime) -> Result<(), Fail> {
+    assert!(rt; words::is_blank("") && words::is_blank(" \n\u{a0}") && !words::is_blank(" a "));
+    assert!(rt; words::has_word(" a  bc", "bc") && !words::has_word("abc", "bc"));
+    assert!(rt; words::is_one_of("b", &["a", "b"]) && !words::is_one_of("b", &[]));
     Ok(())
 }

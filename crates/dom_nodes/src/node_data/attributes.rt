@@ -1,12 +1,13 @@
 //! An element's attributes by local name: reading, setting and removing.
 
 ghost use Rattle.std.specs.Prelude.{◌≡◌, map, is_some, position, OnErr, OnOk, IfOk};
-ghost use Rattle.dom_nodes.specs.Changes.{is_named, is_one_of, is_link_name, plain_attr};
+ghost use Rattle.dom_nodes.specs.Changes.{is_named, is_link_name, plain_attr};
 
 use super::{Attrs, Element};
 use crate::fault::OutOfMemory;
 use crate::name::{Attr, LocalName, Namespace, QualName};
 use crate::text::Text;
+use crate::words::is_one_of;
 use std::alloc::Global;
 
 impl Attrs {
@@ -166,17 +167,6 @@ fn plain_attr(alloc: Global, name: &str, value: Text) -> Result<Attr, OutOfMemor
         local,
     };
     Ok(Attr { name, value })
-}
-
-fn is_one_of(text: &str, names: &[&str]) -> bool
-    ensures { result ≡ is_one_of (map (λ name. name.now) names.now) text.now }
-{
-    for name in names {
-        if text == *name {
-            return true;
-        }
-    }
-    false
 }
 
 fn is_link_name(name: &str) -> bool

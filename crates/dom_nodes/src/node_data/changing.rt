@@ -1,6 +1,6 @@
 //! One change of an element, told as a value, and the calls that make it.
 
-ghost use Rattle.std.specs.Prelude.{◌≡◌, ◌&&◌, false, IsOk, OnErr, OnOk, map, []};
+ghost use Rattle.std.specs.Prelude.{◌≡◌, ◌&&◌, false, true, IsOk, OnErr, OnOk, map, []};
 
 use super::{Element, NodeData, TreeNode};
 use crate::fault::OutOfMemory;
@@ -58,7 +58,7 @@ impl TreeNode {
     ghost use Rattle.dom_nodes.specs.Kinds.{is_element};
     ghost use Rattle.dom_nodes.specs.Change.{Tried, asks_of, changed};
     ghost use Rattle.dom_nodes.specs.Changes.{on_element, only_names, renamed, with_attr, with_attrs, without_name, without_names};
-    ghost use Rattle.dom_nodes.specs.Classes.{with_classes, without_classes};
+    ghost use Rattle.dom_nodes.specs.Classes.{is_blank, with_classes, without_classes};
 
     /// As `NodeData::change`.
     pub fn change(&mut self, change: Change) -> Result<(), OutOfMemory>
@@ -110,6 +110,7 @@ impl TreeNode {
         ensures ok { OnOk result (self.new ≡ record self.old { content = with_attrs (with_classes classes.now) self.old.content }) }
         ensures err { OnErr result (self.new ≡ self.old) }
         ensures no_element { is_element self.old.content ≡ false → IsOk result }
+        ensures blank { is_blank classes.now ≡ true → IsOk result }
     {
         self.change(Change::AddClass(classes))
     }
@@ -119,6 +120,7 @@ impl TreeNode {
         ensures ok { OnOk result (self.new ≡ record self.old { content = with_attrs (without_classes classes.now) self.old.content }) }
         ensures err { OnErr result (self.new ≡ self.old) }
         ensures no_element { is_element self.old.content ≡ false → IsOk result }
+        ensures blank { is_blank classes.now ≡ true → IsOk result }
     {
         self.change(Change::RemoveClass(classes))
     }

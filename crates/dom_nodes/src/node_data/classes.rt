@@ -4,10 +4,11 @@ ghost use Rattle.std.specs.Prelude.{◌≡◌, string_bytes, codes, true, IsOk, 
 ghost use Rattle.dom_nodes.specs.Words.{class_words, words_of};
 ghost use Rattle.dom_nodes.specs.Classes.{is_among_by, is_blank, with_word, words_joined, words_with, words_without};
 
-use super::{Element, has_word};
+use super::Element;
 use crate::case_sensitivity::CaseSensitivity;
 use crate::fault::OutOfMemory;
 use crate::text::Text;
+use crate::words::{has_word, has_word_by, is_blank};
 use std::alloc::Global;
 
 impl Element {
@@ -67,24 +68,6 @@ impl Element {
             None => "",
         }
     }
-}
-
-fn is_blank(text: &str) -> bool
-    ensures { result ≡ is_blank text.now }
-{
-    text.chars().all(|c| c.is_whitespace())
-}
-
-/// Whether one of the text's words is the name.
-fn has_word_by(text: &str, name: &[u8], case_sensitivity: CaseSensitivity) -> bool
-    ensures { result ≡ is_among_by case_sensitivity name.now (words_of text.now) }
-{
-    for word in text.split_ascii_whitespace() {
-        if case_sensitivity.is_same(word.as_bytes(), name) {
-            return true;
-        }
-    }
-    false
 }
 
 /// The text's words that aren't among the others.

@@ -1,6 +1,6 @@
 //! Worked values, and that calls succeed where there is memory.
 
-use super::{Attrs, Element, NodeData, NodeEdit, TreeNode};
+use super::{Attrs, Change, Element, NodeData, NodeEdit, TreeNode};
 use crate::case_sensitivity::CaseSensitivity;
 use crate::name::{Attr, LocalName, Namespace, QualName};
 use crate::node_id::NodeId;
@@ -134,6 +134,20 @@ fn nodes_hand_on_to_their_element(rt: HostRuntime) -> Result<(), Fail> {
     changed.add_class("k l")?;
     changed.remove_class("k")?;
     assert!(rt; changed.is_link());
+    Ok(())
+}
+
+#[test]
+fn blank_classes_change_nothing(rt: HostRuntime) -> Result<(), Fail> {
+    let mut data = NodeData::Element(element(rt.alloc(), &[("class", "a  b")])?);
+    for blank in ["", " \t"] {
+        data.change(Change::AddClass(blank))?;
+        data.change(Change::RemoveClass(blank))?;
+    }
+    assert!(rt;
+        data.as_element()
+            .is_some_and(|inner| inner.class() == Some("a  b"))
+    );
     Ok(())
 }
 

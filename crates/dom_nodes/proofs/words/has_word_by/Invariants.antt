@@ -2,7 +2,7 @@ use Rattle.std.proofs.Common.{◌≡◌}
 use Rattle.std.specs.Str.Iter.{split_ascii_whitespace_text}
 use Rattle.dom_nodes.specs.Words.{words_of}
 use Rattle.dom_nodes.specs.Classes.{is_among_by}
-use Rattle.dom_nodes.proofs.node_data.classes.has_word_by.Given as goal
+use Rattle.dom_nodes.proofs.words.has_word_by.Given as goal
 
 -- the words that are left decide
 abbrev pub invariant-loop-word : goal.invariant-loop-word

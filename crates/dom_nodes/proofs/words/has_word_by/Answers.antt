@@ -2,7 +2,7 @@ use Rattle.std.proofs.Common.{sym, ap, ◌∙◌}
 use Rattle.dom_nodes.specs.Classes.{is_among_by, same_bytes}
 use Rattle.dom_nodes.proofs.WordLemmas.{words-cut, words-white}
 use Rattle.dom_nodes.proofs.ClassLemmas.{among_by-here, among_by-later}
-use Rattle.dom_nodes.proofs.node_data.classes.has_word_by.Goals as goal
+use Rattle.dom_nodes.proofs.words.has_word_by.Goals as goal
 
 pub returns-then-is_same : goal.returns-then-is_same
 returns-then-is_same c =

@@ -1,0 +1,70 @@
+//! Texts and names compare, and print for a programmer, as their bytes.
+
+ghost use Rattle.std.specs.Cmp.{partial_equiv_from_equiv};
+ghost use Rattle.std.specs.Cmp.Lexicographic.{nat_list_eq_equiv};
+ghost use Rattle.std.specs.Str.{bytes_eq};
+
+use crate::name::LocalName;
+use crate::text::{RareText, Text};
+use std::fmt;
+
+impl PartialEq for Text {
+    ghost eq = { bytes_eq };
+
+    ghost laws = { partial_equiv_from_equiv nat_list_eq_equiv };
+
+    fn eq(&self, other: &Text) -> bool {
+        self.as_str() == other.as_str()
+    }
+}
+
+impl Eq for Text {
+    ghost laws = { nat_list_eq_equiv };
+}
+
+impl fmt::Debug for Text {
+    fn fmt<W: fmt::Write>(&self, f: &mut fmt::Formatter<W>) -> fmt::Result {
+        fmt::Debug::fmt(&self.as_str(), f)
+    }
+}
+
+impl PartialEq for RareText {
+    ghost eq = { bytes_eq };
+
+    ghost laws = { partial_equiv_from_equiv nat_list_eq_equiv };
+
+    fn eq(&self, other: &RareText) -> bool {
+        self.as_str() == other.as_str()
+    }
+}
+
+impl Eq for RareText {
+    ghost laws = { nat_list_eq_equiv };
+}
+
+impl fmt::Debug for RareText {
+    fn fmt<W: fmt::Write>(&self, f: &mut fmt::Formatter<W>) -> fmt::Result {
+        fmt::Debug::fmt(&self.as_str(), f)
+    }
+}
+
+/// Known names are compared by their numbers.
+impl PartialEq for LocalName {
+    ghost eq = { bytes_eq };
+
+    ghost laws = { partial_equiv_from_equiv nat_list_eq_equiv };
+
+    fn eq(&self, other: &LocalName) -> bool {
+        self.is_same(other)
+    }
+}
+
+impl Eq for LocalName {
+    ghost laws = { nat_list_eq_equiv };
+}
+
+impl fmt::Debug for LocalName {
+    fn fmt<W: fmt::Write>(&self, f: &mut fmt::Formatter<W>) -> fmt::Result {
+        fmt::Debug::fmt(&self.as_str(), f)
+    }
+}
