@@ -10,7 +10,8 @@ use dom_nodes::text::Text;
 use std::alloc::Global;
 use std::test::Fail;
 
-/// Root 0 has the comment 1 and the element 2, `html`, which has the comment 3, `head` 4, the comment 5 and `body` 6.
+/// Root 0 has the comment 1 and the element 2, `html`, which has the comment 3, `head` 4, the
+/// comment 5 and `body` 6.
 fn page(alloc: Global) -> Result<Tree, Fail> {
     let mut tree = Tree::new(alloc, NodeData::Document)?;
     add_comment(&mut tree, 0)?;
