@@ -117,7 +117,7 @@ fn names_of_the_crate(rt: HostRuntime) -> Result<(), Fail> {
     assert!(rt; child_nodes(&tree, &node(2), true).next() == Some(node(6)));
     assert_eq!(rt; ancestor_nodes(&tree, &node(6), None).count(), 2);
     assert_eq!(rt; descendant_nodes(&tree, &node(0)).count(), 6);
-    assert!(rt; format!(in rt.alloc(); "{tree:?}")? == "Tree");
+    assert!(rt; format!(in rt.alloc(); "{tree:?}")?.as_str() == "Tree");
     Ok(())
 }
 
