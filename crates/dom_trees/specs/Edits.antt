@@ -69,11 +69,15 @@ removing_children x = record {
   Cause = KnownCause x;
 }
 
+-- x is known, and its children may go to the end of those of another node
+abbrev pub MayReparentOf : ℕ → Option ℕ → Forest → Type 0
+MayReparentOf x p forest = IsKnown x forest × MayReparent forest x p
+
 -- the children of x go to the end of those of another node, or are a run of their own
 abbrev pub reparenting : ℕ → Option ℕ → TreeEdit
 reparenting x p = record {
   after = reparented x p;
-  Allowed = λ forest. IsKnown x forest × MayReparent forest x p;
+  Allowed = MayReparentOf x p;
   Cause = ReparentCause x p;
 }
 

@@ -1,5 +1,5 @@
 -- What the nodes are that calls make.
-use Rattle.std.specs.Prelude.{ℕ, false, List, [], Option, None, Some}
+use Rattle.std.specs.Prelude.{ℕ, false, List, [], None, Some}
 use Rattle.dom_nodes.specs.declared.name.Attr.{Attr}
 use Rattle.dom_nodes.specs.declared.name.QualName.{QualName}
 use Rattle.dom_nodes.specs.declared.name.Namespace.TheVariants.{Html}

@@ -1,7 +1,8 @@
 //! What stands around a node, and the parts of a page.
 
+use crate::iters::{ancestor_nodes, child_nodes, descendant_nodes};
 use crate::list_tests::{add_comment, add_element, node};
-use crate::node_ref::NodeRef;
+use crate::node_ref::{Node, NodeRef};
 use crate::tree::Tree;
 use dom_nodes::name::{LocalName, Namespace, QualName};
 use dom_nodes::node_data::{Attrs, Element, NodeData};
@@ -9,7 +10,8 @@ use dom_nodes::text::Text;
 use std::alloc::Global;
 use std::test::Fail;
 
-/// Root 0 has the comment 1 and the element 2, `html`, which has the comment 3, `head` 4, the comment 5 and `body` 6.
+/// Root 0 has the comment 1 and the element 2, `html`, which has the comment 3, `head` 4, the
+/// comment 5 and `body` 6.
 fn page(alloc: Global) -> Result<Tree, Fail> {
     let mut tree = Tree::new(alloc, NodeData::Document)?;
     add_comment(&mut tree, 0)?;
@@ -70,6 +72,52 @@ fn finds_the_parts_of_a_page(rt: HostRuntime) -> Result<(), Fail> {
     assert!(rt; matches!(tree.body(), Some(found) if found.id == node(6)));
     let empty = Tree::new(alloc, NodeData::Document)?;
     assert!(rt; empty.html_root().is_none() && empty.head().is_none() && empty.body().is_none());
+    Ok(())
+}
+
+#[test]
+fn tells_the_base(rt: HostRuntime) -> Result<(), Fail> {
+    let mut tree = page(rt.alloc())?;
+    assert!(rt; tree.base_uri().is_none());
+    add_element(&mut tree, 6, "base")?;
+    assert!(rt; tree.base_uri().is_none());
+    add_element(&mut tree, 4, "base")?;
+    add_element(&mut tree, 4, "base")?;
+    let mut second = tree.node_mut(&node(9)).ok_or("node")?;
+    second.set_attr("href", "b")?;
+    assert!(rt; tree.base_uri().is_none());
+    let mut first = tree.node_mut(&node(8)).ok_or("node")?;
+    first.set_attr("href", "a")?;
+    assert!(rt; tree.base_uri() == Some("a"));
+    assert!(rt; NodeRef::new(node(6), &tree).base_uri() == Some("a"));
+    Ok(())
+}
+
+#[test]
+fn tells_roots_and_links(rt: HostRuntime) -> Result<(), Fail> {
+    let mut tree = page(rt.alloc())?;
+    add_element(&mut tree, 6, "a")?;
+    assert!(rt; tree.root().is_root() && !NodeRef::new(node(2), &tree).is_root());
+    assert!(rt; !NodeRef::new(node(7), &tree).is_link());
+    let mut link = tree.node_mut(&node(7)).ok_or("node")?;
+    link.set_attr("href", "")?;
+    assert!(rt; NodeRef::new(node(7), &tree).is_link() && !tree.root().is_link());
+    Ok(())
+}
+
+#[test]
+fn names_of_the_crate(rt: HostRuntime) -> Result<(), Fail> {
+    let tree = page(rt.alloc())?;
+    let body: Node = NodeRef::new(node(6), &tree);
+    assert!(rt; matches!(body.parent_element(), Some(found) if found.id == node(2)));
+    assert!(rt; matches!(body.prev_sibling_element(), Some(found) if found.id == node(4)));
+    let head = NodeRef::new(node(4), &tree);
+    assert!(rt; matches!(head.next_sibling_element(), Some(found) if found.id == node(6)));
+    assert_eq!(rt; child_nodes(&tree, &node(2), false).count(), 4);
+    assert!(rt; child_nodes(&tree, &node(2), true).next() == Some(node(6)));
+    assert_eq!(rt; ancestor_nodes(&tree, &node(6), None).count(), 2);
+    assert_eq!(rt; descendant_nodes(&tree, &node(0)).count(), 6);
+    assert!(rt; format!(in rt.alloc(); "{tree:?}")?.as_str() == "Tree");
     Ok(())
 }
 

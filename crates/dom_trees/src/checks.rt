@@ -3,10 +3,11 @@
 ghost use Rattle.std.specs.Prelude.{◌≡◌, ◌<◌, ◌≤◌, MatchResult, length, true};
 ghost use Rattle.dom_nodes.specs.declared.fault.EditFault.TheVariants.{TooManyNodes};
 ghost use Rattle.dom_links.specs.Forest.{forest_of};
-ghost use Rattle.dom_links.specs.ListMoves.{EachOf, MayReparent, MayWrap, moved_nodes, mover};
+ghost use Rattle.dom_links.specs.ListMoves.{EachOf, MayWrap, moved_nodes, mover};
 ghost use Rattle.dom_links.specs.Sound.{IsSoundArena, MayPlace, is_open, target};
-ghost use Rattle.dom_trees.specs.Edits.{IsKnown, MayMove};
-ghost use Rattle.dom_trees.specs.Refusals.{KnownCause, MoveCause, MovedCause, OpenCause, ReparentCause, WrapCause};
+ghost use Rattle.dom_trees.specs.Edits.{IsKnown, MayMove, MayReparentOf};
+ghost use Rattle.dom_trees.specs.Refusals.{KnownCause, MoveCause, MovedCause, OpenCause};
+ghost use Rattle.dom_trees.specs.Refusals.{ReparentCause, WrapCause};
 
 use dom_links::gap::{Gap, Moving};
 use dom_links::ops::TreeNodeOps;
@@ -122,7 +123,7 @@ pub(crate) fn check_reparent(
     parent: Option<NodeId>,
 ) -> Result<(), EditFault>
     requires { IsSoundArena nodes.now }
-    ensures { MatchResult result (λ _. IsKnown x (forest_of nodes.now) × MayReparent (forest_of nodes.now) x parent)
+    ensures { MatchResult result (λ _. MayReparentOf x parent (forest_of nodes.now))
         (ReparentCause x parent (forest_of nodes.now)) }
 {
     check_known(nodes, x)?;

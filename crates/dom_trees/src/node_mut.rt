@@ -1,11 +1,12 @@
-//! A node that is lent to be changed, with its tree. Each call hands on to the tree's call of that name, which says when
-//! it is refused.
+//! A node that is lent to be changed, with its tree. Each call hands on to the tree's call of that
+//! name, which says when it is refused.
 
 ghost use Rattle.std.specs.Prelude.{◌≡◌, ◌≤◌, MatchOption, length};
 ghost use Rattle.std.specs.Borrow.{sem};
 ghost use Rattle.dom_links.specs.declared.gap.Gap.TheVariants.{After, Before, EndOf, FrontOf};
 ghost use Rattle.dom_links.specs.declared.gap.Moving.TheVariants.{Node, WholeList, WithLater};
-ghost use Rattle.dom_trees.specs.Edits.{moving_to, removing, removing_children, replacing, unwrapping, wrapping};
+ghost use Rattle.dom_trees.specs.Edits.{moving_to, removing, removing_children, replacing};
+ghost use Rattle.dom_trees.specs.Edits.{unwrapping, wrapping};
 ghost use Rattle.dom_trees.specs.Lending.{EditsAt};
 
 use crate::tree::Tree;
@@ -28,7 +29,8 @@ impl Tree {
     pub fn node_mut(&mut self, id: &NodeId) -> Option<NodeMut<'_>>
         ensures* lends { sem 𝓛 (LendsNode self.entry result) }
         ensures node { MatchOption result (length self.old.content ≤ id.now)
-            (λ node. (node.id ≡ id.now) × (node.tree.now ≡ self.old) × (node.tree.ghost_name ≡ self.entry.ghost_name)) }
+            (λ node. (node.id ≡ id.now) × (node.tree.now ≡ self.old)
+            × (node.tree.ghost_name ≡ self.entry.ghost_name)) }
     {
         if id.value() >= self.len() {
             return None;
@@ -57,56 +59,64 @@ impl<'a> NodeMut<'a> {
 
     /// Moves another node to the end of the children.
     pub fn append_child(&mut self, new_child: &NodeId) -> Result<(), EditFault>
-        ensures { EditsAt result self.old self.new (moving_to (EndOf self.old.id) (Node new_child.now)) }
+        ensures { EditsAt result self.old self.new
+            (moving_to (EndOf self.old.id) (Node new_child.now)) }
     {
         self.tree.append_child_of(&self.id, new_child)
     }
 
     /// Moves another node to the front of the children.
     pub fn prepend_child(&mut self, new_child: &NodeId) -> Result<(), EditFault>
-        ensures { EditsAt result self.old self.new (moving_to (FrontOf self.old.id) (Node new_child.now)) }
+        ensures { EditsAt result self.old self.new
+            (moving_to (FrontOf self.old.id) (Node new_child.now)) }
     {
         self.tree.prepend_child_of(&self.id, new_child)
     }
 
     /// Moves another node to the place right before this one.
     pub fn insert_before(&mut self, new_sibling: &NodeId) -> Result<(), EditFault>
-        ensures { EditsAt result self.old self.new (moving_to (Before self.old.id) (Node new_sibling.now)) }
+        ensures { EditsAt result self.old self.new
+            (moving_to (Before self.old.id) (Node new_sibling.now)) }
     {
         self.tree.insert_before_of(&self.id, new_sibling)
     }
 
     /// Moves another node to the place right after this one.
     pub fn insert_after(&mut self, new_sibling: &NodeId) -> Result<(), EditFault>
-        ensures { EditsAt result self.old self.new (moving_to (After self.old.id) (Node new_sibling.now)) }
+        ensures { EditsAt result self.old self.new
+            (moving_to (After self.old.id) (Node new_sibling.now)) }
     {
         self.tree.insert_after_of(&self.id, new_sibling)
     }
 
     /// Moves another node and its later siblings to the end of the children.
     pub fn append_children(&mut self, new_child: &NodeId) -> Result<(), EditFault>
-        ensures { EditsAt result self.old self.new (moving_to (EndOf self.old.id) (WithLater new_child.now)) }
+        ensures { EditsAt result self.old self.new
+            (moving_to (EndOf self.old.id) (WithLater new_child.now)) }
     {
         self.tree.append_children_of(&self.id, new_child)
     }
 
     /// Moves the whole list of another node, it and all its siblings, to the front of the children.
     pub fn prepend_children(&mut self, new_child: &NodeId) -> Result<(), EditFault>
-        ensures { EditsAt result self.old self.new (moving_to (FrontOf self.old.id) (WholeList new_child.now)) }
+        ensures { EditsAt result self.old self.new
+            (moving_to (FrontOf self.old.id) (WholeList new_child.now)) }
     {
         self.tree.prepend_children_of(&self.id, new_child)
     }
 
     /// Moves another node and its later siblings to the place right before this one.
     pub fn insert_siblings_before(&mut self, new_sibling: &NodeId) -> Result<(), EditFault>
-        ensures { EditsAt result self.old self.new (moving_to (Before self.old.id) (WithLater new_sibling.now)) }
+        ensures { EditsAt result self.old self.new
+            (moving_to (Before self.old.id) (WithLater new_sibling.now)) }
     {
         self.tree.insert_siblings_before(&self.id, new_sibling)
     }
 
     /// Moves another node and its later siblings to the place right after this one.
     pub fn insert_siblings_after(&mut self, new_sibling: &NodeId) -> Result<(), EditFault>
-        ensures { EditsAt result self.old self.new (moving_to (After self.old.id) (WithLater new_sibling.now)) }
+        ensures { EditsAt result self.old self.new
+            (moving_to (After self.old.id) (WithLater new_sibling.now)) }
     {
         self.tree.insert_siblings_after(&self.id, new_sibling)
     }

@@ -73,9 +73,11 @@ impl Tree {
         NodeId::root()
     }
 
-    /// The tree of raw nodes. Where they are no forest's, or memory is refused, they come back as they were given.
+    /// The tree of raw nodes. Where they are no forest's, or memory is refused, they come back as
+    /// they were given.
     pub fn from_nodes(nodes: Vec<TreeNode>) -> Result<Tree, (Vec<TreeNode>, ValidateFault)>
-        ensures ok { IfOk result (λ tree. IsSoundArena nodes.items × (tree ≡ forest_of nodes.items)) }
+        ensures sound { IfOk result (λ _. IsSoundArena nodes.items) }
+        ensures ok { IfOk result (λ tree. tree ≡ forest_of nodes.items) }
         ensures back { IfErr result (λ refused. refused.0 ≡ nodes) }
         ensures err { IfErr result (λ refused. IsRefused nodes.items refused.1) }
         ensures cause { IfErr result (λ refused. Tells nodes.items refused.1) }
@@ -109,15 +111,16 @@ impl Tree {
         self.nodes.as_slice()
     }
 
-    /// Where the tree's memory comes from. No clause: a contract sees the tree as its forest, and this tells nothing
-    /// of it.
+    /// Where the tree's memory comes from. No clause: a contract sees the tree as its forest, and
+    /// this tells nothing of it.
     pub fn allocator(&self) -> Global {
         *self.nodes.allocator()
     }
 
     /// The node of that number.
     pub fn get(&self, id: &NodeId) -> Option<&TreeNode>
-        ensures { MatchOption result (length self.now.content ≤ id.now) (λ node. IsNodeOf self.now id.now node.now) }
+        ensures { MatchOption result (length self.now.content ≤ id.now)
+            (λ node. IsNodeOf self.now id.now node.now) }
     {
         find_node(self.nodes(), *id)
     }
@@ -136,14 +139,16 @@ impl Tree {
         Ok(self.child_ids_of_it(id, false).collect(self.allocator())?)
     }
 
-    /// The ancestors of a node, from its parent on; at most `max_depth` of them, where that is neither none nor 0.
+    /// The ancestors of a node, from its parent on; at most `max_depth` of them, where that is
+    /// neither none nor 0.
     pub fn ancestor_ids_of_it(&self, id: &NodeId, max_depth: Option<usize>) -> AncestorNodes<'_>
         ensures { result ≡ limited max_depth (ancestors self.now id.now) }
     {
         AncestorNodes::new(self.nodes(), id, max_depth)
     }
 
-    /// The ancestors of a node, from its parent on; at most `max_depth` of them, where that is neither none nor 0.
+    /// The ancestors of a node, from its parent on; at most `max_depth` of them, where that is
+    /// neither none nor 0.
     pub fn ancestor_ids_of(
         &self,
         id: &NodeId,

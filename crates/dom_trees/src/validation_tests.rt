@@ -11,8 +11,8 @@ use std::test::Fail;
 /// No link.
 const NO: usize = usize::MAX;
 
-/// The parent, the siblings before and after, and the first and last child of each node of a tree: 0 holds 1, which
-/// holds 2, 3 and 4. 2 is a template with the contents 5, which holds 6.
+/// The parent, the siblings before and after, and the first and last child of each node of a tree:
+/// 0 holds 1, which holds 2, 3 and 4. 2 is a template with the contents 5, which holds 6.
 const GOOD: [[usize; 5]; 7] = [
     [NO, NO, NO, 1, 1],
     [0, NO, NO, 2, 4],

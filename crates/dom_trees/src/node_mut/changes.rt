@@ -1,9 +1,17 @@
-//! Changes of what the node is. Its kind, its template contents and all links stay. A node that is no element has no
-//! attributes, name and classes: there these calls change nothing, and are not refused.
+//! Changes of what the node is. Its kind, its template contents and all links stay. A node that is
+//! no element has no attributes, name and classes: there these calls change nothing, and are not
+//! refused.
 
 ghost use Rattle.std.specs.Prelude.{◌≡◌};
 ghost use Rattle.std.specs.Fn.{FnOnceReturnsAtMut};
-ghost use Rattle.dom_nodes.specs.declared.node_data.changing.Change.TheVariants.{AddClass, RemoveAllAttrs, RemoveAttr, RemoveAttrs, RemoveClass, Rename, RetainAttrs, SetAttr};
+ghost use Rattle.dom_nodes.specs.declared.node_data.changing.Change.TheVariants.{AddClass};
+ghost use Rattle.dom_nodes.specs.declared.node_data.changing.Change.TheVariants.{RemoveAllAttrs};
+ghost use Rattle.dom_nodes.specs.declared.node_data.changing.Change.TheVariants.{RemoveAttr};
+ghost use Rattle.dom_nodes.specs.declared.node_data.changing.Change.TheVariants.{RemoveAttrs};
+ghost use Rattle.dom_nodes.specs.declared.node_data.changing.Change.TheVariants.{RemoveClass};
+ghost use Rattle.dom_nodes.specs.declared.node_data.changing.Change.TheVariants.{Rename};
+ghost use Rattle.dom_nodes.specs.declared.node_data.changing.Change.TheVariants.{RetainAttrs};
+ghost use Rattle.dom_nodes.specs.declared.node_data.changing.Change.TheVariants.{SetAttr};
 ghost use Rattle.dom_links.specs.Contents.{IsUpdatedAt};
 ghost use Rattle.dom_trees.specs.Edits.{changing};
 ghost use Rattle.dom_trees.specs.Lending.{ChangesAt, EditsAt, IsSameLoan};

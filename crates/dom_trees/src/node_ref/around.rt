@@ -40,14 +40,16 @@ impl<'a> NodeRef<'a> {
 
     /// The first child.
     pub fn first_child(&self) -> Option<NodeRef<'a>>
-        ensures { result ≡ ref_to self.now.tree (first (children_of self.now.tree.now self.now.id)) }
+        ensures { let all = children_of self.now.tree.now self.now.id
+            in result ≡ ref_to self.now.tree (first all) }
     {
         self.node_of(first_child_id(self.tree.nodes(), &self.id))
     }
 
     /// The last child.
     pub fn last_child(&self) -> Option<NodeRef<'a>>
-        ensures { result ≡ ref_to self.now.tree (last (children_of self.now.tree.now self.now.id)) }
+        ensures { let all = children_of self.now.tree.now self.now.id
+            in result ≡ ref_to self.now.tree (last all) }
     {
         self.node_of(last_child_id(self.tree.nodes(), &self.id))
     }
@@ -117,7 +119,8 @@ impl<'a> NodeRef<'a> {
 
     /// The first child that is an element of that local name.
     pub(crate) fn child_named(&self, name: &str) -> Option<NodeRef<'a>>
-        ensures { result ≡ ref_to self.now.tree (child_named self.now.tree.now self.now.id name.now) }
+        ensures { let child = child_named self.now.tree.now self.now.id name.now
+            in result ≡ ref_to self.now.tree child }
     {
         for id in self.tree.child_ids_of_it(&self.id, false) {
             let child = NodeRef::new(id, self.tree);

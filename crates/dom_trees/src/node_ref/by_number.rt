@@ -1,4 +1,5 @@
-//! The calls of a tree that answer references: a node by its number, the nodes around it, and the parts of a page.
+//! The calls of a tree that answer references: a node by its number, the nodes around it, and the
+//! parts of a page.
 
 ghost use Rattle.std.specs.Prelude.{◌≡◌, codes, false, find};
 ghost use Rattle.std.specs.Option.{option_copied};

@@ -1,20 +1,24 @@
-//! What is read of a node: its kind, its attributes and its names. An unknown number answers nothing, false or the
-//! default.
+//! What is read of a node: its kind, its attributes and its names. An unknown number answers
+//! nothing, false or the default.
 
-ghost use Rattle.std.specs.Prelude.{◌≡◌, ◌<◌, ◌≤◌, IfOk, MatchOption, codes, is_some, length, slice_get, string_bytes, unwrap_or};
+ghost use Rattle.std.specs.Prelude.{◌≡◌, ◌<◌, ◌≤◌, IfOk, MatchOption, codes, is_some, length};
+ghost use Rattle.std.specs.Prelude.{slice_get, string_bytes, unwrap_or};
 ghost use Rattle.std.specs.Fn.{FnOnceReturnsAt};
 ghost use Rattle.std.specs.Option.{option_copied};
-ghost use Rattle.dom_nodes.specs.Kinds.{is_comment, is_doctype, is_document, is_element, is_fragment, is_text, may_bear};
+ghost use Rattle.dom_nodes.specs.Kinds.{is_comment, is_doctype, is_document, is_element};
+ghost use Rattle.dom_nodes.specs.Kinds.{is_fragment, is_text, may_bear};
 ghost use Rattle.dom_nodes.specs.Words.{class_words, is_among};
-ghost use Rattle.dom_nodes.specs.Classes.{is_blank};
 ghost use Rattle.dom_links.specs.Texts.{text_of};
-ghost use Rattle.dom_trees.specs.Views.{IsAnswerOf, base_uri, has_local_name, is_filled_text, is_link_at, node_attr, node_attrs, node_element, node_is, node_name, node_qual_name};
+ghost use Rattle.dom_trees.specs.Views.{IsAnswerOf, base_uri, has_local_name, is_filled_text};
+ghost use Rattle.dom_trees.specs.Views.{is_link_at, node_attr, node_attrs, node_element, node_is};
+ghost use Rattle.dom_trees.specs.Views.{node_name, node_qual_name};
 
 use crate::node_ref::NodeRef;
 use dom_links::ops::TreeNodeOps;
 use dom_nodes::fault::OutOfMemory;
 use dom_nodes::name::{Attr, QualName};
 use dom_nodes::node_data::{Element, NodeData, TreeNode};
+use dom_nodes::words::is_blank;
 
 impl<'a> NodeRef<'a> {
     /// What the closure answers of the node.
@@ -98,7 +102,8 @@ impl<'a> NodeRef<'a> {
     pub fn is_nonempty_text(&self) -> bool
         ensures { result ≡ node_is is_filled_text self.now.tree.now self.now.id }
     {
-        self.content().is_some_and(|content| is_filled_text(content))
+        self.content()
+            .is_some_and(|content| is_filled_text(content))
     }
 
     /// The element that the node is.
@@ -155,7 +160,8 @@ impl<'a> NodeRef<'a> {
 
     /// The value of the first attribute of that local name, or the default.
     pub fn attr_or(&self, name: &str, default: &'a str) -> &'a str
-        ensures { result.now ≡ unwrap_or (node_attr self.now.tree.now self.now.id name.now) default.now }
+        ensures { let value = node_attr self.now.tree.now self.now.id name.now
+            in result.now ≡ unwrap_or value default.now }
     {
         self.attr(name).unwrap_or(default)
     }
@@ -176,7 +182,8 @@ impl<'a> NodeRef<'a> {
 
     /// Whether the name is a word of the first attribute `class`. An empty name isn't.
     pub fn has_class(&self, name: &str) -> bool
-        ensures { result ≡ is_among name.now (class_words (node_attrs self.now.tree.now self.now.id)) }
+        ensures { let words = class_words (node_attrs self.now.tree.now self.now.id)
+            in result ≡ is_among name.now words }
     {
         self.element_ref()
             .is_some_and(|element| element.has_class(name))
@@ -213,10 +220,4 @@ fn is_filled_text(content: &NodeData) -> bool
         NodeData::Text { contents } => !is_blank(contents.as_str()),
         _ => false,
     }
-}
-
-fn is_blank(text: &str) -> bool
-    ensures { result ≡ is_blank text.now }
-{
-    text.chars().all(|c| c.is_whitespace())
 }

@@ -24,7 +24,8 @@ impl Tree {
         change: F,
     ) -> Result<(), EditFault>
         requires { F.IsAlwaysCallable change }
-        ensures ok { OnOk result (IsUpdatedAt (λ edit left. FnOnceReturnsAtMut F.FnOnce change edit tt left)
+        ensures ok { OnOk result (IsUpdatedAt
+            (λ edit left. FnOnceReturnsAtMut F.FnOnce change edit tt left)
             id.now self.old self.new) }
         ensures known { OnOk result (id.now < length self.old.content) }
         ensures err { OnErr result (self.new ≡ self.old) }

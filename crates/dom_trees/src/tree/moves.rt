@@ -1,8 +1,10 @@
-//! The moves: what is moved is cut out of its list, and put at a gap or left a run of its own. They take no memory.
+//! The moves: what is moved is cut out of its list, and put at a gap or left a run of its own. They
+//! take no memory.
 
 ghost use Rattle.dom_links.specs.declared.gap.Gap.TheVariants.{After, Before, EndOf, FrontOf};
 ghost use Rattle.dom_links.specs.declared.gap.Moving.TheVariants.{Node, WholeList, WithLater};
-ghost use Rattle.dom_trees.specs.Edits.{Edits, moving_to, removing, removing_children, reparenting, replacing, unwrapping, wrapping};
+ghost use Rattle.dom_trees.specs.Edits.{Edits, moving_to, removing, removing_children, reparenting};
+ghost use Rattle.dom_trees.specs.Edits.{replacing, unwrapping, wrapping};
 
 use crate::checks::{check_known, check_move, check_reparent, check_wrap};
 use crate::tree::Tree;
@@ -39,7 +41,8 @@ impl Tree {
 
     /// Moves a node to the place right before another.
     pub fn insert_before_of(&mut self, id: &NodeId, new_sibling: &NodeId) -> Result<(), EditFault>
-        ensures { Edits result self.old self.new (moving_to (Before id.now) (Node new_sibling.now)) }
+        ensures { Edits result self.old self.new
+            (moving_to (Before id.now) (Node new_sibling.now)) }
     {
         self.move_to(Gap::Before(*id), Moving::Node(*new_sibling))
     }
@@ -53,7 +56,8 @@ impl Tree {
 
     /// Moves a node and its later siblings to the end of the children of another.
     pub fn append_children_of(&mut self, id: &NodeId, new_child: &NodeId) -> Result<(), EditFault>
-        ensures { Edits result self.old self.new (moving_to (EndOf id.now) (WithLater new_child.now)) }
+        ensures { Edits result self.old self.new
+            (moving_to (EndOf id.now) (WithLater new_child.now)) }
     {
         self.move_to(Gap::EndOf(*id), Moving::WithLater(*new_child))
     }
@@ -61,7 +65,8 @@ impl Tree {
     /// Moves the whole list of a node, it and all its siblings, to the front of the children of
     /// another.
     pub fn prepend_children_of(&mut self, id: &NodeId, new_child: &NodeId) -> Result<(), EditFault>
-        ensures { Edits result self.old self.new (moving_to (FrontOf id.now) (WholeList new_child.now)) }
+        ensures { Edits result self.old self.new
+            (moving_to (FrontOf id.now) (WholeList new_child.now)) }
     {
         self.move_to(Gap::FrontOf(*id), Moving::WholeList(*new_child))
     }
@@ -72,7 +77,8 @@ impl Tree {
         id: &NodeId,
         new_sibling: &NodeId,
     ) -> Result<(), EditFault>
-        ensures { Edits result self.old self.new (moving_to (Before id.now) (WithLater new_sibling.now)) }
+        ensures { Edits result self.old self.new
+            (moving_to (Before id.now) (WithLater new_sibling.now)) }
     {
         self.move_to(Gap::Before(*id), Moving::WithLater(*new_sibling))
     }
@@ -83,7 +89,8 @@ impl Tree {
         id: &NodeId,
         new_sibling: &NodeId,
     ) -> Result<(), EditFault>
-        ensures { Edits result self.old self.new (moving_to (After id.now) (WithLater new_sibling.now)) }
+        ensures { Edits result self.old self.new
+            (moving_to (After id.now) (WithLater new_sibling.now)) }
     {
         self.move_to(Gap::After(*id), Moving::WithLater(*new_sibling))
     }

@@ -3,7 +3,8 @@
 ghost use Rattle.std.specs.Prelude.{◌≡◌, ◌<◌, ◌≤◌, ◌⊎◌, MatchOption, length, slice_get};
 ghost use Rattle.std.specs.Fn.{FnOnceReturnsAt, FnOnceReturnsAtPair};
 ghost use Rattle.std.specs.Option.{option_copied};
-ghost use Rattle.dom_trees.specs.Views.{IsAnswerOf, IsAnswerOfTwo, is_integration_point, node_element, node_qual_name};
+ghost use Rattle.dom_trees.specs.Views.{IsAnswerOf, IsAnswerOfTwo, is_integration_point};
+ghost use Rattle.dom_trees.specs.Views.{node_element, node_qual_name};
 
 use crate::tree::Tree;
 use dom_nodes::name::QualName;
@@ -47,7 +48,8 @@ impl Tree {
         f: F,
     ) -> Option<T>
         requires { F.IsAlwaysCallable f }
-        ensures { MatchOption result ((length self.now.content ≤ a.now) ⊎ (length self.now.content ≤ b.now))
+        ensures { MatchOption result
+            ((length self.now.content ≤ a.now) ⊎ (length self.now.content ≤ b.now))
             (IsAnswerOfTwo (FnOnceReturnsAtPair F.FnOnce f) self.now a.now b.now) }
     {
         let first = self.get(a)?;

@@ -10,8 +10,8 @@ returns c =
     let long : length c.remove_children.new.nodes ≡ c.self.inside.nodes.len = same ∙ c.deref_mut.ensures.len in
     record {
       ok = ap forest_of (with_items_is c.self.inside.nodes c.remove_children.new.nodes long) ∙ c.remove_children.ensures.made
-      ∙ ap (λ nodes. cut (children_of (forest_of nodes) c.args.id.now) (forest_of nodes)) c.deref_mut.ensures.value
-      ∙ ap (λ forest. cut (children_of forest c.args.id.now) forest) c.self.view_is;
+          ∙ ap (λ nodes. cut (children_of (forest_of nodes) c.args.id.now) (forest_of nodes)) c.deref_mut.ensures.value
+          ∙ ap (λ forest. cut (children_of forest c.args.id.now) forest) c.self.view_is;
       allowed = search rules;
       err = search rules;
       cause = search rules;
