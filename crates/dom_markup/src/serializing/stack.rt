@@ -159,7 +159,7 @@ fn put_op<P: PutText<W>, W>(
     requires all_within { AreWithin (forest_of nodes.now) ops.old }
     ensures { let forest = forest_of nodes.now in
         Steps forest (P.written w.old) (P.written w.new) result ops.old ops.new
-            (op_text forest op) (op_weight forest op) }
+        (op_text forest op) (op_weight forest op) }
 {
     match op {
         SerializeOp::Open { id, raw } => put_open::<P, W>(nodes, escaper, id, raw, ops, w),
@@ -181,7 +181,7 @@ fn put_open<P: PutText<W>, W>(
     requires all_within { AreWithin (forest_of nodes.now) ops.old }
     ensures { let forest = forest_of nodes.now in
         Steps forest (P.written w.old) (P.written w.new) result ops.old ops.new
-            (row_text forest raw (Some id)) (row_weight forest (Some id)) }
+        (row_text forest raw (Some id)) (row_weight forest (Some id)) }
 {
     let node = node_at(nodes, id);
     push_open(nodes, node.next_sibling, raw, ops)?;
@@ -201,7 +201,7 @@ fn push_following(
     requires all_within { AreWithin (forest_of nodes.now) ops.old }
     ensures { let forest = forest_of nodes.now in
         Pushes forest ops.old ops.new result
-            (text_below forest id node.now.content) (1 + weight_below forest id) }
+        (text_below forest id node.now.content) (1 + weight_below forest id) }
 {
     match &node.content {
         NodeData::Document | NodeData::Fragment => push_open(nodes, node.first_child, false, ops),
