@@ -1,4 +1,4 @@
-use Rattle.std.proofs.Common.{List, [], ℕ, Bool, refl, subst, rules}
+use Rattle.std.proofs.Common.{[], Bool, refl, subst, rules}
 use Rattle.dom_nodes.specs.Words.{is_among}
 use Rattle.dom_markup.specs.Bytes.{folded}
 use Rattle.dom_markup.specs.Names.{void_names}
