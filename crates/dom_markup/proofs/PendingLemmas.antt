@@ -7,8 +7,8 @@ use Rattle.dom_nodes.specs.declared.node_data.TreeNode.{TreeNode}
 use Rattle.dom_links.specs.Forest.{Forest, children_of}
 use Rattle.dom_links.specs.Sound.{IsForest}
 use Rattle.dom_links.specs.Trees.{contents_list, trees}
-use Rattle.dom_links.specs.Walk.{IsNodeOf, IsWithin, row_on}
-use Rattle.dom_links.proofs.Later.{begins, follows, tree_at}
+use Rattle.dom_links.specs.Walk.{IsNodeOf, IsWithin, later, row_on}
+use Rattle.dom_links.specs.Laws.{AreLines}
 use Rattle.dom_markup.specs.declared.serializing.stack.SerializeOp.{SerializeOp}
 use Rattle.dom_markup.specs.declared.serializing.stack.SerializeOp.TheVariants.{Open, Close}
 use Rattle.dom_markup.specs.Html.{closing, end_tag, is_void_node, is_void, is_raw, keeps_texts, opening, trees_text}
@@ -83,58 +83,57 @@ tag-text forest op n content is read = rw (is, read) refl
 
 -- ---- opening a node
 
+next-row : (forest : Forest) → AreLines forest → (n : ℕ) (node : TreeNode) → IsNodeOf forest n node → later forest false n ≡ row_on forest false node.next_sibling
+next-row forest lines n node is = lines.beside false n ∙ ap (row_on forest false) (sym is.next_is)
+
 -- a node's text is its opening, what follows that, and the texts after it
-row-tree : (forest : Forest) → IsForest forest → (raw : Bool) (n : ℕ) (node : TreeNode) → IsNodeOf forest n node → n < length forest.content →
+row-tree : (forest : Forest) → AreLines forest → (raw : Bool) (n : ℕ) (node : TreeNode) → IsNodeOf forest n node → n < length forest.content →
     row_text forest raw (Some n) ≡ (opening node.content raw ++ text_below forest n node.content) ++ row_text forest raw node.next_sibling
-row-tree forest good raw n node is known =
-    let rest = (follows forest false n node.next_sibling good is.next_is).rest in
-    rw (tree_at forest n good known, is.content_is, rest) refl
+row-tree forest lines raw n node is known = rw (lines.row_trees n known, is.content_is, next-row forest lines n node is) refl
 
-row-weight : (forest : Forest) → IsForest forest → (n : ℕ) (node : TreeNode) → IsNodeOf forest n node → n < length forest.content →
+row-weight : (forest : Forest) → AreLines forest → (n : ℕ) (node : TreeNode) → IsNodeOf forest n node → n < length forest.content →
     row_weight forest (Some n) ≡ 2 + weight_below forest n + row_weight forest node.next_sibling
-row-weight forest good n node is known =
-    let rest = (follows forest false n node.next_sibling good is.next_is).rest in
-    rw (tree_at forest n good known, rest) (omega arith)
+row-weight forest lines n node is known = rw (lines.row_trees n known, next-row forest lines n node is) (omega arith)
 
-pub next-within : (forest : Forest) → IsForest forest → (n : ℕ) (node : TreeNode) → IsNodeOf forest n node → IsWithin forest node.next_sibling
-next-within forest good n node is = (follows forest false n node.next_sibling good is.next_is).within
+pub next-within : (forest : Forest) → AreLines forest → (n : ℕ) (node : TreeNode) → IsNodeOf forest n node → IsWithin forest node.next_sibling
+next-within forest lines n node is = subst (IsWithin forest) (sym is.next_is) (lines.beside_known false n)
 
-pub opened-text : (forest : Forest) → IsForest forest → (raw : Bool) (n : ℕ) (node : TreeNode) → IsNodeOf forest n node → n < length forest.content → (old one new : List ℕ) →
+pub opened-text : (forest : Forest) → AreLines forest → (raw : Bool) (n : ℕ) (node : TreeNode) → IsNodeOf forest n node → n < length forest.content → (old one new : List ℕ) →
     one ≡ row_text forest raw node.next_sibling ++ old → new ≡ text_below forest n node.content ++ one →
     row_text forest raw (Some n) ++ old ≡ opening node.content raw ++ new
-opened-text forest good raw n node is known old one new first second =
+opened-text forest lines raw n node is known old one new first second =
     let begin = opening node.content raw in
     let inside = text_below forest n node.content in
     let after = row_text forest raw node.next_sibling in
     let joined : new ≡ inside ++ (after ++ old) = second ∙ ap (λ t. inside ++ t) first in
-    ap (λ t. t ++ old) (row-tree forest good raw n node is known) ∙ (append_assoc (begin ++ inside) after old ∙ (append_assoc begin inside (after ++ old) ∙ ap (λ t. begin ++ t) (sym joined)))
+    ap (λ t. t ++ old) (row-tree forest lines raw n node is known) ∙ (append_assoc (begin ++ inside) after old ∙ (append_assoc begin inside (after ++ old) ∙ ap (λ t. begin ++ t) (sym joined)))
 
-pub opened-weight : (forest : Forest) → IsForest forest → (n : ℕ) (node : TreeNode) → IsNodeOf forest n node → n < length forest.content → (old one new : ℕ) →
+pub opened-weight : (forest : Forest) → AreLines forest → (n : ℕ) (node : TreeNode) → IsNodeOf forest n node → n < length forest.content → (old one new : ℕ) →
     one ≤ row_weight forest node.next_sibling + old → new ≤ 1 + weight_below forest n + one →
     new < row_weight forest (Some n) + old
-opened-weight forest good n node is known old one new first second = omega (arith, row-weight forest good n node is known, first, second)
+opened-weight forest lines n node is known old one new first second = omega (arith, row-weight forest lines n node is known, first, second)
 
 -- ---- what follows a node's opening
 
-pub children-within : (forest : Forest) → IsForest forest → (n : ℕ) (node : TreeNode) → IsNodeOf forest n node → IsWithin forest node.first_child
-children-within forest good n node is = (begins forest false n node.first_child good is.first_is).within
+pub children-within : (forest : Forest) → AreLines forest → (n : ℕ) (node : TreeNode) → IsNodeOf forest n node → IsWithin forest node.first_child
+children-within forest lines n node is = subst (IsWithin forest) (sym is.first_is) (lines.below_known false n)
 
-pub children-row : (forest : Forest) → IsForest forest → (n : ℕ) (node : TreeNode) → IsNodeOf forest n node → children_of forest n ≡ row_on forest false node.first_child
-children-row forest good n node is = (begins forest false n node.first_child good is.first_is).all
+pub children-row : (forest : Forest) → AreLines forest → (n : ℕ) (node : TreeNode) → IsNodeOf forest n node → children_of forest n ≡ row_on forest false node.first_child
+children-row forest lines n node is = lines.below false n ∙ ap (row_on forest false) (sym is.first_is)
 
 -- what follows the opening of a document or a fragment
-pub top-below : (forest : Forest) → IsForest forest → (n : ℕ) (node : TreeNode) → IsNodeOf forest n node → (raw : Bool) → text_below forest n node.content ≡ trees_text forest raw (trees forest (children_of forest n)) →
+pub top-below : (forest : Forest) → AreLines forest → (n : ℕ) (node : TreeNode) → IsNodeOf forest n node → (raw : Bool) → text_below forest n node.content ≡ trees_text forest raw (trees forest (children_of forest n)) →
     (old new : List ℕ) → new ≡ row_text forest raw node.first_child ++ old → new ≡ text_below forest n node.content ++ old
-top-below forest good n node is raw follows old new wrote =
-    wrote ∙ ap (λ ns. trees_text forest raw (trees forest ns) ++ old) (sym (children-row forest good n node is)) ∙ ap (λ t. t ++ old) (sym follows)
+top-below forest lines n node is raw follows old new wrote =
+    wrote ∙ ap (λ ns. trees_text forest raw (trees forest ns) ++ old) (sym (children-row forest lines n node is)) ∙ ap (λ t. t ++ old) (sym follows)
 
 -- what follows the opening of an element that isn't void
-pub element-below : (forest : Forest) → IsForest forest → (n : ℕ) (node : TreeNode) (e : Element) → IsNodeOf forest n node → node.content ≡ AnElement e → is_void_node node.content ≡ false → (raw : Bool) → raw ≡ keeps_texts node.content →
+pub element-below : (forest : Forest) → IsForest forest → AreLines forest → (n : ℕ) (node : TreeNode) (e : Element) → IsNodeOf forest n node → node.content ≡ AnElement e → is_void_node node.content ≡ false → (raw : Bool) → raw ≡ keeps_texts node.content →
     (rest closed opened all : List ℕ) → closed ≡ op_text forest (Close n) ++ rest → opened ≡ row_text forest raw node.first_child ++ closed → all ≡ row_text forest false e.template_contents ++ opened →
     all ≡ text_below forest n node.content ++ rest
-element-below forest good n node e is shape void raw keeps rest closed opened all one two three =
+element-below forest good lines n node e is shape void raw keeps rest closed opened all one two three =
     let read = is.content_is ∙ ap Some shape in
-    let children_are = children-row forest good n node is in
+    let children_are = children-row forest lines n node is in
     let contents_are = contents_row forest good n e read in
     let not_void : is_void e ≡ false = rw shape at void in
     let kept : raw ≡ is_raw e = rw shape at keeps in
@@ -148,15 +147,15 @@ element-below forest good n node e is shape void raw keeps rest closed opened al
     let joined : all ≡ inner ++ (children ++ (tag ++ rest)) = third ∙ ap (λ t. inner ++ t) (second ∙ ap (λ t. children ++ t) (one ∙ ap (λ t. t ++ rest) ends)) in
     joined ∙ (ap (λ t. inner ++ t) (sym (append_assoc children tag rest)) ∙ (sym (append_assoc inner (children ++ tag) rest) ∙ ap (λ t. t ++ rest) (sym follows)))
 
-pub top-weight : (forest : Forest) → IsForest forest → (n : ℕ) (node : TreeNode) → IsNodeOf forest n node → (old new : ℕ) → new ≤ row_weight forest node.first_child + old → new ≤ 1 + weight_below forest n + old
-top-weight forest good n node is old new wrote =
-    let children = ap (λ ns. trees_weight (trees forest ns)) (children-row forest good n node is) in
+pub top-weight : (forest : Forest) → AreLines forest → (n : ℕ) (node : TreeNode) → IsNodeOf forest n node → (old new : ℕ) → new ≤ row_weight forest node.first_child + old → new ≤ 1 + weight_below forest n + old
+top-weight forest lines n node is old new wrote =
+    let children = ap (λ ns. trees_weight (trees forest ns)) (children-row forest lines n node is) in
     omega (arith, wrote, children)
 
-pub element-weight : (forest : Forest) → IsForest forest → (n : ℕ) (node : TreeNode) (e : Element) → IsNodeOf forest n node → node.content ≡ AnElement e → (old closed opened new : ℕ) →
+pub element-weight : (forest : Forest) → IsForest forest → AreLines forest → (n : ℕ) (node : TreeNode) (e : Element) → IsNodeOf forest n node → node.content ≡ AnElement e → (old closed opened new : ℕ) →
     closed ≡ 1 + old → opened ≤ row_weight forest node.first_child + closed → new ≤ row_weight forest e.template_contents + opened → new ≤ 1 + weight_below forest n + old
-element-weight forest good n node e is shape old closed opened new one two three =
-    let children = ap (λ ns. trees_weight (trees forest ns)) (children-row forest good n node is) in
+element-weight forest good lines n node e is shape old closed opened new one two three =
+    let children = ap (λ ns. trees_weight (trees forest ns)) (children-row forest lines n node is) in
     let contents = ap (λ ns. trees_weight (trees forest ns)) (contents_row forest good n e (is.content_is ∙ ap Some shape)) in
     omega (arith, one, two, three, children, contents)
 

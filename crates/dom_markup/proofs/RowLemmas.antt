@@ -1,5 +1,5 @@
 -- Rows of nodes: template contents, and numbers outside the forest.
-use Rattle.std.proofs.Common.{◌≡◌, ℕ, zero, suc, ◌<◌, ◌≤◌, Bool, true, false, List, [], ◌∷◌, ◌++◌, length, Option, Some, None, refl, sym, ap, ◌∙◌, subst, append-nil, slice_get, inl, inr}
+use Rattle.std.proofs.Common.{◌≡◌, ℕ, zero, suc, ◌<◌, ◌≤◌, Bool, true, false, List, [], ◌∷◌, ◌++◌, length, Option, Some, None, refl, sym, ap, ◌∙◌, subst, append-nil, slice_get, inl, inr, ◌⊎◌}
 use Rattle.std.specs.Prelude.{◌==◌, ◌||◌}
 use Rattle.std.specs.Option.{option_map_or}
 use Rattle.std.proofs.lemmas.Bool.{cases_Bool, cases_lt, eq-eqb, eqb-true}
@@ -9,15 +9,11 @@ use Rattle.dom_nodes.specs.declared.node_data.Element.{Element}
 use Rattle.dom_nodes.specs.declared.node_data.NodeData.{NodeData}
 use Rattle.dom_nodes.specs.declared.node_data.NodeData.TheVariants.{Document, Fragment, Doctype, Text, Comment, Element as AnElement, ProcessingInstruction}
 use Rattle.dom_nodes.specs.declared.node_data.TreeNode.{TreeNode}
-use Rattle.dom_links.specs.Forest.{Forest, siblings}
+use Rattle.dom_links.specs.Forest.{Forest, children_of, siblings}
 use Rattle.dom_links.specs.Sound.{IsForest, contents_at, stays}
+use Rattle.dom_links.specs.Laws.{AreLines, AreTrees}
 use Rattle.dom_links.specs.Trees.{NoTrees, contents_list, trees, trees_to}
 use Rattle.dom_links.specs.Walk.{IsNodeOf, IsWithin, later, row_on}
-use Rattle.dom_links.proofs.Grown.{within}
-use Rattle.dom_links.proofs.Nodes.{children_past}
-use Rattle.dom_links.proofs.Places.{cases_Option, siblings_run}
-use Rattle.dom_links.proofs.Depth.{trees-none, trees-some}
-use Rattle.dom_links.proofs.Later.{begins}
 use Rattle.dom_markup.specs.Html.{html_of, inner_html_of, is_void_node, is_kept, keeps_texts, opening, trees_text}
 use Rattle.dom_markup.specs.Pending.{row_text, text_below}
 
@@ -38,11 +34,30 @@ fragment_is_top (Some (Comment a)) h = cc
 fragment_is_top (Some (AnElement a)) h = cc
 fragment_is_top (Some (ProcessingInstruction a b)) h = cc
 
+fragment_known : (xs : List NodeData) (n : ℕ) → option_map_or is_fragment (slice_get xs n) false ≡ true → n < length xs
+fragment_known xs n fragment = elim (cases_lt n (length xs)) [
+  | inl here ↦ here
+  | inr past ↦ (let none = rw (slice_get_past xs n past) at fragment in absurd (cc))
+]
+
+cases_Option : {X : Type 0} (o : Option X) → (o ≡ None) ⊎ ((x : X) × (o ≡ Some x))
+cases_Option None = inl refl
+cases_Option (Some x) = inr (x, refl)
+
+-- a row of no nodes has no trees
+trees-none : (forest : Forest) → trees forest [] ≡ NoTrees
+unfolding trees
+trees-none forest = by_fuel (length forest.content)
+  where
+    by_fuel : (most : ℕ) → trees_to forest most [] ≡ NoTrees
+    by_fuel zero = refl
+    by_fuel (suc most) = refl
+
 -- a node that stands alone has no later siblings
 alone_last : (forest : Forest) (c : ℕ) → IsForest forest → c < length forest.content → stays forest c ≡ true → later forest false c ≡ []
 alone_last forest c good known fixed =
     let alone = good.alone c known fixed in
-    let row : siblings forest c ≡ c ∷ [] = siblings_run forest c alone.0 ∙ alone.1 in
+    let row : siblings forest c ≡ c ∷ [] = rw alone.0 alone.1 in
     rw (row, eq-eqb c c refl) refl
 
 or_right : (a b : Bool) → b ≡ true → (a || b) ≡ true
@@ -52,7 +67,7 @@ or_right false b h = h
 contents_known : (forest : Forest) → IsForest forest → (n c : ℕ) → contents_at forest n ≡ Some c → (c < length forest.content) × (later forest false c ≡ [])
 contents_known forest good n c is =
     let facts = good.contents_known n c is in
-    let known = within is_fragment forest.content c facts.1 in
+    let known = fragment_known forest.content c facts.1 in
     (known, alone_last forest c good known (or_right (c == 0) _ (fragment_is_top (slice_get forest.content c) facts.1)))
 
 contents_read : (forest : Forest) (n : ℕ) (e : Element) → slice_get forest.content n ≡ Some (AnElement e) → contents_at forest n ≡ e.template_contents
@@ -77,34 +92,34 @@ no_row forest first none = rw none (trees-none forest)
 -- ---- the text of a node and of its children
 
 -- the text of a node alone
-pub html-known : (forest : Forest) → IsForest forest → (n : ℕ) (content : NodeData) → slice_get forest.content n ≡ Some content → html_of forest n ≡ opening content (is_kept forest n) ++ text_below forest n content
+pub html-known : (forest : Forest) → AreTrees forest → (n : ℕ) (content : NodeData) → slice_get forest.content n ≡ Some content → html_of forest n ≡ opening content (is_kept forest n) ++ text_below forest n content
 unfolding html_of
-html-known forest good n content read =
+html-known forest law n content read =
     let known = known_node forest.content n content read in
-    let one = trees-some forest n [] good (λ m s. elim (cases_Bool (n == m)) [
+    let one = law.a_tree n [] (λ m s. elim (cases_Bool (n == m)) [
       | inl t ↦ subst (λ (k : ℕ). k < length forest.content) (eqb-true n m t) known
       | inr f ↦ (let no = rw f at s in absurd (cc))
     ]) in
     rw (one, read, trees-none forest) (append-nil _)
 
-pub inner-known : (forest : Forest) → IsForest forest → (n : ℕ) (node : TreeNode) → IsNodeOf forest n node → is_void_node node.content ≡ false → inner_html_of forest n ≡ row_text forest (keeps_texts node.content) node.first_child
+pub inner-known : (forest : Forest) → AreLines forest → (n : ℕ) (node : TreeNode) → IsNodeOf forest n node → is_void_node node.content ≡ false → inner_html_of forest n ≡ row_text forest (keeps_texts node.content) node.first_child
 unfolding inner_html_of
-inner-known forest good n node is open_here =
-    let children = (begins forest false n node.first_child good is.first_is).all in
+inner-known forest lines n node is open_here =
+    let children : children_of forest n ≡ row_on forest false node.first_child = lines.below false n ∙ ap (row_on forest false) (sym is.first_is) in
     rw (is.content_is, open_here, children) refl
 
 -- what a node is written as, in the two pieces in which it is written, where the forest is a tree's
-pub html-pieces : (forest tree : Forest) → IsForest forest → forest ≡ tree → (n : ℕ) (content : NodeData) → slice_get forest.content n ≡ Some content → (raw : Bool) (below : List ℕ) → raw ≡ is_kept forest n → below ≡ text_below forest n content →
+pub html-pieces : (forest tree : Forest) → AreTrees forest → forest ≡ tree → (n : ℕ) (content : NodeData) → slice_get forest.content n ≡ Some content → (raw : Bool) (below : List ℕ) → raw ≡ is_kept forest n → below ≡ text_below forest n content →
     opening content raw ++ below ≡ html_of tree n
-html-pieces forest tree good same n content read raw below kept is =
-    let text : html_of tree n ≡ opening content (is_kept forest n) ++ text_below forest n content = ap (λ f. html_of f n) (sym same) ∙ html-known forest good n content read in
+html-pieces forest tree law same n content read raw below kept is =
+    let text : html_of tree n ≡ opening content (is_kept forest n) ++ text_below forest n content = ap (λ f. html_of f n) (sym same) ∙ html-known forest law n content read in
     rw (text, kept, is) refl
 
 -- the same of its children
-pub inner-piece : (forest tree : Forest) → IsForest forest → forest ≡ tree → (n : ℕ) (node : TreeNode) → IsNodeOf forest n node → is_void_node node.content ≡ false → (raw : Bool) (text : List ℕ) → raw ≡ keeps_texts node.content → text ≡ row_text forest raw node.first_child →
+pub inner-piece : (forest tree : Forest) → AreLines forest → forest ≡ tree → (n : ℕ) (node : TreeNode) → IsNodeOf forest n node → is_void_node node.content ≡ false → (raw : Bool) (text : List ℕ) → raw ≡ keeps_texts node.content → text ≡ row_text forest raw node.first_child →
     text ≡ inner_html_of tree n
-inner-piece forest tree good same n node is open_here raw text keeps wrote =
-    let children : inner_html_of tree n ≡ row_text forest (keeps_texts node.content) node.first_child = ap (λ f. inner_html_of f n) (sym same) ∙ inner-known forest good n node is open_here in
+inner-piece forest tree lines same n node is open_here raw text keeps wrote =
+    let children : inner_html_of tree n ≡ row_text forest (keeps_texts node.content) node.first_child = ap (λ f. inner_html_of f n) (sym same) ∙ inner-known forest lines n node is open_here in
     rw (children, wrote, keeps) refl
 
 pub html-unknown : (forest : Forest) (n : ℕ) → length forest.content ≤ n → html_of forest n ≡ []
@@ -119,6 +134,6 @@ pub inner-bare : (forest : Forest) (n : ℕ) (content : NodeData) → slice_get 
 unfolding inner_html_of
 inner-bare forest n content read bare = rw (read, bare) refl
 
-pub inner-unknown : (forest : Forest) (n : ℕ) → IsForest forest → length forest.content ≤ n → inner_html_of forest n ≡ []
+pub inner-unknown : (forest : Forest) (n : ℕ) → AreLines forest → length forest.content ≤ n → inner_html_of forest n ≡ []
 unfolding inner_html_of
-inner-unknown forest n good past = rw (slice_get_past forest.content n past, children_past forest n good.once past, trees-none forest) refl
+inner-unknown forest n lines past = rw (slice_get_past forest.content n past, (lines.unknown_alone n past).2, trees-none forest) refl

@@ -102,7 +102,7 @@ impl Kept {
         ensures noted { OnOk result (IsNoted self.new) }
         ensures added { OnOk result ((kept : List Attribute) → self.old.attrs ≡ map read_attr kept
             → let added = attribute_of written.entry.name.now written.entry.value.now in
-                self.new.attrs ≡ map read_attr (kept_after kept (added ∷ []))) }
+            self.new.attrs ≡ map read_attr (kept_after kept (added ∷ []))) }
     {
         let local = LocalName::folded(alloc, written.name)?;
         if self.has(&local) {

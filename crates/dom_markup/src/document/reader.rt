@@ -106,7 +106,7 @@ fn comment_of(left: &str) -> &str
 fn written_doctype(left: &str) -> Doctype<'_>
     ensures { (name public system rest : List ℕ) → BeginsDoctype left.now name public system rest
         → (folded result.name.now ≡ name)
-            × (result.public.now ≡ public) × (result.system.now ≡ system) }
+        × (result.public.now ≡ public) × (result.system.now ≡ system) }
 {
     let nothing = Doctype {
         name: left,
@@ -225,7 +225,7 @@ impl<'a> Reader<'a> {
         ensures { let contents = length self.old.tree.content + 1 in
             let element = element_with name attrs contents in
             Grows self.old self.new result contents
-                (with_template (parent_number self.old) element self.old.tree) }
+            (with_template (parent_number self.old) element self.old.tree) }
     {
         let parent = self.parent();
         match self.tree.append_template_of(&parent, name, attrs) {
@@ -240,7 +240,7 @@ impl<'a> Reader<'a> {
         requires { IsReading self.old }
         ensures { (name : List ℕ) (all : List Attribute) → IsStarted started.entry name all
             → Grows self.old self.new result (children_place name self.old.tree)
-                (with_element (parent_number self.old) name all self.old.tree) }
+            (with_element (parent_number self.old) name all self.old.tree) }
     {
         if !is_template(started.written) {
             let element = Element::new(started.name, started.attrs, None, false);

@@ -84,7 +84,8 @@ pub fn strip_all<'a>(text: &'a str, front: &str) -> Option<&'a str>
 
 /// Whether markup begins at a `<` with this byte behind it.
 fn opens_markup(byte: u8) -> bool
-    ensures { result ≡ (is_letter byte || byte == slash || byte == exclamation_mark || byte == question_mark) }
+    ensures { result ≡ (is_letter byte
+        || byte == slash || byte == exclamation_mark || byte == question_mark) }
 {
     is_letter(byte) || matches!(byte, b'/' | b'!' | b'?')
 }

@@ -35,7 +35,7 @@ pub fn html_of_trees()
 pub fn plain_reads_back()
     ensures { (forest : Forest) → IsForest forest → IsPlain forest
         → (trees : ValueTrees) × Represents forest (children_of forest 0) trees
-            × Spells (html_of forest 0) trees }
+        × Spells (html_of forest 0) trees }
 {
     trees_of_a_forest();
 }

@@ -15,6 +15,7 @@ use crate::escaping::Escaper;
 use crate::serializing::tags::{is_void_node, keeps_texts, put_end_tag, put_opening};
 use crate::writing::PutText;
 use dom_links::iters::{find_node, node_at, parent_id};
+use dom_links::laws::{lines_of_a_forest, trees_of_a_forest};
 use dom_nodes::fault::OutOfMemory;
 use dom_nodes::node_data::{NodeData, TreeNode};
 use dom_nodes::node_id::NodeId;
@@ -78,6 +79,7 @@ impl Stack {
 pub(super) fn put_node<P: PutText<W>, W>(tree: &Tree, id: NodeId, w: &mut W) -> Result<(), P::Fault>
     ensures { Writes (P.written w.old) (P.written w.new) result (html_of tree.now id) }
 {
+    trees_of_a_forest();
     let nodes = tree.nodes();
     let Some(node) = find_node(nodes, id) else {
         return Ok(());
@@ -97,6 +99,7 @@ pub(super) fn put_children<P: PutText<W>, W>(
 ) -> Result<(), P::Fault>
     ensures { Writes (P.written w.old) (P.written w.new) result (inner_html_of tree.now id) }
 {
+    lines_of_a_forest();
     let nodes = tree.nodes();
     let Some(node) = find_node(nodes, id) else {
         return Ok(());
@@ -159,7 +162,7 @@ fn put_op<P: PutText<W>, W>(
     requires all_within { AreWithin (forest_of nodes.now) ops.old }
     ensures { let forest = forest_of nodes.now in
         Steps forest (P.written w.old) (P.written w.new) result ops.old ops.new
-            (op_text forest op) (op_weight forest op) }
+        (op_text forest op) (op_weight forest op) }
 {
     match op {
         SerializeOp::Open { id, raw } => put_open::<P, W>(nodes, escaper, id, raw, ops, w),
@@ -181,8 +184,9 @@ fn put_open<P: PutText<W>, W>(
     requires all_within { AreWithin (forest_of nodes.now) ops.old }
     ensures { let forest = forest_of nodes.now in
         Steps forest (P.written w.old) (P.written w.new) result ops.old ops.new
-            (row_text forest raw (Some id)) (row_weight forest (Some id)) }
+        (row_text forest raw (Some id)) (row_weight forest (Some id)) }
 {
+    lines_of_a_forest();
     let node = node_at(nodes, id);
     push_open(nodes, node.next_sibling, raw, ops)?;
     push_following(nodes, id, node, ops)?;
@@ -201,8 +205,9 @@ fn push_following(
     requires all_within { AreWithin (forest_of nodes.now) ops.old }
     ensures { let forest = forest_of nodes.now in
         Pushes forest ops.old ops.new result
-            (text_below forest id node.now.content) (1 + weight_below forest id) }
+        (text_below forest id node.now.content) (1 + weight_below forest id) }
 {
+    lines_of_a_forest();
     match &node.content {
         NodeData::Document | NodeData::Fragment => push_open(nodes, node.first_child, false, ops),
         NodeData::Element(element) if !is_void_node(&node.content) => {

@@ -9,5 +9,8 @@ pub returns-in_err-written : goal.returns-in_err-written
 returns-in_err-written c = rw c.from_residual-in_err-written.ensures (record { some = tt; none = λ rest h. c.in_err-written.ensures.none (folded c.args.name.now) rest (subst (λ (t : List ℕ). BeginsEnd t (folded c.args.name.now) rest) c.in_ok-tag.ensures.some h) })
 
 pub returns-then-not-eq_ignore_ascii_case : goal.returns-then-not-eq_ignore_ascii_case
-returns-then-not-eq_ignore_ascii_case c = record { some = tt; none = λ rest h.
-    false≢true (c.if-not-eq_ignore_ascii_case.ensures.test.1 (other_end c.args.text.now c.in_ok-tag.tag.now _ _ _ rest c.in_ok-tag.ensures.some c.in_ok-written.ensures.some h)) }
+returns-then-not-eq_ignore_ascii_case c = record {
+  some = tt;
+  none = λ rest h.
+      false≢true (c.if-not-eq_ignore_ascii_case.ensures.test.1 (other_end c.args.text.now c.in_ok-tag.tag.now _ _ _ rest c.in_ok-tag.ensures.some c.in_ok-written.ensures.some h));
+}

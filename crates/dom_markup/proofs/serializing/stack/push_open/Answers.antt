@@ -1,4 +1,4 @@
-use Rattle.std.proofs.Common.{arith, refl, rules}
+use Rattle.std.proofs.Common.{arith, refl}
 use Rattle.dom_links.specs.Forest.{forest_of}
 use Rattle.dom_markup.proofs.PendingLemmas.{row_pushed}
 use Rattle.dom_markup.proofs.RowLemmas.{no_row}

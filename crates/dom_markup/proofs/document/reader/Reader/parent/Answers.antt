@@ -1,4 +1,4 @@
-use Rattle.std.proofs.Common.{◌≡◌, ◌-◌, List, Option, sym, ◌∙◌, ap, length}
+use Rattle.std.proofs.Common.{◌-◌, List, Option, ◌∙◌, ap, length}
 use Rattle.std.specs.Prelude.{slice_get}
 use Rattle.std.specs.Option.{option_map_or}
 use Rattle.dom_markup.specs.declared.document.reader.Open.{Open}
