@@ -80,18 +80,33 @@ fn texts_of_edit_faults(rt: HostRuntime) -> Result<(), Fail> {
 fn texts_of_raw_nodes(rt: HostRuntime) -> Result<(), Fail> {
     for (fault, want) in [
         (ValidateFault::NoRoot, "Root node (NodeId(0)) missing"),
-        (ValidateFault::RootPlaced, "Root node (NodeId(0)) must have no parent"),
+        (
+            ValidateFault::RootPlaced,
+            "Root node (NodeId(0)) must have no parent",
+        ),
         (ValidateFault::BadId, "The id of a node is not its place"),
         (
             ValidateFault::UnknownLink,
             "Invalid parent, first_child, last_child, prev_sibling or next_sibling reference",
         ),
-        (ValidateFault::BadLink, "prev_sibling or next_sibling mismatch"),
+        (
+            ValidateFault::BadLink,
+            "prev_sibling or next_sibling mismatch",
+        ),
         (ValidateFault::Cycle, "Cycle detected"),
-        (ValidateFault::NotLinked, "A node is not linked to its parent"),
+        (
+            ValidateFault::NotLinked,
+            "A node is not linked to its parent",
+        ),
         (ValidateFault::SiblingCycle, "Cycle detected in siblings"),
-        (ValidateFault::NoChildrenHere, "The parent of a node may not have children"),
-        (ValidateFault::PlacedFragment, "A document or fragment is placed"),
+        (
+            ValidateFault::NoChildrenHere,
+            "The parent of a node may not have children",
+        ),
+        (
+            ValidateFault::PlacedFragment,
+            "A document or fragment is placed",
+        ),
         (ValidateFault::BadContents, "bad template contents"),
         (ValidateFault::TooManyNodes, "too many nodes"),
         (ValidateFault::Memory, "out of memory"),
