@@ -136,22 +136,18 @@ def snippets():
     return passed, failed if passed else failed + 1
 
 
-def tried(rt, name, source):
-    """Runs the source as a program that uses that crate, in a workspace of its own, without a proof."""
-    with tempfile.TemporaryDirectory() as folder:
-        root = pathlib.Path(folder)
-        caller = root / "crates" / "caller" / "src"
-        caller.mkdir(parents=True)
-        (caller / "main.rt").write_text(source, encoding="utf-8")
-        for crate in (ROOT / "crates").iterdir():
-            (root / "crates" / crate.name).symlink_to(crate)
-        listed = (ROOT / "crates.txt").read_text(encoding="utf-8")
-        (root / "crates.txt").write_text(f"{listed}caller: {name}\n", encoding="utf-8")
-        ran = subprocess.run([rt, "try"], cwd=caller.parent, capture_output=True, text=True, timeout=600)
+def tried(rt, root, name, source):
+    """Runs the source as a program that uses that crate, in the workspace, without a proof."""
+    caller = root / "crates" / "caller"
+    (caller / "src").mkdir(parents=True, exist_ok=True)
+    (caller / "src" / "main.rt").write_text(source, encoding="utf-8")
+    listed = (ROOT / "crates.txt").read_text(encoding="utf-8")
+    (root / "crates.txt").write_text(f"{listed}caller: {name}\n", encoding="utf-8")
+    ran = subprocess.run([rt, "try"], cwd=caller, capture_output=True, text=True, timeout=600)
     return ran.returncode == 0, ran.stdout + ran.stderr
 
 
-def caller_fault(rt, file):
+def caller_fault(rt, root, file):
     """What is wrong with a caller that must not compile, or None."""
     lines = file.read_text(encoding="utf-8").splitlines(keepends=True)
     marks = [line.partition("// refused:") for line in lines]
@@ -159,24 +155,30 @@ def caller_fault(rt, file):
     if len(words) != 1 or not words[0]:
         return "one line must end in '// refused: WORDS'"
     name = file.parent.parent.name
-    compiles, said = tried(rt, name, "".join(lines))
+    compiles, said = tried(rt, root, name, "".join(lines))
     if compiles or words[0] not in said:
         return f"it compiles, or is refused for another reason: {said[-2000:]}"
-    compiles, said = tried(rt, name, "".join(line for line, mark in zip(lines, marks) if not mark[1]))
+    compiles, said = tried(rt, root, name, "".join(line for line, mark in zip(lines, marks) if not mark[1]))
     return None if compiles else f"without that line it doesn't run either: {said[-2000:]}"
 
 
 def refused_callers():
-    """Tries the callers that must not compile, and returns how many are refused and how many aren't."""
+    """Tries the callers that must not compile in a copy of the workspace, and returns how many are refused and how many
+    aren't."""
     rt = shutil.which("rt")
+    files = sorted((ROOT / "crates").glob("*/must-not-compile/*.rt"))
     passed = failed = 0
-    for file in sorted((ROOT / "crates").glob("*/must-not-compile/*.rt")):
-        fault = caller_fault(rt, file) if rt else "no command rt"
-        if fault is None:
-            passed += 1
-        else:
-            failed += 1
-            print(f"{file.relative_to(ROOT)}: {fault}")
+    with tempfile.TemporaryDirectory() as folder:
+        root = pathlib.Path(folder)
+        if files:
+            shutil.copytree(ROOT / "crates", root / "crates", ignore=shutil.ignore_patterns("out"))
+        for file in files:
+            fault = caller_fault(rt, root, file) if rt else "no command rt"
+            if fault is None:
+                passed += 1
+            else:
+                failed += 1
+                print(f"{file.relative_to(ROOT)}: {fault}")
     print(f"callers that must not compile: {passed} passed, {failed} failed")
     return passed, failed
 
