@@ -1,16 +1,25 @@
 """The test command. It runs the gate, `rt ci`, which proves every crate from nothing, tries the must-fail edits and runs
-every test, and then the program that the gate built on the table of cases in cases/. Its last line counts both, and its
-status is 0 where nothing failed.
+every test, and then the program that the gate built on the table of cases in cases/ and on a device that is full. It
+compares the snippets of the documents with the crate `tour`, and tries the callers that must not compile. Its last line
+counts all, and its status is 0 where nothing failed. `check --cases` leaves the gate out.
 
 A case is a line of a file cases/*.jsonl: `markup` is standard input and `script` the argument (`args` a list of
 arguments in its place; `markup_hex` and `script_hex` give bytes that are no text), `output` and `error` are what must
-stand on standard output and standard error, and `status` is the exit status, 0 if not given."""
+stand on standard output and standard error, and `status` is the exit status, 0 if not given.
+
+A snippet is a block of README.md or docs/API.md: one of rust stands in a file of crates/tour/src, line for line but for
+its indentation, and one of text in crates/tour/stdout, which the gate compares with what `tour` prints.
+
+A caller that must not compile is a file crates/NAME/must-not-compile/*.rt, a program that uses NAME alone. One line of it
+ends in '// refused: WORDS': with that line the compiler refuses the program with those words, without it it runs."""
 import json
 import pathlib
 import re
 import shutil
 import subprocess
 import sys
+import tempfile
+import textwrap
 
 ROOT = pathlib.Path(__file__).resolve().parent.parent
 PROGRAM = ROOT / "crates" / "dq" / "out" / "dq"
@@ -71,12 +80,116 @@ def table():
     return passed, failed if passed else failed + 1
 
 
+def full_device():
+    """Whether the program tells of a device that is full, where there is such a device: it buffers, so only the last
+    flush fails."""
+    device = pathlib.Path("/dev/full")
+    if not device.is_char_device():
+        print("no device that is full")
+        return 0, 0
+    with device.open("wb") as full:
+        ran = subprocess.run([PROGRAM, "document"], input=b"<p>a</p>", stdout=full, stderr=subprocess.PIPE, timeout=SECONDS)
+    told = ran.stderr, ran.returncode
+    if told == (b"dq: write failed\n", 5):
+        return 1, 0
+    print(f"a full device: got {told}")
+    return 0, 1
+
+
+def blocks(file):
+    """The fenced blocks of a document: the kind, the number of the first line, and the lines."""
+    kind, start, held = None, 0, []
+    for number, line in enumerate(file.read_text(encoding="utf-8").splitlines(), 1):
+        if not line.startswith("```"):
+            held.append(line)
+        elif kind is None:
+            kind, start, held = line[3:], number, []
+        else:
+            yield kind, start, held
+            kind = None
+
+
+def stands_in(block, text):
+    """Whether the block's lines stand in the text, one after the other, but for their indentation."""
+    lines = text.splitlines()
+    wanted = textwrap.dedent("\n".join(block))
+    pieces = (lines[at : at + len(block)] for at in range(len(lines) - len(block) + 1))
+    return any(textwrap.dedent("\n".join(piece)) == wanted for piece in pieces)
+
+
+def snippets():
+    """Compares the documents' snippets with the crate `tour`, and returns how many stand there and how many don't."""
+    tour = ROOT / "crates" / "tour"
+    known = {
+        "rust": [file.read_text(encoding="utf-8") for file in sorted((tour / "src").glob("**/*.rt"))],
+        "text": [(tour / "stdout").read_text(encoding="utf-8")],
+    }
+    passed = failed = 0
+    for document in (ROOT / "README.md", ROOT / "docs" / "API.md"):
+        for kind, start, block in blocks(document):
+            if any(stands_in(block, text) for text in known.get(kind, [])):
+                passed += 1
+            else:
+                failed += 1
+                print(f"{document.name}:{start}: this {kind or 'plain'} block isn't in crates/tour")
+    print(f"snippets: {passed} passed, {failed} failed")
+    return passed, failed if passed else failed + 1
+
+
+def tried(rt, root, name, source):
+    """Runs the source as a program that uses that crate, in the workspace, without a proof."""
+    caller = root / "crates" / "caller"
+    (caller / "src").mkdir(parents=True, exist_ok=True)
+    (caller / "src" / "main.rt").write_text(source, encoding="utf-8")
+    listed = (ROOT / "crates.txt").read_text(encoding="utf-8")
+    (root / "crates.txt").write_text(f"{listed}caller: {name}\n", encoding="utf-8")
+    ran = subprocess.run([rt, "try"], cwd=caller, capture_output=True, text=True, timeout=600)
+    return ran.returncode == 0, ran.stdout + ran.stderr
+
+
+def caller_fault(rt, root, file):
+    """What is wrong with a caller that must not compile, or None."""
+    lines = file.read_text(encoding="utf-8").splitlines(keepends=True)
+    marks = [line.partition("// refused:") for line in lines]
+    words = [mark[2].strip() for mark in marks if mark[1]]
+    if len(words) != 1 or not words[0]:
+        return "one line must end in '// refused: WORDS'"
+    name = file.parent.parent.name
+    compiles, said = tried(rt, root, name, "".join(lines))
+    if compiles or words[0] not in said:
+        return f"it compiles, or is refused for another reason: {said[-2000:]}"
+    compiles, said = tried(rt, root, name, "".join(line for line, mark in zip(lines, marks) if not mark[1]))
+    return None if compiles else f"without that line it doesn't run either: {said[-2000:]}"
+
+
+def refused_callers():
+    """Tries the callers that must not compile in a copy of the workspace, and returns how many are refused and how many
+    aren't."""
+    rt = shutil.which("rt")
+    files = sorted((ROOT / "crates").glob("*/must-not-compile/*.rt"))
+    passed = failed = 0
+    with tempfile.TemporaryDirectory() as folder:
+        root = pathlib.Path(folder)
+        if files:
+            shutil.copytree(ROOT / "crates", root / "crates", ignore=shutil.ignore_patterns("out"))
+        for file in files:
+            fault = caller_fault(rt, root, file) if rt else "no command rt"
+            if fault is None:
+                passed += 1
+            else:
+                failed += 1
+                print(f"{file.relative_to(ROOT)}: {fault}")
+    print(f"callers that must not compile: {passed} passed, {failed} failed")
+    return passed, failed
+
+
 def main():
     cases_alone = sys.argv[1:] == ["--cases"]
-    proved, refused = (0, 0) if cases_alone else gate()
-    passed, failed = table()
-    print(f"{proved + passed} passed, {refused + failed} failed")
-    return 1 if refused + failed else 0
+    counts = [] if cases_alone else [gate()]
+    counts += [table(), full_device(), snippets(), refused_callers()]
+    passed, failed = (sum(column) for column in zip(*counts))
+    print(f"{passed} passed, {failed} failed")
+    return 1 if failed else 0
 
 
 if __name__ == "__main__":

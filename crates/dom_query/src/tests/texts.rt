@@ -2,7 +2,8 @@
 
 use crate::telling::{DriveFault, tell};
 use crate::{
-    EditFault, MarkupFault, MarkupFaultKind, OutOfMemory, RunFault, SelectorFault, WriteFault, run,
+    EditFault, MarkupFault, MarkupFaultKind, OutOfMemory, RunFault, SelectorFault, ValidateFault,
+    WriteFault, run,
 };
 use std::alloc::Global;
 use std::fmt::Display;
@@ -69,6 +70,46 @@ fn texts_of_edit_faults(rt: HostRuntime) -> Result<(), Fail> {
         (EditFault::Memory, "out of memory"),
         (EditFault::BadContents, "bad template contents"),
         (EditFault::Markup(bad_tag()), "bad markup"),
+    ] {
+        shows(&rt, fault, want)?;
+    }
+    Ok(())
+}
+
+#[test]
+fn texts_of_raw_nodes(rt: HostRuntime) -> Result<(), Fail> {
+    for (fault, want) in [
+        (ValidateFault::NoRoot, "Root node (NodeId(0)) missing"),
+        (
+            ValidateFault::RootPlaced,
+            "Root node (NodeId(0)) must have no parent",
+        ),
+        (ValidateFault::BadId, "The id of a node is not its place"),
+        (
+            ValidateFault::UnknownLink,
+            "Invalid parent, first_child, last_child, prev_sibling or next_sibling reference",
+        ),
+        (
+            ValidateFault::BadLink,
+            "prev_sibling or next_sibling mismatch",
+        ),
+        (ValidateFault::Cycle, "Cycle detected"),
+        (
+            ValidateFault::NotLinked,
+            "A node is not linked to its parent",
+        ),
+        (ValidateFault::SiblingCycle, "Cycle detected in siblings"),
+        (
+            ValidateFault::NoChildrenHere,
+            "The parent of a node may not have children",
+        ),
+        (
+            ValidateFault::PlacedFragment,
+            "A document or fragment is placed",
+        ),
+        (ValidateFault::BadContents, "bad template contents"),
+        (ValidateFault::TooManyNodes, "too many nodes"),
+        (ValidateFault::Memory, "out of memory"),
     ] {
         shows(&rt, fault, want)?;
     }

@@ -1,0 +1,23 @@
+//! The snippets of README.md and docs/API.md, one after the other. `check` compares them with these files.
+#![tactic(auto)]
+
+mod changing;
+mod fault;
+mod finding;
+mod links;
+mod reading;
+mod walking;
+mod writing;
+
+use fault::TourFault;
+
+fn main(rt: HostRuntime) -> Result<(), TourFault> {
+    let alloc = rt.alloc();
+    let mut out = rt.stdout();
+    links::print_links(alloc, links::PAGE, &mut out)?;
+    reading::print_page(alloc, &mut out)?;
+    finding::print_found(alloc, &mut out)?;
+    walking::print_list(alloc, &mut out)?;
+    changing::print_changed(alloc, &mut out)?;
+    writing::print_written(alloc, &mut out)
+}
