@@ -28,8 +28,8 @@ pub trait NodeMd {
         ensures words { IfOk result (λ text. KeepsWords (forest self.now) (number self.now)
             (string_bytes text)) };
 
-    /// The Markdown of what is below the node; empty for an unknown number. Elements of the names in
-    /// `skip_tags` are left out: `script`, `style`, `meta` and `head` where none are given.
+    /// The Markdown of what is below the node; empty for an unknown number. Elements of the names
+    /// in `skip_tags` are left out: `script`, `style`, `meta` and `head` where none are given.
     fn md(&self, skip_tags: Option<&[&str]>) -> Result<String, OutOfMemory>;
 }
 
@@ -60,7 +60,8 @@ pub trait DocumentMd {
     /// The formatted text of what is below the root, without whitespace at its end. Without any
     /// whitespace it is the text of the document without whitespace.
     fn formatted_text(&self) -> Result<String, OutOfMemory>
-        ensures text { IfOk result (λ text. string_bytes text ≡ formatted_below (forest self.now) 0) }
+        ensures text { IfOk result (λ text. string_bytes text
+            ≡ formatted_below (forest self.now) 0) }
         ensures words { IfOk result (λ text. KeepsWords (forest self.now) 0 (string_bytes text)) };
 
     /// The Markdown of what is below the root.

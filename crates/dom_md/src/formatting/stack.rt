@@ -10,7 +10,8 @@ ghost use Rattle.dom_links.specs.Texts.{text_of};
 ghost use Rattle.dom_links.specs.Walk.{IsNodeOf, IsWithin};
 ghost use Rattle.dom_markup.specs.Ops.{row_weight, weight_below};
 ghost use Rattle.dom_md.specs.Formatted.{events_below, formatted_node};
-ghost use Rattle.dom_md.specs.FormatOps.{AreWithin, Formats, FormatsSome, IsFolded, IsOpWithin, first_events};
+ghost use Rattle.dom_md.specs.FormatOps.{AreWithin, Formats, FormatsSome, IsFolded};
+ghost use Rattle.dom_md.specs.FormatOps.{IsOpWithin, first_events};
 ghost use Rattle.dom_md.specs.FormatOps.{close_events, op_events, op_weight, ops_events};
 ghost use Rattle.dom_md.specs.FormatOps.{rest_events, row_events, weight};
 
