@@ -11,8 +11,10 @@ pub mod ListsAsTrees
 pub mod Meaning
 pub mod MiniGrammar
 pub mod MiniLetters
+pub mod MiniPaths
 pub mod MiniSyntax
 pub mod MiniTruth
+pub mod MiniWalks
 pub mod Names
 pub mod Parts
 pub mod Pseudos
@@ -22,4 +24,5 @@ pub mod Strings
 pub mod Syntax
 pub mod Texts
 pub mod Tokens
+pub mod Traversals
 pub mod ValuesAsTrees

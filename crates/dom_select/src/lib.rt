@@ -9,3 +9,4 @@ pub mod mini_selector;
 pub mod node_select;
 #[cfg(test)]
 mod tests;
+pub mod traversal;
