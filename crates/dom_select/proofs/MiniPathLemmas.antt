@@ -1,13 +1,12 @@
 -- What the steps of a path add.
-use Rattle.std.proofs.Common.{◌≡◌, ℕ, zero, suc, ◌+◌, ◌<◌, ◌≤◌, List, [], ◌∷◌, ◌++◌, length, drop, map, Bool, true, false, cond, nat_eq, refl, sym, ap, ◌∙◌, arith, append_assoc, inl, inr, Option, Some, None, Bor, drop-cons, add-one, get_or}
+use Rattle.std.proofs.Common.{◌≡◌, ℕ, zero, suc, ◌+◌, ◌<◌, ◌≤◌, List, [], ◌∷◌, ◌++◌, length, drop, map, Bool, true, false, cond, nat_eq, refl, sym, ap, ◌∙◌, arith, append_assoc, inl, inr, Option, Some, Bor, drop-cons, add-one, get_or}
 use Rattle.std.specs.Prelude.{◌||◌, ◌&&◌, not, if◌then◌else◌, filter, find}
 use Rattle.std.proofs.lemmas.List.{append-nil}
 use Rattle.std.proofs.lemmas.Bool.{cases_eq, eq-eqb, ne_eqb}
 use Rattle.dom_links.specs.Forest.{Forest, children_of, siblings}
 use Rattle.dom_links.specs.Laws.{AreLines}
 use Rattle.dom_links.specs.Lists.{after, first}
-use Rattle.dom_links.specs.Walk.{later, row_on}
-use Rattle.dom_select.specs.declared.matcher.syntax.Combinator.{Combinator}
+use Rattle.dom_links.specs.Walk.{row_on}
 use Rattle.dom_select.specs.declared.matcher.syntax.Combinator.TheVariants.{Child, LaterSibling}
 use Rattle.dom_select.specs.MiniPaths.{named, path_from, step_by, step_from, step_from_each}
 use Rattle.dom_select.specs.MiniSyntax.{Mini, combinator_of, is_some_of, texts_of}

@@ -105,11 +105,11 @@ parent_known forest n p lines whole up =
     elim (cases_lt p (length forest.content)) [
       | inl known ↦ known
       | inr past ↦ (
-        let childless = (lines.unknown_alone p past).2 in
-        let bare : walk_below forest p ≡ [] = ap (λ ns. walk (trees forest ns)) childless ∙ ap walk whole.no_trees in
-        let stands : stands_in p (ancestors forest n) ≡ true = ap (stands_in p) (lines.up n p (sym up)) ∙ here p (ancestors forest p) in
-        let nowhere : false ≡ true = ap (stands_in n) (sym bare) ∙ (lines.below_above p n ∙ stands) in
-        absurd (true≢false (sym nowhere)))
+          let childless = (lines.unknown_alone p past).2 in
+          let bare : walk_below forest p ≡ [] = ap (λ ns. walk (trees forest ns)) childless ∙ ap walk whole.no_trees in
+          let stands : stands_in p (ancestors forest n) ≡ true = ap (stands_in p) (lines.up n p (sym up)) ∙ here p (ancestors forest p) in
+          let nowhere : false ≡ true = ap (stands_in n) (sym bare) ∙ (lines.below_above p n ∙ stands) in
+          absurd (true≢false (sym nowhere)))
     ]
 
 pub place_climbed : (forest : Forest) (n depth p : ℕ) → AreLines forest → AreTrees forest → Some p ≡ parent forest n → depth ≤ length (ancestors forest n) → IsPlace forest (Some (at p (depth - 1)))

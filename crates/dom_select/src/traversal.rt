@@ -36,11 +36,7 @@ fn is_named(nodes: &[TreeNode], id: NodeId, name: &str) -> bool
 
 impl Traversal {
     /// The first child that is an element of that local name; none where the number is unknown.
-    pub fn find_child_element_by_name(
-        nodes: &[TreeNode],
-        id: NodeId,
-        name: &str,
-    ) -> Option<NodeId>
+    pub fn find_child_element_by_name(nodes: &[TreeNode], id: NodeId, name: &str) -> Option<NodeId>
         requires { IsSoundArena nodes.now }
         ensures { result ≡ child_named (forest_of nodes.now) id name.now }
     {
@@ -57,11 +53,7 @@ impl Traversal {
 
     /// From the node to the first child of the first name, to that one's first child of the next name, and so on; no name
     /// answers the node itself.
-    pub fn find_descendant_element(
-        nodes: &[TreeNode],
-        id: NodeId,
-        path: &[&str],
-    ) -> Option<NodeId>
+    pub fn find_descendant_element(nodes: &[TreeNode], id: NodeId, path: &[&str]) -> Option<NodeId>
         requires { IsSoundArena nodes.now }
         ensures { result ≡ child_by_names (forest_of nodes.now) id (texts_of path.now) }
     {

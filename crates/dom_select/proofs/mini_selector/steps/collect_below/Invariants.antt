@@ -1,4 +1,4 @@
-use Rattle.std.proofs.Common.{◌≡◌, ◌++◌, length, Bool, false, ◌&&◌}
+use Rattle.std.proofs.Common.{◌≡◌, ◌++◌, length, ◌&&◌}
 use Rattle.std.specs.Prelude.{filter, not}
 use Rattle.dom_links.specs.Forest.{forest_of}
 use Rattle.dom_select.specs.MiniPaths.{below_step}

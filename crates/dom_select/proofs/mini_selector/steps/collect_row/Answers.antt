@@ -1,4 +1,4 @@
-use Rattle.std.proofs.Common.{◌≡◌, ◌∙◌, sym, ap, false}
+use Rattle.std.proofs.Common.{◌∙◌, ap, false}
 use Rattle.dom_links.specs.Forest.{forest_of}
 use Rattle.dom_links.specs.Walk.{row_on}
 use Rattle.dom_select.specs.MiniTruth.{mini_holds}

@@ -1,4 +1,4 @@
-use Rattle.std.proofs.Common.{◌≡◌, ◌+◌, ◌∙◌, sym, ap, length, nat_eq}
+use Rattle.std.proofs.Common.{◌≡◌, ◌+◌, ◌∙◌, ap, length, nat_eq}
 use Rattle.dom_links.specs.Forest.{forest_of}
 use Rattle.dom_select.specs.MiniPaths.{step_from_each}
 use Rattle.dom_select.proofs.MiniPathLemmas.{name_step}

@@ -1,9 +1,9 @@
-use Rattle.std.proofs.Common.{◌≡◌, ◌∙◌, sym, ap, subst, length, false, Some, List, ℕ, Option, ◌<◌}
+use Rattle.std.proofs.Common.{◌∙◌, sym, ap, false}
 use Rattle.std.specs.Prelude.{find}
 use Rattle.dom_links.specs.Forest.{forest_of}
 use Rattle.dom_links.specs.ListMoves.{element_at}
 use Rattle.dom_links.specs.Walk.{row_on}
-use Rattle.dom_select.proofs.MiniPathLemmas.{found_here, found_later, row_step, shorter}
+use Rattle.dom_select.proofs.MiniPathLemmas.{found_later, row_step, shorter}
 use Rattle.dom_select.proofs.mini_selector.steps.next_element.Goals as goal
 
 pub loop-next-init : goal.loop-next-init

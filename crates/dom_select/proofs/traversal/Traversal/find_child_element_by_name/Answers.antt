@@ -1,4 +1,4 @@
-use Rattle.std.proofs.Common.{◌≡◌, ◌∙◌, sym, ap, false, ℕ, Bool}
+use Rattle.std.proofs.Common.{◌∙◌, sym, ap, false, ℕ, Bool}
 use Rattle.std.specs.Prelude.{find}
 use Rattle.dom_links.specs.Forest.{forest_of}
 use Rattle.dom_links.specs.Walk.{row_on}

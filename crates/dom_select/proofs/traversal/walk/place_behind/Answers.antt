@@ -1,6 +1,6 @@
-use Rattle.std.proofs.Common.{◌≡◌, ◌∙◌, sym, arith}
+use Rattle.std.proofs.Common.{◌∙◌, sym}
 use Rattle.dom_links.specs.Forest.{forest_of}
-use Rattle.dom_select.proofs.MiniWalkLemmas.{climbs_to, ends_there, ends_alone, passes_to, place_climbed, place_passed}
+use Rattle.dom_select.proofs.MiniWalkLemmas.{climbs_to, ends_there, passes_to, place_climbed, place_passed}
 use Rattle.dom_select.proofs.traversal.walk.place_behind.Goals as goal
 
 pub returns-in-Some-clause-on : goal.returns-in-Some-clause-on

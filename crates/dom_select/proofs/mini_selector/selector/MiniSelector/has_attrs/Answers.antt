@@ -1,6 +1,5 @@
 use Rattle.std.proofs.Common.{◌≡◌, ◌∙◌, Bool, map, sym, ap}
 use Rattle.std.specs.List.{list_all}
-use Rattle.dom_select.specs.declared.mini_selector.selector.MiniAttr.{MiniAttr}
 use Rattle.dom_select.specs.MiniSyntax.{Asked, asked_of}
 use Rattle.dom_select.specs.MiniTruth.{asked_holds}
 use Rattle.dom_select.proofs.MiniTruthLemmas.{all_shown}
