@@ -13,7 +13,11 @@ pub mod MeaningLemmas
 pub mod MiniFaultLemmas
 pub mod MiniLemmas
 pub mod MiniLengthLemmas
+pub mod MiniMeetLemmas
+pub mod MiniPathLemmas
 pub mod MiniScanLemmas
+pub mod MiniTruthLemmas
+pub mod MiniWalkLemmas
 pub mod NameLemmas
 pub mod PrintedLemmas
 pub mod ReachLemmas

@@ -6,7 +6,7 @@ use Rattle.dom_select.specs.declared.mini_selector.fault.MiniFault.TheVariants.{
 use Rattle.dom_select.specs.declared.matcher.syntax.Combinator.{Combinator}
 use Rattle.dom_select.specs.MiniLetters.{after_blanks}
 use Rattle.dom_select.specs.MiniSyntax.{Mini}
-use Rattle.dom_select.specs.MiniGrammar.{IsBadAttr, IsBadMini, IsBadPath, IsBadStep, IsPlainlyNone, MeetsBad, RefusesMini, RefusesPath, SpellsAttr, SpellsFront, SpellsMini, SpellsPath, SpellsStep, TellsBad}
+use Rattle.dom_select.specs.MiniGrammar.{IsBadAttr, IsBadMini, IsBadPath, IsBadStep, IsPlainlyNone, MeetsBad, RefusesMini, RefusesPath, SpellsAttr, SpellsFront, SpellsMini, SpellsStep, TellsBad}
 use Rattle.dom_select.specs.Spelling.{Many}
 use Rattle.dom_select.proofs.Runs.{many_last}
 use Rattle.dom_select.proofs.MiniLemmas.{mini_not_bad, path_not_bad}

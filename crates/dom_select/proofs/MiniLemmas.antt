@@ -1,12 +1,12 @@
 -- Mini selectors have one reading, and none where a bad value is met.
-use Rattle.std.proofs.Common.{◌≡◌, ◌≢◌, ℕ, ◌+◌, ◌<◌, ◌≤◌, List, [], ◌∷◌, ◌++◌, length, drop, Bool, true, false, nat_eq, refl, sym, ap, ◌∙◌, subst, true≢false, MatchBool, Option, Some, None, arith, length-drop}
+use Rattle.std.proofs.Common.{◌≡◌, ℕ, List, [], ◌∷◌, ◌++◌, false, refl, sym, ap, ◌∙◌, subst, true≢false, MatchBool, Option, Some, None}
 use Rattle.std.proofs.lemmas.List.{append-nil}
 use Rattle.dom_nodes.specs.Ascii.{right_bracket}
 use Rattle.dom_select.specs.declared.matcher.syntax.Combinator.{Combinator}
 use Rattle.dom_select.specs.declared.matcher.syntax.Operator.{Operator}
 use Rattle.dom_select.specs.Attributes.{SpellsOperator}
 use Rattle.dom_select.specs.Characters.{begins}
-use Rattle.dom_select.specs.MiniLetters.{after_blanks, after_while, is_word}
+use Rattle.dom_select.specs.MiniLetters.{after_blanks}
 use Rattle.dom_select.specs.MiniSyntax.{Asked, Mini, has_part}
 use Rattle.dom_select.specs.MiniGrammar.{Excludes, Maybe, AsMany, MeetsBad, SpellsWord, SpellsMarked, SpellsId, SpellsClass, SpellsLead, SpellsQuoted, SpellsBare, SpellsValue, SpellsTest, SpellsAttr, IsBadTest, IsBadAttr, SpellsClasses, SpellsAttrs, SpellsFront, SpellsMini, IsBadMini, SpellsStep, IsBadStep, SpellsPath, IsBadPath}
 use Rattle.dom_select.specs.Spelling.{Many, SpellsNone}
@@ -146,7 +146,7 @@ parts_once v w text r s h k =
     let attrs = attrs_once v.attrs w.attrs h.after_front r s h.attrs (subst (λ t. SpellsAttrs w.attrs t s) (sym front.rest_is) k.attrs) in
     let of : Option Combinator → Option (List ℕ) → Option (List ℕ) → List (List ℕ) → List Asked → Mini = λ l n i c a. record { lead = l; name = n; id = i; classes = c; attrs = a } in (
       ap (λ x. of x v.name v.id v.classes v.attrs) front.lead_is ∙ ap (λ x. of w.lead x v.id v.classes v.attrs) front.name_is ∙ ap (λ x. of w.lead w.name x v.classes v.attrs) front.id_is
-      ∙ ap (λ x. of w.lead w.name w.id x v.attrs) front.classes_is ∙ ap (λ x. of w.lead w.name w.id w.classes x) attrs.0,
+          ∙ ap (λ x. of w.lead w.name w.id x v.attrs) front.classes_is ∙ ap (λ x. of w.lead w.name w.id w.classes x) attrs.0,
       attrs.1,
     )
 

@@ -1,17 +1,16 @@
 -- What is left of a text is shorter where a part of a mini selector was read.
-use Rattle.std.proofs.Common.{◌≡◌, ◌≢◌, ℕ, ◌+◌, ◌-◌, ◌<◌, ◌≤◌, List, [], ◌∷◌, length, drop, Bool, true, false, ◌||◌, refl, sym, ap, ◌∙◌, subst, cond, nat_eq, MatchBool, Option, Some, None, arith, length-drop}
+use Rattle.std.proofs.Common.{◌≡◌, ℕ, ◌+◌, ◌<◌, ◌≤◌, List, [], ◌∷◌, length, drop, Bool, true, false, ◌||◌, refl, sym, ap, cond, nat_eq, Option, Some, None, arith, length-drop}
 use Rattle.std.proofs.lemmas.Bool.{true≢false}
-use Rattle.std.specs.Prelude.{is_some, not}
-use Rattle.std.specs.List.{prefix_len, take_while}
+use Rattle.std.specs.Prelude.{is_some}
+use Rattle.std.specs.List.{prefix_len}
 use Rattle.dom_nodes.specs.Ascii.{right_bracket}
 use Rattle.dom_select.specs.declared.matcher.syntax.Combinator.{Combinator}
-use Rattle.dom_select.specs.declared.matcher.syntax.Operator.{Operator}
 use Rattle.dom_select.specs.Attributes.{SpellsOperator, operator_of}
 use Rattle.dom_select.specs.declared.matcher.syntax.Operator.TheVariants.{Equal}
 use Rattle.dom_select.specs.Characters.{begins}
 use Rattle.dom_select.specs.MiniLetters.{after_blanks, after_while, is_blank, is_word, isnt}
-use Rattle.dom_select.specs.MiniSyntax.{Asked, Mini, has_part, is_some_of}
-use Rattle.dom_select.specs.MiniGrammar.{Maybe, AsMany, SpellsWord, SpellsMarked, SpellsId, SpellsClass, SpellsLead, SpellsQuoted, SpellsBare, SpellsValue, SpellsTest, SpellsAttr, SpellsClasses, SpellsAttrs, SpellsFront, SpellsMini, SpellsStep, sign_at}
+use Rattle.dom_select.specs.MiniSyntax.{is_some_of}
+use Rattle.dom_select.specs.MiniGrammar.{Maybe, SpellsWord, SpellsMarked, SpellsId, SpellsClass, SpellsLead, SpellsQuoted, SpellsValue, SpellsTest, SpellsAttr, SpellsMini, SpellsStep, sign_at}
 use Rattle.dom_select.specs.Spelling.{Many}
 use Rattle.dom_select.specs.Strings.{is_quote}
 use Rattle.dom_select.proofs.Runs.{Shortens}

@@ -11,8 +11,10 @@ pub mod ListsAsTrees
 pub mod Meaning
 pub mod MiniGrammar
 pub mod MiniLetters
+pub mod MiniPaths
 pub mod MiniSyntax
 pub mod MiniTruth
+pub mod MiniWalks
 pub mod Names
 pub mod NodeAnswers
 pub mod Parts
@@ -24,4 +26,5 @@ pub mod Strings
 pub mod Syntax
 pub mod Texts
 pub mod Tokens
+pub mod Traversals
 pub mod ValuesAsTrees

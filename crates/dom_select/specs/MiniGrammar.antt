@@ -1,5 +1,5 @@
 -- The grammar of mini selectors: which text stands for which of them, and what is left of it. Texts are in UTF-8.
-use Rattle.std.specs.Prelude.{◌≡◌, ◌≢◌, ℕ, List, [], ◌∷◌, Bool, true, false, ◌&&◌, nat_eq, drop, Option, Some, None, MatchBool}
+use Rattle.std.specs.Prelude.{◌≡◌, ◌≢◌, ℕ, List, [], ◌∷◌, true, false, nat_eq, drop, Option, Some, None, MatchBool}
 use Rattle.std.specs.List.{take_while}
 use Rattle.dom_nodes.specs.Ascii.{dot, left_bracket, number_sign, right_bracket}
 use Rattle.dom_select.specs.declared.mini_selector.fault.MiniFault.{MiniFault}

@@ -13,7 +13,7 @@ use Rattle.dom_links.specs.Forest.{Forest}
 use Rattle.dom_trees.specs.Views.{node_is}
 use Rattle.dom_select.specs.declared.matcher.syntax.Operator.{Operator}
 use Rattle.dom_select.specs.Comparisons.{compares, is_empty}
-use Rattle.dom_select.specs.MiniSyntax.{Asked, Mini}
+use Rattle.dom_select.specs.MiniSyntax.{Mini}
 
 -- an element of that local name, where one is asked for
 abbrev pub name_holds : Option (List ℕ) → Element → Bool

@@ -1,5 +1,5 @@
 -- When a part of a compound holds of a node.
-use Rattle.std.specs.Prelude.{◌≡◌, [], ◌∷◌, slice_get, ℕ, Bool, true, false, ◌&&◌, ◌||◌, List, Option, None, Some, codes}
+use Rattle.std.specs.Prelude.{◌≡◌, [], ◌∷◌, slice_get, ℕ, Bool, true, false, ◌&&◌, List, Option, None, Some, codes}
 use Rattle.std.specs.List.{list_any}
 use Rattle.std.specs.Option.{option_map_or}
 use Rattle.std.specs.Str.{bytes_eq, str_to_ascii_lowercase}

@@ -10,3 +10,4 @@ pub mod node_select;
 pub mod pseudo_class;
 #[cfg(test)]
 mod tests;
+pub mod traversal;

@@ -8,12 +8,12 @@ ghost use Rattle.dom_select.specs.MiniSyntax.{asked_of, shown_test};
 ghost use Rattle.dom_select.specs.Spelling.{SpellsNone};
 ghost use Rattle.dom_select.specs.Strings.{is_quote};
 
+use crate::matcher::syntax::Operator;
 use crate::mini_selector::fault::MiniFault;
 use crate::mini_selector::scan::{
     after_blanks, split_ascii, split_before, strip, take_operator, take_word,
 };
 use crate::mini_selector::selector::MiniAttr;
-use crate::matcher::syntax::Operator;
 use std::alloc::Global;
 
 fn is_quote(byte: u8) -> bool
@@ -117,10 +117,7 @@ fn take_attr(text: &str) -> Result<Option<(MiniAttr<'_>, &str)>, MiniFault>
 }
 
 /// The attributes at the front, and what follows them.
-pub(crate) fn take_attrs(
-    alloc: Global,
-    text: &str,
-) -> Result<(Vec<MiniAttr<'_>>, &str), MiniFault>
+pub(crate) fn take_attrs(alloc: Global, text: &str) -> Result<(Vec<MiniAttr<'_>>, &str), MiniFault>
     ensures { MatchResult result (λ p. SpellsAttrs (map asked_of p.0.items) text.now p.1.now)
         (λ fault. TellsBad fault (MeetsBad SpellsAttr IsBadAttr text.now)) }
 {

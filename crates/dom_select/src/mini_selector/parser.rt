@@ -5,11 +5,11 @@ ghost use Rattle.std.specs.Option.{option_copied};
 ghost use Rattle.dom_select.specs.MiniGrammar.{IsBadStep, IsPlainlyNone, Maybe, RefusesMini, RefusesPath, SpellsClasses, SpellsId, SpellsLead, SpellsMini, SpellsPath, SpellsStep, SpellsWord, TellsBad};
 ghost use Rattle.dom_select.specs.MiniSyntax.{texts_of};
 
+use crate::matcher::syntax::Combinator;
 use crate::mini_selector::attributes::take_attrs;
 use crate::mini_selector::fault::MiniFault;
 use crate::mini_selector::scan::{after_blanks, take_lead, take_marked, take_word};
 use crate::mini_selector::selector::MiniSelector;
-use crate::matcher::syntax::Combinator;
 use std::alloc::{AllocFailed, Global};
 
 /// The combinator at the front, if there is one, and what follows it.
@@ -57,10 +57,7 @@ fn take_classes(alloc: Global, text: &str) -> Result<(Vec<&str>, &str), MiniFaul
 
 /// The mini selector at the front, and what is left behind it: `NoSelector` where none can be read, and `BadQuotedValue` where one
 /// of its attributes has a value that begins with a quote and is empty or not closed by that quote.
-pub fn parse_mini_selector(
-    alloc: Global,
-    text: &str,
-) -> Result<(&str, MiniSelector<'_>), MiniFault>
+pub fn parse_mini_selector(alloc: Global, text: &str) -> Result<(&str, MiniSelector<'_>), MiniFault>
     ensures { MatchResult result (λ p. SpellsMini p.1 text.now p.0.now) (λ fault. RefusesMini fault text.now) }
 {
     let (lead, after_lead) = maybe_lead(text);

@@ -1,6 +1,10 @@
 //! What a mini selector's text stands for.
 
 use crate::matcher::syntax::{Combinator, Operator};
+use crate::mini_selector::fault::MiniFault;
+use crate::mini_selector::parser::parse_mini_selector;
+use dom_trees::node_ref::NodeRef;
+use std::alloc::Global;
 use std::marker::Model;
 
 /// An attribute, and how its value is compared with which text, if it is.
@@ -40,7 +44,29 @@ impl<'a> Model for MiniSelector<'a> {
 impl<'a> MiniSelector<'a> {
     ghost use Rattle.std.specs.Prelude.{◌≡◌, map};
     ghost use Rattle.std.specs.Option.{option_copied};
+    ghost use Rattle.std.specs.Prelude.{ℕ, List, MatchResult};
+    ghost use Rattle.dom_select.specs.MiniGrammar.{RefusesMini, SpellsMini};
     ghost use Rattle.dom_select.specs.MiniSyntax.{asked_of, combinator_of, has_part, texts_of};
+    ghost use Rattle.dom_select.specs.MiniTruth.{mini_holds};
+
+    /// The mini selector at the front of the text, whatever follows it: `NoSelector` where none can be read, and
+    /// `BadQuotedValue` where a value in quotes is empty or isn't closed.
+    pub fn new(alloc: Global, selector: &'a str) -> Result<MiniSelector<'a>, MiniFault>
+        ensures { MatchResult result (λ mini. (rest : List ℕ) × SpellsMini mini selector.now rest) (λ fault. RefusesMini fault selector.now) }
+    {
+        let (_, mini) = parse_mini_selector(alloc, selector)?;
+        Ok(mini)
+    }
+
+    /// Whether it is true of the node: an element of that name, id and classes, whose attributes are as asked. It takes no memory.
+    pub fn match_node(&self, node: &NodeRef<'_>) -> bool
+        ensures { result ≡ mini_holds self.now node.now.tree.now node.now.id }
+    {
+        match node.tree.get(&node.id) {
+            Some(found) => self.match_data(&found.content),
+            None => false,
+        }
+    }
 
     /// The local name that is asked for.
     pub fn name(&self) -> Option<&'a str>

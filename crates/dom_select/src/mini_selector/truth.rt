@@ -1,10 +1,10 @@
 //! Whether a mini selector is true of a node. No memory is taken.
 
-ghost use Rattle.std.specs.Prelude.{◌≡◌, map};
-ghost use Rattle.std.specs.List.{list_all};
+ghost use Rattle.std.specs.Prelude.{◌≡◌};
+ghost use Rattle.std.specs.List.{list_all, list_any};
 ghost use Rattle.std.specs.Option.{option_copied};
 ghost use Rattle.dom_nodes.specs.Words.{class_words, is_among};
-ghost use Rattle.dom_select.specs.MiniSyntax.{asked_of, shown_test, texts_of};
+ghost use Rattle.dom_select.specs.MiniSyntax.{asked_of};
 ghost use Rattle.dom_select.specs.MiniTruth.{asked_holds, attr_passes, element_passes, id_holds, name_holds, node_passes, test_passes};
 
 use crate::matcher::comparisons::compares;
@@ -36,14 +36,9 @@ fn id_holds(id: Option<&str>, element: &Element) -> bool
 }
 
 fn classes_hold(classes: &[&str], element: &Element) -> bool
-    ensures { result ≡ list_all (λ class. is_among class (class_words element.now.attrs)) (texts_of classes.now) }
+    ensures { result ≡ list_all (λ class. is_among class.now (class_words element.now.attrs)) classes.now }
 {
-    for class in classes {
-        if !element.has_class(class) {
-            return false;
-        }
-    }
-    true
+    classes.iter().all(|class| element.has_class(class))
 }
 
 /// Whether the value isn't empty and is as the operator says.
@@ -59,39 +54,50 @@ fn attr_passes(key: &str, operator: Operator, wanted: &str, attr: &Attr) -> bool
     attr.name.local.as_str() == key && test_passes(operator, wanted, attr.value.as_str())
 }
 
+/// Whether one of the attributes has that local name and passes the test.
+fn any_passes(key: &str, operator: Operator, wanted: &str, attrs: &[Attr]) -> bool
+    ensures { result ≡ list_any (attr_passes key.now (operator, wanted.now)) attrs.now }
+{
+    attrs
+        .iter()
+        .any(|attr| attr_passes(key, operator, wanted, attr))
+}
+
 fn asked_holds(asked: &MiniAttr<'_>, element: &Element) -> bool
     ensures { result ≡ asked_holds element.now (asked_of asked.now).key (asked_of asked.now).test }
 {
     let Some((operator, wanted)) = asked.test else {
         return element.attr(asked.key).is_some();
     };
-    for attr in element.attrs.as_slice() {
-        if attr_passes(asked.key, operator, wanted, attr) {
-            return true;
-        }
-    }
-    false
+    any_passes(asked.key, operator, wanted, element.attrs.as_slice())
 }
 
 fn attrs_hold(attrs: &[MiniAttr<'_>], element: &Element) -> bool
-    ensures { result ≡ list_all (λ asked. asked_holds element.now asked.key asked.test) (map asked_of attrs.now) }
+    ensures { result ≡ list_all (λ asked. asked_holds element.now (asked_of asked).key (asked_of asked).test) attrs.now }
 {
-    for asked in attrs {
-        if !asked_holds(asked, element) {
-            return false;
-        }
-    }
-    true
+    attrs.iter().all(|asked| asked_holds(asked, element))
 }
 
 impl<'a> MiniSelector<'a> {
+    fn has_classes(&self, element: &Element) -> bool
+        ensures { result ≡ list_all (λ class. is_among class (class_words element.now.attrs)) self.now.classes }
+    {
+        classes_hold(self.classes.as_slice(), element)
+    }
+
+    fn has_attrs(&self, element: &Element) -> bool
+        ensures { result ≡ list_all (λ asked. asked_holds element.now asked.key asked.test) self.now.attrs }
+    {
+        attrs_hold(self.attrs.as_slice(), element)
+    }
+
     fn passes(&self, element: &Element) -> bool
         ensures { result ≡ element_passes self.now element.now }
     {
         name_holds(self.name, element)
             && id_holds(self.id, element)
-            && classes_hold(self.classes.as_slice(), element)
-            && attrs_hold(self.attrs.as_slice(), element)
+            && self.has_classes(element)
+            && self.has_attrs(element)
     }
 
     /// Whether the node is an element that is all that is asked for.

@@ -13,7 +13,7 @@ use std::alloc::Global;
 use std::test::Fail;
 
 /// An element below another: its number, its name, and an attribute where the name isn't empty.
-type Row<'a> = (usize, &'a str, &'a str, &'a str);
+pub(crate) type Row<'a> = (usize, &'a str, &'a str, &'a str);
 
 fn name(alloc: Global, ns: Namespace, local: &str) -> Result<QualName, Fail> {
     Ok(QualName {
@@ -37,7 +37,7 @@ fn element(alloc: Global, row: Row<'_>) -> Result<NodeData, Fail> {
 }
 
 /// A document with these elements, which are numbered from 1 on.
-fn tree_of(alloc: Global, rows: &[Row<'_>]) -> Result<Tree, Fail> {
+pub(crate) fn tree_of(alloc: Global, rows: &[Row<'_>]) -> Result<Tree, Fail> {
     let mut tree = Tree::new(alloc, NodeData::Document)?;
     for row in rows {
         let parent = NodeId::new(row.0).ok_or("number")?;

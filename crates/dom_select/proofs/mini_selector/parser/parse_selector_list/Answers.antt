@@ -1,4 +1,4 @@
-use Rattle.std.proofs.Common.{rules, subst, sym, ◌++◌, ◌∷◌, []}
+use Rattle.std.proofs.Common.{rules, subst, sym}
 use Rattle.std.proofs.lemmas.Result.{err_from_is_err_and}
 use Rattle.dom_select.specs.MiniGrammar.{SpellsStep}
 use Rattle.dom_select.specs.Spelling.{Many}

@@ -1,0 +1,92 @@
+//! Nodes that are asked for mini selectors and for paths of them.
+
+ghost use Rattle.std.specs.Prelude.{◌≡◌, ◌⊎◌, [], IfOk, MatchBool, MatchResult};
+ghost use Rattle.dom_trees.specs.Views.{refs_to};
+ghost use Rattle.dom_select.specs.MiniGrammar.{IsBadPath, RefusesPath};
+ghost use Rattle.dom_select.specs.MiniPaths.{AreRefsFound, IsMet, found_by_names};
+ghost use Rattle.dom_select.specs.MiniSyntax.{texts_of};
+ghost use Rattle.dom_select.specs.MiniTruth.{mini_holds};
+
+use crate::mini_selector::fault::MiniFault;
+use crate::mini_selector::parser::parse_selector_list;
+use crate::mini_selector::selector::MiniSelector;
+use crate::mini_selector::steps::{follow_names, follow_path};
+use dom_nodes::fault::OutOfMemory;
+use dom_nodes::node_id::NodeId;
+use dom_trees::node_ref::NodeRef;
+use dom_trees::tree::Tree;
+
+/// A node that mini selectors, and paths of them or of names, are asked of.
+pub trait MiniSelect<'a> {
+    /// The nodes that names find, each below the one before. No name finds the node itself, and nothing where it is unknown.
+    fn find(&self, path: &[&str]) -> Result<Vec<NodeRef<'a>>, OutOfMemory>;
+
+    /// The nodes that the path finds. One of which nothing can be read finds the node itself, and nothing where it is unknown;
+    /// one with a bad value in quotes finds nothing.
+    fn find_descendants(&self, path: &str) -> Result<Vec<NodeRef<'a>>, OutOfMemory>;
+
+    /// The nodes that the path finds; `BadQuotedValue` where one of its values begins with a quote and is empty, or isn't
+    /// closed by that quote.
+    fn try_find_descendants(&self, path: &str) -> Result<Vec<NodeRef<'a>>, MiniFault>;
+
+    /// Whether the mini selector at the front of the text is true of the node; false where there is none.
+    fn mini_is(&self, selector: &str) -> Result<bool, OutOfMemory>;
+
+    /// Whether the mini selector is true of the node. It takes no memory.
+    fn mini_match(&self, selector: &MiniSelector<'_>) -> bool;
+}
+
+/// The nodes of these numbers.
+fn refs<'a>(tree: &'a Tree, ids: &[NodeId]) -> Result<Vec<NodeRef<'a>>, OutOfMemory>
+    ensures { IfOk result (λ refs. refs.items ≡ refs_to tree.entry ids.now) }
+{
+    let refs = ids.iter().map(|id| NodeRef::new(*id, tree));
+    Ok(refs.collect(tree.allocator())?)
+}
+
+impl<'a> MiniSelect<'a> for NodeRef<'a> {
+    fn find(&self, path: &[&str]) -> Result<Vec<NodeRef<'a>>, OutOfMemory>
+        ensures { IfOk result (λ found. found.items ≡ refs_to self.now.tree (found_by_names self.now.tree.now (texts_of path.now) self.now.id)) }
+    {
+        let tree = self.tree;
+        let ids = follow_names(tree.allocator(), tree.nodes(), self.id, path)?;
+        refs(tree, &ids)
+    }
+
+    fn find_descendants(&self, path: &str) -> Result<Vec<NodeRef<'a>>, OutOfMemory>
+        ensures { IfOk result (λ found. AreRefsFound path.now self.now.tree self.now.id found.items ⊎ (IsBadPath path.now × (found.items ≡ []))) }
+    {
+        match self.try_find_descendants(path) {
+            Ok(found) => Ok(found),
+            Err(MiniFault::NoSelector) => Ok(Vec::new(self.tree.allocator())),
+            Err(MiniFault::BadQuotedValue) => Ok(Vec::new(self.tree.allocator())),
+            Err(MiniFault::Memory) => Err(OutOfMemory),
+        }
+    }
+
+    fn try_find_descendants(&self, path: &str) -> Result<Vec<NodeRef<'a>>, MiniFault>
+        ensures { MatchResult result (λ found. AreRefsFound path.now self.now.tree self.now.id found.items) (λ fault. RefusesPath fault path.now) }
+    {
+        let tree = self.tree;
+        let (_, minis) = parse_selector_list(tree.allocator(), path)?;
+        let ids = follow_path(tree.allocator(), tree.nodes(), self.id, &minis)?;
+        Ok(refs(tree, &ids)?)
+    }
+
+    fn mini_is(&self, selector: &str) -> Result<bool, OutOfMemory>
+        ensures { IfOk result (λ answer. MatchBool answer (IsMet selector.now self.now.tree.now self.now.id) (IsMet selector.now self.now.tree.now self.now.id → ⊥)) }
+    {
+        match MiniSelector::new(self.tree.allocator(), selector) {
+            Ok(mini) => Ok(mini.match_node(self)),
+            Err(MiniFault::NoSelector) => Ok(false),
+            Err(MiniFault::BadQuotedValue) => Ok(false),
+            Err(MiniFault::Memory) => Err(OutOfMemory),
+        }
+    }
+
+    fn mini_match(&self, selector: &MiniSelector<'_>) -> bool
+        ensures { result ≡ mini_holds selector.now self.now.tree.now self.now.id }
+    {
+        selector.match_node(self)
+    }
+}

@@ -1,0 +1,80 @@
+//! Children and nodes below that are found by their names, over an arena's nodes.
+
+ghost use Rattle.std.specs.Prelude.{◌≡◌, IfOk};
+ghost use Rattle.dom_links.specs.Forest.{forest_of};
+ghost use Rattle.dom_links.specs.Sound.{IsSoundArena};
+ghost use Rattle.dom_select.specs.MiniPaths.{found_by_names};
+ghost use Rattle.dom_select.specs.MiniSyntax.{texts_of};
+ghost use Rattle.dom_select.specs.Traversals.{child_by_names};
+ghost use Rattle.dom_trees.specs.Views.{child_named, has_local_name};
+
+use crate::mini_selector::steps::follow_names;
+use dom_links::iters::{find_node, first_child_id, next_sibling_id};
+use dom_links::laws::lines_of_a_forest;
+use dom_nodes::fault::OutOfMemory;
+use dom_nodes::node_data::TreeNode;
+use dom_nodes::node_id::NodeId;
+use std::alloc::Global;
+
+pub(crate) mod walk;
+
+/// Children and nodes below, by their names.
+pub struct Traversal {}
+
+fn is_named(nodes: &[TreeNode], id: NodeId, name: &str) -> bool
+    requires { IsSoundArena nodes.now }
+    ensures { result ≡ has_local_name (forest_of nodes.now) id name.now }
+{
+    let Some(node) = find_node(nodes, id) else {
+        return false;
+    };
+    match node.content.as_element() {
+        Some(element) => element.node_name() == name,
+        None => false,
+    }
+}
+
+impl Traversal {
+    /// The first child that is an element of that local name; none where the number is unknown.
+    pub fn find_child_element_by_name(nodes: &[TreeNode], id: NodeId, name: &str) -> Option<NodeId>
+        requires { IsSoundArena nodes.now }
+        ensures { result ≡ child_named (forest_of nodes.now) id name.now }
+    {
+        lines_of_a_forest();
+        let mut next = first_child_id(nodes, &id);
+        while let Some(child) = next {
+            if is_named(nodes, child, name) {
+                return Some(child);
+            }
+            next = next_sibling_id(nodes, &child);
+        }
+        None
+    }
+
+    /// From the node to the first child of the first name, to that one's first child of the next name, and so on; no name
+    /// answers the node itself.
+    pub fn find_descendant_element(nodes: &[TreeNode], id: NodeId, path: &[&str]) -> Option<NodeId>
+        requires { IsSoundArena nodes.now }
+        ensures { result ≡ child_by_names (forest_of nodes.now) id (texts_of path.now) }
+    {
+        let mut at = id;
+        for name in path {
+            at = Traversal::find_child_element_by_name(nodes, at, name)?;
+        }
+        Some(at)
+    }
+
+    /// The nodes that names find, each below the one before; what is below a node that is found isn't looked at, but in the
+    /// last step. No name finds the node itself, and nothing where it is unknown.
+    pub fn find_descendant_elements(
+        alloc: Global,
+        nodes: &[TreeNode],
+        id: NodeId,
+        path: &[&str],
+    ) -> Result<Vec<NodeId>, OutOfMemory>
+        requires { IsSoundArena nodes.now }
+        ensures { IfOk result (λ found. found.items ≡ found_by_names (forest_of nodes.now) (texts_of path.now) id) }
+    {
+        follow_names(alloc, nodes, id, path)
+    }
+}
