@@ -11,6 +11,7 @@ pub mod ListsAsTrees
 pub mod Meaning
 pub mod Names
 pub mod NodeAnswers
+pub mod Nth
 pub mod Parts
 pub mod PseudoTexts
 pub mod Pseudos
