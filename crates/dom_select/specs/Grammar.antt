@@ -1,7 +1,8 @@
 -- The grammar of selectors: which text stands for which list of them. Texts are lists of characters. The room tells where in a
 -- selector's text something stands. `Inner` is what stands for a list between parentheses, that of `:has` or another; it is the same
 -- grammar with one depth less, so each layer is said once, of any inner relation, and the depth of 64 is a number that falls.
-use Rattle.std.specs.Prelude.{◌≡◌, ◌<◌, ◌≤◌, ◌+◌, ◌-◌, ℕ, zero, suc, List, [], ◌∷◌, ◌++◌, Bool, true, false, ◌&&◌, ◌||◌, nat_eq, cond, drop, Option, Some, None, MatchBool, MatchOption}
+use Rattle.std.specs.Prelude.{◌≡◌, ◌<◌, ◌≤◌, ◌+◌, ◌-◌, ℕ, zero, suc, List, [], ◌∷◌, ◌++◌, Bool, true, false, ◌&&◌, ◌||◌, nat_eq, cond, drop, Option, Some, None, MatchBool, MatchOption, Result}
+use Rattle.std.specs.Borrow.{Bor}
 use Rattle.std.specs.Char.{is_ascii_whitespace}
 use Rattle.std.specs.List.{list_all}
 use Rattle.dom_nodes.specs.Ascii.{asterisk, colon, comma, dot, greater_than, left_bracket, left_parenthesis, number_sign, plus_sign, right_parenthesis, tilde}
@@ -18,7 +19,7 @@ use Rattle.dom_select.specs.declared.matcher.syntax.Part.{Part}
 use Rattle.dom_select.specs.declared.matcher.syntax.Part.TheVariants.{Universal, Id, Class, Attribute, Position}
 use Rattle.dom_select.specs.declared.matcher.syntax.Pseudo.{Pseudo}
 use Rattle.dom_select.specs.Pseudos.{bare_item, is_relative, pseudo_of, quantified, text_part}
-use Rattle.dom_select.specs.Spelling.{Run, Refuses}
+use Rattle.dom_select.specs.Spelling.{Run, Refuses, Takes}
 use Rattle.dom_select.specs.Characters.{after_white, begins, how_many, how_many_large}
 use Rattle.dom_select.specs.Names.{SpellsName, starts_name}
 use Rattle.dom_select.specs.Attributes.{SpellsAttribute}
@@ -201,6 +202,13 @@ stands_behind room text NestedHas = cond room.in_has 0 1 ≤ how_many colon text
 stands_behind room text TooDeep = room.depth + 1 ≤ how_many left_parenthesis text
 stands_behind room text Syntax = Unit {0}
 stands_behind room text Memory = Unit {0}
+
+-- What a call gives that reads something in a room, or what follows a pseudo-class's colon there
+abbrev pub TakesIn : {T A : Type 0} → Room → Result (T × Bor (List ℕ)) SelectorFault → (T → A) → (A → List ℕ → List ℕ → Type 0) → List ℕ → Type 0
+TakesIn room result read Spells text = Takes result read Spells (stands_for room text) text
+
+abbrev pub TakesBehind : {T A : Type 0} → Room → Result (T × Bor (List ℕ)) SelectorFault → (T → A) → (A → List ℕ → List ℕ → Type 0) → List ℕ → Type 0
+TakesBehind room result read Spells text = Takes result read Spells (stands_behind room text) text
 
 -- What a fault tells of the text: that it stands for nothing; an unknown pseudo-class that a colon stands in it, a number that one
 -- past 2147483647 does, a nested `:has` that two colons do, too deep that 65 opening parentheses do

@@ -1,6 +1,6 @@
 -- What every part of the grammar is: a relation `Spells value text rest`, which says that the text is a spelling of the value and
 -- then the rest. What goes as long as it can says so itself, so a text has one reading at most, whatever follows.
-use Rattle.std.specs.Prelude.{◌≡◌, ◌≤◌, ℕ, List, [], ◌∷◌, Bool, false, Option, Result, MatchOption, MatchResult}
+use Rattle.std.specs.Prelude.{◌≡◌, ◌≤◌, ℕ, List, [], ◌∷◌, Bool, false, Option, Result, MatchBool, MatchOption, MatchResult}
 use Rattle.std.specs.Borrow.{Bor}
 use Rattle.dom_select.specs.declared.fault.SelectorFault.{SelectorFault}
 use Rattle.dom_select.specs.declared.fault.SelectorFault.TheVariants.{Syntax, UnknownPseudoClass, Number, NestedHas, TooDeep, Memory}
@@ -38,6 +38,10 @@ no_other fault = ⊥
 abbrev pub large_stands : List ℕ → SelectorFault → Type 0
 large_stands text Number = 1 ≤ how_many_large text
 large_stands text _ = ⊥
+
+-- the answer tells whether it is so
+abbrev pub Decides : Bool → Type 0 → Type 0
+Decides answer P = MatchBool answer P (P → ⊥)
 
 abbrev pub same : {A : Type 0} → A → A
 same v = v

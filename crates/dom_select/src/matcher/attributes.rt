@@ -51,7 +51,8 @@ fn take_operator(text: &[char]) -> Option<(Operator, &[char])>
 
 /// The text without the character at its front, where that is this one.
 pub(crate) fn after_char(text: &[char], c: char) -> Option<&[char]>
-    ensures { MatchOption result ((rest : List ℕ) → text.now ≡ c ∷ rest → ⊥) (λ p. text.now ≡ c ∷ p.now) }
+    ensures { MatchOption result ((rest : List ℕ) → text.now ≡ c ∷ rest → ⊥)
+        (λ rest. text.now ≡ c ∷ rest.now) }
 {
     let Some((first, rest)) = text.split_first() else {
         return None;

@@ -5,11 +5,11 @@ ghost use Rattle.std.specs.Char.{is_ascii_whitespace};
 ghost use Rattle.std.specs.List.{list_all};
 ghost use Rattle.dom_nodes.specs.Ascii.{right_parenthesis};
 ghost use Rattle.dom_select.specs.Characters.{after_white, begins};
-ghost use Rattle.dom_select.specs.Grammar.{Opens, Refused, StandsFor, SpellsCombinator, SpellsCompound, SpellsEnclosed, SpellsForm, SpellsInner, SpellsItem, SpellsLater, SpellsLead, SpellsList, SpellsListed, SpellsPlain, SpellsPseudo, SpellsSelector, SpellsStep, SpellsType, begins_comma, begins_compound, begins_item, begins_open, begins_step, combinator_of, inner_room, is_combinator, is_star, stands_behind, stands_for, whole};
+ghost use Rattle.dom_select.specs.Grammar.{Opens, Refused, StandsFor, TakesBehind, TakesIn, SpellsCombinator, SpellsCompound, SpellsEnclosed, SpellsForm, SpellsInner, SpellsItem, SpellsLater, SpellsLead, SpellsList, SpellsListed, SpellsPlain, SpellsPseudo, SpellsSelector, SpellsStep, SpellsType, begins_comma, begins_compound, begins_item, begins_open, begins_step, combinator_of, inner_room, is_combinator, is_star, stands_behind, stands_for, whole};
 ghost use Rattle.dom_select.specs.ListsAsTrees.{Item, lists_of};
 ghost use Rattle.dom_select.specs.Nth.{SpellsNth};
 ghost use Rattle.dom_select.specs.Strings.{SpellsString};
-ghost use Rattle.dom_select.specs.Spelling.{Refuses, Takes, TakesSome, no_other, same};
+ghost use Rattle.dom_select.specs.Spelling.{Refuses, TakesSome, Takes, no_other, same};
 ghost use Rattle.dom_select.specs.ValuesAsTrees.{PushesItem, lists_then, read_compound, read_item, read_list, read_nested, read_selector, read_step};
 
 use crate::fault::SelectorFault;
@@ -52,8 +52,9 @@ fn begins_open(text: &[char]) -> bool
 
 /// What follows the parenthesis at the front and whitespace.
 fn take_opening(room: Room, text: &[char]) -> Result<&[char], SelectorFault>
-    ensures { MatchResult result (λ rest. Opens room.depth text.now rest.now) (λ fault.
-        Refuses (stands_behind room text.now) fault ((rest : List ℕ) → Opens room.depth text.now rest → ⊥)) }
+    ensures { MatchResult result (λ rest. Opens room.depth text.now rest.now)
+        (λ fault. Refuses (stands_behind room text.now) fault
+        ((rest : List ℕ) → Opens room.depth text.now rest → ⊥)) }
 {
     let Some(inside) = after_char(text, '(') else {
         return Err(SelectorFault::UnknownPseudoClass);
@@ -66,8 +67,9 @@ fn take_opening(room: Room, text: &[char]) -> Result<&[char], SelectorFault>
 
 /// What follows whitespace and the parenthesis that closes.
 fn take_closing(text: &[char]) -> Result<&[char], SelectorFault>
-    ensures { MatchResult result (λ rest. after_white text.now ≡ right_parenthesis ∷ rest.now) (λ fault.
-        Refuses no_other fault ((rest : List ℕ) → after_white text.now ≡ right_parenthesis ∷ rest → ⊥)) }
+    ensures { MatchResult result (λ rest. after_white text.now ≡ right_parenthesis ∷ rest.now)
+        (λ fault. Refuses no_other fault
+        ((rest : List ℕ) → after_white text.now ≡ right_parenthesis ∷ rest → ⊥)) }
 {
     match after_char(after_white(text), ')') {
         Some(rest) => Ok(rest),
@@ -77,7 +79,7 @@ fn take_closing(text: &[char]) -> Result<&[char], SelectorFault>
 
 /// The part of a pseudo-class without parentheses, and what follows it.
 fn take_plain(room: Room, bare: Bare, text: &[char]) -> Result<(Item, &[char]), SelectorFault>
-    ensures { Takes result read_item (SpellsPlain bare) (stands_behind room text.now) text.now }
+    ensures { TakesBehind room result read_item (SpellsPlain bare) text.now }
 {
     if begins_open(text) {
         return Err(SelectorFault::UnknownPseudoClass);
@@ -87,7 +89,7 @@ fn take_plain(room: Room, bare: Bare, text: &[char]) -> Result<(Item, &[char]), 
 
 /// The `an+b` in parentheses, and what follows it.
 fn take_enclosed_nth(room: Room, text: &[char]) -> Result<(Nth, &[char]), SelectorFault>
-    ensures { Takes result same (SpellsEnclosed room.depth SpellsNth) (stands_behind room text.now) text.now }
+    ensures { TakesBehind room result same (SpellsEnclosed room.depth SpellsNth) text.now }
 {
     let inside = take_opening(room, text)?;
     let (nth, after) = take_nth(inside)?;
@@ -101,7 +103,7 @@ fn take_enclosed_string(
     room: Room,
     text: &[char],
 ) -> Result<(Text, &[char]), SelectorFault>
-    ensures { Takes result same (SpellsEnclosed room.depth SpellsString) (stands_behind room text.now) text.now }
+    ensures { TakesBehind room result same (SpellsEnclosed room.depth SpellsString) text.now }
 {
     let inside = take_opening(room, text)?;
     let (string, after) = take_string(alloc, inside)?;
@@ -129,7 +131,8 @@ fn take_enclosed(
     relative: bool,
     text: &[char],
 ) -> Result<(Vec<Selector>, &[char]), SelectorFault>
-    ensures { Takes result (λ list. read_list list.items) (SpellsEnclosed room.depth (SpellsInner room relative)) (stands_behind room text.now) text.now }
+    ensures { TakesBehind room result (λ list. read_list list.items)
+        (SpellsEnclosed room.depth (SpellsInner room relative)) text.now }
 {
     let inside = take_opening(room, text)?;
     let (list, after) = take_list(alloc, inner_room(room, relative), inside)?;
@@ -145,7 +148,8 @@ fn take_listed(
     quantifier: Quantifier,
     text: &[char],
 ) -> Result<(Item, &[char]), SelectorFault>
-    ensures { Takes result read_item (SpellsListed room (SpellsInner room) quantifier) (stands_behind room text.now) text.now }
+    ensures { TakesBehind room result read_item
+        (SpellsListed room (SpellsInner room) quantifier) text.now }
 {
     let relative = is_relative(quantifier);
     if relative && room.in_has {
@@ -163,7 +167,8 @@ fn take_form(
     pseudo: Pseudo,
     text: &[char],
 ) -> Result<(Item, &[char]), SelectorFault>
-    ensures { Takes result read_item (SpellsForm room (SpellsInner room) pseudo) (stands_behind room text.now) text.now }
+    ensures { TakesBehind room result read_item
+        (SpellsForm room (SpellsInner room) pseudo) text.now }
 {
     match pseudo {
         Pseudo::Plain(bare) => take_plain(room, bare, text),
@@ -182,7 +187,7 @@ fn take_form(
 /// The pseudo-class behind its colon, and what follows it.
 #[cycle(lists)]
 fn take_pseudo(alloc: Global, room: Room, text: &[char]) -> Result<(Item, &[char]), SelectorFault>
-    ensures { Takes result read_item (SpellsPseudo room (SpellsInner room)) (stands_behind room text.now) text.now }
+    ensures { TakesBehind room result read_item (SpellsPseudo room (SpellsInner room)) text.now }
 {
     let (name, after) = take_name(alloc, text)?;
     let Some(pseudo) = pseudo_of(name.as_str()) else {
@@ -194,7 +199,7 @@ fn take_pseudo(alloc: Global, room: Room, text: &[char]) -> Result<(Item, &[char
 /// The part or list at the front, and what follows it.
 #[cycle(lists)]
 fn take_item(alloc: Global, room: Room, text: &[char]) -> Result<(Item, &[char]), SelectorFault>
-    ensures { Takes result read_item (SpellsItem room (SpellsInner room)) (stands_for room text.now) text.now }
+    ensures { TakesIn room result read_item (SpellsItem room (SpellsInner room)) text.now }
 {
     let Some((sign, more)) = text.split_first() else {
         return Err(SelectorFault::Syntax);
@@ -242,7 +247,8 @@ fn push_part(parts: &mut Vec<Part>, part: Part) -> Result<(), AllocError>
 }
 
 fn push_list(nested: &mut Vec<Nested>, list: Nested) -> Result<(), AllocError>
-    ensures { OnOk result (lists_of (map read_nested nested.new.items) ≡ lists_then (lists_of (map read_nested nested.old.items)) (read_nested list)) }
+    ensures { OnOk result (lists_of (map read_nested nested.new.items)
+        ≡ lists_then (lists_of (map read_nested nested.old.items)) (read_nested list)) }
 {
     nested.push(list)?;
     Ok(())
@@ -250,7 +256,9 @@ fn push_list(nested: &mut Vec<Nested>, list: Nested) -> Result<(), AllocError>
 
 /// Adds a part to the parts, or a list to the lists.
 fn push_item(parts: &mut Vec<Part>, nested: &mut Vec<Nested>, item: Item) -> Result<(), AllocError>
-    ensures { OnOk result (PushesItem (read_item item) parts.old.items (lists_of (map read_nested nested.old.items)) parts.new.items (lists_of (map read_nested nested.new.items))) }
+    ensures { OnOk result (PushesItem (read_item item)
+        parts.old.items (lists_of (map read_nested nested.old.items))
+        parts.new.items (lists_of (map read_nested nested.new.items))) }
 {
     match item {
         Item::Simple(part) => push_part(parts, part),
@@ -269,7 +277,7 @@ fn take_compound(
     room: Room,
     text: &[char],
 ) -> Result<(Compound, &[char]), SelectorFault>
-    ensures { Takes result read_compound (SpellsCompound room (SpellsInner room)) (stands_for room text.now) text.now }
+    ensures { TakesIn room result read_compound (SpellsCompound room (SpellsInner room)) text.now }
 {
     if !begins_compound(text) {
         return Err(SelectorFault::Syntax);
@@ -335,7 +343,7 @@ fn begins_step(text: &[char]) -> bool
 /// The combinator and compound at the front, and what follows them.
 #[cycle(lists)]
 fn take_step(alloc: Global, room: Room, text: &[char]) -> Result<(Step, &[char]), SelectorFault>
-    ensures { Takes result read_step (SpellsStep room (SpellsInner room)) (stands_for room text.now) text.now }
+    ensures { TakesIn room result read_step (SpellsStep room (SpellsInner room)) text.now }
 {
     if !begins_step(text) {
         return Err(SelectorFault::Syntax);
@@ -376,7 +384,7 @@ fn take_selector(
     room: Room,
     text: &[char],
 ) -> Result<(Selector, &[char]), SelectorFault>
-    ensures { Takes result read_selector (SpellsSelector room (SpellsInner room)) (stands_for room text.now) text.now }
+    ensures { TakesIn room result read_selector (SpellsSelector room (SpellsInner room)) text.now }
 {
     let (lead, begin) = take_lead(room.is_relative, text);
     let (first, after) = take_compound(alloc, room, begin)?;
@@ -410,7 +418,7 @@ fn take_later(
     room: Room,
     text: &[char],
 ) -> Result<(Selector, &[char]), SelectorFault>
-    ensures { Takes result read_selector (SpellsLater room (SpellsInner room)) (stands_for room text.now) text.now }
+    ensures { TakesIn room result read_selector (SpellsLater room (SpellsInner room)) text.now }
 {
     let Some(rest) = after_char(after_white(text), ',') else {
         return Err(SelectorFault::Syntax);
@@ -425,7 +433,8 @@ fn take_list(
     room: Room,
     text: &[char],
 ) -> Result<(Vec<Selector>, &[char]), SelectorFault>
-    ensures { Takes result (λ list. read_list list.items) (SpellsList room (SpellsInner room)) (stands_for room text.now) text.now }
+    ensures { TakesIn room result (λ list. read_list list.items)
+        (SpellsList room (SpellsInner room)) text.now }
 {
     let (first, after) = take_selector(alloc, room, text)?;
     let mut list = Vec::new(alloc);
@@ -454,7 +463,8 @@ pub(crate) fn letters(alloc: Global, text: &str) -> Result<Vec<char>, AllocError
 
 /// The selectors that a text stands for.
 pub(crate) fn parse(alloc: Global, text: &[char]) -> Result<Vec<Selector>, SelectorFault>
-    ensures { MatchResult result (λ list. StandsFor text.now (read_list list.items)) (λ fault. Refused text.now fault) }
+    ensures { MatchResult result (λ list. StandsFor text.now (read_list list.items))
+        (λ fault. Refused text.now fault) }
 {
     if !has_no_zero(text) {
         return Err(SelectorFault::Syntax);

@@ -71,7 +71,8 @@ fn goes_on_in(quote: char, text: &[char]) -> bool
 
 /// Adds a character that is there.
 fn push_piece(text: &mut String, piece: Option<char>) -> Result<(), AllocError>
-    ensures { OnOk result (string_bytes text.new ≡ string_bytes text.old ++ encode_utf8_all (present (piece ∷ []))) }
+    ensures { OnOk result (string_bytes text.new
+        ≡ string_bytes text.old ++ encode_utf8_all (present (piece ∷ []))) }
 {
     match piece {
         Some(c) => text.push(c),
