@@ -5,7 +5,10 @@ pub mod CssLemmas
 pub mod DeepLemmas
 pub mod FaultLemmas
 pub mod FollowLemmas
+pub mod HasLemmas
+pub mod JoinedLemmas
 pub mod KeepLemmas
+pub mod LargeLemmas
 pub mod Layers
 pub mod LengthLemmas
 pub mod MatchLemmas
@@ -19,6 +22,7 @@ pub mod MiniScanLemmas
 pub mod MiniTruthLemmas
 pub mod MiniWalkLemmas
 pub mod NameLemmas
+pub mod NthLemmas
 pub mod PrintedLemmas
 pub mod ReachLemmas
 pub mod RefusalLemmas
@@ -29,5 +33,3 @@ pub mod SelectorLemmas
 pub mod StepLemmas
 pub mod StringLemmas
 pub mod Weights
-pub mod HasLemmas
-pub mod JoinedLemmas

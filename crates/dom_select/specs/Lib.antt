@@ -17,6 +17,7 @@ pub mod MiniTruth
 pub mod MiniWalks
 pub mod Names
 pub mod NodeAnswers
+pub mod Nth
 pub mod Parts
 pub mod PseudoTexts
 pub mod Pseudos

@@ -9,8 +9,8 @@ ghost use Rattle.dom_select.specs.Comparisons.{begins_with};
 ghost use Rattle.dom_select.specs.Texts.{begins_among, joined_contains_at};
 
 use crate::matcher::comparisons::begins_with;
-use dom_nodes::case_sensitivity::CaseSensitivity;
 use dom_links::iters::DescendantNodes;
+use dom_nodes::case_sensitivity::CaseSensitivity;
 use dom_nodes::node_data::NodeData;
 use dom_nodes::node_id::NodeId;
 use dom_trees::tree::Tree;

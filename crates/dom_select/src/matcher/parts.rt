@@ -6,6 +6,7 @@ ghost use Rattle.std.specs.Str.{bytes_eq, str_to_ascii_lowercase};
 ghost use Rattle.dom_links.specs.ListMoves.{element_at};
 ghost use Rattle.dom_select.specs.Meaning.{PartsHold};
 ghost use Rattle.dom_select.specs.Parts.{EachHolds, PartHolds, attr_passes, element_passes, is_attr, is_without, name_within, node_passes, asked_passes, data_passes};
+ghost use Rattle.dom_select.specs.Spelling.{Decides};
 
 use crate::matcher::comparisons::passes;
 use crate::matcher::joined::contains_joined;
@@ -19,7 +20,7 @@ use dom_trees::tree::Tree;
 
 /// Whether the number is a node's of which each part holds.
 pub(crate) fn parts_hold(parts: &[Part], tree: &Tree, id: &NodeId) -> bool
-    ensures { MatchBool result (PartsHold parts.now tree.now id.now) (PartsHold parts.now tree.now id.now → ⊥) }
+    ensures { Decides result (PartsHold parts.now tree.now id.now) }
 {
     match tree.get(id) {
         Some(found) => each_holds(parts, tree, id, &found.content),

@@ -1,6 +1,6 @@
 //! Whether a node has an index among its siblings.
 
-ghost use Rattle.std.specs.Prelude.{MatchBool};
+ghost use Rattle.dom_select.specs.Spelling.{Decides};
 ghost use Rattle.dom_links.specs.Indexes.{IsNth, index_at};
 
 use crate::matcher::syntax::Position;
@@ -10,7 +10,7 @@ use dom_trees::tree::Tree;
 
 /// Whether the node has one of the indexes.
 pub(crate) fn has_position(position: Position, tree: &Tree, id: &NodeId) -> bool
-    ensures { MatchBool result (IsNth position.nth (index_at position.kind tree.now id.now)) (IsNth position.nth (index_at position.kind tree.now id.now) → ⊥) }
+    ensures { Decides result (IsNth position.nth (index_at position.kind tree.now id.now)) }
 {
     let index = index_at(tree.nodes(), id, position.kind);
     is_nth(position.nth, index)

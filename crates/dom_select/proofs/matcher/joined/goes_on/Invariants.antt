@@ -8,4 +8,4 @@ use Rattle.dom_select.proofs.matcher.joined.goes_on.Given as goal
 -- the texts that are left decide
 abbrev pub invariant-loop-id : goal.invariant-loop-id
 invariant-loop-id l = begins_with CaseSensitive (flat_map (text_at l.tree) l.id-iterator.left) l.left
-  ≡ begins_with CaseSensitive (flat_map (text_at l.tree) l.fn.rest.left) l.inner
+    ≡ begins_with CaseSensitive (flat_map (text_at l.tree) l.fn.rest.left) l.inner
