@@ -117,9 +117,37 @@ at_sign = 64
 abbrev pub upper_a : ℕ
 upper_a = 65
 
+-- `b'D'`
+abbrev pub upper_d : ℕ
+upper_d = 68
+
+-- `b'E'`
+abbrev pub upper_e : ℕ
+upper_e = 69
+
 -- `b'F'`
 abbrev pub upper_f : ℕ
 upper_f = 70
+
+-- `b'I'`
+abbrev pub upper_i : ℕ
+upper_i = 73
+
+-- `b'N'`
+abbrev pub upper_n : ℕ
+upper_n = 78
+
+-- `b'O'`
+abbrev pub upper_o : ℕ
+upper_o = 79
+
+-- `b'S'`
+abbrev pub upper_s : ℕ
+upper_s = 83
+
+-- `b'V'`
+abbrev pub upper_v : ℕ
+upper_v = 86
 
 -- `b'X'`
 abbrev pub upper_x : ℕ
@@ -157,6 +185,10 @@ backtick = 96
 abbrev pub lower_a : ℕ
 lower_a = 97
 
+-- `b'd'`
+abbrev pub lower_d : ℕ
+lower_d = 100
+
 -- `b'e'`
 abbrev pub lower_e : ℕ
 lower_e = 101
@@ -165,9 +197,25 @@ lower_e = 101
 abbrev pub lower_f : ℕ
 lower_f = 102
 
+-- `b'i'`
+abbrev pub lower_i : ℕ
+lower_i = 105
+
 -- `b'n'`
 abbrev pub lower_n : ℕ
 lower_n = 110
+
+-- `b'o'`
+abbrev pub lower_o : ℕ
+lower_o = 111
+
+-- `b's'`
+abbrev pub lower_s : ℕ
+lower_s = 115
+
+-- `b'v'`
+abbrev pub lower_v : ℕ
+lower_v = 118
 
 -- `b'x'`
 abbrev pub lower_x : ℕ

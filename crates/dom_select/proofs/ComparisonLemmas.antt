@@ -1,7 +1,7 @@
 -- Texts that are compared byte by byte.
 use Rattle.std.proofs.Common.{◌≡◌, ℕ, suc, ◌+◌, ◌<◌, List, [], ◌∷◌, length, drop, Bool, true, false, ◌&&◌, ◌||◌, get_or, refl, sym, ap, ◌∙◌, arith}
 use Rattle.std.proofs.Math.Seq.{drop-cons}
-use Rattle.dom_select.specs.declared.matcher.syntax.CaseSensitivity.{CaseSensitivity}
+use Rattle.dom_nodes.specs.declared.case_sensitivity.CaseSensitivity.{CaseSensitivity}
 use Rattle.dom_select.specs.Comparisons.{same_byte, same_text, begins_with, has_within, has_word}
 
 and_none : (b : Bool) → (b && false) ≡ false

@@ -11,7 +11,8 @@ use Rattle.dom_links.specs.Trees.{ancestors}
 use Rattle.dom_select.specs.declared.matcher.syntax.Combinator.{Combinator}
 use Rattle.dom_select.specs.declared.matcher.syntax.Combinator.TheVariants.{Descendant, Child, NextSibling, LaterSibling}
 use Rattle.dom_select.specs.ListsAsTrees.{steps_of}
-use Rattle.dom_select.specs.Leftward.{earlier, element_at, ends_at, left_of, line}
+use Rattle.dom_links.specs.ListMoves.{element_at}
+use Rattle.dom_select.specs.Leftward.{earlier, ends_at, left_of, line}
 use Rattle.dom_select.specs.Meaning.{Holds, Leads, MayBeside, Reaches, Stands}
 use Rattle.dom_select.specs.Syntax.{CompoundSelector}
 use Rattle.dom_select.specs.Chains.{AreTighter, EndHolds, EndsLoosely, Followed, FollowedFrom, IsOrPrecedes, Precedes, ReachesSome, looseness}

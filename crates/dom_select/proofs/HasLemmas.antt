@@ -19,7 +19,8 @@ use Rattle.dom_select.specs.declared.matcher.syntax.Combinator.{Combinator}
 use Rattle.dom_select.specs.declared.matcher.syntax.Combinator.TheVariants.{Descendant, Child, NextSibling, LaterSibling}
 use Rattle.dom_select.specs.declared.matcher.has.Start.{Start}
 use Rattle.dom_select.specs.declared.matcher.has.Start.TheVariants.{Anywhere, From}
-use Rattle.dom_select.specs.Leftward.{earlier, element_at, ends_at, left_of, line}
+use Rattle.dom_links.specs.ListMoves.{element_at}
+use Rattle.dom_select.specs.Leftward.{earlier, ends_at, left_of, line}
 use Rattle.dom_select.specs.Meaning.{IsJoined, Leads, LeadsOn, LeadsToSome, MayBeside, Reaches, Stands}
 use Rattle.dom_select.specs.Syntax.{CompoundSelector, Steps, no_steps, step, alternative}
 use Rattle.dom_select.specs.Chains.{Precedes}

@@ -23,3 +23,4 @@ pub mod StringLemmas
 pub mod Weights
 pub mod HasLemmas
 pub mod JoinedLemmas
+pub mod SeveralLemmas

@@ -10,7 +10,8 @@ use Rattle.dom_links.specs.Walk.{row_on}
 use Rattle.dom_select.specs.declared.matcher.syntax.Combinator.{Combinator}
 use Rattle.dom_select.specs.declared.matcher.syntax.Combinator.TheVariants.{Descendant, Child, NextSibling, LaterSibling}
 use Rattle.dom_select.specs.ListsAsTrees.{steps_of}
-use Rattle.dom_select.specs.Leftward.{earlier, element_at, left_of, line, ends_at}
+use Rattle.dom_links.specs.ListMoves.{element_at}
+use Rattle.dom_select.specs.Leftward.{earlier, left_of, line, ends_at}
 use Rattle.dom_select.specs.Syntax.{CompoundSelector, Steps}
 use Rattle.dom_select.specs.Meaning.{ComesFirst, Stands, MayBeside, IsJoined, Holds, Leads, Reaches}
 

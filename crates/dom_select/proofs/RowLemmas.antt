@@ -8,7 +8,8 @@ use Rattle.dom_links.specs.Laws.{AreLines}
 use Rattle.dom_links.specs.Lists.{stands_in, before}
 use Rattle.dom_links.specs.Trees.{ancestors, upward}
 use Rattle.dom_links.specs.Walk.{row_on}
-use Rattle.dom_select.specs.Leftward.{earlier, element_at}
+use Rattle.dom_links.specs.ListMoves.{element_at}
+use Rattle.dom_select.specs.Leftward.{earlier}
 use Rattle.dom_select.specs.Meaning.{ComesFirst}
 
 -- the elements of a list

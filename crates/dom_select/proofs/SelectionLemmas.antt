@@ -10,7 +10,7 @@ use Rattle.dom_links.specs.Trees.{walk_below}
 use Rattle.dom_select.specs.Syntax.{SelectorList}
 use Rattle.dom_select.specs.Meaning.{Means}
 use Rattle.dom_select.specs.Selected.{Selected, Picks, first_occurrences, walks_below}
-use Rattle.dom_select.specs.Leftward.{element_at}
+use Rattle.dom_links.specs.ListMoves.{element_at}
 use Rattle.dom_select.specs.Selected.{IsSelection}
 
 module _ (P : ℕ → Type 0) where

@@ -8,7 +8,7 @@ use Rattle.dom_select.specs.declared.matcher.syntax.Pseudo.{Pseudo}
 use Rattle.dom_select.specs.Spelling.{Run}
 use Rattle.dom_select.specs.Characters.{after_white, begins}
 use Rattle.dom_select.specs.Names.{SpellsName, starts_name}
-use Rattle.dom_select.specs.Syntax.{CompoundSelector, compound, SelectorList, is_some, is_none, Steps}
+use Rattle.dom_select.specs.Syntax.{CompoundSelector, compound, SelectorList, some_means, none_means, Steps}
 use Rattle.dom_select.specs.ListsAsTrees.{simple, listed, parts_among, lists_among, steps_of, selector_list}
 use Rattle.dom_select.specs.Grammar.{StandsFor, SpellsPlain, SpellsListed, SpellsForm, SpellsPseudo, SpellsItem, begins_item, is_star, SpellsType, SpellsCompound, is_combinator, SpellsCombinator, SpellsStep, begins_step, SpellsSelector, begins_comma, SpellsLater, SpellsList, SpellsInner}
 use Rattle.dom_select.proofs.Runs.{IsOnce, GoesOn, run_once}
@@ -50,8 +50,8 @@ module _ (Inner : SelectorList → List ℕ → List ℕ → Type 0) (inner_once
   form_once Pseudo.Root v w text r s h k = plain_once Root v w text r s h k
   form_once Pseudo.Link v w text r s h k = plain_once Link v w text r s h k
   form_once Pseudo.Never v w text r s h k = plain_once Never v w text r s h k
-  form_once Pseudo.SomeOf v w text r s h k = made_once (SpellsListed Inner) listed_once (λ l. listed (is_some l)) v w text r s h k
-  form_once Pseudo.NoneOf v w text r s h k = made_once (SpellsListed Inner) listed_once (λ l. listed (is_none l)) v w text r s h k
+  form_once Pseudo.SomeOf v w text r s h k = made_once (SpellsListed Inner) listed_once (λ l. listed (some_means l)) v w text r s h k
+  form_once Pseudo.NoneOf v w text r s h k = made_once (SpellsListed Inner) listed_once (λ l. listed (none_means l)) v w text r s h k
 
   pub pseudo_once : IsOnce (SpellsPseudo Inner)
   pseudo_once v w text r s h k =

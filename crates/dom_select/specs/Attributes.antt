@@ -1,9 +1,10 @@
 -- What stands between the brackets of an attribute part.
 use Rattle.std.specs.Prelude.{◌≡◌, ℕ, List, [], ◌∷◌, ◌||◌, nat_eq, cond, Option, Some, None, MatchBool}
+use Rattle.dom_nodes.specs.Ascii.{asterisk, caret, dollar_sign, equals_sign, lower_i, lower_s, right_bracket, tilde, upper_i, upper_s, vertical_bar}
 use Rattle.dom_select.specs.declared.matcher.syntax.Operator.{Operator}
 use Rattle.dom_select.specs.declared.matcher.syntax.Operator.TheVariants.{Equal, Includes, DashMatch, Prefix, Suffix, Substring}
-use Rattle.dom_select.specs.declared.matcher.syntax.CaseSensitivity.{CaseSensitivity}
-use Rattle.dom_select.specs.declared.matcher.syntax.CaseSensitivity.TheVariants.{CaseSensitive, AsciiCaseInsensitive}
+use Rattle.dom_nodes.specs.declared.case_sensitivity.CaseSensitivity.{CaseSensitivity}
+use Rattle.dom_nodes.specs.declared.case_sensitivity.CaseSensitivity.TheVariants.{CaseSensitive, AsciiCaseInsensitive}
 use Rattle.dom_select.specs.declared.matcher.syntax.Comparison.{Comparison}
 use Rattle.dom_select.specs.declared.matcher.syntax.Attribute.{Attribute}
 use Rattle.dom_select.specs.Characters.{after_white, begins}
@@ -12,11 +13,11 @@ use Rattle.dom_select.specs.Strings.{SpellsString, is_quote}
 
 -- the operator that a character and `=` write
 abbrev pub operator_of : ℕ → Option Operator
-operator_of c = cond (nat_eq c 126) (Some Includes) (cond (nat_eq c 124) (Some DashMatch) (cond (nat_eq c 94) (Some Prefix) (cond (nat_eq c 36) (Some Suffix) (cond (nat_eq c 42) (Some Substring) None))))
+operator_of c = cond (nat_eq c tilde) (Some Includes) (cond (nat_eq c vertical_bar) (Some DashMatch) (cond (nat_eq c caret) (Some Prefix) (cond (nat_eq c dollar_sign) (Some Suffix) (cond (nat_eq c asterisk) (Some Substring) None))))
 
 abbrev pub SpellsOperator : Operator → List ℕ → List ℕ → Type 0
 SpellsOperator v [] rest = ⊥
-SpellsOperator v (c ∷ more) rest = MatchBool (nat_eq c 61) ((v ≡ Equal) × (rest ≡ more)) ((operator_of c ≡ Some v) × (more ≡ 61 ∷ rest))
+SpellsOperator v (c ∷ more) rest = MatchBool (nat_eq c equals_sign) ((v ≡ Equal) × (rest ≡ more)) ((operator_of c ≡ Some v) × (more ≡ equals_sign ∷ rest))
 
 -- an identifier or a string
 abbrev pub SpellsValue : List ℕ → List ℕ → List ℕ → Type 0
@@ -25,7 +26,7 @@ SpellsValue v text rest = MatchBool (begins is_quote text) (SpellsString v text 
 -- `i` and `s`, in any case
 abbrev pub flag_of : List ℕ → Option CaseSensitivity
 flag_of [] = None
-flag_of (c ∷ []) = cond (nat_eq c 105 || nat_eq c 73) (Some AsciiCaseInsensitive) (cond (nat_eq c 115 || nat_eq c 83) (Some CaseSensitive) None)
+flag_of (c ∷ []) = cond (nat_eq c lower_i || nat_eq c upper_i) (Some AsciiCaseInsensitive) (cond (nat_eq c lower_s || nat_eq c upper_s) (Some CaseSensitive) None)
 flag_of (c ∷ d ∷ name) = None
 
 pub record SpellsFlag (v : CaseSensitivity) (text rest : List ℕ) : Type 0 where
@@ -33,11 +34,11 @@ pub record SpellsFlag (v : CaseSensitivity) (text rest : List ℕ) : Type 0 wher
   pub after : List ℕ
   pub named : SpellsName name text after
   pub flag : flag_of name ≡ Some v
-  pub closes : after_white after ≡ 93 ∷ rest
+  pub closes : after_white after ≡ right_bracket ∷ rest
 
 -- a flag or none, and the bracket that closes
 abbrev pub SpellsCase : CaseSensitivity → List ℕ → List ℕ → Type 0
-SpellsCase v text rest = MatchBool (begins (λ c. nat_eq c 93) text) ((v ≡ CaseSensitive) × (text ≡ 93 ∷ rest)) (SpellsFlag v text rest)
+SpellsCase v text rest = MatchBool (begins (λ c. nat_eq c right_bracket) text) ((v ≡ CaseSensitive) × (text ≡ right_bracket ∷ rest)) (SpellsFlag v text rest)
 
 pub record SpellsComparison (v : Comparison) (text rest : List ℕ) : Type 0 where
   pub after_operator : List ℕ
@@ -48,7 +49,7 @@ pub record SpellsComparison (v : Comparison) (text rest : List ℕ) : Type 0 whe
 
 -- a comparison or none, and the bracket that closes
 abbrev pub SpellsAsked : Option Comparison → List ℕ → List ℕ → Type 0
-SpellsAsked v text rest = MatchBool (begins (λ c. nat_eq c 93) text) ((v ≡ None) × (text ≡ 93 ∷ rest)) ((w : Comparison) × SpellsComparison w text rest × (v ≡ Some w))
+SpellsAsked v text rest = MatchBool (begins (λ c. nat_eq c right_bracket) text) ((v ≡ None) × (text ≡ right_bracket ∷ rest)) ((w : Comparison) × SpellsComparison w text rest × (v ≡ Some w))
 
 -- what follows the bracket that opens
 pub record SpellsAttribute (v : Attribute) (text rest : List ℕ) : Type 0 where

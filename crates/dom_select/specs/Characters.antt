@@ -2,18 +2,23 @@
 use Rattle.std.specs.Prelude.{ℕ, ◌+◌, List, [], ◌∷◌, Bool, false, ◌||◌, nat_eq, nat_le, cond, drop}
 use Rattle.std.specs.Char.{is_ascii_alphabetic, is_ascii_digit, is_ascii_whitespace}
 use Rattle.std.specs.List.{prefix_len}
+use Rattle.dom_nodes.specs.Ascii.{carriage_return, form_feed, hyphen, line_feed, underscore}
+
+-- U+FFFD, which stands for what is no character
+abbrev pub replacement_character : ℕ
+replacement_character = 65533
 
 -- line feed, form feed, carriage return
 abbrev pub is_line_end : ℕ → Bool
-is_line_end c = nat_eq c 10 || nat_eq c 12 || nat_eq c 13
+is_line_end c = nat_eq c line_feed || nat_eq c form_feed || nat_eq c carriage_return
 
 -- an ASCII letter, `_`, or a character from U+0080 on
 abbrev pub is_name_start : ℕ → Bool
-is_name_start c = is_ascii_alphabetic c || nat_eq c 95 || nat_le 128 c
+is_name_start c = is_ascii_alphabetic c || nat_eq c underscore || nat_le 128 c
 
 -- these, a digit or `-`
 abbrev pub is_name_char : ℕ → Bool
-is_name_char c = is_name_start c || is_ascii_digit c || nat_eq c 45
+is_name_char c = is_name_start c || is_ascii_digit c || nat_eq c hyphen
 
 -- the text without the tabs, line feeds, form feeds, carriage returns and spaces at its front
 abbrev pub after_white : List ℕ → List ℕ

@@ -2,13 +2,14 @@
 use Rattle.std.specs.Prelude.{ℕ, ◌-◌, List, [], ◌∷◌, Bool, true, false, ◌&&◌, ◌||◌, nat_eq, not, drop, length}
 use Rattle.std.specs.Char.{to_ascii_lowercase}
 use Rattle.std.specs.List.{list_any}
+use Rattle.dom_nodes.specs.Ascii.{hyphen}
 use Rattle.dom_nodes.specs.Words.{words_of}
 use Rattle.dom_select.specs.Characters.{begins}
 use Rattle.dom_select.specs.declared.matcher.syntax.Comparison.{Comparison}
 use Rattle.dom_select.specs.declared.matcher.syntax.Operator.{Operator}
 use Rattle.dom_select.specs.declared.matcher.syntax.Operator.TheVariants.{Equal, Includes, DashMatch, Prefix, Suffix, Substring}
-use Rattle.dom_select.specs.declared.matcher.syntax.CaseSensitivity.{CaseSensitivity}
-use Rattle.dom_select.specs.declared.matcher.syntax.CaseSensitivity.TheVariants.{CaseSensitive, AsciiCaseInsensitive}
+use Rattle.dom_nodes.specs.declared.case_sensitivity.CaseSensitivity.{CaseSensitivity}
+use Rattle.dom_nodes.specs.declared.case_sensitivity.CaseSensitivity.TheVariants.{CaseSensitive, AsciiCaseInsensitive}
 
 -- the bytes are equal, those of ASCII letters without their case where it doesn't count
 abbrev pub same_byte : CaseSensitivity → ℕ → ℕ → Bool
@@ -47,7 +48,7 @@ is_empty (b ∷ bs) = false
 abbrev pub compares : Operator → CaseSensitivity → List ℕ → List ℕ → Bool
 compares Equal case found value = same_text case found value
 compares Includes case found value = has_word case value (words_of found)
-compares DashMatch case found value = same_text case found value || (begins_with case found value && begins (λ c. nat_eq c 45) (drop (length value) found))
+compares DashMatch case found value = same_text case found value || (begins_with case found value && begins (λ c. nat_eq c hyphen) (drop (length value) found))
 compares Prefix case found value = not (is_empty value) && begins_with case found value
 compares Suffix case found value = not (is_empty value) && ends_with case found value
 compares Substring case found value = not (is_empty value) && has_within case found value

@@ -4,6 +4,7 @@
 use Rattle.std.specs.Prelude.{◌≡◌, ◌≤◌, ℕ, zero, suc, List, [], ◌∷◌, ◌++◌, Bool, true, false, ◌&&◌, ◌||◌, nat_eq, cond, drop, Option, Some, None, MatchBool}
 use Rattle.std.specs.Char.{is_ascii_whitespace}
 use Rattle.std.specs.List.{list_all}
+use Rattle.dom_nodes.specs.Ascii.{asterisk, colon, comma, dot, greater_than, left_bracket, left_parenthesis, number_sign, plus_sign, right_parenthesis, tilde}
 use Rattle.dom_select.specs.declared.fault.SelectorFault.{SelectorFault}
 use Rattle.dom_select.specs.declared.matcher.syntax.Attribute as attributes
 use Rattle.dom_select.specs.declared.matcher.syntax.Combinator.{Combinator}
@@ -16,11 +17,11 @@ use Rattle.dom_select.specs.Spelling.{Run, Refuses}
 use Rattle.dom_select.specs.Characters.{after_white, begins, how_many}
 use Rattle.dom_select.specs.Names.{SpellsName, starts_name}
 use Rattle.dom_select.specs.Attributes.{SpellsAttribute}
-use Rattle.dom_select.specs.Syntax.{CompoundSelector, compound, is_some, is_none, SelectorList, Steps}
+use Rattle.dom_select.specs.Syntax.{CompoundSelector, compound, some_means, none_means, SelectorList, Steps}
 use Rattle.dom_select.specs.ListsAsTrees.{Item, simple, listed, parts_among, lists_among, steps_of, selector_list}
 
 abbrev pub is_star : ℕ → Bool
-is_star c = nat_eq c 42
+is_star c = nat_eq c asterisk
 
 -- `*`, or a name, or neither
 abbrev pub SpellsType : List Part → List ℕ → List ℕ → Type 0
@@ -28,16 +29,16 @@ SpellsType v text rest = MatchBool (begins is_star text) ((v ≡ Universal ∷ [
     (MatchBool (starts_name text) ((name : List ℕ) × SpellsName name text rest × (v ≡ Part.«Type» name ∷ [])) ((v ≡ []) × (rest ≡ text)))
 
 abbrev pub begins_item : List ℕ → Bool
-begins_item text = begins (λ c. nat_eq c 35 || nat_eq c 46 || nat_eq c 91 || nat_eq c 58) text
+begins_item text = begins (λ c. nat_eq c number_sign || nat_eq c dot || nat_eq c left_bracket || nat_eq c colon) text
 
 abbrev pub begins_compound : List ℕ → Bool
 begins_compound text = begins is_star text || starts_name text || begins_item text
 
 abbrev pub combinator_of : ℕ → Option Combinator
-combinator_of c = cond (nat_eq c 62) (Some Child) (cond (nat_eq c 43) (Some NextSibling) (cond (nat_eq c 126) (Some LaterSibling) None))
+combinator_of c = cond (nat_eq c greater_than) (Some Child) (cond (nat_eq c plus_sign) (Some NextSibling) (cond (nat_eq c tilde) (Some LaterSibling) None))
 
 abbrev pub is_combinator : ℕ → Bool
-is_combinator c = nat_eq c 62 || nat_eq c 43 || nat_eq c 126
+is_combinator c = nat_eq c greater_than || nat_eq c plus_sign || nat_eq c tilde
 
 -- a combinator with a sign, or the whitespace before a compound
 abbrev pub SpellsCombinator : Combinator → List ℕ → List ℕ → Type 0
@@ -49,10 +50,10 @@ abbrev pub begins_step : List ℕ → Bool
 begins_step text = begins is_combinator (after_white text) || (begins is_ascii_whitespace text && begins_compound (after_white text))
 
 abbrev pub begins_comma : List ℕ → Bool
-begins_comma text = begins (λ c. nat_eq c 44) (after_white text)
+begins_comma text = begins (λ c. nat_eq c comma) (after_white text)
 
 abbrev pub begins_open : List ℕ → Bool
-begins_open text = begins (λ c. nat_eq c 40) text
+begins_open text = begins (λ c. nat_eq c left_parenthesis) text
 
 -- a pseudo-class without parentheses
 abbrev pub SpellsPlain : Part → Item → List ℕ → List ℕ → Type 0
@@ -62,18 +63,18 @@ module _ (Inner : SelectorList → List ℕ → List ℕ → Type 0) where
   -- a list in parentheses
   pub record SpellsListed (v : SelectorList) (text rest : List ℕ) : Type 0 where
     pub inside : List ℕ
-    pub opens : text ≡ 40 ∷ inside
+    pub opens : text ≡ left_parenthesis ∷ inside
     pub after : List ℕ
     pub list : Inner v (after_white inside) after
-    pub closes : after_white after ≡ 41 ∷ rest
+    pub closes : after_white after ≡ right_parenthesis ∷ rest
 
   -- what follows the name of a pseudo-class
   abbrev pub SpellsForm : Pseudo → Item → List ℕ → List ℕ → Type 0
   SpellsForm Pseudo.Root v text rest = SpellsPlain Root v text rest
   SpellsForm Pseudo.Link v text rest = SpellsPlain Link v text rest
   SpellsForm Pseudo.Never v text rest = SpellsPlain Never v text rest
-  SpellsForm Pseudo.SomeOf v text rest = (list : SelectorList) × SpellsListed list text rest × (v ≡ listed (is_some list))
-  SpellsForm Pseudo.NoneOf v text rest = (list : SelectorList) × SpellsListed list text rest × (v ≡ listed (is_none list))
+  SpellsForm Pseudo.SomeOf v text rest = (list : SelectorList) × SpellsListed list text rest × (v ≡ listed (some_means list))
+  SpellsForm Pseudo.NoneOf v text rest = (list : SelectorList) × SpellsListed list text rest × (v ≡ listed (none_means list))
 
   -- a name, and what belongs to it
   pub record SpellsPseudo (v : Item) (text rest : List ℕ) : Type 0 where
@@ -87,9 +88,9 @@ module _ (Inner : SelectorList → List ℕ → List ℕ → Type 0) where
   abbrev pub SpellsItem : Item → List ℕ → List ℕ → Type 0
   SpellsItem v [] rest = ⊥
   SpellsItem v (c ∷ more) rest =
-      MatchBool (nat_eq c 35) ((name : List ℕ) × SpellsName name more rest × (v ≡ simple (Id name)))
-      (MatchBool (nat_eq c 46) ((name : List ℕ) × SpellsName name more rest × (v ≡ simple (Class name)))
-      (MatchBool (nat_eq c 91) ((part : attributes.Attribute) × SpellsAttribute part more rest × (v ≡ simple (Attribute part)))
+      MatchBool (nat_eq c number_sign) ((name : List ℕ) × SpellsName name more rest × (v ≡ simple (Id name)))
+      (MatchBool (nat_eq c dot) ((name : List ℕ) × SpellsName name more rest × (v ≡ simple (Class name)))
+      (MatchBool (nat_eq c left_bracket) ((part : attributes.Attribute) × SpellsAttribute part more rest × (v ≡ simple (Attribute part)))
       ((c ≡ 58) × SpellsPseudo v more rest)))
 
   -- a type and items, not nothing
@@ -146,4 +147,4 @@ pub record StandsFor (text : List ℕ) (list : SelectorList) : Type 0 where
 -- What a fault tells of the text: that it stands for nothing; an unknown pseudo-class that a colon stands in it, too deep that 65
 -- opening parentheses do; and no other comes but for want of memory
 abbrev pub Refused : List ℕ → SelectorFault → Type 0
-Refused text fault = Refuses fault (1 ≤ how_many 58 text) (65 ≤ how_many 40 text) ((list : SelectorList) → StandsFor text list → ⊥)
+Refused text fault = Refuses fault (1 ≤ how_many colon text) (65 ≤ how_many left_parenthesis text) ((list : SelectorList) → StandsFor text list → ⊥)

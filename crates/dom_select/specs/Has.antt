@@ -8,7 +8,7 @@ use Rattle.dom_select.specs.declared.matcher.has.Start.{Start}
 use Rattle.dom_select.specs.declared.matcher.has.Start.TheVariants.{Anywhere, From}
 use Rattle.dom_select.specs.declared.matcher.syntax.Combinator.{Combinator}
 use Rattle.dom_select.specs.declared.matcher.syntax.Combinator.TheVariants.{Descendant, Child, NextSibling, LaterSibling}
-use Rattle.dom_select.specs.Leftward.{element_at}
+use Rattle.dom_links.specs.ListMoves.{element_at}
 use Rattle.dom_select.specs.Meaning.{Holds, IsJoined, Reaches}
 use Rattle.dom_select.specs.Syntax.{CompoundSelector, Steps}
 

@@ -1,21 +1,12 @@
 -- The way to the left, which a combinator's nodes lie on.
-use Rattle.std.specs.Prelude.{ℕ, Bool, true, false, Option, List, slice_get}
-use Rattle.std.specs.Option.{option_map_or}
-use Rattle.dom_nodes.specs.declared.node_data.NodeData.{NodeData}
-use Rattle.dom_nodes.specs.declared.node_data.NodeData.TheVariants.{Element}
+use Rattle.std.specs.Prelude.{ℕ, Bool, true, false, Option, List}
+use Rattle.dom_links.specs.ListMoves.{element_at}
 use Rattle.dom_links.specs.Forest.{Forest, parent, siblings}
 use Rattle.dom_links.specs.Lists.{before}
 use Rattle.dom_links.specs.Trees.{ancestors}
 use Rattle.dom_links.specs.Walk.{later}
 use Rattle.dom_select.specs.declared.matcher.syntax.Combinator.{Combinator}
 use Rattle.dom_select.specs.declared.matcher.syntax.Combinator.TheVariants.{Descendant, Child, NextSibling, LaterSibling}
-
-abbrev pub is_element : NodeData → Bool
-is_element (Element element) = true
-is_element _ = false
-
-abbrev pub element_at : Forest → ℕ → Bool
-element_at forest n = option_map_or is_element (slice_get forest.content n) false
 
 -- the siblings before a node, the nearest first
 abbrev pub earlier : Forest → ℕ → List ℕ

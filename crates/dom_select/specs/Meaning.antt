@@ -6,9 +6,10 @@ use Rattle.dom_links.specs.Trees.{ancestors}
 use Rattle.dom_select.specs.declared.matcher.syntax.Combinator.{Combinator}
 use Rattle.dom_select.specs.declared.matcher.syntax.Combinator.TheVariants.{Descendant, Child, NextSibling, LaterSibling}
 use Rattle.dom_select.specs.declared.matcher.syntax.Part.{Part}
-use Rattle.dom_select.specs.Leftward.{element_at, earlier}
+use Rattle.dom_links.specs.ListMoves.{element_at}
+use Rattle.dom_select.specs.Leftward.{earlier}
 use Rattle.dom_select.specs.Parts.{EachHolds}
-use Rattle.dom_select.specs.Syntax.{CompoundSelector, compound, NestedLists, no_lists, nested, NestedList, is_some, is_none, leads_on, SelectorList, no_selectors, alternative, Steps, no_steps, step}
+use Rattle.dom_select.specs.Syntax.{CompoundSelector, compound, NestedLists, no_lists, nested, NestedList, some_means, none_means, leads_on, SelectorList, no_selectors, alternative, Steps, no_steps, step}
 
 -- n is a node of the forest of which each part holds
 unfoldable pub PartsHold : List Part → Forest → ℕ → Type 0
@@ -47,8 +48,8 @@ abbrev mutual
   ListsHold (nested list more) forest n = ListHolds list forest n × ListsHold more forest n
 
   pub ListHolds : NestedList → Forest → ℕ → Type 0
-  ListHolds (is_some list) forest n = Means list forest n
-  ListHolds (is_none list) forest n = Means list forest n → ⊥
+  ListHolds (some_means list) forest n = Means list forest n
+  ListHolds (none_means list) forest n = Means list forest n → ⊥
   ListHolds (leads_on list) forest n = LeadsOn list forest n
 
   -- One of the selectors means n: there are nodes for its compounds, from the left to n itself, each of which

@@ -9,7 +9,7 @@ use Rattle.dom_nodes.specs.declared.name.Namespace.{Namespace}
 use Rattle.dom_links.specs.Forest.{Forest}
 use Rattle.dom_trees.specs.Views.{node_attrs, node_qual_name}
 use Rattle.dom_select.specs.Comparisons.{same_text}
-use Rattle.dom_select.specs.declared.matcher.syntax.CaseSensitivity.{CaseSensitivity}
+use Rattle.dom_nodes.specs.declared.case_sensitivity.CaseSensitivity.{CaseSensitivity}
 use Rattle.dom_select.specs.declared.matcher.syntax.Part.TheVariants.{Link as a_link}
 use Rattle.dom_select.specs.declared.pseudo_class.NonTSPseudoClass.{NonTSPseudoClass}
 use Rattle.dom_select.specs.declared.pseudo_class.NonTSPseudoClass.TheVariants.{AnyLink, Link, OnlyText, HasText, Contains}

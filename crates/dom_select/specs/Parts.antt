@@ -1,9 +1,9 @@
 -- When a part of a compound holds of a node.
 use Rattle.std.specs.Prelude.{◌≡◌, [], ◌∷◌, slice_get, ℕ, Bool, true, false, ◌&&◌, ◌||◌, List, Option, None, Some, codes}
 use Rattle.std.specs.List.{list_any}
-use Rattle.std.specs.Option.{is_some, option_map_or}
+use Rattle.std.specs.Option.{option_map_or}
 use Rattle.std.specs.Str.{bytes_eq, str_to_ascii_lowercase}
-use Rattle.dom_nodes.specs.Attrs.{attr_of}
+use Rattle.dom_nodes.specs.Changes.{is_link}
 use Rattle.dom_nodes.specs.declared.name.Attr.{Attr}
 use Rattle.dom_nodes.specs.declared.name.Namespace.{Namespace}
 use Rattle.dom_nodes.specs.declared.name.Namespace.TheVariants.{Html}
@@ -40,12 +40,6 @@ asked_passes (Some comparison) value = passes comparison value
 abbrev pub attr_passes : Namespace → attributes.Attribute → Attr → Bool
 attr_passes ns asked attr = is_without attr.name.ns && bytes_eq attr.name.local (name_within ns asked.name) && asked_passes asked.comparison attr.value
 
--- the element may link elsewhere, by its name, and does
-abbrev pub is_link : Element → Bool
-is_link element = (bytes_eq element.name.local (codes "a") || bytes_eq element.name.local (codes "area") || bytes_eq element.name.local (codes "link"))
-    && is_some (attr_of element.attrs (codes "href"))
-
--- the part holds of the element: by its name, by any attribute `id`, by a word of its first attribute `class`, by any attribute
 abbrev pub element_passes : Part → Element → Bool
 element_passes Universal element = true
 element_passes (Part.«Type» name) element = bytes_eq element.name.local (name_within element.name.ns name)

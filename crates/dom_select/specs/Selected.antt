@@ -5,7 +5,7 @@ use Rattle.dom_links.specs.Forest.{Forest}
 use Rattle.dom_links.specs.Lists.{stands_in, IsDistinct}
 use Rattle.dom_links.specs.Trees.{walk_below}
 use Rattle.dom_select.specs.Syntax.{SelectorList}
-use Rattle.dom_select.specs.Leftward.{element_at}
+use Rattle.dom_links.specs.ListMoves.{element_at}
 use Rattle.dom_select.specs.Meaning.{Means}
 
 -- the first occurrence of each number, but for those that were there before

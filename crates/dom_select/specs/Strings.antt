@@ -1,17 +1,18 @@
 -- Strings in quotes.
 use Rattle.std.specs.Prelude.{◌≡◌, ℕ, List, [], ◌∷◌, Bool, true, false, ◌&&◌, ◌||◌, nat_eq, cond, Option, Some, None, encode_utf8_all, MatchBool}
+use Rattle.dom_nodes.specs.Ascii.{backslash, carriage_return, double_quote, line_feed, single_quote}
 use Rattle.dom_select.specs.Spelling.{Run}
 use Rattle.dom_select.specs.Characters.{is_line_end, begins}
 use Rattle.dom_select.specs.Names.{SpellsEscape}
 
 abbrev pub is_quote : ℕ → Bool
-is_quote c = nat_eq c 34 || nat_eq c 39
+is_quote c = nat_eq c double_quote || nat_eq c single_quote
 
 -- the text without a line end at its front; a carriage return with a line feed is one
 abbrev pub after_line_end : List ℕ → List ℕ
 after_line_end [] = []
 after_line_end (c ∷ []) = []
-after_line_end (c ∷ d ∷ text) = cond (nat_eq c 13 && nat_eq d 10) text (d ∷ text)
+after_line_end (c ∷ d ∷ text) = cond (nat_eq c carriage_return && nat_eq d line_feed) text (d ∷ text)
 
 -- what follows a `\` in a string: a line end, which stands for nothing, or an escape
 abbrev pub SpellsStringEscape : Option ℕ → List ℕ → List ℕ → Type 0
@@ -21,7 +22,7 @@ SpellsStringEscape v text rest = MatchBool (begins is_line_end text) ((v ≡ Non
 abbrev pub SpellsPiece : ℕ → Option ℕ → List ℕ → List ℕ → Type 0
 SpellsPiece quote v [] rest = ⊥
 SpellsPiece quote v (c ∷ more) rest =
-    (nat_eq c quote ≡ false) × MatchBool (nat_eq c 92) (SpellsStringEscape v more rest) ((is_line_end c ≡ false) × (v ≡ Some c) × (rest ≡ more))
+    (nat_eq c quote ≡ false) × MatchBool (nat_eq c backslash) (SpellsStringEscape v more rest) ((is_line_end c ≡ false) × (v ≡ Some c) × (rest ≡ more))
 
 -- the string's quote doesn't stand here
 abbrev pub goes_on_in : ℕ → List ℕ → Bool

@@ -15,8 +15,8 @@ mutual
 
   pub data NestedList : Type 0 where
     -- `:is` and `:where`, `:not`
-    is_some : SelectorList → NestedList
-    is_none : SelectorList → NestedList
+    some_means : SelectorList → NestedList
+    none_means : SelectorList → NestedList
     -- `:has`
     leads_on : SelectorList → NestedList
 

@@ -9,8 +9,8 @@ use Rattle.dom_links.specs.Texts.{text_of}
 use Rattle.dom_links.specs.Trees.{walk_below}
 use Rattle.dom_trees.specs.Views.{is_filled_text}
 use Rattle.dom_select.specs.Comparisons.{begins_with, has_within}
-use Rattle.dom_select.specs.declared.matcher.syntax.CaseSensitivity.TheVariants.{CaseSensitive}
-use Rattle.dom_select.specs.Leftward.{element_at}
+use Rattle.dom_nodes.specs.declared.case_sensitivity.CaseSensitivity.TheVariants.{CaseSensitive}
+use Rattle.dom_links.specs.ListMoves.{element_at}
 
 -- a text that isn't blank
 abbrev pub filled_at : Forest → ℕ → Bool

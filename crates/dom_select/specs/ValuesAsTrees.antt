@@ -8,13 +8,13 @@ use Rattle.dom_select.specs.declared.matcher.syntax.Compound.{Compound, Compound
 use Rattle.dom_select.specs.declared.matcher.syntax.Nested.{Nested, Nested-F, fold-Nested}
 use Rattle.dom_select.specs.declared.matcher.syntax.Selector.{Selector, Selector-F, fold-Selector}
 use Rattle.dom_select.specs.declared.matcher.syntax.Step.{Step, Step-F, fold-Step}
-use Rattle.dom_select.specs.Syntax.{CompoundSelector, compound, NestedLists, no_lists, nested, NestedList, is_some, is_none, leads_on, SelectorList, Steps}
+use Rattle.dom_select.specs.Syntax.{CompoundSelector, compound, NestedLists, no_lists, nested, NestedList, some_means, none_means, leads_on, SelectorList, Steps}
 use Rattle.dom_select.specs.ListsAsTrees.{Item, simple, listed, lists_of, steps_of, selector_list}
 
 -- one layer of a value, with what its children stand for in their place
 abbrev pub nested_layer : Nested-F NestedList CompoundSelector (Combinator × CompoundSelector × Steps) (Combinator × CompoundSelector) → NestedList
-nested_layer (Nested-F.Is list) = is_some (selector_list list.items)
-nested_layer (Nested-F.Not list) = is_none (selector_list list.items)
+nested_layer (Nested-F.Is list) = some_means (selector_list list.items)
+nested_layer (Nested-F.Not list) = none_means (selector_list list.items)
 nested_layer (Nested-F.Has list) = leads_on (selector_list list.items)
 
 abbrev pub compound_layer : Compound-F NestedList CompoundSelector (Combinator × CompoundSelector × Steps) (Combinator × CompoundSelector) → CompoundSelector

@@ -2,6 +2,7 @@
 
 ghost use Rattle.std.specs.Prelude.{◌≡◌, ◌++◌, ◌∷◌, ◌<◌, [], ℕ, List, chars, encode_utf8_all, IfOk, OnErr, OnOk, string_bytes};
 ghost use Rattle.std.specs.Char.{digit_char};
+ghost use Rattle.dom_nodes.specs.Ascii.{backslash, space};
 ghost use Rattle.dom_select.specs.Css.{css_char, css_text, hex_of, is_control};
 
 use dom_nodes::fault::OutOfMemory;
@@ -86,7 +87,7 @@ fn push_css(out: &mut String, c: char) -> Result<(), AllocError>
 /// Adds a `\`, the number of a control character, and a space.
 fn push_number(out: &mut String, c: char) -> Result<(), AllocError>
     requires { c < 256 }
-    ensures { OnOk result (string_bytes out.new ≡ string_bytes out.old ++ encode_utf8_all (92 ∷ hex_of c ++ 32 ∷ [])) }
+    ensures { OnOk result (string_bytes out.new ≡ string_bytes out.old ++ encode_utf8_all (backslash ∷ hex_of c ++ space ∷ [])) }
 {
     let number = c as u32;
     out.push('\\')?;

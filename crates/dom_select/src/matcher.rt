@@ -19,6 +19,7 @@ pub(crate) mod names;
 pub(crate) mod parser;
 pub(crate) mod parts;
 pub(crate) mod positions;
+pub mod several;
 pub(crate) mod strings;
 pub mod syntax;
 pub(crate) mod texts;

@@ -22,10 +22,11 @@ use crate::matcher::comparisons::same_text;
 use crate::matcher::descendants::is_selected;
 use crate::matcher::joined::contains_joined;
 use crate::matcher::parts::data_passes;
-use crate::matcher::syntax::{CaseSensitivity, Part};
+use crate::matcher::syntax::Part;
 use crate::matcher::texts::{has_text, is_empty, is_only_text};
 use crate::pseudo_class::NonTSPseudoClass;
 use dom_links::indexes::are_of_one_type;
+use dom_nodes::case_sensitivity::CaseSensitivity;
 use dom_nodes::fault::OutOfMemory;
 use dom_nodes::name::{Attr, Namespace};
 use dom_nodes::node_id::NodeId;
@@ -180,7 +181,8 @@ fn has_id(attrs: &[Attr], case: CaseSensitivity, id: &str) -> bool
 fn is_id(attr: &Attr, case: CaseSensitivity, id: &str) -> bool
     ensures { result ≡ is_id case id.now attr.now }
 {
-    attr.name.local.as_str() == "id" && same_text(case, attr.value.as_str().as_bytes(), id.as_bytes())
+    attr.name.local.as_str() == "id"
+        && same_text(case, attr.value.as_str().as_bytes(), id.as_bytes())
 }
 
 /// Whether the pseudo-class holds of the node.

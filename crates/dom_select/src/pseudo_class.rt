@@ -5,7 +5,7 @@ ghost use Rattle.dom_select.specs.PseudoTexts.{pseudo_css, pseudo_name, pseudo_r
 
 use crate::css::{CssString, ToCss};
 use dom_nodes::fault::OutOfMemory;
-use std::alloc::{Global};
+use std::alloc::Global;
 
 /// A pseudo-class that looks at more than where an element stands.
 #[derive(Drop)]

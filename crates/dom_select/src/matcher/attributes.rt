@@ -8,7 +8,8 @@ ghost use Rattle.dom_select.specs.Attributes.{operator_of, flag_of, SpellsOperat
 use crate::fault::SelectorFault;
 use crate::matcher::names::{after_white, take_name};
 use crate::matcher::strings::{is_quote, take_string};
-use crate::matcher::syntax::{Attribute, CaseSensitivity, Comparison, Operator};
+use crate::matcher::syntax::{Attribute, Comparison, Operator};
+use dom_nodes::case_sensitivity::CaseSensitivity;
 use dom_nodes::text::Text;
 use std::alloc::Global;
 

@@ -1,11 +1,13 @@
 //! Whether an attribute's value is what an attribute part asks for.
 
 ghost use Rattle.std.specs.Prelude.{◌≡◌, ◌&&◌, drop, length, nat_eq};
+ghost use Rattle.dom_nodes.specs.Ascii.{hyphen};
 ghost use Rattle.dom_nodes.specs.Words.{words_of};
 ghost use Rattle.dom_select.specs.Characters.{begins};
 ghost use Rattle.dom_select.specs.Comparisons.{begins_with, compares, ends_with, has_within, has_word, passes, same_byte, same_text};
 
-use crate::matcher::syntax::{CaseSensitivity, Comparison, Operator};
+use crate::matcher::syntax::{Comparison, Operator};
+use dom_nodes::case_sensitivity::CaseSensitivity;
 
 pub(crate) fn passes(comparison: &Comparison, found: &str) -> bool
     ensures { result ≡ passes comparison.now found.now }
@@ -89,7 +91,7 @@ pub(crate) fn begins_with(case: CaseSensitivity, text: &[u8], front: &[u8]) -> b
 
 /// Whether the text begins with the value and then `-`.
 fn begins_with_dash(case: CaseSensitivity, text: &[u8], value: &[u8]) -> bool
-    ensures { result ≡ (begins_with case text.now value.now && begins (λ c. nat_eq c 45) (drop (length value.now) text.now)) }
+    ensures { result ≡ (begins_with case text.now value.now && begins (λ c. nat_eq c hyphen) (drop (length value.now) text.now)) }
 {
     if text.len() <= value.len() {
         return false;

@@ -3,9 +3,9 @@
 ghost use Rattle.std.specs.Prelude.{◌≡◌, ◌↔◌, ◌||◌, Some, slice_get, codes, IsTrue, MatchBool};
 ghost use Rattle.std.specs.List.{list_any};
 ghost use Rattle.std.specs.Str.{bytes_eq, str_to_ascii_lowercase};
-ghost use Rattle.dom_select.specs.Leftward.{element_at};
+ghost use Rattle.dom_links.specs.ListMoves.{element_at};
 ghost use Rattle.dom_select.specs.Meaning.{PartsHold};
-ghost use Rattle.dom_select.specs.Parts.{EachHolds, PartHolds, attr_passes, element_passes, is_attr, is_link, is_without, name_within, node_passes, asked_passes, data_passes};
+ghost use Rattle.dom_select.specs.Parts.{EachHolds, PartHolds, attr_passes, element_passes, is_attr, is_without, name_within, node_passes, asked_passes, data_passes};
 
 use crate::matcher::comparisons::passes;
 use crate::matcher::joined::contains_joined;
@@ -77,10 +77,10 @@ fn part_holds(part: &Part, tree: &Tree, id: &NodeId, node: &NodeData) -> bool
 pub(crate) fn data_passes(part: &Part, tree: &Tree, id: &NodeId) -> bool
     ensures { result ≡ data_passes part.now tree.now id.now }
 {
-    match tree.get(id) {
-        Some(found) => node_passes(part, &found.content),
-        None => false,
-    }
+    let Some(found) = tree.get(id) else {
+        return false;
+    };
+    node_passes(part, &found.content)
 }
 
 fn node_passes(part: &Part, node: &NodeData) -> bool
@@ -106,7 +106,7 @@ fn element_passes(part: &Part, element: &Element) -> bool
         Part::Class(word) => element.has_class(word.as_str()),
         Part::Attribute(asked) => attrs_pass(asked, element),
         Part::Root => false,
-        Part::Link => is_link(element),
+        Part::Link => element.is_link(),
         Part::Never => false,
         Part::Empty => false,
         Part::OnlyText => false,
@@ -192,17 +192,4 @@ fn asked_passes(comparison: &Option<Comparison>, value: &str) -> bool
         Some(comparison) => passes(comparison, value),
         None => true,
     }
-}
-
-/// Whether the element may link elsewhere, and does.
-fn is_link(element: &Element) -> bool
-    ensures { result ≡ is_link element.now }
-{
-    is_linking(element.node_name()) && element.attr("href").is_some()
-}
-
-fn is_linking(local: &str) -> bool
-    ensures { result ≡ (bytes_eq local.now (codes "a") || bytes_eq local.now (codes "area") || bytes_eq local.now (codes "link")) }
-{
-    local == "a" || local == "area" || local == "link"
 }

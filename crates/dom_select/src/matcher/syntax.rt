@@ -1,6 +1,7 @@
 //! What a selector's text stands for.
 
 use dom_links::indexes::{IndexKind, Nth};
+use dom_nodes::case_sensitivity::CaseSensitivity;
 use dom_nodes::text::Text;
 
 /// How an attribute's value is compared.
@@ -18,13 +19,6 @@ pub enum Operator {
     Suffix,
     /// `*=`: it contains the value.
     Substring,
-}
-
-/// Whether ASCII letters are compared with their case.
-#[derive(Clone, Copy, PartialEq, Eq, Debug, Drop)]
-pub enum CaseSensitivity {
-    CaseSensitive,
-    AsciiCaseInsensitive,
 }
 
 /// What an attribute's value is asked for.

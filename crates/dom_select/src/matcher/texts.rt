@@ -1,12 +1,12 @@
 //! What a node's children are, and the texts at and below it.
 
 ghost use Rattle.std.specs.Prelude.{◌≡◌, ◌||◌, not};
-ghost use Rattle.dom_select.specs.Leftward.{element_at};
+ghost use Rattle.dom_links.specs.ListMoves.{element_at};
 ghost use Rattle.dom_select.specs.Texts.{contains_at, empty_at, filled_at, has_text_at, only_text_at, text_contains};
 
 use crate::matcher::comparisons::has_within;
 use crate::matcher::parts::is_element;
-use crate::matcher::syntax::CaseSensitivity;
+use dom_nodes::case_sensitivity::CaseSensitivity;
 use dom_nodes::node_data::NodeData;
 use dom_nodes::node_id::NodeId;
 use dom_trees::node_ref::NodeRef;

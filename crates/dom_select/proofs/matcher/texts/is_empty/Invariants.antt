@@ -2,7 +2,7 @@ use Rattle.std.proofs.Common.{◌≡◌}
 use Rattle.std.specs.Prelude.{◌||◌, not}
 use Rattle.std.specs.List.{list_all}
 use Rattle.dom_links.specs.Forest.{children_of}
-use Rattle.dom_select.specs.Leftward.{element_at}
+use Rattle.dom_links.specs.ListMoves.{element_at}
 use Rattle.dom_select.specs.Texts.{filled_at}
 use Rattle.dom_select.proofs.matcher.texts.is_empty.Given as goal
 
