@@ -2,9 +2,11 @@
 
 use crate::css::{CssLocalName, CssString, ToCss};
 use crate::matcher::Matcher;
+use crate::matcher::caches::SelectorCaches;
 use crate::matcher::several::{Matches, select_below_all};
 use crate::node_select::NodeSelect;
 use crate::pseudo_class::{NonTSPseudoClass, PseudoElement};
+use dom_links::indexes::IndexKind;
 use dom_nodes::case_sensitivity::CaseSensitivity;
 use dom_nodes::name::{Attr, LocalName, Namespace, QualName};
 use dom_nodes::node_data::{Attrs, Element, NodeData};
@@ -141,5 +143,34 @@ fn writes_pseudo_classes(rt: HostRuntime) -> Result<(), Fail> {
     NonTSPseudoClass::HasText(CssString(Text::new(alloc, "")?)).to_css(&mut out)?;
     NonTSPseudoClass::Indeterminate.to_css(&mut out)?;
     assert!(rt; out.as_str() == ":only-text:contains(\"a\\\"\"):has-text(\"\"):indeterminate");
+    Ok(())
+}
+
+#[test]
+fn keeps_indexes(rt: HostRuntime) -> Result<(), Fail> {
+    let alloc = rt.alloc();
+    let tree = page(alloc)?;
+    let mut caches = SelectorCaches::new(&tree);
+    for kind in [
+        IndexKind::Child,
+        IndexKind::LastChild,
+        IndexKind::OfType,
+        IndexKind::LastOfType,
+    ] {
+        let mut fresh = SelectorCaches::none(&tree);
+        for at in 0..9 {
+            let id = number(at)?;
+            assert!(rt; caches.index_at(&id, kind) == fresh.index_at(&id, kind));
+            let hits = caches.hits();
+            assert!(rt; caches.index_at(&id, kind) == fresh.index_at(&id, kind));
+            assert!(rt; at >= 8 || caches.hits() == hits + 1);
+        }
+        assert_eq!(rt; fresh.hits(), 0);
+    }
+    let all = Matcher::new(alloc, "p + a, i")?;
+    for at in 0..9 {
+        let node = NodeRef::new(number(at)?, &tree);
+        assert!(rt; all.match_element_with_caches(&node, &mut caches) == all.match_element(&node));
+    }
     Ok(())
 }
