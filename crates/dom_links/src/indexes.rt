@@ -69,8 +69,8 @@ pub fn index_with(nodes: &[TreeNode], id: &NodeId, kind: IndexKind, known: &[u32
     let Some(node) = find_node(nodes, *id) else {
         return 1;
     };
-    let backwards = is_from_first(kind);
-    let mut next = neighbour(node, backwards);
+    let back = is_from_first(kind);
+    let mut next = neighbour(node, back);
     let mut index = 1;
     while let Some(at) = next {
         let other = node_at(nodes, at);
@@ -81,7 +81,7 @@ pub fn index_with(nodes: &[TreeNode], id: &NodeId, kind: IndexKind, known: &[u32
             }
             index += 1;
         }
-        next = neighbour(other, backwards);
+        next = neighbour(other, back);
     }
     index
 }
@@ -109,8 +109,8 @@ pub fn note_indexes(nodes: &[TreeNode], id: &NodeId, kind: IndexKind, index: u64
     let Some(node) = find_node(nodes, *id) else {
         return;
     };
-    let backwards = is_from_first(kind);
-    let mut next = neighbour(node, backwards);
+    let back = is_from_first(kind);
+    let mut next = neighbour(node, back);
     let mut passed = 1;
     while let Some(at) = next {
         let other = node_at(nodes, at);
@@ -121,7 +121,7 @@ pub fn note_indexes(nodes: &[TreeNode], id: &NodeId, kind: IndexKind, index: u64
             note(known, at, index - passed);
             passed += 1;
         }
-        next = neighbour(other, backwards);
+        next = neighbour(other, back);
     }
 }
 

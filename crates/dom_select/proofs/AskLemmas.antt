@@ -21,8 +21,8 @@ module _ (text : List ℕ) (forest : Forest) (n : ℕ) where
   outside : (fault : SelectorFault) → Refused text fault → (fault ≡ Memory → ⊥) → (list : SelectorList) → StandsFor text list → ⊥
   outside Syntax h some list stands = h list stands
   outside UnknownPseudoClass h some list stands = h.1 list stands
-  outside Number h some list stands = h
-  outside NestedHas h some list stands = h
+  outside Number h some list stands = h.1 list stands
+  outside NestedHas h some list stands = h.1 list stands
   outside TooDeep h some list stands = h.1 list stands
   outside Memory h some list stands = some refl
 

@@ -5,12 +5,16 @@ pub mod CssLemmas
 pub mod DeepLemmas
 pub mod FaultLemmas
 pub mod FollowLemmas
+pub mod HasLemmas
+pub mod JoinedLemmas
 pub mod KeepLemmas
+pub mod LargeLemmas
 pub mod Layers
 pub mod LengthLemmas
 pub mod MatchLemmas
 pub mod MeaningLemmas
 pub mod NameLemmas
+pub mod NthLemmas
 pub mod PrintedLemmas
 pub mod ReachLemmas
 pub mod RefusalLemmas
@@ -21,6 +25,4 @@ pub mod SelectorLemmas
 pub mod StepLemmas
 pub mod StringLemmas
 pub mod Weights
-pub mod HasLemmas
-pub mod JoinedLemmas
 pub mod SeveralLemmas

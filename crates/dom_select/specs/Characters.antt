@@ -1,7 +1,8 @@
 -- The characters that the grammar tells apart.
-use Rattle.std.specs.Prelude.{ℕ, ◌+◌, List, [], ◌∷◌, Bool, false, ◌||◌, nat_eq, nat_le, cond, drop}
+use Rattle.std.specs.Prelude.{ℕ, ◌+◌, List, [], ◌∷◌, Bool, false, ◌||◌, nat_eq, nat_le, nat_lt, cond, drop, take}
 use Rattle.std.specs.Char.{is_ascii_alphabetic, is_ascii_digit, is_ascii_whitespace}
 use Rattle.std.specs.List.{prefix_len}
+use Rattle.std.specs.Str.Parse.{digits_value}
 use Rattle.dom_nodes.specs.Ascii.{carriage_return, form_feed, hyphen, line_feed, underscore}
 
 -- U+FFFD, which stands for what is no character
@@ -33,3 +34,20 @@ begins test (c ∷ cs) = test c
 abbrev pub how_many : ℕ → List ℕ → ℕ
 how_many c [] = 0
 how_many c (d ∷ text) = cond (nat_eq d c) 1 0 + how_many c text
+
+-- how many digits are at the front
+abbrev pub digits_len : List ℕ → ℕ
+digits_len text = prefix_len is_ascii_digit text
+
+-- the number that they write
+abbrev pub number_at : List ℕ → ℕ
+number_at text = digits_value 10 (take (digits_len text) text)
+
+-- the greatest number that may be written
+abbrev pub greatest_number : ℕ
+greatest_number = 2147483647
+
+-- at how many places a number past that begins
+abbrev pub how_many_large : List ℕ → ℕ
+how_many_large [] = 0
+how_many_large (c ∷ text) = cond (nat_lt greatest_number (number_at (c ∷ text))) 1 0 + how_many_large text

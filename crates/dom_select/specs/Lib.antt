@@ -12,6 +12,7 @@ pub mod Marks
 pub mod Meaning
 pub mod Names
 pub mod NodeAnswers
+pub mod Nth
 pub mod Parts
 pub mod PseudoTexts
 pub mod Pseudos

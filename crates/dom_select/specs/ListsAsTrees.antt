@@ -7,17 +7,20 @@ use Rattle.dom_select.specs.Syntax.{CompoundSelector, NestedLists, no_lists, nes
 -- what can stand in a compound behind its type
 pub data Item : Type 0 where
   simple : Part → Item
+  two_parts : Part → Part → Item
   listed : NestedList → Item
 
 -- the parts and the lists among the items, each in their order
 abbrev pub parts_among : List Item → List Part
 parts_among [] = []
 parts_among (simple part ∷ items) = part ∷ parts_among items
+parts_among (two_parts part other ∷ items) = part ∷ other ∷ parts_among items
 parts_among (listed list ∷ items) = parts_among items
 
 abbrev pub lists_among : List Item → NestedLists
 lists_among [] = no_lists
 lists_among (simple part ∷ items) = lists_among items
+lists_among (two_parts part other ∷ items) = lists_among items
 lists_among (listed list ∷ items) = nested list (lists_among items)
 
 abbrev pub lists_of : List NestedList → NestedLists

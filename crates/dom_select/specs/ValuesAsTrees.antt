@@ -3,13 +3,13 @@ use Rattle.std.specs.Prelude.{◌≡◌, List, [], ◌∷◌, ◌++◌, map}
 use Rattle.dom_select.specs.declared.matcher.syntax.Combinator.{Combinator}
 use Rattle.dom_select.specs.declared.matcher.syntax.Part.{Part}
 use Rattle.dom_select.specs.declared.matcher.syntax.Item as items
-use Rattle.dom_select.specs.declared.matcher.syntax.Item.TheVariants.{Simple, Listed}
+use Rattle.dom_select.specs.declared.matcher.syntax.Item.TheVariants.{Simple, Two, Listed}
 use Rattle.dom_select.specs.declared.matcher.syntax.Compound.{Compound, Compound-F, fold-Compound}
 use Rattle.dom_select.specs.declared.matcher.syntax.Nested.{Nested, Nested-F, fold-Nested}
 use Rattle.dom_select.specs.declared.matcher.syntax.Selector.{Selector, Selector-F, fold-Selector}
 use Rattle.dom_select.specs.declared.matcher.syntax.Step.{Step, Step-F, fold-Step}
 use Rattle.dom_select.specs.Syntax.{CompoundSelector, compound, NestedLists, no_lists, nested, NestedList, some_means, none_means, leads_on, SelectorList, Steps}
-use Rattle.dom_select.specs.ListsAsTrees.{Item, simple, listed, lists_of, steps_of, selector_list}
+use Rattle.dom_select.specs.ListsAsTrees.{Item, simple, two_parts, listed, lists_of, steps_of, selector_list}
 
 -- one layer of a value, with what its children stand for in their place
 abbrev pub nested_layer : Nested-F NestedList CompoundSelector (Combinator × CompoundSelector × Steps) (Combinator × CompoundSelector) → NestedList
@@ -43,6 +43,7 @@ read_list selectors = selector_list (map read_selector selectors)
 
 abbrev pub read_item : items.Item → Item
 read_item (Simple part) = simple part
+read_item (Two part other) = two_parts part other
 read_item (Listed list) = listed (read_nested list)
 
 -- the lists with one more at their end
@@ -53,4 +54,5 @@ lists_then (nested l more) list = nested l (lists_then more list)
 -- a part goes to the parts, a list to the lists
 abbrev pub PushesItem : Item → List Part → NestedLists → List Part → NestedLists → Type 0
 PushesItem (simple part) parts lists new_parts made_lists = (new_parts ≡ parts ++ part ∷ []) × (made_lists ≡ lists)
+PushesItem (two_parts part other) parts lists new_parts made_lists = (new_parts ≡ parts ++ part ∷ other ∷ []) × (made_lists ≡ lists)
 PushesItem (listed list) parts lists new_parts made_lists = (new_parts ≡ parts) × (made_lists ≡ lists_then lists list)

@@ -70,7 +70,8 @@ fn is_control(c: char) -> bool
 
 /// Adds a character of a string.
 fn push_css(out: &mut String, c: char) -> Result<(), AllocError>
-    ensures { OnOk result (string_bytes out.new ≡ string_bytes out.old ++ encode_utf8_all (css_char c)) }
+    ensures { OnOk result
+        (string_bytes out.new ≡ string_bytes out.old ++ encode_utf8_all (css_char c)) }
 {
     if c == '\0' {
         return out.push('\u{fffd}');
@@ -87,7 +88,8 @@ fn push_css(out: &mut String, c: char) -> Result<(), AllocError>
 /// Adds a `\`, the number of a control character, and a space.
 fn push_number(out: &mut String, c: char) -> Result<(), AllocError>
     requires { c < 256 }
-    ensures { OnOk result (string_bytes out.new ≡ string_bytes out.old ++ encode_utf8_all (backslash ∷ hex_of c ++ space ∷ [])) }
+    ensures { OnOk result (string_bytes out.new
+        ≡ string_bytes out.old ++ encode_utf8_all (backslash ∷ hex_of c ++ space ∷ [])) }
 {
     let number = c as u32;
     out.push('\\')?;

@@ -18,20 +18,24 @@ pub fn one_reading()
 
 /// A selector selects one list of nodes at most.
 pub fn one_selection()
-    ensures { (forest : Forest) (roots : List ℕ) (selector : SelectorList) (a b : List ℕ) → Selected forest roots selector a → Selected forest roots selector b → a ≡ b }
+    ensures { (forest : Forest) (roots : List ℕ) (selector : SelectorList) (a b : List ℕ) →
+        Selected forest roots selector a → Selected forest roots selector b → a ≡ b }
 {}
 
 /// What a selector selects are the elements below the roots that it means, each once.
 pub fn selected_exactly()
-    ensures { (forest : Forest) (roots : List ℕ) (selector : SelectorList) (picked : List ℕ) → Selected forest roots selector picked → IsSelection forest roots selector picked }
+    ensures { (forest : Forest) (roots : List ℕ) (selector : SelectorList) (picked : List ℕ) →
+        Selected forest roots selector picked → IsSelection forest roots selector picked }
 {}
 
 /// A text written as a string is read as that text, whatever follows it, with U+FFFD for U+0000.
 pub fn printed_string()
-    ensures { (text rest : List ℕ) → SpellsString (encode_utf8_all (map shown text)) (css_string text ++ rest) rest }
+    ensures { (text rest : List ℕ) →
+        SpellsString (encode_utf8_all (map shown text)) (css_string text ++ rest) rest }
 {}
 
 /// Where one text at a node or below it contains another, the texts there contain it joined.
 pub fn contains_what_it_has()
-    ensures { (forest : Forest) (text : List ℕ) (n : ℕ) → PartHolds (HasText text) forest n → PartHolds (Contains text) forest n }
+    ensures { (forest : Forest) (text : List ℕ) (n : ℕ) →
+        PartHolds (HasText text) forest n → PartHolds (Contains text) forest n }
 {}

@@ -18,9 +18,11 @@ pub(crate) mod has;
 pub(crate) mod joined;
 pub(crate) mod matches;
 pub(crate) mod names;
+pub(crate) mod nth;
 pub(crate) mod parser;
 pub(crate) mod parts;
 pub(crate) mod positions;
+pub(crate) mod pseudos;
 pub mod several;
 pub(crate) mod strings;
 pub mod syntax;
@@ -48,9 +50,10 @@ impl Model for Matcher {
 }
 
 impl Matcher {
-    ghost use Rattle.std.specs.Prelude.{◌≡◌, chars, IfErr, IfOk, MatchBool};
+    ghost use Rattle.std.specs.Prelude.{◌≡◌, chars, IfErr, IfOk};
     ghost use Rattle.dom_select.specs.Grammar.{Refused, StandsFor};
     ghost use Rattle.dom_select.specs.Meaning.{Means};
+    ghost use Rattle.dom_select.specs.Spelling.{Decides};
 
     /// Reads a selector's text. `UnknownPseudoClass` comes only where the text stands for nothing and has a `:`, `TooDeep` only
     /// where it stands for nothing and has 65 `(`, `Memory` where memory is refused, and `Syntax` where it stands for nothing.
@@ -65,7 +68,7 @@ impl Matcher {
 
     /// Whether one of the selectors means the node; false for an unknown number. It takes no memory.
     pub fn match_element(&self, node: &NodeRef<'_>) -> bool
-        ensures { MatchBool result (Means self.now node.now.tree.now node.now.id) (Means self.now node.now.tree.now node.now.id → ⊥) }
+        ensures { Decides result (Means self.now node.now.tree.now node.now.id) }
     {
         let mut caches = SelectorCaches::none(node.tree);
         means(&self.selectors, node.tree, &mut caches, node.id)
@@ -78,7 +81,7 @@ impl Matcher {
         node: &NodeRef<'_>,
         caches: &mut SelectorCaches<'_>,
     ) -> bool
-        ensures is { MatchBool result (Means self.now caches.old node.now.id) (Means self.now caches.old node.now.id → ⊥) }
+        ensures is { Decides result (Means self.now caches.old node.now.id) }
         ensures same { caches.new ≡ caches.old }
     {
         let tree = caches.tree();

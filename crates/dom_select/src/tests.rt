@@ -1,6 +1,7 @@
 //! Texts that are selectors and texts that are none, and what selectors select in small trees.
 
 mod asking;
+mod positions;
 mod reading;
 mod selecting;
 mod writing;

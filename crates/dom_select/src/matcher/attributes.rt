@@ -1,7 +1,7 @@
 //! Reads attribute parts.
 
 ghost use Rattle.std.specs.Prelude.{◌≡◌, ◌∷◌, ℕ, List, MatchOption, MatchResult};
-ghost use Rattle.dom_select.specs.Spelling.{SpellsNone, Tells};
+ghost use Rattle.dom_select.specs.Spelling.{Takes, TakesSome, no_other, same};
 ghost use Rattle.dom_select.specs.Characters.{after_white};
 ghost use Rattle.dom_select.specs.Attributes.{operator_of, flag_of, SpellsOperator, SpellsValue, SpellsFlag, SpellsCase, SpellsComparison, SpellsAsked, SpellsAttribute};
 
@@ -29,7 +29,7 @@ fn operator_of(c: char) -> Option<Operator>
 
 /// The operator at the front, and what follows it.
 fn take_operator(text: &[char]) -> Option<(Operator, &[char])>
-    ensures { MatchOption result (SpellsNone SpellsOperator text.now) (λ p. SpellsOperator p.0 text.now p.1.now) }
+    ensures { TakesSome result SpellsOperator text.now }
 {
     let Some((c, more)) = text.split_first() else {
         return None;
@@ -51,7 +51,8 @@ fn take_operator(text: &[char]) -> Option<(Operator, &[char])>
 
 /// The text without the character at its front, where that is this one.
 pub(crate) fn after_char(text: &[char], c: char) -> Option<&[char]>
-    ensures { MatchOption result ((rest : List ℕ) → text.now ≡ c ∷ rest → ⊥) (λ p. text.now ≡ c ∷ p.now) }
+    ensures { MatchOption result ((rest : List ℕ) → text.now ≡ c ∷ rest → ⊥)
+        (λ rest. text.now ≡ c ∷ rest.now) }
 {
     let Some((first, rest)) = text.split_first() else {
         return None;
@@ -64,7 +65,7 @@ pub(crate) fn after_char(text: &[char], c: char) -> Option<&[char]>
 
 /// The value at the front, and what follows it.
 fn take_value(alloc: Global, text: &[char]) -> Result<(Text, &[char]), SelectorFault>
-    ensures { MatchResult result (λ p. SpellsValue p.0 text.now p.1.now) (λ fault. Tells fault (SpellsNone SpellsValue text.now)) }
+    ensures { Takes result same SpellsValue no_other text.now }
 {
     if let [c, ..] = text {
         if is_quote(*c) {
@@ -87,7 +88,7 @@ fn flag_of(name: &str) -> Option<CaseSensitivity>
 
 /// The flag at the front and the bracket that closes, and what follows it.
 fn take_flag(alloc: Global, text: &[char]) -> Result<(CaseSensitivity, &[char]), SelectorFault>
-    ensures { MatchResult result (λ p. SpellsFlag p.0 text.now p.1.now) (λ fault. Tells fault (SpellsNone SpellsFlag text.now)) }
+    ensures { Takes result same SpellsFlag no_other text.now }
 {
     let (name, after) = take_name(alloc, text)?;
     let Some(flag) = flag_of(name.as_str()) else {
@@ -101,7 +102,7 @@ fn take_flag(alloc: Global, text: &[char]) -> Result<(CaseSensitivity, &[char]),
 
 /// The flag if there is one, and the bracket that closes, and what follows it.
 fn take_case(alloc: Global, text: &[char]) -> Result<(CaseSensitivity, &[char]), SelectorFault>
-    ensures { MatchResult result (λ p. SpellsCase p.0 text.now p.1.now) (λ fault. Tells fault (SpellsNone SpellsCase text.now)) }
+    ensures { Takes result same SpellsCase no_other text.now }
 {
     if let Some(rest) = after_char(text, ']') {
         return Ok((CaseSensitivity::CaseSensitive, rest));
@@ -111,7 +112,7 @@ fn take_case(alloc: Global, text: &[char]) -> Result<(CaseSensitivity, &[char]),
 
 /// The comparison at the front with the bracket that closes, and what follows it.
 fn take_comparison(alloc: Global, text: &[char]) -> Result<(Comparison, &[char]), SelectorFault>
-    ensures { MatchResult result (λ p. SpellsComparison p.0 text.now p.1.now) (λ fault. Tells fault (SpellsNone SpellsComparison text.now)) }
+    ensures { Takes result same SpellsComparison no_other text.now }
 {
     let Some((operator, after_operator)) = take_operator(text) else {
         return Err(SelectorFault::Syntax);
@@ -130,7 +131,7 @@ fn take_comparison(alloc: Global, text: &[char]) -> Result<(Comparison, &[char])
 
 /// The comparison if there is one, and the bracket that closes, and what follows it.
 fn take_asked(alloc: Global, text: &[char]) -> Result<(Option<Comparison>, &[char]), SelectorFault>
-    ensures { MatchResult result (λ p. SpellsAsked p.0 text.now p.1.now) (λ fault. Tells fault (SpellsNone SpellsAsked text.now)) }
+    ensures { Takes result same SpellsAsked no_other text.now }
 {
     if let Some(rest) = after_char(text, ']') {
         return Ok((None, rest));
@@ -144,7 +145,7 @@ pub(crate) fn take_attribute(
     alloc: Global,
     text: &[char],
 ) -> Result<(Attribute, &[char]), SelectorFault>
-    ensures { MatchResult result (λ p. SpellsAttribute p.0 text.now p.1.now) (λ fault. Tells fault (SpellsNone SpellsAttribute text.now)) }
+    ensures { Takes result same SpellsAttribute no_other text.now }
 {
     let (name, after_name) = take_name(alloc, after_white(text))?;
     let (comparison, rest) = take_asked(alloc, after_white(after_name))?;

@@ -91,7 +91,8 @@ pub(crate) fn begins_with(case: CaseSensitivity, text: &[u8], front: &[u8]) -> b
 
 /// Whether the text begins with the value and then `-`.
 fn begins_with_dash(case: CaseSensitivity, text: &[u8], value: &[u8]) -> bool
-    ensures { result ≡ (begins_with case text.now value.now && begins (λ c. nat_eq c hyphen) (drop (length value.now) text.now)) }
+    ensures { result ≡ (begins_with case text.now value.now
+        && begins (λ c. nat_eq c hyphen) (drop (length value.now) text.now)) }
 {
     if text.len() <= value.len() {
         return false;

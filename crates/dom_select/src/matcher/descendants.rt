@@ -5,6 +5,7 @@ ghost use Rattle.std.specs.Iterator.{at_most};
 ghost use Rattle.dom_links.specs.Trees.{walk_below};
 ghost use Rattle.dom_select.specs.Descendants.{GivesMatch, IsMatch, ToCome};
 ghost use Rattle.dom_select.specs.Selected.{Selected};
+ghost use Rattle.dom_select.specs.Spelling.{Decides};
 
 use crate::matcher::Matcher;
 use crate::matcher::parts::is_element;
@@ -42,7 +43,8 @@ impl<'a, 'b> DescendantMatches<'a, 'b> {
         ensures all { result.left ≡ walk_below node.entry.tree.now node.entry.id }
         ensures tree { result.tree ≡ node.entry.tree }
         ensures selector { result.selector ≡ matcher.now }
-        ensures selected { (ids : List ℕ) → ToCome result ids → Selected node.entry.tree.now (node.entry.id ∷ []) matcher.now ids }
+        ensures selected { (ids : List ℕ) → ToCome result ids →
+            Selected node.entry.tree.now (node.entry.id ∷ []) matcher.now ids }
     {
         let NodeRef { id, tree } = node;
         DescendantMatches {
@@ -87,7 +89,7 @@ pub fn select_below(
 
 /// Whether the node is an element that the selector means.
 pub(crate) fn is_selected(tree: &Tree, id: NodeId, matcher: &Matcher) -> bool
-    ensures { MatchBool result (IsMatch matcher.now tree.now id) (IsMatch matcher.now tree.now id → ⊥) }
+    ensures { Decides result (IsMatch matcher.now tree.now id) }
 {
     if !is_element(tree, &id) {
         return false;

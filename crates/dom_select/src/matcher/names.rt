@@ -4,7 +4,7 @@ ghost use Rattle.std.specs.Prelude.{◌≡◌, ◌≤◌, length, take, MatchOpt
 ghost use Rattle.std.specs.Str.Parse.{digits_value};
 ghost use Rattle.std.specs.Char.{digit_value};
 ghost use Rattle.std.specs.List.{prefix_len};
-ghost use Rattle.dom_select.specs.Spelling.{SpellsNone, Tells};
+ghost use Rattle.dom_select.specs.Spelling.{Takes, TakesSome, no_other, same};
 ghost use Rattle.dom_select.specs.Characters.{is_line_end, is_name_start, is_name_char, after_white};
 ghost use Rattle.dom_select.specs.Names.{is_hex, hex_len, after_space, char_of, SpellsEscape, SpellsNameChar, SpellsName, goes_on, starts, starts_name};
 
@@ -105,7 +105,7 @@ fn after_space(text: &[char]) -> &[char]
 
 /// The character that follows a `\`, and the text after it.
 pub(crate) fn take_escape(text: &[char]) -> Option<(char, &[char])>
-    ensures { MatchOption result (SpellsNone SpellsEscape text.now) (λ p. SpellsEscape p.0 text.now p.1.now) }
+    ensures { TakesSome result SpellsEscape text.now }
 {
     let Some((c, rest)) = text.split_first() else {
         return None;
@@ -122,7 +122,7 @@ pub(crate) fn take_escape(text: &[char]) -> Option<(char, &[char])>
 
 /// The name character or escape at the front, and what follows it.
 fn take_name_char(text: &[char]) -> Option<(char, &[char])>
-    ensures { MatchOption result (SpellsNone SpellsNameChar text.now) (λ p. SpellsNameChar p.0 text.now p.1.now) }
+    ensures { TakesSome result SpellsNameChar text.now }
 {
     let Some((c, rest)) = text.split_first() else {
         return None;
@@ -163,7 +163,7 @@ pub(crate) fn starts_name(text: &[char]) -> bool
 
 /// The identifier at the front, and what follows it.
 pub(crate) fn take_name(alloc: Global, text: &[char]) -> Result<(Text, &[char]), SelectorFault>
-    ensures { MatchResult result (λ p. SpellsName p.0 text.now p.1.now) (λ fault. Tells fault (SpellsNone SpellsName text.now)) }
+    ensures { Takes result same SpellsName no_other text.now }
 {
     if !starts_name(text) {
         return Err(SelectorFault::Syntax);

@@ -1,69 +1,30 @@
 //! Reads selectors, over their characters.
 
-ghost use Rattle.std.specs.Prelude.{◌≡◌, ◌≤◌, ◌+◌, ◌++◌, ◌||◌, ◌∷◌, [], ℕ, List, chars, map, Bool, true, false, cond, nat_eq, IfOk, MatchOption, MatchResult, OnOk, codes, string_bytes};
+ghost use Rattle.std.specs.Prelude.{◌≡◌, ◌<◌, ◌++◌, ◌∷◌, [], ℕ, List, chars, map, Bool, true, false, cond, nat_eq, IfOk, MatchResult, OnOk};
 ghost use Rattle.std.specs.Char.{is_ascii_whitespace};
 ghost use Rattle.std.specs.List.{list_all};
-ghost use Rattle.dom_select.specs.declared.matcher.syntax.Part.{Part};
-ghost use Rattle.dom_select.specs.Spelling.{Refuses, SpellsNone, Tells};
-ghost use Rattle.dom_select.specs.Characters.{after_white, begins, how_many};
-ghost use Rattle.dom_select.specs.Pseudos.{is_state, is_word, pseudo_of};
-ghost use Rattle.dom_select.specs.Grammar.{Refused, StandsFor, SpellsCombinator, SpellsCompound, SpellsForm, SpellsInner, SpellsItem, SpellsLater, SpellsList, SpellsListed, SpellsPlain, SpellsPseudo, SpellsSelector, SpellsStep, SpellsType, begins_comma, begins_compound, begins_item, begins_open, begins_step, combinator_of, is_combinator, is_star};
+ghost use Rattle.dom_nodes.specs.Ascii.{right_parenthesis};
+ghost use Rattle.dom_select.specs.Characters.{after_white, begins};
+ghost use Rattle.dom_select.specs.Grammar.{Opens, Refused, StandsFor, TakesBehind, TakesIn, SpellsCombinator, SpellsCompound, SpellsEnclosed, SpellsForm, SpellsInner, SpellsItem, SpellsLater, SpellsLead, SpellsList, SpellsListed, SpellsPlain, SpellsPseudo, SpellsSelector, SpellsStep, SpellsType, begins_comma, begins_compound, begins_item, begins_open, begins_step, combinator_of, inner_room, is_combinator, is_star, stands_behind, stands_for, whole};
 ghost use Rattle.dom_select.specs.ListsAsTrees.{Item, lists_of};
+ghost use Rattle.dom_select.specs.Nth.{SpellsNth};
+ghost use Rattle.dom_select.specs.Strings.{SpellsString};
+ghost use Rattle.dom_select.specs.Spelling.{Refuses, TakesSome, Takes, no_other, same};
 ghost use Rattle.dom_select.specs.ValuesAsTrees.{PushesItem, lists_then, read_compound, read_item, read_list, read_nested, read_selector, read_step};
 
 use crate::fault::SelectorFault;
 use crate::matcher::attributes::{after_char, take_attribute};
 use crate::matcher::names::{after_white, starts_name, take_name};
-use crate::matcher::syntax::{Combinator, Compound, Item, Nested, Part, Pseudo, Selector, Step};
+use crate::matcher::nth::take_nth;
+use crate::matcher::pseudos::{bare_item, is_relative, pseudo_of, quantified, text_part};
+use crate::matcher::strings::take_string;
+use crate::matcher::syntax::{
+    Bare, Combinator, Compound, Item, Nested, Part, Position, Pseudo, Quantifier, Room, Selector,
+    Step, TextTest,
+};
+use dom_links::indexes::Nth;
+use dom_nodes::text::Text;
 use std::alloc::{AllocError, Global};
-
-fn is_word(name: &str, word: &str) -> bool
-    ensures { result ≡ is_word name.now word.now }
-{
-    name.eq_ignore_ascii_case(word)
-}
-
-/// Whether the name is that of a state in which no node of a tree is.
-fn is_state(name: &str) -> bool
-    ensures { result ≡ is_state name.now }
-{
-    is_word(name, "visited")
-        || is_word(name, "active")
-        || is_word(name, "focus")
-        || is_word(name, "hover")
-        || is_word(name, "enabled")
-        || is_word(name, "disabled")
-        || is_word(name, "checked")
-        || is_word(name, "indeterminate")
-}
-
-fn is_one_of(name: &str, one: &str, other: &str) -> bool
-    ensures { result ≡ (is_word name.now one.now || is_word name.now other.now) }
-{
-    is_word(name, one) || is_word(name, other)
-}
-
-/// The pseudo-class of this name.
-fn pseudo_of(name: &str) -> Option<Pseudo>
-    ensures { result ≡ pseudo_of name.now }
-{
-    if is_one_of(name, "root", "scope") {
-        return Some(Pseudo::Root);
-    }
-    if is_one_of(name, "link", "any-link") {
-        return Some(Pseudo::Link);
-    }
-    if is_one_of(name, "is", "where") {
-        return Some(Pseudo::SomeOf);
-    }
-    if is_word(name, "not") {
-        return Some(Pseudo::NoneOf);
-    }
-    if is_state(name) {
-        return Some(Pseudo::Never);
-    }
-    None
-}
 
 fn begins_item(text: &[char]) -> bool
     ensures { result ≡ begins_item text.now }
@@ -83,97 +44,162 @@ fn begins_compound(text: &[char]) -> bool
     begins_star(text) || starts_name(text) || begins_item(text)
 }
 
-/// The list between parentheses that may hold so many more, without whitespace before it, and what follows it.
-#[cycle(lists)]
-fn take_inner(
-    alloc: Global,
-    depth: usize,
-    text: &[char],
-) -> Result<(Vec<Selector>, &[char]), SelectorFault>
-    ensures { MatchResult result (λ p. SpellsInner depth (read_list p.0.items) text.now p.1.now) (λ fault. Refuses fault (1 ≤ how_many 58 text.now) (depth ≤ how_many 40 text.now) (SpellsNone (SpellsInner depth) text.now)) }
-{
-    if depth == 0 {
-        return Err(SelectorFault::TooDeep);
-    }
-    take_list(alloc, depth - 1, text)
-}
-
-/// The list in parentheses at the front, and what follows it.
-#[cycle(lists)]
-fn take_listed(
-    alloc: Global,
-    depth: usize,
-    text: &[char],
-) -> Result<(Vec<Selector>, &[char]), SelectorFault>
-    ensures { MatchResult result (λ p. SpellsListed (SpellsInner depth) (read_list p.0.items) text.now p.1.now) (λ fault. Refuses fault (Unit {0}) (depth + 1 ≤ how_many 40 text.now) (SpellsNone (SpellsListed (SpellsInner depth)) text.now)) }
-{
-    let Some(inside) = after_char(text, '(') else {
-        return Err(SelectorFault::UnknownPseudoClass);
-    };
-    let (list, after) = take_inner(alloc, depth, after_white(inside))?;
-    let Some(rest) = after_char(after_white(after), ')') else {
-        return Err(SelectorFault::Syntax);
-    };
-    Ok((list, rest))
-}
-
 fn begins_open(text: &[char]) -> bool
     ensures { result ≡ begins_open text.now }
 {
     matches!(text, ['(', ..])
 }
 
+/// What follows the parenthesis at the front and whitespace.
+fn take_opening(room: Room, text: &[char]) -> Result<&[char], SelectorFault>
+    ensures { MatchResult result (λ rest. Opens room.depth text.now rest.now)
+        (λ fault. Refuses (stands_behind room text.now) fault
+        ((rest : List ℕ) → Opens room.depth text.now rest → ⊥)) }
+{
+    let Some(inside) = after_char(text, '(') else {
+        return Err(SelectorFault::UnknownPseudoClass);
+    };
+    if room.depth == 0 {
+        return Err(SelectorFault::TooDeep);
+    }
+    Ok(after_white(inside))
+}
+
+/// What follows whitespace and the parenthesis that closes.
+fn take_closing(text: &[char]) -> Result<&[char], SelectorFault>
+    ensures { MatchResult result (λ rest. after_white text.now ≡ right_parenthesis ∷ rest.now)
+        (λ fault. Refuses no_other fault
+        ((rest : List ℕ) → after_white text.now ≡ right_parenthesis ∷ rest → ⊥)) }
+{
+    match after_char(after_white(text), ')') {
+        Some(rest) => Ok(rest),
+        None => Err(SelectorFault::Syntax),
+    }
+}
+
 /// The part of a pseudo-class without parentheses, and what follows it.
-fn take_plain(part: Part, text: &[char]) -> Result<(Item, &[char]), SelectorFault>
-    ensures { MatchResult result (λ p. SpellsPlain part (read_item p.0) text.now p.1.now) (λ fault. Refuses fault (Unit {0}) ⊥ (SpellsNone (SpellsPlain part) text.now)) }
+fn take_plain(room: Room, bare: Bare, text: &[char]) -> Result<(Item, &[char]), SelectorFault>
+    ensures { TakesBehind room result read_item (SpellsPlain bare) text.now }
 {
     if begins_open(text) {
         return Err(SelectorFault::UnknownPseudoClass);
     }
-    Ok((Item::Simple(part), text))
+    Ok((bare_item(bare), text))
+}
+
+/// The `an+b` in parentheses, and what follows it.
+fn take_enclosed_nth(room: Room, text: &[char]) -> Result<(Nth, &[char]), SelectorFault>
+    ensures { TakesBehind room result same (SpellsEnclosed room.depth SpellsNth) text.now }
+{
+    let inside = take_opening(room, text)?;
+    let (nth, after) = take_nth(inside)?;
+    let rest = take_closing(after)?;
+    Ok((nth, rest))
+}
+
+/// The string in parentheses, and what follows it.
+fn take_enclosed_string(
+    alloc: Global,
+    room: Room,
+    text: &[char],
+) -> Result<(Text, &[char]), SelectorFault>
+    ensures { TakesBehind room result same (SpellsEnclosed room.depth SpellsString) text.now }
+{
+    let inside = take_opening(room, text)?;
+    let (string, after) = take_string(alloc, inside)?;
+    let rest = take_closing(after)?;
+    Ok((string, rest))
+}
+
+/// The room between parentheses that open here.
+fn inner_room(room: Room, relative: bool) -> Room
+    requires { 0 < room.depth }
+    ensures { result ≡ inner_room room relative }
+{
+    Room {
+        depth: room.depth - 1,
+        in_has: room.in_has || relative,
+        is_relative: relative,
+    }
+}
+
+/// The list in parentheses at the front, and what follows it.
+#[cycle(lists)]
+fn take_enclosed(
+    alloc: Global,
+    room: Room,
+    relative: bool,
+    text: &[char],
+) -> Result<(Vec<Selector>, &[char]), SelectorFault>
+    ensures { TakesBehind room result (λ list. read_list list.items)
+        (SpellsEnclosed room.depth (SpellsInner room relative)) text.now }
+{
+    let inside = take_opening(room, text)?;
+    let (list, after) = take_list(alloc, inner_room(room, relative), inside)?;
+    let rest = take_closing(after)?;
+    Ok((list, rest))
+}
+
+/// The list of a pseudo-class, and what follows it.
+#[cycle(lists)]
+fn take_listed(
+    alloc: Global,
+    room: Room,
+    quantifier: Quantifier,
+    text: &[char],
+) -> Result<(Item, &[char]), SelectorFault>
+    ensures { TakesBehind room result read_item
+        (SpellsListed room (SpellsInner room) quantifier) text.now }
+{
+    let relative = is_relative(quantifier);
+    if relative && room.in_has {
+        return Err(SelectorFault::NestedHas);
+    }
+    let (list, rest) = take_enclosed(alloc, room, relative, text)?;
+    Ok((Item::Listed(quantified(quantifier, list)), rest))
 }
 
 /// What belongs to the name of a pseudo-class, and what follows it.
 #[cycle(lists)]
 fn take_form(
     alloc: Global,
-    depth: usize,
+    room: Room,
     pseudo: Pseudo,
     text: &[char],
 ) -> Result<(Item, &[char]), SelectorFault>
-    ensures { MatchResult result (λ p. SpellsForm (SpellsInner depth) pseudo (read_item p.0) text.now p.1.now) (λ fault. Refuses fault (Unit {0}) (depth + 1 ≤ how_many 40 text.now) (SpellsNone (SpellsForm (SpellsInner depth) pseudo) text.now)) }
+    ensures { TakesBehind room result read_item
+        (SpellsForm room (SpellsInner room) pseudo) text.now }
 {
     match pseudo {
-        Pseudo::Root => take_plain(Part::Root, text),
-        Pseudo::Link => take_plain(Part::Link, text),
-        Pseudo::Never => take_plain(Part::Never, text),
-        Pseudo::SomeOf => {
-            let (list, rest) = take_listed(alloc, depth, text)?;
-            Ok((Item::Listed(Nested::Is(list)), rest))
+        Pseudo::Plain(bare) => take_plain(room, bare, text),
+        Pseudo::Listed(quantifier) => take_listed(alloc, room, quantifier, text),
+        Pseudo::Nth(kind) => {
+            let (nth, rest) = take_enclosed_nth(room, text)?;
+            Ok((Item::Simple(Part::Position(Position { kind, nth })), rest))
         }
-        Pseudo::NoneOf => {
-            let (list, rest) = take_listed(alloc, depth, text)?;
-            Ok((Item::Listed(Nested::Not(list)), rest))
+        Pseudo::Text(test) => {
+            let (string, rest) = take_enclosed_string(alloc, room, text)?;
+            Ok((Item::Simple(text_part(test, string)), rest))
         }
     }
 }
 
 /// The pseudo-class behind its colon, and what follows it.
 #[cycle(lists)]
-fn take_pseudo(alloc: Global, depth: usize, text: &[char]) -> Result<(Item, &[char]), SelectorFault>
-    ensures { MatchResult result (λ p. SpellsPseudo (SpellsInner depth) (read_item p.0) text.now p.1.now) (λ fault. Refuses fault (Unit {0}) (depth + 1 ≤ how_many 40 text.now) (SpellsNone (SpellsPseudo (SpellsInner depth)) text.now)) }
+fn take_pseudo(alloc: Global, room: Room, text: &[char]) -> Result<(Item, &[char]), SelectorFault>
+    ensures { TakesBehind room result read_item (SpellsPseudo room (SpellsInner room)) text.now }
 {
     let (name, after) = take_name(alloc, text)?;
     let Some(pseudo) = pseudo_of(name.as_str()) else {
         return Err(SelectorFault::UnknownPseudoClass);
     };
-    take_form(alloc, depth, pseudo, after)
+    take_form(alloc, room, pseudo, after)
 }
 
 /// The part or list at the front, and what follows it.
 #[cycle(lists)]
-fn take_item(alloc: Global, depth: usize, text: &[char]) -> Result<(Item, &[char]), SelectorFault>
-    ensures { MatchResult result (λ p. SpellsItem (SpellsInner depth) (read_item p.0) text.now p.1.now) (λ fault. Refuses fault (1 ≤ how_many 58 text.now) (depth + 1 ≤ how_many 40 text.now) (SpellsNone (SpellsItem (SpellsInner depth)) text.now)) }
+fn take_item(alloc: Global, room: Room, text: &[char]) -> Result<(Item, &[char]), SelectorFault>
+    ensures { TakesIn room result read_item (SpellsItem room (SpellsInner room)) text.now }
 {
     let Some((sign, more)) = text.split_first() else {
         return Err(SelectorFault::Syntax);
@@ -193,12 +219,12 @@ fn take_item(alloc: Global, depth: usize, text: &[char]) -> Result<(Item, &[char
     if *sign != ':' {
         return Err(SelectorFault::Syntax);
     }
-    take_pseudo(alloc, depth, more)
+    take_pseudo(alloc, room, more)
 }
 
 /// The type at the front if there is one, and what follows it.
 fn take_type(alloc: Global, text: &[char]) -> Result<(Vec<Part>, &[char]), SelectorFault>
-    ensures { MatchResult result (λ p. SpellsType p.0.items text.now p.1.now) (λ fault. Tells fault (SpellsNone SpellsType text.now)) }
+    ensures { Takes result (λ v. v.items) SpellsType no_other text.now }
 {
     let mut parts = Vec::new(alloc);
     if begins_star(text) {
@@ -221,7 +247,8 @@ fn push_part(parts: &mut Vec<Part>, part: Part) -> Result<(), AllocError>
 }
 
 fn push_list(nested: &mut Vec<Nested>, list: Nested) -> Result<(), AllocError>
-    ensures { OnOk result (lists_of (map read_nested nested.new.items) ≡ lists_then (lists_of (map read_nested nested.old.items)) (read_nested list)) }
+    ensures { OnOk result (lists_of (map read_nested nested.new.items)
+        ≡ lists_then (lists_of (map read_nested nested.old.items)) (read_nested list)) }
 {
     nested.push(list)?;
     Ok(())
@@ -229,10 +256,16 @@ fn push_list(nested: &mut Vec<Nested>, list: Nested) -> Result<(), AllocError>
 
 /// Adds a part to the parts, or a list to the lists.
 fn push_item(parts: &mut Vec<Part>, nested: &mut Vec<Nested>, item: Item) -> Result<(), AllocError>
-    ensures { OnOk result (PushesItem (read_item item) parts.old.items (lists_of (map read_nested nested.old.items)) parts.new.items (lists_of (map read_nested nested.new.items))) }
+    ensures { OnOk result (PushesItem (read_item item)
+        parts.old.items (lists_of (map read_nested nested.old.items))
+        parts.new.items (lists_of (map read_nested nested.new.items))) }
 {
     match item {
         Item::Simple(part) => push_part(parts, part),
+        Item::Two(part, other) => {
+            push_part(parts, part)?;
+            push_part(parts, other)
+        }
         Item::Listed(list) => push_list(nested, list),
     }
 }
@@ -241,10 +274,10 @@ fn push_item(parts: &mut Vec<Part>, nested: &mut Vec<Nested>, item: Item) -> Res
 #[cycle(lists)]
 fn take_compound(
     alloc: Global,
-    depth: usize,
+    room: Room,
     text: &[char],
 ) -> Result<(Compound, &[char]), SelectorFault>
-    ensures { MatchResult result (λ p. SpellsCompound (SpellsInner depth) (read_compound p.0) text.now p.1.now) (λ fault. Refuses fault (1 ≤ how_many 58 text.now) (depth + 1 ≤ how_many 40 text.now) (SpellsNone (SpellsCompound (SpellsInner depth)) text.now)) }
+    ensures { TakesIn room result read_compound (SpellsCompound room (SpellsInner room)) text.now }
 {
     if !begins_compound(text) {
         return Err(SelectorFault::Syntax);
@@ -254,7 +287,7 @@ fn take_compound(
     let mut nested = Vec::new(alloc);
     let mut rest = after;
     while begins_item(rest) {
-        let (item, more) = take_item(alloc, depth, rest)?;
+        let (item, more) = take_item(alloc, room, rest)?;
         push_item(&mut parts, &mut nested, item)?;
         rest = more;
     }
@@ -274,7 +307,7 @@ fn combinator_of(c: char) -> Option<Combinator>
 
 /// The combinator at the front, behind whitespace, and what follows it.
 fn take_combinator(text: &[char]) -> Option<(Combinator, &[char])>
-    ensures { MatchOption result (SpellsNone SpellsCombinator text.now) (λ p. SpellsCombinator p.0 text.now p.1.now) }
+    ensures { TakesSome result SpellsCombinator text.now }
 {
     let Some((c, more)) = text.split_first() else {
         return None;
@@ -309,8 +342,8 @@ fn begins_step(text: &[char]) -> bool
 
 /// The combinator and compound at the front, and what follows them.
 #[cycle(lists)]
-fn take_step(alloc: Global, depth: usize, text: &[char]) -> Result<(Step, &[char]), SelectorFault>
-    ensures { MatchResult result (λ p. SpellsStep (SpellsInner depth) (read_step p.0) text.now p.1.now) (λ fault. Refuses fault (1 ≤ how_many 58 text.now) (depth + 1 ≤ how_many 40 text.now) (SpellsNone (SpellsStep (SpellsInner depth)) text.now)) }
+fn take_step(alloc: Global, room: Room, text: &[char]) -> Result<(Step, &[char]), SelectorFault>
+    ensures { TakesIn room result read_step (SpellsStep room (SpellsInner room)) text.now }
 {
     if !begins_step(text) {
         return Err(SelectorFault::Syntax);
@@ -318,7 +351,7 @@ fn take_step(alloc: Global, depth: usize, text: &[char]) -> Result<(Step, &[char
     let Some((combinator, mid)) = take_combinator(after_white(text)) else {
         return Err(SelectorFault::Syntax);
     };
-    let (compound, rest) = take_compound(alloc, depth, mid)?;
+    let (compound, rest) = take_compound(alloc, room, mid)?;
     Ok((
         Step {
             combinator,
@@ -328,24 +361,40 @@ fn take_step(alloc: Global, depth: usize, text: &[char]) -> Result<(Step, &[char
     ))
 }
 
+/// The combinator that a selector begins with, where it may, and what follows it.
+fn take_lead(relative: bool, text: &[char]) -> (Combinator, &[char])
+    ensures { SpellsLead relative result.0 text.now result.1.now }
+{
+    if !relative {
+        return (Combinator::Descendant, text);
+    }
+    let Some((c, more)) = text.split_first() else {
+        return (Combinator::Descendant, text);
+    };
+    let Some(combinator) = combinator_of(*c) else {
+        return (Combinator::Descendant, text);
+    };
+    (combinator, after_white(more))
+}
+
 /// The selector at the front, and what follows it.
 #[cycle(lists)]
 fn take_selector(
     alloc: Global,
-    depth: usize,
+    room: Room,
     text: &[char],
 ) -> Result<(Selector, &[char]), SelectorFault>
-    ensures { MatchResult result (λ p. SpellsSelector (SpellsInner depth) (read_selector p.0) text.now p.1.now) (λ fault. Refuses fault (1 ≤ how_many 58 text.now) (depth + 1 ≤ how_many 40 text.now) (SpellsNone (SpellsSelector (SpellsInner depth)) text.now)) }
+    ensures { TakesIn room result read_selector (SpellsSelector room (SpellsInner room)) text.now }
 {
-    let (first, after) = take_compound(alloc, depth, text)?;
+    let (lead, begin) = take_lead(room.is_relative, text);
+    let (first, after) = take_compound(alloc, room, begin)?;
     let mut steps = Vec::new(alloc);
     let mut rest = after;
     while begins_step(rest) {
-        let (step, more) = take_step(alloc, depth, rest)?;
+        let (step, more) = take_step(alloc, room, rest)?;
         steps.push(step)?;
         rest = more;
     }
-    let lead = Combinator::Descendant;
     Ok((
         Selector {
             lead,
@@ -366,32 +415,33 @@ fn begins_comma(text: &[char]) -> bool
 #[cycle(lists)]
 fn take_later(
     alloc: Global,
-    depth: usize,
+    room: Room,
     text: &[char],
 ) -> Result<(Selector, &[char]), SelectorFault>
-    ensures { MatchResult result (λ p. SpellsLater (SpellsInner depth) (read_selector p.0) text.now p.1.now) (λ fault. Refuses fault (1 ≤ how_many 58 text.now) (depth + 1 ≤ how_many 40 text.now) (SpellsNone (SpellsLater (SpellsInner depth)) text.now)) }
+    ensures { TakesIn room result read_selector (SpellsLater room (SpellsInner room)) text.now }
 {
     let Some(rest) = after_char(after_white(text), ',') else {
         return Err(SelectorFault::Syntax);
     };
-    take_selector(alloc, depth, after_white(rest))
+    take_selector(alloc, room, after_white(rest))
 }
 
 /// The list at the front, and what follows it.
 #[cycle(lists)]
 fn take_list(
     alloc: Global,
-    depth: usize,
+    room: Room,
     text: &[char],
 ) -> Result<(Vec<Selector>, &[char]), SelectorFault>
-    ensures { MatchResult result (λ p. SpellsList (SpellsInner depth) (read_list p.0.items) text.now p.1.now) (λ fault. Refuses fault (1 ≤ how_many 58 text.now) (depth + 1 ≤ how_many 40 text.now) (SpellsNone (SpellsList (SpellsInner depth)) text.now)) }
+    ensures { TakesIn room result (λ list. read_list list.items)
+        (SpellsList room (SpellsInner room)) text.now }
 {
-    let (first, after) = take_selector(alloc, depth, text)?;
+    let (first, after) = take_selector(alloc, room, text)?;
     let mut list = Vec::new(alloc);
     list.push(first)?;
     let mut rest = after;
     while begins_comma(rest) {
-        let (selector, more) = take_later(alloc, depth, rest)?;
+        let (selector, more) = take_later(alloc, room, rest)?;
         list.push(selector)?;
         rest = more;
     }
@@ -413,12 +463,18 @@ pub(crate) fn letters(alloc: Global, text: &str) -> Result<Vec<char>, AllocError
 
 /// The selectors that a text stands for.
 pub(crate) fn parse(alloc: Global, text: &[char]) -> Result<Vec<Selector>, SelectorFault>
-    ensures { MatchResult result (λ list. StandsFor text.now (read_list list.items)) (λ fault. Refused text.now fault) }
+    ensures { MatchResult result (λ list. StandsFor text.now (read_list list.items))
+        (λ fault. Refused text.now fault) }
 {
     if !has_no_zero(text) {
         return Err(SelectorFault::Syntax);
     }
-    let (list, after) = take_list(alloc, 64, after_white(text))?;
+    let whole = Room {
+        depth: 64,
+        in_has: false,
+        is_relative: false,
+    };
+    let (list, after) = take_list(alloc, whole, after_white(text))?;
     if !after_white(after).is_empty() {
         return Err(SelectorFault::Syntax);
     }

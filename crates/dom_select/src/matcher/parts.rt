@@ -6,6 +6,7 @@ ghost use Rattle.std.specs.Str.{bytes_eq, str_to_ascii_lowercase};
 ghost use Rattle.dom_links.specs.ListMoves.{element_at};
 ghost use Rattle.dom_select.specs.Meaning.{PartsHold};
 ghost use Rattle.dom_select.specs.Parts.{EachHolds, PartHolds, attr_passes, element_passes, is_attr, is_without, name_within, node_passes, asked_passes, data_passes};
+ghost use Rattle.dom_select.specs.Spelling.{Decides};
 
 use crate::matcher::caches::SelectorCaches;
 use crate::matcher::comparisons::passes;
@@ -26,7 +27,7 @@ pub(crate) fn parts_hold(
     id: &NodeId,
 ) -> bool
     requires { caches.old ≡ tree.now }
-    ensures is { MatchBool result (PartsHold parts.now tree.now id.now) (PartsHold parts.now tree.now id.now → ⊥) }
+    ensures is { Decides result (PartsHold parts.now tree.now id.now) }
     ensures kept { caches.new ≡ tree.now }
 {
     match tree.get(id) {

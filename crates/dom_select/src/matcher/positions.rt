@@ -1,6 +1,7 @@
 //! Whether a node has an index among its siblings.
 
-ghost use Rattle.std.specs.Prelude.{◌≡◌, MatchBool};
+ghost use Rattle.std.specs.Prelude.{◌≡◌};
+ghost use Rattle.dom_select.specs.Spelling.{Decides};
 ghost use Rattle.dom_links.specs.Indexes.{IsNth, index_at};
 
 use crate::matcher::caches::SelectorCaches;
@@ -10,7 +11,7 @@ use dom_nodes::node_id::NodeId;
 
 /// Whether the node has one of the indexes.
 pub(crate) fn has_position(position: Position, caches: &mut SelectorCaches<'_>, id: &NodeId) -> bool
-    ensures is { MatchBool result (IsNth position.nth (index_at position.kind caches.old id.now)) (IsNth position.nth (index_at position.kind caches.old id.now) → ⊥) }
+    ensures is { Decides result (IsNth position.nth (index_at position.kind caches.old id.now)) }
     ensures kept { caches.new ≡ caches.old }
 {
     let index = caches.index_at(id, position.kind);

@@ -1,7 +1,7 @@
 //! Reads strings in quotes.
 
 ghost use Rattle.std.specs.Prelude.{◌≡◌, ◌++◌, ◌∷◌, [], Option, MatchOption, MatchResult, OnOk, string_bytes, encode_utf8_all};
-ghost use Rattle.dom_select.specs.Spelling.{SpellsNone, Tells};
+ghost use Rattle.dom_select.specs.Spelling.{Takes, TakesSome, no_other, same};
 ghost use Rattle.dom_select.specs.Strings.{SpellsStringEscape, SpellsPiece, SpellsString, after_line_end, goes_on_in, is_quote, present};
 
 use crate::fault::SelectorFault;
@@ -28,7 +28,7 @@ fn after_line_end(text: &[char]) -> &[char]
 
 /// What stands after a `\` in a string, none where it is a line end, and what follows it.
 fn take_string_escape(text: &[char]) -> Option<(Option<char>, &[char])>
-    ensures { MatchOption result (SpellsNone SpellsStringEscape text.now) (λ p. SpellsStringEscape p.0 text.now p.1.now) }
+    ensures { TakesSome result SpellsStringEscape text.now }
 {
     if let [c, ..] = text {
         if is_line_end(*c) {
@@ -43,7 +43,7 @@ fn take_string_escape(text: &[char]) -> Option<(Option<char>, &[char])>
 
 /// The character of a string at the front, and what follows it.
 fn take_piece(quote: char, text: &[char]) -> Option<(Option<char>, &[char])>
-    ensures { MatchOption result (SpellsNone (SpellsPiece quote) text.now) (λ p. SpellsPiece quote p.0 text.now p.1.now) }
+    ensures { TakesSome result (SpellsPiece quote) text.now }
 {
     let Some((c, rest)) = text.split_first() else {
         return None;
@@ -71,7 +71,8 @@ fn goes_on_in(quote: char, text: &[char]) -> bool
 
 /// Adds a character that is there.
 fn push_piece(text: &mut String, piece: Option<char>) -> Result<(), AllocError>
-    ensures { OnOk result (string_bytes text.new ≡ string_bytes text.old ++ encode_utf8_all (present (piece ∷ []))) }
+    ensures { OnOk result (string_bytes text.new
+        ≡ string_bytes text.old ++ encode_utf8_all (present (piece ∷ []))) }
 {
     match piece {
         Some(c) => text.push(c),
@@ -81,7 +82,7 @@ fn push_piece(text: &mut String, piece: Option<char>) -> Result<(), AllocError>
 
 /// The text of the string at the front, and what follows it.
 pub(crate) fn take_string(alloc: Global, text: &[char]) -> Result<(Text, &[char]), SelectorFault>
-    ensures { MatchResult result (λ p. SpellsString p.0 text.now p.1.now) (λ fault. Tells fault (SpellsNone SpellsString text.now)) }
+    ensures { Takes result same SpellsString no_other text.now }
 {
     let Some((quote, inside)) = text.split_first() else {
         return Err(SelectorFault::Syntax);

@@ -129,15 +129,57 @@ pub struct Selector {
 #[derive(Drop)]
 pub(crate) enum Item {
     Simple(Part),
+    Two(Part, Part),
     Listed(Nested),
+}
+
+/// A pseudo-class without parentheses.
+#[derive(Clone, Copy, PartialEq, Eq, Debug, Drop)]
+pub(crate) enum Bare {
+    Root,
+    Link,
+    Never,
+    Empty,
+    OnlyText,
+    /// It has index 1.
+    First(IndexKind),
+    /// It has index 1 of both kinds.
+    Only(IndexKind, IndexKind),
+}
+
+/// What a pseudo-class asks of its list.
+#[derive(Clone, Copy, PartialEq, Eq, Debug, Drop)]
+pub(crate) enum Quantifier {
+    SomeOf,
+    NoneOf,
+    LeadsOn,
+}
+
+/// Which texts a pseudo-class asks for a string.
+#[derive(Clone, Copy, PartialEq, Eq, Debug, Drop)]
+pub(crate) enum TextTest {
+    /// One text at or below the node.
+    InOne,
+    /// All of them, joined.
+    InAll,
 }
 
 /// What a pseudo-class is, and so what follows its name.
 #[derive(Clone, Copy, PartialEq, Eq, Debug, Drop)]
 pub(crate) enum Pseudo {
-    Root,
-    Link,
-    Never,
-    SomeOf,
-    NoneOf,
+    Plain(Bare),
+    Listed(Quantifier),
+    Nth(IndexKind),
+    Text(TextTest),
+}
+
+/// Where in a selector's text something stands.
+#[derive(Clone, Copy, PartialEq, Eq, Debug, Drop)]
+pub(crate) struct Room {
+    /// How many parentheses may still open.
+    pub depth: usize,
+    /// Whether it is inside `:has`.
+    pub in_has: bool,
+    /// Whether a selector may begin with a combinator.
+    pub is_relative: bool,
 }

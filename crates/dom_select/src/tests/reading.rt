@@ -29,6 +29,16 @@ fn reads(rt: HostRuntime) -> Result<(), Fail> {
         "\\:root",
         "a:root",
         ":any-link:hover",
+        ":has(a):has( > a , + b, ~c )",
+        ":is(:has(:not(a)))",
+        ":nth-child(2147483647)",
+        ":NTH-last-CHILD( +3N - 1 )",
+        ":nth-of-type(-n)",
+        ":nth-last-of-type(Odd)",
+        ":first-child:last-child:only-child",
+        ":first-of-type:last-of-type:only-of-type",
+        ":empty:only-text",
+        ":has-text('x'):contains( \"\" )",
     ];
     for text in accepted {
         assert!(rt; Matcher::new(alloc, text).is_ok());
@@ -60,6 +70,18 @@ fn reads(rt: HostRuntime) -> Result<(), Fail> {
         "[a^ =b]",
         ":is(> a)",
         "a)",
+        ":has()",
+        ":has(> )",
+        ":has(> > a)",
+        ":has(:is(> a))",
+        ":nth-child()",
+        ":nth-child(+ 3)",
+        ":nth-child(2n+)",
+        ":nth-child(2n1)",
+        ":nth-child(evenly)",
+        ":nth-child(1",
+        ":has-text(x)",
+        ":contains('x)",
     ];
     for text in refused {
         assert!(rt; matches!(Matcher::new(alloc, text), Err(SelectorFault::Syntax)));
@@ -68,27 +90,41 @@ fn reads(rt: HostRuntime) -> Result<(), Fail> {
         ":foo",
         ":is (a)",
         ":root()",
-        ":first-child",
-        ":has(a)",
-        "::before",
+        ":first-child()",
+        ":nth-child",
+        ":has",
+        ":contains",
+        ":nth-child (1)",
         "p:is",
         "a, :x y",
     ];
     for text in unknown {
         let fault = Matcher::new(alloc, text);
-        let is_unknown = matches!(fault, Err(SelectorFault::UnknownPseudoClass));
-        assert!(rt; is_unknown == (text != "::before"));
+        assert!(rt; matches!(fault, Err(SelectorFault::UnknownPseudoClass)));
+    }
+    let double = Matcher::new(alloc, "::before");
+    assert!(rt; matches!(double, Err(SelectorFault::Syntax)));
+    for text in [
+        ":nth-child(2147483648)",
+        ":nth-of-type(n-99999999999999999999)",
+    ] {
+        let fault = Matcher::new(alloc, text);
+        assert!(rt; matches!(fault, Err(SelectorFault::Number)));
+    }
+    for text in [":has(:has(a))", ":has(:not(b, :is(:has(> a))))"] {
+        let fault = Matcher::new(alloc, text);
+        assert!(rt; matches!(fault, Err(SelectorFault::NestedHas)));
     }
     Ok(())
 }
 
-/// So many `:not(`, then `a`, then as many `)`.
-fn nested(alloc: Global, depth: usize) -> Result<String, Fail> {
+/// So many `:not(`, then the text, then as many `)`.
+fn nested(alloc: Global, depth: usize, inside: &str) -> Result<String, Fail> {
     let mut text = String::new(alloc);
     for _opened in 0..depth {
         text.push_str(":not(")?;
     }
-    text.push('a')?;
+    text.push_str(inside)?;
     for _closed in 0..depth {
         text.push(')')?;
     }
@@ -98,8 +134,10 @@ fn nested(alloc: Global, depth: usize) -> Result<String, Fail> {
 #[test]
 fn nests(rt: HostRuntime) -> Result<(), Fail> {
     let alloc = rt.alloc();
-    assert!(rt; Matcher::new(alloc, nested(alloc, 64)?.as_str()).is_ok());
-    let deep = Matcher::new(alloc, nested(alloc, 65)?.as_str());
-    assert!(rt; matches!(deep, Err(SelectorFault::TooDeep)));
+    for (depth, inside) in [(64, "a"), (63, ":nth-child(1)"), (63, ":contains('a')")] {
+        assert!(rt; Matcher::new(alloc, nested(alloc, depth, inside)?.as_str()).is_ok());
+        let deep = Matcher::new(alloc, nested(alloc, depth + 1, inside)?.as_str());
+        assert!(rt; matches!(deep, Err(SelectorFault::TooDeep)));
+    }
     Ok(())
 }

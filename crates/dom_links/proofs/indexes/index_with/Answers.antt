@@ -13,7 +13,7 @@ returns-in_default-clause-is c = index_past (forest_of c.args.nodes.now) c.args.
 pub loop-next-init : goal.loop-next-init
 loop-next-init c =
     let long = length-contents (forest_of c.args.nodes.now) c.args.nodes.now c.requires.sound.arena.links in
-    starts (forest_of c.args.nodes.now) c.args.kind c.args.id.now c.in-Some.node.now c.is_from_first-backwards.result c.neighbour-next.result c.requires.sound.forest (omega (arith, c.requires.sound.numbered)) c.in-Some.ensures c.is_from_first-backwards.ensures c.neighbour-next.ensures
+    starts (forest_of c.args.nodes.now) c.args.kind c.args.id.now c.in-Some.node.now c.is_from_first-back.result c.neighbour-next.result c.requires.sound.forest (omega (arith, c.requires.sound.numbered)) c.in-Some.ensures c.is_from_first-back.ensures c.neighbour-next.ensures
 
 pub returns-then-there-gt0-clause-is : goal.returns-then-there-gt0-clause-is
 returns-then-there-gt0-clause-is c =
@@ -36,8 +36,8 @@ passed c =
       | then-counts+else-there-gt0 w ↦ (let one : 1 ≡ cond c.counts.result 1 0 = ap {B = ℕ} (λ (b : Bool). cond b 1 0) (sym w.if-counts.true) in omega (arith, w.index-is, one))
       | else-counts w ↦ (let none : 0 ≡ cond c.counts.result 1 0 = ap {B = ℕ} (λ (b : Bool). cond b 1 0) (sym w.if-counts.false) in omega (arith, w.index-is, none))
     ] in
-    counts_on (forest_of c.args.nodes.now) c.args.kind c.args.id.now c.in-Some-next.at c.in-Some.node.now c.node_at-other.result.now c.is_from_first-backwards.result c.loop-next.next c.neighbour-next-in-Some-next.result
-    c.loop-next.index c.if-counts.index c.counts.result c.requires.sound.forest c.loop-next.invariant c.in-Some-next.is grown c.in-Some.ensures.content_is c.node_at-other.ensures c.is_from_first-backwards.ensures c.neighbour-next-in-Some-next.ensures c.counts.ensures
+    counts_on (forest_of c.args.nodes.now) c.args.kind c.args.id.now c.in-Some-next.at c.in-Some.node.now c.node_at-other.result.now c.is_from_first-back.result c.loop-next.next c.neighbour-next-in-Some-next.result
+    c.loop-next.index c.if-counts.index c.counts.result c.requires.sound.forest c.loop-next.invariant c.in-Some-next.is grown c.in-Some.ensures.content_is c.node_at-other.ensures c.is_from_first-back.ensures c.neighbour-next-in-Some-next.ensures c.counts.ensures
 
 pub loop-next-smaller : goal.loop-next-smaller
 loop-next-smaller c = Counted.fewer (passed c)

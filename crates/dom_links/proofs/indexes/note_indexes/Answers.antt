@@ -12,7 +12,7 @@ loop-next-init c =
     let forest = forest_of c.args.nodes.now in
     let long = length-contents forest c.args.nodes.now c.requires.sound.arena.links in
     record {
-      counting = starts forest c.args.kind c.args.id.now c.in-Some.node.now c.is_from_first-backwards.result c.neighbour-next.result c.requires.sound.forest (omega (arith, c.requires.sound.numbered)) c.in-Some.ensures c.is_from_first-backwards.ensures c.neighbour-next.ensures;
+      counting = starts forest c.args.kind c.args.id.now c.in-Some.node.now c.is_from_first-back.result c.neighbour-next.result c.requires.sound.forest (omega (arith, c.requires.sound.numbered)) c.in-Some.ensures c.is_from_first-back.ensures c.neighbour-next.ensures;
       right = subst (AreIndexes c.args.kind forest) (sym c.note.ensures) (noted forest c.args.kind c.args.known.now c.args.id.now c.args.index c.requires.known c.requires.is);
     }
 
@@ -22,8 +22,8 @@ passed c =
       | then-counts+else-known_at-gt0 w ↦ (let one : 1 ≡ cond c.counts.result 1 0 = ap {B = ℕ} (λ (b : Bool). cond b 1 0) (sym w.if-counts.true) in omega (arith, w.passed-is, one))
       | else-counts w ↦ (let none : 0 ≡ cond c.counts.result 1 0 = ap {B = ℕ} (λ (b : Bool). cond b 1 0) (sym w.if-counts.false) in omega (arith, w.passed-is, none))
     ] in
-    counts_on (forest_of c.args.nodes.now) c.args.kind c.args.id.now c.in-Some-next.at c.in-Some.node.now c.node_at-other.result.now c.is_from_first-backwards.result c.loop-next.next c.neighbour-next-in-Some-next.result
-    c.loop-next.passed c.if-counts.passed c.counts.result c.requires.sound.forest c.loop-next.invariant.counting c.in-Some-next.is grown c.in-Some.ensures.content_is c.node_at-other.ensures c.is_from_first-backwards.ensures c.neighbour-next-in-Some-next.ensures c.counts.ensures
+    counts_on (forest_of c.args.nodes.now) c.args.kind c.args.id.now c.in-Some-next.at c.in-Some.node.now c.node_at-other.result.now c.is_from_first-back.result c.loop-next.next c.neighbour-next-in-Some-next.result
+    c.loop-next.passed c.if-counts.passed c.counts.result c.requires.sound.forest c.loop-next.invariant.counting c.in-Some-next.is grown c.in-Some.ensures.content_is c.node_at-other.ensures c.is_from_first-back.ensures c.neighbour-next-in-Some-next.ensures c.counts.ensures
 
 right : (c : goal.After-neighbour-next-in-Some-next) → AreIndexes c.args.kind (forest_of c.args.nodes.now) c.if-counts.known
 right c =

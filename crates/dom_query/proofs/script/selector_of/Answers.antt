@@ -9,8 +9,8 @@ use Rattle.dom_query.proofs.script.selector_of.Goals as goal
 told : (text : List ℕ) (fault : SelectorFault) → Refused text fault → fault ≢ Memory → StandsForNothing text
 told text Syntax refused other = refused
 told text UnknownPseudoClass refused other = refused.1
-told text Number refused other = absurd refused
-told text NestedHas refused other = absurd refused
+told text Number refused other = refused.1
+told text NestedHas refused other = refused.1
 told text TooDeep refused other = refused.1
 told text Memory refused other = absurd (other refl)
 
