@@ -52,7 +52,7 @@ later_few forest rev n good known =
     omega arith
 
 -- whether a sibling counts, by the data of both
-counts_is : (forest : Forest) (kind : IndexKind) (n at : ℕ) (node other : NodeData) → slice_get forest.content n ≡ Some node → slice_get forest.content at ≡ Some other → counts kind forest n at ≡ passes kind node other
+pub counts_is : (forest : Forest) (kind : IndexKind) (n at : ℕ) (node other : NodeData) → slice_get forest.content n ≡ Some node → slice_get forest.content at ≡ Some other → counts kind forest n at ≡ passes kind node other
 counts_is forest Child n at node other e f = ap (λ o. option_map_or is_element o false) f
 counts_is forest LastChild n at node other e f = ap (λ o. option_map_or is_element o false) f
 counts_is forest OfType n at node other e f = ap (λ o. option_map_or (λ x. option_map_or (of_one_type x) (slice_get forest.content at) false) o false) e ∙ ap (λ o. option_map_or (of_one_type node) o false) f

@@ -1,5 +1,5 @@
 -- The index of a node among its siblings, and the indexes that `an+b` stands for.
-use Rattle.std.specs.Prelude.{ℕ, ◌≡◌, ◌+◌, ◌*◌, Bool, true, false, slice_get, count_by, if◌then◌else◌}
+use Rattle.std.specs.Prelude.{ℕ, ◌≡◌, ◌<◌, ◌+◌, ◌*◌, Bool, true, false, List, slice_get, slice_index_or, count_by, if◌then◌else◌}
 use Rattle.std.specs.Option.{option_map_or}
 use Rattle.dom_nodes.specs.declared.node_data.NodeData.{NodeData}
 use Rattle.dom_nodes.specs.declared.node_data.NodeData.TheVariants.{Element}
@@ -46,6 +46,14 @@ counts LastOfType forest n m = same_type forest n m
 -- its run
 abbrev pub index_at : IndexKind → Forest → ℕ → ℕ
 index_at kind forest n = 1 + count_by (counts kind forest n) (later forest (is_from_first kind) n)
+
+-- the index that is known at a number; 0 where none is
+abbrev pub index_known : List ℕ → ℕ → ℕ
+index_known known n = slice_index_or known n 0
+
+-- each index that is known is right
+abbrev pub AreIndexes : IndexKind → Forest → List ℕ → Type 0
+AreIndexes kind forest known = (n : ℕ) → 0 < index_known known n → index_known known n ≡ index_at kind forest n
 
 -- how far a number is above 0, and how far below
 abbrev pub above_zero : Signed → ℕ

@@ -1,8 +1,8 @@
 //! Where a node stands among its siblings.
 
-ghost use Rattle.std.specs.Prelude.{◌≡◌, ◌≤◌, ◌+◌, ◌*◌, ℕ, MatchBool, if◌then◌else◌};
+ghost use Rattle.std.specs.Prelude.{◌≡◌, ◌≤◌, ◌+◌, ◌*◌, ℕ, MatchBool, slice_set, if◌then◌else◌};
 ghost use Rattle.dom_links.specs.Forest.{forest_of};
-ghost use Rattle.dom_links.specs.Indexes.{IsNth, above_zero, below_zero, index_at, is_from_first, of_one_type, passes};
+ghost use Rattle.dom_links.specs.Indexes.{AreIndexes, IsNth, above_zero, below_zero, index_at, index_known, is_from_first, of_one_type, passes};
 ghost use Rattle.dom_links.specs.Sound.{IsSoundArena};
 
 use crate::iters::{find_node, node_at};
@@ -57,6 +57,83 @@ pub fn index_at(nodes: &[TreeNode], id: &NodeId, kind: IndexKind) -> u64
         next = neighbour(other, backwards);
     }
     index
+}
+
+/// The same, where some indexes are known already: the siblings are counted as far as one of them. 0 stands for an index that
+/// isn't known.
+pub fn index_with(nodes: &[TreeNode], id: &NodeId, kind: IndexKind, known: &[u32]) -> u64
+    requires sound { IsSoundArena nodes.now }
+    requires known { AreIndexes kind (forest_of nodes.now) known.now }
+    ensures is { result ≡ index_at kind (forest_of nodes.now) id.now }
+    ensures few { result ≤ 4294967295 }
+{
+    let Some(node) = find_node(nodes, *id) else {
+        return 1;
+    };
+    let back = is_from_first(kind);
+    let mut next = neighbour(node, back);
+    let mut index = 1;
+    while let Some(at) = next {
+        let other = node_at(nodes, at);
+        if counts(kind, &node.content, &other.content) {
+            let there = known_at(known, at);
+            if there > 0 {
+                return index + there;
+            }
+            index += 1;
+        }
+        next = neighbour(other, back);
+    }
+    index
+}
+
+/// The index that is known at a number, or 0.
+fn known_at(known: &[u32], id: NodeId) -> u64
+    ensures is { result ≡ index_known known.now id }
+    ensures few { result ≤ 4294967295 }
+{
+    match known.get(id.value()) {
+        Some(index) => u64::from(*index),
+        None => 0,
+    }
+}
+
+/// Notes the index of a node, and those of the siblings that count for it, as far as one that is known.
+pub fn note_indexes(nodes: &[TreeNode], id: &NodeId, kind: IndexKind, index: u64, known: &mut [u32])
+    requires sound { IsSoundArena nodes.now }
+    requires known { AreIndexes kind (forest_of nodes.now) known.old }
+    requires is { index ≡ index_at kind (forest_of nodes.now) id.now }
+    requires few { index ≤ 4294967295 }
+    ensures { AreIndexes kind (forest_of nodes.now) known.new }
+{
+    note(known, *id, index);
+    let Some(node) = find_node(nodes, *id) else {
+        return;
+    };
+    let back = is_from_first(kind);
+    let mut next = neighbour(node, back);
+    let mut passed = 1;
+    while let Some(at) = next {
+        let other = node_at(nodes, at);
+        if counts(kind, &node.content, &other.content) {
+            if known_at(known, at) > 0 {
+                return;
+            }
+            note(known, at, index - passed);
+            passed += 1;
+        }
+        next = neighbour(other, back);
+    }
+}
+
+fn note(known: &mut [u32], id: NodeId, index: u64)
+    requires { index ≤ 4294967295 }
+    ensures { known.new ≡ slice_set known.old id index }
+{
+    let place = id.value();
+    if place < known.len() {
+        known[place] = index as u32;
+    }
 }
 
 fn is_from_first(kind: IndexKind) -> bool

@@ -33,3 +33,4 @@ pub mod SelectorLemmas
 pub mod StepLemmas
 pub mod StringLemmas
 pub mod Weights
+pub mod SeveralLemmas

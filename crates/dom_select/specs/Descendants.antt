@@ -1,5 +1,5 @@
 -- Walks that give what a selector means.
-use Rattle.std.specs.Prelude.{ℕ, ◌≡◌, true, List, [], ◌∷◌, Option, MatchOption}
+use Rattle.std.specs.Prelude.{ℕ, ◌≡◌, true, List, [], ◌∷◌, ◌++◌, Option, MatchOption}
 use Rattle.std.specs.Borrow.{Bor}
 use Rattle.dom_links.specs.Forest.{Forest}
 use Rattle.dom_trees.specs.declared.node_ref.NodeRef.{NodeRef}
@@ -22,8 +22,16 @@ pub record Matches : Type 0 where
 abbrev pub ToCome : Matches → List ℕ → Type 0
 ToCome walk ids = Picks (IsMatch walk.selector walk.tree.now) walk.left ids
 
--- a call gives the first that is to come and leaves the others, or nothing where nothing is to come
+-- the node is the first among those left that is an element which the selector means, and those behind it are left
+pub record IsFirstMatch (before : Matches) (node : NodeRef) (later : Matches) : Type 0 where
+  pub tree : node.tree ≡ before.tree
+  pub meant : IsMatch before.selector before.tree.now node.id
+  pub passed : List ℕ
+  pub stands : before.left ≡ passed ++ node.id ∷ later.left
+  pub none_before : Picks (IsMatch before.selector before.tree.now) passed []
+
+-- a call gives the first that is to come and leaves those behind it, or nothing where nothing is to come
 pub record GivesMatch (before : Matches) (given : Option NodeRef) (later : Matches) : Type 0 where
   pub tree : later.tree ≡ before.tree
   pub selector : later.selector ≡ before.selector
-  pub first : MatchOption given (ToCome before [] × (later.left ≡ [])) (λ node. (node.tree ≡ before.tree) × ((ids : List ℕ) → ToCome later ids → ToCome before (node.id ∷ ids)))
+  pub first : MatchOption given (ToCome before [] × (later.left ≡ [])) (λ node. IsFirstMatch before node later)

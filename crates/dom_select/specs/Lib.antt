@@ -8,6 +8,7 @@ pub mod Grammar
 pub mod Has
 pub mod Leftward
 pub mod ListsAsTrees
+pub mod Marks
 pub mod Meaning
 pub mod MiniGrammar
 pub mod MiniLetters

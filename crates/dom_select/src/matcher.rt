@@ -1,6 +1,7 @@
 //! A list of selectors that nodes are asked for.
 
 use crate::fault::SelectorFault;
+use crate::matcher::caches::SelectorCaches;
 use crate::matcher::matches::means;
 use crate::matcher::parser::{letters, parse};
 use crate::matcher::syntax::Selector;
@@ -9,6 +10,7 @@ use std::alloc::Global;
 use std::marker::Model;
 
 pub(crate) mod attributes;
+pub mod caches;
 pub(crate) mod chains;
 pub(crate) mod comparisons;
 pub mod descendants;
@@ -21,6 +23,7 @@ pub(crate) mod parser;
 pub(crate) mod parts;
 pub(crate) mod positions;
 pub(crate) mod pseudos;
+pub mod several;
 pub(crate) mod strings;
 pub mod syntax;
 pub(crate) mod texts;
@@ -47,7 +50,7 @@ impl Model for Matcher {
 }
 
 impl Matcher {
-    ghost use Rattle.std.specs.Prelude.{chars, IfErr, IfOk, MatchBool};
+    ghost use Rattle.std.specs.Prelude.{◌≡◌, chars, IfErr, IfOk};
     ghost use Rattle.dom_select.specs.Grammar.{Refused, StandsFor};
     ghost use Rattle.dom_select.specs.Meaning.{Means};
     ghost use Rattle.dom_select.specs.Spelling.{Decides};
@@ -67,6 +70,21 @@ impl Matcher {
     pub fn match_element(&self, node: &NodeRef<'_>) -> bool
         ensures { Decides result (Means self.now node.now.tree.now node.now.id) }
     {
-        means(&self.selectors, node.tree, node.id)
+        let mut caches = SelectorCaches::none(node.tree);
+        means(&self.selectors, node.tree, &mut caches, node.id)
+    }
+
+    /// Whether one of the selectors means the node of that number in the caches' tree. What the caches were asked before makes no
+    /// difference; where they can't grow they are passed by.
+    pub fn match_element_with_caches(
+        &self,
+        node: &NodeRef<'_>,
+        caches: &mut SelectorCaches<'_>,
+    ) -> bool
+        ensures is { Decides result (Means self.now caches.old node.now.id) }
+        ensures same { caches.new ≡ caches.old }
+    {
+        let tree = caches.tree();
+        means(&self.selectors, tree, caches, node.id)
     }
 }

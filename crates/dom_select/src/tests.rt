@@ -1,5 +1,6 @@
 //! Texts that are selectors and texts that are none, and what selectors select in small trees.
 
+mod asking;
 mod mini;
 mod positions;
 mod reading;

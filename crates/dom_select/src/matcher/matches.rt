@@ -11,6 +11,7 @@ ghost use Rattle.dom_select.specs.Syntax.{no_lists, compound as the_compound};
 ghost use Rattle.dom_select.specs.Chains.{EndHolds, Followed, FollowedFrom, IsOrPrecedes, ReachesSome, looseness};
 ghost use Rattle.dom_select.specs.Has.{Begins, IsReached, ReachesWithin, may_end};
 
+use crate::matcher::caches::SelectorCaches;
 use crate::matcher::chains::{ends_at, know_lines, looseness, may_beside, on_the_left};
 use crate::matcher::has::{Start, first_top, is_led, may_end, next_top};
 use crate::matcher::parts::{is_named_node, parts_hold};
@@ -47,22 +48,29 @@ fn bears_name(tree: &Tree, id: &NodeId, name: &str) -> bool
 
 /// Whether the compound holds of the node. Of a type alone the names are compared, and nothing else is looked at.
 #[cycle(matching)]
-fn holds(compound: &Compound, tree: &Tree, id: NodeId) -> bool
-    ensures { IsTrue result ↔ Holds (read_compound compound.now) tree.now id }
+fn holds(compound: &Compound, tree: &Tree, caches: &mut SelectorCaches<'_>, id: NodeId) -> bool
+    requires { caches.old ≡ tree.now }
+    ensures is { IsTrue result ↔ Holds (read_compound compound.now) tree.now id }
+    ensures kept { caches.new ≡ tree.now }
 {
     if let Some(name) = bare_type(compound) {
         return bears_name(tree, &id, name.as_str());
     }
-    parts_hold(&compound.parts, tree, &id) && lists_hold(&compound.nested, tree, id)
+    if !parts_hold(&compound.parts, tree, caches, &id) {
+        return false;
+    }
+    lists_hold(&compound.nested, tree, caches, id)
 }
 
 /// Whether each of the lists in a compound holds of the node.
 #[cycle(matching)]
-fn lists_hold(lists: &[Nested], tree: &Tree, id: NodeId) -> bool
-    ensures { IsTrue result ↔ ListsHold (lists_of (map read_nested lists.now)) tree.now id }
+fn lists_hold(lists: &[Nested], tree: &Tree, caches: &mut SelectorCaches<'_>, id: NodeId) -> bool
+    requires { caches.old ≡ tree.now }
+    ensures is { IsTrue result ↔ ListsHold (lists_of (map read_nested lists.now)) tree.now id }
+    ensures kept { caches.new ≡ tree.now }
 {
     for list in lists {
-        if !list_holds(list, tree, id) {
+        if !list_holds(list, tree, caches, id) {
             return false;
         }
     }
@@ -70,24 +78,33 @@ fn lists_hold(lists: &[Nested], tree: &Tree, id: NodeId) -> bool
 }
 
 #[cycle(matching)]
-fn list_holds(list: &Nested, tree: &Tree, id: NodeId) -> bool
-    ensures { IsTrue result ↔ ListHolds (read_nested list.now) tree.now id }
+fn list_holds(list: &Nested, tree: &Tree, caches: &mut SelectorCaches<'_>, id: NodeId) -> bool
+    requires { caches.old ≡ tree.now }
+    ensures is { IsTrue result ↔ ListHolds (read_nested list.now) tree.now id }
+    ensures kept { caches.new ≡ tree.now }
 {
     match list {
-        Nested::Is(selectors) => means(selectors, tree, id),
-        Nested::Not(selectors) => !means(selectors, tree, id),
-        Nested::Has(selectors) => leads_on(selectors, tree, id),
+        Nested::Is(selectors) => means(selectors, tree, caches, id),
+        Nested::Not(selectors) => !means(selectors, tree, caches, id),
+        Nested::Has(selectors) => leads_on(selectors, tree, caches, id),
     }
 }
 
 /// Whether one of the selectors means the node.
 #[cycle(matching)]
-pub(crate) fn means(selectors: &[Selector], tree: &Tree, id: NodeId) -> bool
-    ensures { IsTrue result ↔ Means (read_list selectors.now) tree.now id }
+pub(crate) fn means(
+    selectors: &[Selector],
+    tree: &Tree,
+    caches: &mut SelectorCaches<'_>,
+    id: NodeId,
+) -> bool
+    requires { caches.old ≡ tree.now }
+    ensures is { IsTrue result ↔ Means (read_list selectors.now) tree.now id }
+    ensures kept { caches.new ≡ tree.now }
 {
     let start = Start::Anywhere;
     for selector in selectors {
-        if reaches(&start, &selector.first, &selector.rest, tree, id) {
+        if reaches(&start, &selector.first, &selector.rest, tree, caches, id) {
             return true;
         }
     }
@@ -96,11 +113,25 @@ pub(crate) fn means(selectors: &[Selector], tree: &Tree, id: NodeId) -> bool
 
 /// Whether one of the selectors leads from the node to an element.
 #[cycle(matching)]
-fn leads_on(selectors: &[Selector], tree: &Tree, id: NodeId) -> bool
-    ensures { IsTrue result ↔ LeadsOn (read_list selectors.now) tree.now id }
+fn leads_on(
+    selectors: &[Selector],
+    tree: &Tree,
+    caches: &mut SelectorCaches<'_>,
+    id: NodeId,
+) -> bool
+    requires { caches.old ≡ tree.now }
+    ensures is { IsTrue result ↔ LeadsOn (read_list selectors.now) tree.now id }
+    ensures kept { caches.new ≡ tree.now }
 {
     for selector in selectors {
-        if leads_to_some(selector.lead, &selector.first, &selector.rest, tree, id) {
+        if leads_to_some(
+            selector.lead,
+            &selector.first,
+            &selector.rest,
+            tree,
+            caches,
+            id,
+        ) {
             return true;
         }
     }
@@ -114,15 +145,18 @@ fn leads_to_some(
     first: &Compound,
     steps: &[Step],
     tree: &Tree,
+    caches: &mut SelectorCaches<'_>,
     id: NodeId,
 ) -> bool
-    ensures { IsTrue result ↔ LeadsToSome lead (read_compound first.now) (steps_of (map read_step steps.now)) tree.now id }
+    requires { caches.old ≡ tree.now }
+    ensures is { IsTrue result ↔ LeadsToSome lead (read_compound first.now) (steps_of (map read_step steps.now)) tree.now id }
+    ensures kept { caches.new ≡ tree.now }
 {
     know_lines(tree);
     let start = Start::From(lead, id);
     let mut top = first_top(tree, lead, id);
     while let Some(at) = top {
-        if leads_within(&start, first, steps, tree, at) {
+        if leads_within(&start, first, steps, tree, caches, at) {
             return true;
         }
         top = next_top(tree, lead, at);
@@ -132,15 +166,24 @@ fn leads_to_some(
 
 /// Whether the compounds lead from the start to this node or to one below it.
 #[cycle(matching)]
-fn leads_within(start: &Start, first: &Compound, steps: &[Step], tree: &Tree, top: NodeId) -> bool
-    ensures { MatchBool result (ReachesWithin start.now (read_compound first.now) (steps_of (map read_step steps.now)) tree.now top)
+fn leads_within(
+    start: &Start,
+    first: &Compound,
+    steps: &[Step],
+    tree: &Tree,
+    caches: &mut SelectorCaches<'_>,
+    top: NodeId,
+) -> bool
+    requires { caches.old ≡ tree.now }
+    ensures is { MatchBool result (ReachesWithin start.now (read_compound first.now) (steps_of (map read_step steps.now)) tree.now top)
         (ReachesWithin start.now (read_compound first.now) (steps_of (map read_step steps.now)) tree.now top → ⊥) }
+    ensures kept { caches.new ≡ tree.now }
 {
-    if reaches(start, first, steps, tree, top) {
+    if reaches(start, first, steps, tree, caches, top) {
         return true;
     }
     for y in tree.descendant_ids_of_it(&top) {
-        if reaches(start, first, steps, tree, y) {
+        if reaches(start, first, steps, tree, caches, y) {
             return true;
         }
     }
@@ -149,30 +192,47 @@ fn leads_within(start: &Start, first: &Compound, steps: &[Step], tree: &Tree, to
 
 /// Whether there are nodes for the first compound and for those of the steps, the last of them this one.
 #[cycle(matching)]
-fn reaches(start: &Start, first: &Compound, steps: &[Step], tree: &Tree, id: NodeId) -> bool
-    ensures { IsTrue result ↔ IsReached start.now (read_compound first.now) (steps_of (map read_step steps.now)) tree.now id }
+fn reaches(
+    start: &Start,
+    first: &Compound,
+    steps: &[Step],
+    tree: &Tree,
+    caches: &mut SelectorCaches<'_>,
+    id: NodeId,
+) -> bool
+    requires { caches.old ≡ tree.now }
+    ensures is { IsTrue result ↔ IsReached start.now (read_compound first.now) (steps_of (map read_step steps.now)) tree.now id }
+    ensures kept { caches.new ≡ tree.now }
 {
     if !may_end(start, tree, id) {
         return false;
     }
     if steps.is_empty() {
-        return begins(start, first, tree, id);
+        return begins(start, first, tree, caches, id);
     }
-    follow(ALL, start, first, steps, tree, id, id).is_some()
+    follow(ALL, start, first, steps, tree, caches, id, id).is_some()
 }
 
 /// Whether the node may be the first.
 #[cycle(matching)]
-fn begins(start: &Start, first: &Compound, tree: &Tree, id: NodeId) -> bool
-    ensures { IsTrue result ↔ Begins start.now (read_compound first.now) tree.now id }
+fn begins(
+    start: &Start,
+    first: &Compound,
+    tree: &Tree,
+    caches: &mut SelectorCaches<'_>,
+    id: NodeId,
+) -> bool
+    requires { caches.old ≡ tree.now }
+    ensures is { IsTrue result ↔ Begins start.now (read_compound first.now) tree.now id }
+    ensures kept { caches.new ≡ tree.now }
 {
     match start {
-        Start::Anywhere => holds(first, tree, id),
+        Start::Anywhere => holds(first, tree, caches, id),
         Start::From(lead, from) => {
             if !is_led(tree, *lead, *from, id) {
                 return false;
             }
-            holds(first, tree, id)
+            holds(first, tree, caches, id)
         }
     }
 }
@@ -184,19 +244,22 @@ fn end_holds(
     first: &Compound,
     steps: &[Step],
     tree: &Tree,
+    caches: &mut SelectorCaches<'_>,
     spared: NodeId,
     id: NodeId,
 ) -> bool
-    ensures { MatchBool result (EndHolds tree.now spared (Begins start.now (read_compound first.now) tree.now) (map read_step steps.now) id)
+    requires { caches.old ≡ tree.now }
+    ensures is { MatchBool result (EndHolds tree.now spared (Begins start.now (read_compound first.now) tree.now) (map read_step steps.now) id)
         (EndHolds tree.now spared (Begins start.now (read_compound first.now) tree.now) (map read_step steps.now) id → ⊥) }
+    ensures kept { caches.new ≡ tree.now }
 {
     match steps.split_last() {
-        None => begins(start, first, tree, id),
+        None => begins(start, first, tree, caches, id),
         Some((last, _)) => {
             if !may_beside(tree, spared, last.combinator, id) {
                 return false;
             }
-            holds(&last.compound, tree, id)
+            holds(&last.compound, tree, caches, id)
         }
     }
 }
@@ -216,15 +279,18 @@ fn follow<'a>(
     first: &Compound,
     steps: &'a [Step],
     tree: &Tree,
+    caches: &mut SelectorCaches<'_>,
     spared: NodeId,
     id: NodeId,
 ) -> Option<Place<'a>>
-    requires { IsOrPrecedes tree.now id spared }
-    ensures { MatchOption result (Reaches (Begins start.now (read_compound first.now) tree.now) (steps_of (map read_step steps.now)) tree.now spared id → ⊥)
+    requires before { IsOrPrecedes tree.now id spared }
+    requires kept { caches.old ≡ tree.now }
+    ensures is { MatchOption result (Reaches (Begins start.now (read_compound first.now) tree.now) (steps_of (map read_step steps.now)) tree.now spared id → ⊥)
         (λ place. Followed tree.now spared (Begins start.now (read_compound first.now) tree.now) level (map read_step steps.now) (map read_step place.left.now) id place.at) }
+    ensures kept { caches.new ≡ tree.now }
 {
     if level <= 1 {
-        if !end_holds(start, first, steps, tree, spared, id) {
+        if !end_holds(start, first, steps, tree, caches, spared, id) {
             return None;
         }
         return Some(Place {
@@ -233,15 +299,23 @@ fn follow<'a>(
         });
     }
     know_lines(tree);
-    let Some(mut place) = follow(level - 1, start, first, steps, tree, spared, id) else {
+    let Some(mut place) = follow(level - 1, start, first, steps, tree, caches, spared, id) else {
         return None;
     };
     while let Some((last, front)) = place.left.split_last() {
         if looseness(last.combinator) >= level {
             return Some(place);
         }
-        let Some(next) = follow_from(start, first, front, last.combinator, tree, spared, place.at)
-        else {
+        let Some(next) = follow_from(
+            start,
+            first,
+            front,
+            last.combinator,
+            tree,
+            caches,
+            spared,
+            place.at,
+        ) else {
             return None;
         };
         place = next;
@@ -258,18 +332,21 @@ fn follow_from<'a>(
     steps: &'a [Step],
     combinator: Combinator,
     tree: &Tree,
+    caches: &mut SelectorCaches<'_>,
     spared: NodeId,
     id: NodeId,
 ) -> Option<Place<'a>>
-    requires { IsOrPrecedes tree.now id spared }
-    ensures { MatchOption result (ReachesSome tree.now spared (Begins start.now (read_compound first.now) tree.now) (map read_step steps.now) combinator id → ⊥)
+    requires before { IsOrPrecedes tree.now id spared }
+    requires kept { caches.old ≡ tree.now }
+    ensures is { MatchOption result (ReachesSome tree.now spared (Begins start.now (read_compound first.now) tree.now) (map read_step steps.now) combinator id → ⊥)
         (λ place. FollowedFrom tree.now spared (Begins start.now (read_compound first.now) tree.now) combinator (map read_step steps.now) (map read_step place.left.now) id place.at) }
+    ensures kept { caches.new ≡ tree.now }
 {
     let mut at = id;
     while let Some(v) = on_the_left(tree, combinator, at) {
         if may_beside(tree, spared, combinator, v) {
             let level = looseness(combinator);
-            if let Some(place) = follow(level, start, first, steps, tree, spared, v) {
+            if let Some(place) = follow(level, start, first, steps, tree, caches, spared, v) {
                 return Some(place);
             }
         }

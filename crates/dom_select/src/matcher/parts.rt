@@ -8,6 +8,7 @@ ghost use Rattle.dom_select.specs.Meaning.{PartsHold};
 ghost use Rattle.dom_select.specs.Parts.{EachHolds, PartHolds, attr_passes, element_passes, is_attr, is_without, name_within, node_passes, asked_passes, data_passes};
 ghost use Rattle.dom_select.specs.Spelling.{Decides};
 
+use crate::matcher::caches::SelectorCaches;
 use crate::matcher::comparisons::passes;
 use crate::matcher::joined::contains_joined;
 use crate::matcher::positions::has_position;
@@ -19,11 +20,18 @@ use dom_nodes::node_id::NodeId;
 use dom_trees::tree::Tree;
 
 /// Whether the number is a node's of which each part holds.
-pub(crate) fn parts_hold(parts: &[Part], tree: &Tree, id: &NodeId) -> bool
-    ensures { Decides result (PartsHold parts.now tree.now id.now) }
+pub(crate) fn parts_hold(
+    parts: &[Part],
+    tree: &Tree,
+    caches: &mut SelectorCaches<'_>,
+    id: &NodeId,
+) -> bool
+    requires { caches.old ≡ tree.now }
+    ensures is { Decides result (PartsHold parts.now tree.now id.now) }
+    ensures kept { caches.new ≡ tree.now }
 {
     match tree.get(id) {
-        Some(found) => each_holds(parts, tree, id, &found.content),
+        Some(found) => each_holds(parts, tree, caches, id, &found.content),
         None => false,
     }
 }
@@ -47,12 +55,20 @@ pub(crate) fn is_element(tree: &Tree, id: &NodeId) -> bool
     node.content.as_element().is_some()
 }
 
-fn each_holds(parts: &[Part], tree: &Tree, id: &NodeId, node: &NodeData) -> bool
-    requires { slice_get tree.now.content id.now ≡ Some node.now }
-    ensures { IsTrue result ↔ EachHolds parts.now tree.now id.now }
+fn each_holds(
+    parts: &[Part],
+    tree: &Tree,
+    caches: &mut SelectorCaches<'_>,
+    id: &NodeId,
+    node: &NodeData,
+) -> bool
+    requires node { slice_get tree.now.content id.now ≡ Some node.now }
+    requires kept { caches.old ≡ tree.now }
+    ensures is { IsTrue result ↔ EachHolds parts.now tree.now id.now }
+    ensures kept { caches.new ≡ tree.now }
 {
     for part in parts {
-        if !part_holds(part, tree, id, node) {
+        if !part_holds(part, tree, caches, id, node) {
             return false;
         }
     }
@@ -60,12 +76,20 @@ fn each_holds(parts: &[Part], tree: &Tree, id: &NodeId, node: &NodeData) -> bool
 }
 
 /// Whether the part holds of the node, which is the tree's of that number.
-fn part_holds(part: &Part, tree: &Tree, id: &NodeId, node: &NodeData) -> bool
-    requires { slice_get tree.now.content id.now ≡ Some node.now }
-    ensures { IsTrue result ↔ PartHolds part.now tree.now id.now }
+fn part_holds(
+    part: &Part,
+    tree: &Tree,
+    caches: &mut SelectorCaches<'_>,
+    id: &NodeId,
+    node: &NodeData,
+) -> bool
+    requires node { slice_get tree.now.content id.now ≡ Some node.now }
+    requires kept { caches.old ≡ tree.now }
+    ensures is { IsTrue result ↔ PartHolds part.now tree.now id.now }
+    ensures kept { caches.new ≡ tree.now }
 {
     match part {
-        Part::Position(position) => has_position(*position, tree, id),
+        Part::Position(position) => has_position(*position, caches, id),
         Part::Empty => is_empty(tree, id),
         Part::OnlyText => is_only_text(tree, id),
         Part::HasText(text) => has_text(tree, id, text.as_str()),
@@ -78,10 +102,10 @@ fn part_holds(part: &Part, tree: &Tree, id: &NodeId, node: &NodeData) -> bool
 pub(crate) fn data_passes(part: &Part, tree: &Tree, id: &NodeId) -> bool
     ensures { result ≡ data_passes part.now tree.now id.now }
 {
-    match tree.get(id) {
-        Some(found) => node_passes(part, &found.content),
-        None => false,
-    }
+    let Some(found) = tree.get(id) else {
+        return false;
+    };
+    node_passes(part, &found.content)
 }
 
 fn node_passes(part: &Part, node: &NodeData) -> bool

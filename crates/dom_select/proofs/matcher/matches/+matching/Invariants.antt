@@ -43,6 +43,7 @@ invariant-lists_hold-loop-list l =
     let all = lists_of (map read_nested l.lists) in
     let left = lists_of (map read_nested (drop l.list-index l.lists)) in
     record {
+      kept : l.caches ≡ l.tree;
       same : ListsHold left l.tree l.id ↔ ListsHold all l.tree l.id;
       light : lists_weight left ≤ lists_weight all;
     }
@@ -53,13 +54,17 @@ invariant-means-loop-selector l =
     let all = read_list l.selectors in
     let left = read_list (drop l.selector-index l.selectors) in
     record {
+      kept : l.caches ≡ l.tree;
       same : Means left l.tree l.id ↔ Means all l.tree l.id;
       light : selectors_weight left ≤ selectors_weight all;
     }
 
 -- the steps are followed so far
 abbrev pub invariant-follow-loop-last : goal.invariant-follow-loop-last
-invariant-follow-loop-last l = Following l.tree l.spared (Begins l.start (read_compound l.first) l.tree) l.level (l.level - 1) (map read_step l.steps) (map read_step l.place.left.now) l.fn.id l.place.at
+invariant-follow-loop-last l = record {
+  kept : l.caches ≡ l.tree;
+  following : Following l.tree l.spared (Begins l.start (read_compound l.first) l.tree) l.level (l.level - 1) (map read_step l.steps) (map read_step l.place.left.now) l.fn.id l.place.at;
+}
 
 abbrev pub decreases-follow-loop-last : goal.decreases-follow-loop-last
 decreases-follow-loop-last l = length l.place.left.now
@@ -70,6 +75,7 @@ invariant-follow_from-loop-v l =
     let ends = ends_at l.tree l.combinator in
     let meant = SomeOnLine ends (IsMeant l.tree l.spared (Begins l.start (read_compound l.first) l.tree) (steps_of (map read_step l.steps)) l.combinator) in
     record {
+      kept : l.caches ≡ l.tree;
       forth : meant (line l.tree l.combinator l.fn.id) → meant (line l.tree l.combinator l.at);
       back : (v : ℕ) → SomeOnLine ends (λ n. n ≡ v) (line l.tree l.combinator l.at) → SomeOnLine ends (λ n. n ≡ v) (line l.tree l.combinator l.fn.id);
     }
@@ -95,14 +101,18 @@ invariant-leads_on-loop-selector l =
     let all = read_list l.selectors in
     let left = read_list (drop l.selector-index l.selectors) in
     record {
+      kept : l.caches ≡ l.tree;
       same : LeadsOn left l.tree l.id ↔ LeadsOn all l.tree l.id;
       light : selectors_weight left ≤ selectors_weight all;
     }
 
 -- what is led to lies at or below a node that is left
 abbrev pub invariant-leads_to_some-loop-top : goal.invariant-leads_to_some-loop-top
-invariant-leads_to_some-loop-top l = (t : ℕ) → stands_in t (tops l.tree l.fn.lead l.fn.id) ≡ true →
-    ReachesWithin (From l.fn.lead l.fn.id) (read_compound l.first) (steps_of (map read_step l.steps)) l.tree t → stands_in t (tops_on l.tree l.fn.lead l.top) ≡ true
+invariant-leads_to_some-loop-top l = record {
+  kept : l.caches ≡ l.tree;
+  left : (t : ℕ) → stands_in t (tops l.tree l.fn.lead l.fn.id) ≡ true →
+      ReachesWithin (From l.fn.lead l.fn.id) (read_compound l.first) (steps_of (map read_step l.steps)) l.tree t → stands_in t (tops_on l.tree l.fn.lead l.top) ≡ true;
+}
 
 abbrev pub decreases-leads_to_some-loop-top : goal.decreases-leads_to_some-loop-top
 decreases-leads_to_some-loop-top l = length (tops_on l.tree l.fn.lead l.top)
@@ -110,6 +120,7 @@ decreases-leads_to_some-loop-top l = length (tops_on l.tree l.fn.lead l.top)
 -- what is reached is among the nodes left, which stand below the top
 abbrev pub invariant-leads_within-loop-y : goal.invariant-leads_within-loop-y
 invariant-leads_within-loop-y l = record {
+  kept : l.caches ≡ l.tree;
   left : (y : ℕ) → ((y ≡ l.fn.top) ⊎ (stands_in y (walk_below l.tree l.fn.top) ≡ true)) →
       IsReached l.start (read_compound l.first) (steps_of (map read_step l.steps)) l.tree y → stands_in y l.y-iterator.left ≡ true;
   among : (y : ℕ) → stands_in y l.y-iterator.left ≡ true → stands_in y (walk_below l.tree l.fn.top) ≡ true;

@@ -1,0 +1,13 @@
+use Rattle.std.proofs.Common.{length}
+use Rattle.dom_links.specs.Forest.{forest_of}
+use Rattle.dom_links.specs.Indexes.{is_from_first}
+use Rattle.dom_links.specs.Walk.{row_on}
+use Rattle.dom_links.proofs.IndexLemmas.{Counting}
+use Rattle.dom_links.proofs.indexes.index_with.Given as goal
+
+-- the siblings so far were counted
+abbrev pub invariant-loop-next : goal.invariant-loop-next
+invariant-loop-next l = Counting (forest_of l.nodes) l.kind l.fn.id l.next l.index
+
+abbrev pub decreases-loop-next : goal.decreases-loop-next
+decreases-loop-next l = length (row_on (forest_of l.nodes) (is_from_first l.kind) l.next)

@@ -1,0 +1,46 @@
+use Rattle.std.proofs.Common.{Bool, true, ◌≡◌, ◌<◌, ◌+◌, ◌-◌, ℕ, List, cond, sym, ap, ◌∙◌, subst, arith}
+use Rattle.dom_links.specs.Forest.{forest_of}
+use Rattle.dom_links.specs.Indexes.{AreIndexes, counts, index_at}
+use Rattle.dom_links.proofs.Cuts.{length-contents}
+use Rattle.dom_links.proofs.IndexLemmas.{Counted, counts_is, counts_on, starts}
+use Rattle.dom_links.proofs.KnownLemmas.{as_far, noted}
+use Rattle.dom_links.proofs.indexes.note_indexes.Goals as goal
+use Rattle.dom_links.proofs.indexes.note_indexes.Goals.{then-counts+else-known_at-gt0, else-counts}
+
+pub loop-next-init : goal.loop-next-init
+loop-next-init c =
+    let forest = forest_of c.args.nodes.now in
+    let long = length-contents forest c.args.nodes.now c.requires.sound.arena.links in
+    record {
+      counting = starts forest c.args.kind c.args.id.now c.in-Some.node.now c.is_from_first-back.result c.neighbour-next.result c.requires.sound.forest (omega (arith, c.requires.sound.numbered)) c.in-Some.ensures c.is_from_first-back.ensures c.neighbour-next.ensures;
+      right = subst (AreIndexes c.args.kind forest) (sym c.note.ensures) (noted forest c.args.kind c.args.known.now c.args.id.now c.args.index c.requires.known c.requires.is);
+    }
+
+passed : (c : goal.After-neighbour-next-in-Some-next) → Counted (forest_of c.args.nodes.now) c.args.kind c.args.id.now c.loop-next.next c.neighbour-next-in-Some-next.result c.if-counts.passed
+passed c =
+    let grown : c.if-counts.passed ≡ c.loop-next.passed + cond c.counts.result 1 0 = elim c.if-counts.branch [
+      | then-counts+else-known_at-gt0 w ↦ (let one : 1 ≡ cond c.counts.result 1 0 = ap {B = ℕ} (λ (b : Bool). cond b 1 0) (sym w.if-counts.true) in omega (arith, w.passed-is, one))
+      | else-counts w ↦ (let none : 0 ≡ cond c.counts.result 1 0 = ap {B = ℕ} (λ (b : Bool). cond b 1 0) (sym w.if-counts.false) in omega (arith, w.passed-is, none))
+    ] in
+    counts_on (forest_of c.args.nodes.now) c.args.kind c.args.id.now c.in-Some-next.at c.in-Some.node.now c.node_at-other.result.now c.is_from_first-back.result c.loop-next.next c.neighbour-next-in-Some-next.result
+    c.loop-next.passed c.if-counts.passed c.counts.result c.requires.sound.forest c.loop-next.invariant.counting c.in-Some-next.is grown c.in-Some.ensures.content_is c.node_at-other.ensures c.is_from_first-back.ensures c.neighbour-next-in-Some-next.ensures c.counts.ensures
+
+right : (c : goal.After-neighbour-next-in-Some-next) → AreIndexes c.args.kind (forest_of c.args.nodes.now) c.if-counts.known
+right c =
+    let forest = forest_of c.args.nodes.now in
+    elim c.if-counts.branch [
+      | then-counts+else-known_at-gt0 w ↦
+          let tells : counts c.args.kind forest c.args.id.now c.in-Some-next.at ≡ true =
+          counts_is forest c.args.kind c.args.id.now c.in-Some-next.at c.in-Some.node.now.content c.node_at-other.result.now.content c.in-Some.ensures.content_is c.node_at-other.ensures.content_is ∙ sym c.counts.ensures ∙ w.if-counts.true in
+          let far = as_far forest c.args.kind c.args.id.now c.in-Some-next.at c.loop-next.passed c.loop-next.next c.loop-next.invariant.counting c.in-Some-next.is tells in
+          let whole = c.requires.is in
+          let here : c.args.index - c.loop-next.passed ≡ index_at c.args.kind forest c.in-Some-next.at = omega arith in
+          subst (AreIndexes c.args.kind forest) (sym (w.known-is ∙ w.note-then-counts.ensures)) (noted forest c.args.kind c.loop-next.known c.in-Some-next.at (c.args.index - c.loop-next.passed) c.loop-next.invariant.right here)
+      | else-counts w ↦ subst (AreIndexes c.args.kind forest) (sym w.known-is) c.loop-next.invariant.right
+    ]
+
+pub loop-next-smaller : goal.loop-next-smaller
+loop-next-smaller c = Counted.fewer (passed c)
+
+pub loop-next-preserved : goal.loop-next-preserved
+loop-next-preserved c = record { counting = Counted.counting (passed c); right = right c }

@@ -1,0 +1,10 @@
+use Rattle.std.proofs.Common.{◌≡◌, length}
+use Rattle.dom_select.proofs.SeveralLemmas.{still}
+use Rattle.dom_select.proofs.matcher.several.WalksIterator.next.Given as goal
+
+-- what is still given stays
+abbrev pub invariant-loop-id : goal.invariant-loop-id
+invariant-loop-id l = still l.self-inside.walk l.self-inside.tree l.self-inside.roots.now ≡ still l.initial.self-inside.walk l.initial.self-inside.tree l.initial.self-inside.roots.now
+
+abbrev pub decreases-loop-id : goal.decreases-loop-id
+decreases-loop-id l = length l.self-inside.roots.now

@@ -1,0 +1,16 @@
+-- Walks over several nodes' descendants, with a mark at each node that was met.
+use Rattle.std.specs.Prelude.{ℕ, Bool, true, false, List, [], ◌∷◌, Option, slice_index_or, slice_set, if◌then◌else◌}
+use Rattle.std.specs.Option.{option_map_or}
+use Rattle.dom_links.specs.Walk.{Walk}
+
+-- what a walk still gives, if there is one
+abbrev pub left_in : Option Walk → List ℕ
+left_in walk = option_map_or (λ w. w.left) walk []
+
+abbrev pub has_mark : List Bool → ℕ → Bool
+has_mark marks n = slice_index_or marks n false
+
+-- the numbers without a mark, each where it stands first
+abbrev pub first_unmarked : List Bool → List ℕ → List ℕ
+first_unmarked marks [] = []
+first_unmarked marks (n ∷ ns) = if has_mark marks n then first_unmarked marks ns else n ∷ first_unmarked (slice_set marks n true) ns

@@ -1,0 +1,138 @@
+//! Sibling indexes that were asked for before.
+
+ghost use Rattle.std.specs.Prelude.{◌≡◌, ◌<◌, ◌≤◌, ℕ, MatchOption};
+ghost use Rattle.dom_links.specs.Indexes.{AreIndexes, index_at, index_known};
+
+use dom_links::indexes::{IndexKind, index_at, index_with, note_indexes};
+use dom_nodes::node_id::NodeId;
+use dom_trees::tree::Tree;
+use std::marker::Model;
+
+/// The sibling indexes that selectors asked for in one tree. It borrows the tree, so that no edit comes between two questions. A
+/// contract sees the tree's forest: an index that is kept is right, and no answer depends on whether it is kept.
+#[derive(Drop)]
+pub struct SelectorCaches<'t> {
+    tree: &'t Tree,
+    keeps: bool,
+    child: Vec<u32>,
+    last_child: Vec<u32>,
+    of_type: Vec<u32>,
+    last_of_type: Vec<u32>,
+    hits: u64,
+}
+
+impl<'t> Model for SelectorCaches<'t> {
+    ghost use Rattle.dom_links.specs.Forest.{Forest};
+    ghost use Rattle.dom_links.specs.Indexes.{AreIndexes};
+    ghost use Rattle.dom_links.specs.declared.indexes.IndexKind.TheVariants.{Child, LastChild, OfType, LastOfType};
+
+    ghost Value = { Forest };
+
+    ghost view = { λ it. it.tree.now };
+
+    ghost invariant = { λ it. AreIndexes Child it.tree.now it.child.items × AreIndexes LastChild it.tree.now it.last_child.items
+        × AreIndexes OfType it.tree.now it.of_type.items × AreIndexes LastOfType it.tree.now it.last_of_type.items };
+}
+
+impl<'t> SelectorCaches<'t> {
+    /// Caches that keep nothing yet.
+    pub fn new(tree: &'t Tree) -> SelectorCaches<'t>
+        ensures { result ≡ tree.entry.now }
+    {
+        SelectorCaches::made(tree, true)
+    }
+
+    /// Caches that never keep anything, and take no memory.
+    pub(crate) fn none(tree: &'t Tree) -> SelectorCaches<'t>
+        ensures { result ≡ tree.entry.now }
+    {
+        SelectorCaches::made(tree, false)
+    }
+
+    fn made(tree: &'t Tree, keeps: bool) -> SelectorCaches<'t>
+        ensures { result ≡ tree.entry.now }
+    {
+        SelectorCaches {
+            tree,
+            keeps,
+            child: Vec::new(tree.allocator()),
+            last_child: Vec::new(tree.allocator()),
+            of_type: Vec::new(tree.allocator()),
+            last_of_type: Vec::new(tree.allocator()),
+            hits: 0,
+        }
+    }
+
+    /// The tree.
+    pub fn tree(&self) -> &'t Tree
+        ensures { result.now ≡ self.now }
+    {
+        self.tree
+    }
+
+    /// How many indexes were taken from the caches. No clause: nothing else depends on it.
+    pub fn hits(&self) -> u64 {
+        self.hits
+    }
+
+    /// An index of a node.
+    pub(crate) fn index_at(&mut self, id: &NodeId, kind: IndexKind) -> u64
+        ensures is { result ≡ index_at kind self.old id.now }
+        ensures few { result ≤ 4294967295 }
+        ensures same { self.new ≡ self.old }
+    {
+        if !self.keeps {
+            return index_at(self.tree.nodes(), id, kind);
+        }
+        match kind {
+            IndexKind::Child => index_in(self.tree, &mut self.child, &mut self.hits, id, kind),
+            IndexKind::LastChild => {
+                index_in(self.tree, &mut self.last_child, &mut self.hits, id, kind)
+            }
+            IndexKind::OfType => index_in(self.tree, &mut self.of_type, &mut self.hits, id, kind),
+            IndexKind::LastOfType => {
+                index_in(self.tree, &mut self.last_of_type, &mut self.hits, id, kind)
+            }
+        }
+    }
+}
+
+/// An index of a node, from those that are known or by counting; what was counted is kept where there is room.
+fn index_in(tree: &Tree, known: &mut Vec<u32>, hits: &mut u64, id: &NodeId, kind: IndexKind) -> u64
+    requires { AreIndexes kind tree.now known.old.items }
+    ensures is { result ≡ index_at kind tree.now id.now }
+    ensures few { result ≤ 4294967295 }
+    ensures known { AreIndexes kind tree.now known.new.items }
+{
+    make_room(known, tree.len());
+    if let Some(index) = kept(known, id) {
+        *hits = hits.saturating_add(1);
+        return index;
+    }
+    let nodes = tree.nodes();
+    let index = index_with(nodes, id, kind, known);
+    note_indexes(nodes, id, kind, index, known);
+    index
+}
+
+/// Makes room for an index of each node, if there is none and memory isn't refused.
+fn make_room(known: &mut Vec<u32>, len: usize)
+    ensures { (n : ℕ) → index_known known.new.items n ≡ index_known known.old.items n }
+{
+    if !known.is_empty() {
+        return;
+    }
+    if let Ok(zeros) = vec![in *known.allocator(); 0; len] {
+        *known = zeros;
+    }
+}
+
+/// The index that is kept for a node.
+fn kept(known: &[u32], id: &NodeId) -> Option<u64>
+    ensures { MatchOption result (Unit {0}) (λ index. (0 < index) × (index ≤ 4294967295) × (index ≡ index_known known.now id.now)) }
+{
+    match known.get(id.value()) {
+        Some(index) if *index > 0 => Some(u64::from(*index)),
+        _ => None,
+    }
+}

@@ -1,0 +1,202 @@
+//! What a selector means below several nodes, each node once.
+
+ghost use Rattle.std.specs.Prelude.{◌≡◌, ◌∷◌, [], ℕ, Bool, List, length, false, true, slice_set, slice_index_or, IfOk, MatchBool, MatchOption};
+ghost use Rattle.std.specs.Iterator.{YieldsFirst, at_most, item_count};
+ghost use Rattle.dom_links.specs.Laws.{AreTrees};
+ghost use Rattle.dom_select.specs.Descendants.{GivesMatch, ToCome};
+ghost use Rattle.dom_select.specs.Marks.{has_mark, left_in};
+ghost use Rattle.dom_select.specs.Selected.{Selected, walks_below};
+
+use crate::matcher::Matcher;
+use crate::matcher::descendants::is_selected;
+use dom_links::iters::DescendantNodes;
+use dom_links::laws::trees_of_a_forest;
+use dom_nodes::fault::OutOfMemory;
+use dom_nodes::node_id::NodeId;
+use dom_trees::node_ref::NodeRef;
+use dom_trees::tree::Tree;
+use std::marker::Model;
+
+/// The walks below some nodes, one after the other.
+#[derive(Drop)]
+struct Walks<'a, 'r> {
+    tree: &'a Tree,
+    walk: Option<DescendantNodes<'a>>,
+    roots: &'r [NodeId],
+}
+
+impl<'a, 'r> Model for Walks<'a, 'r> {
+    ghost use Rattle.std.specs.Prelude.{ℕ, List, ◌++◌};
+    ghost use Rattle.std.specs.List.{flat_map};
+    ghost use Rattle.dom_links.specs.Trees.{walk_below};
+    ghost use Rattle.dom_select.specs.Marks.{left_in};
+
+    ghost Value = { List ℕ };
+
+    ghost view = { λ it. left_in it.walk ++ flat_map (walk_below it.tree.now) it.roots.now };
+}
+
+impl<'a, 'r> Iterator for Walks<'a, 'r> {
+    type Item = NodeId;
+
+    ghost next_gives = { YieldsFirst (λ rest. rest) };
+
+    ghost remaining = { item_count (λ rest. rest) };
+
+    fn next(&mut self) -> Option<NodeId> {
+        loop {
+            if let Some(id) = next_in(&mut self.walk) {
+                return Some(id);
+            }
+            let (root, roots) = self.roots.split_first()?;
+            self.walk = Some(self.tree.descendant_ids_of_it(root));
+            self.roots = roots;
+        }
+    }
+}
+
+/// The next node of a walk, if there is one.
+fn next_in(walk: &mut Option<DescendantNodes<'_>>) -> Option<NodeId>
+    ensures { MatchOption result ((left_in walk.old ≡ []) × (left_in walk.new ≡ [])) (λ id. left_in walk.old ≡ id ∷ left_in walk.new) }
+{
+    match walk {
+        Some(walk) => walk.next(),
+        None => None,
+    }
+}
+
+/// The nodes below some nodes, each once, where it is met first.
+#[derive(Drop)]
+struct FirstMet<'a, 'r> {
+    walks: Walks<'a, 'r>,
+    marks: Vec<bool>,
+}
+
+impl<'a, 'r> Model for FirstMet<'a, 'r> {
+    ghost use Rattle.std.specs.Prelude.{ℕ, List};
+    ghost use Rattle.dom_select.specs.Marks.{first_unmarked};
+
+    ghost Value = { List ℕ };
+
+    ghost view = { λ it. first_unmarked it.marks.items it.walks };
+}
+
+impl<'a, 'r> Iterator for FirstMet<'a, 'r> {
+    type Item = NodeId;
+
+    ghost next_gives = { YieldsFirst (λ rest. rest) };
+
+    ghost remaining = { item_count (λ rest. rest) };
+
+    fn next(&mut self) -> Option<NodeId> {
+        loop {
+            let id = self.walks.next()?;
+            if mark(&mut self.marks, id) {
+                return Some(id);
+            }
+        }
+    }
+}
+
+/// Marks the number; false where it has a mark.
+fn mark(marks: &mut Vec<bool>, id: NodeId) -> bool
+    ensures { MatchBool result
+        ((has_mark marks.old.items id ≡ false) × (marks.new.items ≡ slice_set marks.old.items id true))
+        ((has_mark marks.old.items id ≡ true) × (marks.new.items ≡ marks.old.items)) }
+{
+    let place = id.value();
+    if place >= marks.len() {
+        return true;
+    }
+    if marks[place] {
+        return false;
+    }
+    marks[place] = true;
+    true
+}
+
+/// The elements below some nodes that a selector means, each once, in the order of the walks. Only making it takes memory.
+#[derive(Drop)]
+pub struct Matches<'a, 'b, 'r> {
+    ids: FirstMet<'a, 'r>,
+    tree: &'a Tree,
+    matcher: &'b Matcher,
+}
+
+impl<'a, 'b, 'r> Model for Matches<'a, 'b, 'r> {
+    ghost use Rattle.std.specs.Prelude.{List};
+    ghost use Rattle.std.specs.Coded.{code_by, codes};
+    ghost use Rattle.dom_select.specs.Descendants.{Matches};
+    ghost use Rattle.dom_select.specs.Tokens.{Token, list_of, read_back, tokens_of};
+
+    ghost Value = { Matches };
+
+    ghost coded = { Prim.hlevel (codes, code_by (List Token) (Prim.hlevel codes) tokens_of list_of read_back) };
+
+    ghost view = { λ it. record { left = it.ids; tree = it.tree; selector = it.matcher.now } };
+}
+
+impl<'a, 'b, 'r> Matches<'a, 'b, 'r> {
+    /// What is to come is what the selector selects below the roots, which are numbers of the tree's nodes; an unknown number has
+    /// nothing below it.
+    pub fn new(
+        tree: &'a Tree,
+        roots: &'r [NodeId],
+        matcher: &'b Matcher,
+    ) -> Result<Matches<'a, 'b, 'r>, OutOfMemory>
+        ensures all { IfOk result (λ it. it.left ≡ walks_below tree.entry.now roots.entry.now) }
+        ensures tree { IfOk result (λ it. it.tree ≡ tree.entry) }
+        ensures selector { IfOk result (λ it. it.selector ≡ matcher.now) }
+        ensures selected { IfOk result (λ it. (ids : List ℕ) → ToCome it ids → Selected tree.entry.now roots.entry.now matcher.now ids) }
+    {
+        know_trees(tree);
+        let marks = vec![in tree.allocator(); false; tree.len()]?;
+        let walks = Walks {
+            tree,
+            walk: None,
+            roots,
+        };
+        let ids = FirstMet { walks, marks };
+        Ok(Matches { ids, tree, matcher })
+    }
+}
+
+/// Tells how the walks of the tree go. It does nothing.
+fn know_trees(tree: &Tree)
+    ensures { AreTrees tree.now }
+{
+    let _nodes = tree.nodes();
+    trees_of_a_forest();
+}
+
+impl<'a, 'b, 'r> Iterator for Matches<'a, 'b, 'r> {
+    type Item = NodeRef<'a>;
+
+    ghost next_gives = { GivesMatch };
+
+    ghost remaining = { λ walk. at_most (length walk.left) };
+
+    fn next(&mut self) -> Option<NodeRef<'a>> {
+        loop {
+            let id = self.ids.next()?;
+            if is_selected(self.tree, id, self.matcher) {
+                return Some(NodeRef::new(id, self.tree));
+            }
+        }
+    }
+}
+
+/// The elements below the roots that the selector means, each once, in the order of the walks.
+pub fn select_below_all(
+    tree: &Tree,
+    roots: &[NodeId],
+    matcher: &Matcher,
+) -> Result<Vec<NodeId>, OutOfMemory>
+    ensures { IfOk result (λ ids. Selected tree.now roots.now matcher.now ids.items) }
+{
+    let mut picked = Vec::new(tree.allocator());
+    for node in Matches::new(tree, roots, matcher)? {
+        picked.push(node.id)?;
+    }
+    Ok(picked)
+}
