@@ -15,7 +15,8 @@ use Rattle.dom_nodes.specs.declared.name.Attr.{Attr}
 use Rattle.dom_nodes.specs.declared.name.QualName.{QualName}
 use Rattle.dom_links.specs.Growth.{DataCause, with_child, with_template}
 use Rattle.dom_links.specs.Sound.{bears}
-use Rattle.dom_trees.specs.Refusals.{TemplateCause, element_with}
+use Rattle.dom_trees.specs.NewNodes.{element_with}
+use Rattle.dom_trees.specs.Refusals.{TemplateCause}
 use Rattle.dom_markup.specs.Letters.{folded}
 use Rattle.dom_markup.specs.Names.{Mode, markup, text_of, raw_text_of, is_among, is_template, void_names}
 use Rattle.dom_markup.specs.References.{decoded}
@@ -52,7 +53,7 @@ only_limits forest t content edit_faults.BadContents known bearing plain cause =
 only_limits forest t content (edit_faults.Markup fault) known bearing plain cause = cause
 
 -- so is an element with contents
-pub template_limits : (forest : Forest) (t : ℕ) (fault : EditFault) → t < length forest.content → bears forest t ≡ true → TemplateCause forest t fault → IsLimit fault
+pub template_limits : (forest : Forest) (t : ℕ) (fault : EditFault) → t < length forest.content → bears forest t ≡ true → TemplateCause t forest fault → IsLimit fault
 template_limits forest t edit_faults.UnknownNode known bearing cause = absurd (omega arith)
 template_limits forest t edit_faults.NoChildrenHere known bearing cause = true≢false (sym bearing ∙ cause)
 template_limits forest t edit_faults.RootOrFragment known bearing cause = cause

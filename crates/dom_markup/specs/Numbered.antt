@@ -1,12 +1,12 @@
 -- The document that value trees are: their nodes, numbered in order of start.
 use Rattle.std.specs.Prelude.{ℕ, ◌+◌, List, [], ◌∷◌, ◌++◌, map, Option, None, Some, false, if◌then◌else◌}
 use Rattle.dom_nodes.specs.declared.name.Attr.{Attr}
-use Rattle.dom_nodes.specs.declared.name.Namespace.TheVariants.{None as NoNamespace, Html}
-use Rattle.dom_nodes.specs.declared.name.QualName.{QualName}
+use Rattle.dom_nodes.specs.declared.name.Namespace.TheVariants.{None as NoNamespace}
 use Rattle.dom_nodes.specs.declared.node_data.NodeData.{NodeData}
 use Rattle.dom_nodes.specs.declared.node_data.NodeData.TheVariants.{Document, Fragment, Doctype, Comment, Text, Element}
 use Rattle.dom_links.specs.Forest.{Forest}
 use Rattle.dom_links.specs.Lists.{map_from, names}
+pub use Rattle.dom_trees.specs.NewNodes.{html_name}
 use Rattle.dom_markup.specs.Names.{is_template}
 use Rattle.dom_markup.specs.ValueTrees.{Attribute, ValueTrees}
 use Rattle.dom_markup.specs.ValueTrees.ValueTrees.{no_trees, text_node, comment_node, doctype_node, element_node}
@@ -21,9 +21,6 @@ abbrev pub read_attr : Attribute → Attr
 read_attr attribute = record { name = record { prefix = None; ns = NoNamespace; local = attribute.name }; value = attribute.value }
 
 -- a read element is in the namespace of HTML, and nothing has a prefix
-abbrev pub html_name : List ℕ → QualName
-html_name name = record { prefix = None; ns = Html; local = name }
-
 abbrev pub read_element : List ℕ → List Attribute → Option ℕ → NodeData
 read_element name attributes contents = Element (record {
   name = html_name name;

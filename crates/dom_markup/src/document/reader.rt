@@ -4,7 +4,7 @@ ghost use Rattle.std.specs.Prelude.{◌≡◌, ◌≤◌, ◌<◌, ◌+◌, ◌+
 ghost use Rattle.std.specs.List.{list_any};
 ghost use Rattle.std.specs.Str.{bytes_eq};
 ghost use Rattle.dom_links.specs.Growth.{lone, with_child, with_template};
-ghost use Rattle.dom_trees.specs.Refusals.{element_with};
+ghost use Rattle.dom_trees.specs.NewNodes.{element_with};
 ghost use Rattle.dom_markup.specs.Letters.{folded};
 ghost use Rattle.dom_markup.specs.ValueTrees.{Attribute};
 ghost use Rattle.dom_markup.specs.Markup.{Item, Begins, BeginsDoctype, BeginsEnd, BeginsStart, EndsTag, kept_after};
@@ -27,10 +27,11 @@ use crate::document::within::Within;
 use crate::names::is_void_name;
 use crate::references::decode;
 use dom_nodes::fault::{EditFault, MarkupFaultKind, OutOfMemory};
-use dom_nodes::name::{Attr, LocalName, Namespace, QualName};
+use dom_nodes::name::{Attr, LocalName, QualName};
 use dom_nodes::node_data::{Attrs, Element, NodeData};
 use dom_nodes::node_id::NodeId;
 use dom_nodes::text::Text;
+use dom_trees::names::html_name;
 use dom_trees::tree::Tree;
 use std::alloc::Global;
 
@@ -46,14 +47,10 @@ fn behind(text: &str, letter: char) -> &str
 }
 
 /// The HTML name that is written so.
-fn html_name(alloc: Global, written: &str) -> Result<QualName, OutOfMemory>
+fn name_of(alloc: Global, written: &str) -> Result<QualName, OutOfMemory>
     ensures { IfOk result (λ name. name ≡ html_name (folded written.now)) }
 {
-    Ok(QualName {
-        prefix: None,
-        ns: Namespace::Html,
-        local: LocalName::folded(alloc, written)?,
-    })
+    Ok(html_name(LocalName::folded(alloc, written)?))
 }
 
 /// What a start tag tells: the name as it is written, the element's name, and its attributes.
@@ -72,7 +69,7 @@ fn start_tag_of(alloc: Global, tag: &str) -> Result<Started<'_>, OutOfMemory>
     let inner = behind(tag, '<');
     let (written, rest) = split_front(Letters::Name, inner);
     let attrs = attrs_of(alloc, rest)?;
-    let name = html_name(alloc, written)?;
+    let name = name_of(alloc, written)?;
     Ok(Started {
         written,
         name,

@@ -1,7 +1,7 @@
 use Rattle.std.proofs.Common.{◌≡◌, ◌<◌, ◌+◌, ℕ, length, true, sym, ap, ◌∙◌, subst}
 use Rattle.dom_links.specs.Growth.{with_template}
 use Rattle.dom_links.specs.Sound.{bears}
-use Rattle.dom_trees.specs.Refusals.{element_with}
+use Rattle.dom_trees.specs.NewNodes.{element_with}
 use Rattle.dom_markup.proofs.Frames.{parent_known, parent_bears}
 use Rattle.dom_markup.proofs.Steps.{template_limits}
 use Rattle.dom_markup.proofs.document.reader.Reader.append_template.Goals as goal
@@ -13,8 +13,8 @@ limit_of-requires c =
     template_limits forest c.parent-parent.result c.in-Err.fault
     (subst (λ (n : ℕ). n < length forest.content) (sym parent) (parent_known c.requires.0 _ _ c.requires.1))
     (subst (λ (n : ℕ). bears forest n ≡ true) (sym parent) (parent_bears c.requires.0 _ _ c.requires.1))
-    c.in-Err.ensures.cause
+    c.in-Err.ensures.edits.cause
 
 pub returns-in-Ok-clause-tree : goal.returns-in-Ok-clause-tree
 returns-in-Ok-clause-tree c = λ items h.
-    c.in-Ok.ensures.ok ∙ ap (λ (p : ℕ). with_template p (element_with c.args.name c.args.attrs (length c.args.self.now.tree.content + 1)) c.args.self.now.tree) (c.parent-parent.ensures items h)
+    c.in-Ok.ensures.edits.ok ∙ ap (λ (p : ℕ). with_template p (element_with c.args.name c.args.attrs (length c.args.self.now.tree.content + 1)) c.args.self.now.tree) (c.parent-parent.ensures items h)
