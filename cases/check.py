@@ -10,8 +10,8 @@ stand on standard output and standard error, and `status` is the exit status, 0 
 A snippet is a block of README.md or docs/API.md: one of rust stands in a file of crates/tour/src, line for line but for
 its indentation, and one of text in crates/tour/stdout, which the gate compares with what `tour` prints.
 
-A caller that must not compile is a file crates/NAME/must-not-compile/*.rt, a program that uses NAME alone. One line of it
-ends in '// refused: WORDS': with that line the compiler refuses the program with those words, without it it runs."""
+A caller that must not compile is a file cases/must-not-compile/NAME-WHAT.txt, a program that uses the crate NAME alone. One
+line of it ends in '// refused: WORDS': with that line the compiler refuses the program with those words, without it it runs."""
 import json
 import pathlib
 import re
@@ -154,7 +154,7 @@ def caller_fault(rt, root, file):
     words = [mark[2].strip() for mark in marks if mark[1]]
     if len(words) != 1 or not words[0]:
         return "one line must end in '// refused: WORDS'"
-    name = file.parent.parent.name
+    name = file.name.partition("-")[0]
     compiles, said = tried(rt, root, name, "".join(lines))
     if compiles or words[0] not in said:
         return f"it compiles, or is refused for another reason: {said[-2000:]}"
@@ -166,7 +166,7 @@ def refused_callers():
     """Tries the callers that must not compile in a copy of the workspace, and returns how many are refused and how many
     aren't."""
     rt = shutil.which("rt")
-    files = sorted((ROOT / "crates").glob("*/must-not-compile/*.rt"))
+    files = sorted((ROOT / "cases" / "must-not-compile").glob("*.txt"))
     passed = failed = 0
     with tempfile.TemporaryDirectory() as folder:
         root = pathlib.Path(folder)
