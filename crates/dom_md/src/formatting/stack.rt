@@ -183,7 +183,7 @@ fn keep_text(nodes: &[TreeNode], id: NodeId, text: &mut String) -> Result<(), Ou
         ≡ string_bytes text.old ++ text_of (forest_of nodes.now) id) }
     ensures utf8 { OnOk result (IsUtf8 (text_of (forest_of nodes.now) id)) }
 {
-    let kept = TreeNodeOps::text_of(nodes, &id, *text.allocator())?;
+    let kept = TreeNodeOps::text_of(*text.allocator(), nodes, &id)?;
     Ok(text.push_str(kept.as_str())?)
 }
 
