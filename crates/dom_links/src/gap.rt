@@ -11,7 +11,8 @@ pub enum Gap {
     After(NodeId),
 }
 
-/// What is moved, told by a node: it alone, it with its later siblings, or the whole list that it stands in.
+/// What is moved, told by a node: it alone, it with its later siblings, or the whole list that it
+/// stands in.
 #[derive(Clone, Copy)]
 pub enum Moving {
     Node(NodeId),

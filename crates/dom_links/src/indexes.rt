@@ -2,7 +2,8 @@
 
 ghost use Rattle.std.specs.Prelude.{◌≡◌, ◌≤◌, ◌+◌, ◌*◌, ℕ, MatchBool, slice_set, if◌then◌else◌};
 ghost use Rattle.dom_links.specs.Forest.{forest_of};
-ghost use Rattle.dom_links.specs.Indexes.{AreIndexes, IsNth, above_zero, below_zero, index_at, index_known, is_from_first, of_one_type, passes};
+ghost use Rattle.dom_links.specs.Indexes.{AreIndexes, IsNth, above_zero, below_zero, index_at};
+ghost use Rattle.dom_links.specs.Indexes.{index_known, is_from_first, of_one_type, passes};
 ghost use Rattle.dom_links.specs.Sound.{IsSoundArena};
 
 use crate::iters::{find_node, node_at};
@@ -37,7 +38,8 @@ pub struct Nth {
     pub b: Signed,
 }
 
-/// One more than how many of the siblings on one side of the node count. An unknown number has index 1.
+/// One more than how many of the siblings on one side of the node count. An unknown number has
+/// index 1.
 pub fn index_at(nodes: &[TreeNode], id: &NodeId, kind: IndexKind) -> u64
     requires { IsSoundArena nodes.now }
     ensures is { result ≡ index_at kind (forest_of nodes.now) id.now }
@@ -59,8 +61,8 @@ pub fn index_at(nodes: &[TreeNode], id: &NodeId, kind: IndexKind) -> u64
     index
 }
 
-/// The same, where some indexes are known already: the siblings are counted as far as one of them. 0 stands for an index that
-/// isn't known.
+/// The same, where some indexes are known already: the siblings are counted as far as one of them.
+/// 0 stands for an index that isn't known.
 pub fn index_with(nodes: &[TreeNode], id: &NodeId, kind: IndexKind, known: &[u32]) -> u64
     requires sound { IsSoundArena nodes.now }
     requires known { AreIndexes kind (forest_of nodes.now) known.now }
@@ -98,7 +100,8 @@ fn known_at(known: &[u32], id: NodeId) -> u64
     }
 }
 
-/// Notes the index of a node, and those of the siblings that count for it, as far as one that is known.
+/// Notes the index of a node, and those of the siblings that count for it, as far as one that is
+/// known.
 pub fn note_indexes(nodes: &[TreeNode], id: &NodeId, kind: IndexKind, index: u64, known: &mut [u32])
     requires sound { IsSoundArena nodes.now }
     requires known { AreIndexes kind (forest_of nodes.now) known.old }

@@ -11,6 +11,7 @@ pub mod templates;
 pub mod texts;
 mod writes;
 
-/// The edits of an arena of nodes, what is looked up in it, and the tests that tell whether an edit is allowed. The
-/// conditions that a call requires are told by the tests, and a sound arena by `validate`.
+/// The edits of an arena of nodes, what is looked up in it, and the tests that tell whether an edit
+/// is allowed. The conditions that a call requires are told by the tests, and a sound arena by
+/// `validate`.
 pub struct TreeNodeOps {}

@@ -69,8 +69,9 @@ impl From<AllocError> for ValidateFault {
 }
 
 impl TreeNodeOps {
-    /// Checks that raw nodes are a forest's, each at the place that its number tells. It takes memory for a few numbers
-    /// a node, and time in proportion to the nodes. The first fault found is told, in the order of `ValidateFault`.
+    /// Checks that raw nodes are a forest's, each at the place that its number tells. It takes
+    /// memory for a few numbers a node, and time in proportion to the nodes. The first fault found
+    /// is told, in the order of `ValidateFault`.
     pub fn validate(alloc: Global, nodes: &[TreeNode]) -> Result<(), ValidateFault>
         ensures sound { MatchResult result (λ _. IsSoundArena nodes.now)
             (λ fault. IsRefused nodes.now fault) }

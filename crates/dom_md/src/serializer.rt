@@ -103,7 +103,8 @@ impl<'a> Writer<'a> {
         self.push_below(id, FormatOpts::new())
     }
 
-    /// Writes all that is on the stack, in fewer steps than the number that no machine counts up to.
+    /// Writes all that is on the stack, in fewer steps than the number that no machine counts up
+    /// to.
     fn write_all(&mut self) -> Result<(), OutOfMemory> {
         for _ in 0..u64::MAX {
             let Some(task) = self.tasks.pop() else {

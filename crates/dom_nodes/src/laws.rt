@@ -8,7 +8,8 @@ ghost use Rattle.std.specs.Str.{bytes_eq};
 ghost use Rattle.dom_nodes.specs.declared.name.Attr.{Attr};
 ghost use Rattle.dom_nodes.specs.Attrs.{attr_of};
 ghost use Rattle.dom_nodes.specs.Changes.{with_attr, without_name};
-ghost use Rattle.dom_nodes.specs.Classes.{is_blank, with_classes, without_classes, words_with, words_without};
+ghost use Rattle.dom_nodes.specs.Classes.{is_blank, with_classes, without_classes, words_with};
+ghost use Rattle.dom_nodes.specs.Classes.{words_without};
 ghost use Rattle.dom_nodes.specs.Names.{same_name};
 ghost use Rattle.dom_nodes.specs.Words.{class_words, words_of};
 

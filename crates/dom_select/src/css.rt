@@ -1,6 +1,7 @@
 //! Texts and names as CSS writes them.
 
-ghost use Rattle.std.specs.Prelude.{◌≡◌, ◌++◌, ◌∷◌, ◌<◌, [], ℕ, List, chars, encode_utf8_all, IfOk, OnErr, OnOk, string_bytes};
+ghost use Rattle.std.specs.Prelude.{◌≡◌, ◌++◌, ◌∷◌, ◌<◌, [], ℕ, List, chars, encode_utf8_all, IfOk};
+ghost use Rattle.std.specs.Prelude.{OnErr, OnOk, string_bytes};
 ghost use Rattle.std.specs.Char.{digit_char};
 ghost use Rattle.dom_nodes.specs.Ascii.{backslash, space};
 ghost use Rattle.dom_select.specs.Css.{css_char, css_text, hex_of, is_control};
@@ -21,8 +22,8 @@ pub trait ToCss {
         ensures err { OnErr result (string_bytes out.new ≡ string_bytes out.old) };
 }
 
-/// A text that is written as a string: in `"`, with `"` and `\` behind a `\`, U+0001 to U+001F and U+007F as `\`, their number in
-/// lower-case hexadecimal and a space, and U+0000 as U+FFFD.
+/// A text that is written as a string: in `"`, with `"` and `\` behind a `\`, U+0001 to U+001F and
+/// U+007F as `\`, their number in lower-case hexadecimal and a space, and U+0000 as U+FFFD.
 #[derive(Drop)]
 pub struct CssString(pub Text);
 

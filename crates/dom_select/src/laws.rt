@@ -8,7 +8,8 @@ ghost use Rattle.dom_select.specs.declared.matcher.syntax.Part.TheVariants.{Cont
 ghost use Rattle.dom_select.specs.Parts.{PartHolds};
 ghost use Rattle.dom_select.specs.Css.{css_string, shown};
 ghost use Rattle.dom_select.specs.Grammar.{StandsFor};
-ghost use Rattle.dom_select.specs.MiniGrammar.{Excludes, HasOneReading, IsBadMini, IsBadPath, SpellsMini, SpellsPath};
+ghost use Rattle.dom_select.specs.MiniGrammar.{Excludes, HasOneReading, IsBadMini, IsBadPath};
+ghost use Rattle.dom_select.specs.MiniGrammar.{SpellsMini, SpellsPath};
 ghost use Rattle.dom_select.specs.Selected.{Selected};
 ghost use Rattle.dom_select.specs.Selected.{IsSelection};
 
@@ -35,8 +36,8 @@ pub fn printed_string()
         SpellsString (encode_utf8_all (map shown text)) (css_string text ++ rest) rest }
 {}
 
-/// A text stands for one mini selector at most, and for none where a bad value is met; so does a list of them, and the same is
-/// left of the text.
+/// A text stands for one mini selector at most, and for none where a bad value is met; so does a
+/// list of them, and the same is left of the text.
 pub fn one_mini_reading()
     ensures mini { HasOneReading SpellsMini }
     ensures mini_bad { Excludes SpellsMini IsBadMini }

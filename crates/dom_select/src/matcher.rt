@@ -55,8 +55,9 @@ impl Matcher {
     ghost use Rattle.dom_select.specs.Meaning.{Means};
     ghost use Rattle.dom_select.specs.Spelling.{Decides};
 
-    /// Reads a selector's text. `UnknownPseudoClass` comes only where the text stands for nothing and has a `:`, `TooDeep` only
-    /// where it stands for nothing and has 65 `(`, `Memory` where memory is refused, and `Syntax` where it stands for nothing.
+    /// Reads a selector's text. `UnknownPseudoClass` comes only where the text stands for nothing
+    /// and has a `:`, `TooDeep` only where it stands for nothing and has 65 `(`, `Memory` where
+    /// memory is refused, and `Syntax` where it stands for nothing.
     pub fn new(alloc: Global, text: &str) -> Result<Matcher, SelectorFault>
         ensures ok { IfOk result (λ matcher. StandsFor (chars text.now) matcher) }
         ensures refused { IfErr result (λ fault. Refused (chars text.now) fault) }
@@ -66,7 +67,8 @@ impl Matcher {
         Ok(Matcher { selectors })
     }
 
-    /// Whether one of the selectors means the node; false for an unknown number. It takes no memory.
+    /// Whether one of the selectors means the node; false for an unknown number. It takes no
+    /// memory.
     pub fn match_element(&self, node: &NodeRef<'_>) -> bool
         ensures { Decides result (Means self.now node.now.tree.now node.now.id) }
     {
@@ -74,8 +76,8 @@ impl Matcher {
         means(&self.selectors, node.tree, &mut caches, node.id)
     }
 
-    /// Whether one of the selectors means the node of that number in the caches' tree. What the caches were asked before makes no
-    /// difference; where they can't grow they are passed by.
+    /// Whether one of the selectors means the node of that number in the caches' tree. What the
+    /// caches were asked before makes no difference; where they can't grow they are passed by.
     pub fn match_element_with_caches(
         &self,
         node: &NodeRef<'_>,

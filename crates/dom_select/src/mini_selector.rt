@@ -1,4 +1,5 @@
-//! Mini selectors: selectors of one step, which are asked of a node without memory, and paths of them.
+//! Mini selectors: selectors of one step, which are asked of a node without memory, and paths of
+//! them.
 
 mod attributes;
 pub mod extension;

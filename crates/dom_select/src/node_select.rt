@@ -48,11 +48,13 @@ pub trait NodeSelect {
     fn is_match(&self, matcher: &Matcher) -> bool
         ensures { MatchBool result (meant self.now matcher.now) (meant self.now matcher.now → ⊥) };
 
-    /// Whether it is an element that one of the selectors in the text means; false where the text is outside the grammar.
+    /// Whether it is an element that one of the selectors in the text means; false where the text
+    /// is outside the grammar.
     fn is(&self, selectors: &str) -> Result<bool, OutOfMemory>
         ensures { IfOk result (λ answer. MatchBool answer
             ((list : SelectorList) × StandsFor (chars selectors.now) list × meant self.now list)
-            ((list : SelectorList) → StandsFor (chars selectors.now) list → meant self.now list → ⊥)) };
+            ((list : SelectorList) → StandsFor (chars selectors.now) list → meant self.now list
+            → ⊥)) };
 
     /// Whether one text at it or below it contains the other.
     fn has_text(&self, text: &str) -> bool
@@ -74,7 +76,8 @@ pub trait NodeSelect {
     fn is_root(&self) -> bool
         ensures { result ≡ data_passes Root (forest self.now) (number self.now) };
 
-    /// Whether it is an element, as the node of the other's number in its tree is, of an equal qualified name.
+    /// Whether it is an element, as the node of the other's number in its tree is, of an equal
+    /// qualified name.
     fn is_same_type(&self, other: &Self) -> bool
         ensures { result ≡ same_type (forest self.now) (number self.now) (number other.now) };
 

@@ -51,8 +51,8 @@ impl Traversal {
         None
     }
 
-    /// From the node to the first child of the first name, to that one's first child of the next name, and so on; no name
-    /// answers the node itself.
+    /// From the node to the first child of the first name, to that one's first child of the next
+    /// name, and so on; no name answers the node itself.
     pub fn find_descendant_element(nodes: &[TreeNode], id: NodeId, path: &[&str]) -> Option<NodeId>
         requires { IsSoundArena nodes.now }
         ensures { result ≡ child_by_names (forest_of nodes.now) id (texts_of path.now) }
@@ -64,8 +64,9 @@ impl Traversal {
         Some(at)
     }
 
-    /// The nodes that names find, each below the one before; what is below a node that is found isn't looked at, but in the
-    /// last step. No name finds the node itself, and nothing where it is unknown.
+    /// The nodes that names find, each below the one before; what is below a node that is found
+    /// isn't looked at, but in the last step. No name finds the node itself, and nothing where it
+    /// is unknown.
     pub fn find_descendant_elements(
         alloc: Global,
         nodes: &[TreeNode],
@@ -73,7 +74,8 @@ impl Traversal {
         path: &[&str],
     ) -> Result<Vec<NodeId>, OutOfMemory>
         requires { IsSoundArena nodes.now }
-        ensures { IfOk result (λ found. found.items ≡ found_by_names (forest_of nodes.now) (texts_of path.now) id) }
+        ensures { IfOk result
+            (λ found. found.items ≡ found_by_names (forest_of nodes.now) (texts_of path.now) id) }
     {
         follow_names(alloc, nodes, id, path)
     }

@@ -1,4 +1,5 @@
-//! The snippets of README.md and docs/API.md, one after the other. `check` compares them with these files.
+//! The snippets of README.md and docs/API.md, one after the other. `check` compares them with these
+//! files.
 #![tactic(auto)]
 
 mod changing;

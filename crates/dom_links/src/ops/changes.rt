@@ -1,5 +1,5 @@
-//! Changes of what one node is. Its number, its links, its kind and its template contents stay. An unknown number
-//! changes nothing.
+//! Changes of what one node is. Its number, its links, its kind and its template contents stay. An
+//! unknown number changes nothing.
 
 ghost use Rattle.std.specs.Prelude.{◌≡◌, IsOk, OnErr, OnOk, false};
 ghost use Rattle.std.specs.Fn.{FnOnceReturnsAtMut};

@@ -1,11 +1,13 @@
 //! New nodes.
 
-ghost use Rattle.std.specs.Prelude.{◌≡◌, ◌<◌, ◌+◌, ◌∷◌, ◌++◌, [], IfErr, IfOk, MatchResult, None, OnErr, OnOk, vec_len};
+ghost use Rattle.std.specs.Prelude.{◌≡◌, ◌<◌, ◌+◌, ◌∷◌, ◌++◌, [], IfErr, IfOk, MatchResult, None};
+ghost use Rattle.std.specs.Prelude.{OnErr, OnOk, vec_len};
 ghost use Rattle.dom_nodes.specs.Kinds.{contents_named};
 ghost use Rattle.dom_nodes.specs.declared.fault.EditFault.TheVariants.{Memory};
 ghost use Rattle.dom_nodes.specs.declared.node_data.TreeNode.{TreeNode};
 ghost use Rattle.dom_links.specs.Forest.{IsArenaOf, forest_of};
-ghost use Rattle.dom_links.specs.Growth.{Appended, Created, DataCause, HasFreeContents, Limit, MayAppend, NoRoom, NodeCause, lone, with_child, with_node};
+ghost use Rattle.dom_links.specs.Growth.{Appended, Created, DataCause, HasFreeContents, Limit};
+ghost use Rattle.dom_links.specs.Growth.{MayAppend, NoRoom, NodeCause, lone, with_child, with_node};
 ghost use Rattle.dom_links.specs.Sound.{IsSoundArena};
 
 use crate::ops::TreeNodeOps;
@@ -35,7 +37,8 @@ impl TreeNodeOps {
         Ok(id)
     }
 
-    /// Makes a node as the last child of another. With the contents that it names it counts as moved there.
+    /// Makes a node as the last child of another. With the contents that it names it counts as
+    /// moved there.
     pub fn append_child_data_of(
         nodes: &mut Vec<TreeNode>,
         t: NodeId,
@@ -56,8 +59,8 @@ impl TreeNodeOps {
     }
 }
 
-/// Makes a node that stands alone, behind the others. Whether its contents are free is the caller's condition for a
-/// forest.
+/// Makes a node that stands alone, behind the others. Whether its contents are free is the caller's
+/// condition for a forest.
 pub(crate) fn push_alone(nodes: &mut Vec<TreeNode>, content: NodeData) -> Result<NodeId, EditFault>
     requires linked { IsArenaOf (forest_of nodes.old.items) nodes.old.items }
     ensures ok { OnOk result (Created nodes.old.items nodes.new.items content) }
@@ -84,7 +87,8 @@ pub(crate) fn push_alone(nodes: &mut Vec<TreeNode>, content: NodeData) -> Result
     Ok(id)
 }
 
-/// Makes a node as the last child of another. Whether that is allowed is the caller's condition for a forest.
+/// Makes a node as the last child of another. Whether that is allowed is the caller's condition for
+/// a forest.
 fn add_child(nodes: &mut Vec<TreeNode>, t: NodeId, content: NodeData) -> Result<NodeId, EditFault>
     requires linked { IsArenaOf (forest_of nodes.old.items) nodes.old.items }
     requires target_known { t < vec_len nodes.old }

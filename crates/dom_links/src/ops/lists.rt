@@ -2,7 +2,8 @@
 
 ghost use Rattle.std.specs.Prelude.{◌≡◌, ◌≢◌, ◌<◌, [], ◌∷◌, ℕ, false, length, IfSome};
 ghost use Rattle.dom_links.specs.Forest.{IsArenaOf, forest_of, children_of};
-ghost use Rattle.dom_links.specs.ListMoves.{ChildrenRemoved, Reparents, Replaced, Unwrapped, Wrapped, with_later};
+ghost use Rattle.dom_links.specs.ListMoves.{ChildrenRemoved, Reparents, Replaced, Unwrapped};
+ghost use Rattle.dom_links.specs.ListMoves.{Wrapped, with_later};
 ghost use Rattle.dom_links.specs.Lists.{stands_in};
 ghost use Rattle.dom_links.specs.Moves.{cut};
 ghost use Rattle.dom_links.specs.Sound.{IsForest};
@@ -16,7 +17,8 @@ use dom_nodes::node_data::TreeNode;
 use dom_nodes::node_id::NodeId;
 
 impl TreeNodeOps {
-    /// Moves the children of a node to the end of those of another; without one they are then a run of their own.
+    /// Moves the children of a node to the end of those of another; without one they are then a run
+    /// of their own.
     pub fn reparent_children_of(nodes: &mut [TreeNode], x: NodeId, parent: Option<NodeId>)
         requires linked { IsArenaOf (forest_of nodes.old) nodes.old }
         requires known { x < length nodes.old }
@@ -86,8 +88,8 @@ pub fn wrap_node(nodes: &mut [TreeNode], x: NodeId, w: NodeId)
     TreeNodeOps::append_child_of(nodes, w, x);
 }
 
-/// Where the parent of a node and its parent are elements, puts the parent's children right before the parent and
-/// cuts the parent out. Else nothing changes.
+/// Where the parent of a node and its parent are elements, puts the parent's children right before
+/// the parent and cuts the parent out. Else nothing changes.
 pub fn unwrap_node(nodes: &mut [TreeNode], x: NodeId)
     requires linked { IsArenaOf (forest_of nodes.old) nodes.old }
     requires forest { IsForest (forest_of nodes.old) }

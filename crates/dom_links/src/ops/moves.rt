@@ -4,7 +4,8 @@ ghost use Rattle.std.specs.Prelude.{◌≡◌, ◌≢◌, ◌<◌, [], ◌∷◌
 ghost use Rattle.dom_links.specs.Forest.{IsArenaOf, forest_of, run_of, siblings};
 ghost use Rattle.dom_links.specs.ListMoves.{Moves, moved_nodes, mover, with_later};
 ghost use Rattle.dom_links.specs.Lists.{first, stands_in};
-ghost use Rattle.dom_links.specs.Moves.{StartsRun, after_node, before_node, cut, end_of, front_of, left_of, owner_at, put, right_of};
+ghost use Rattle.dom_links.specs.Moves.{StartsRun, after_node, before_node, cut, end_of, front_of};
+ghost use Rattle.dom_links.specs.Moves.{left_of, owner_at, put, right_of};
 ghost use Rattle.dom_links.specs.Sound.{Removed, target};
 ghost use Rattle.dom_links.specs.declared.gap.Moving.TheVariants.{Node, WholeList, WithLater};
 
@@ -104,7 +105,8 @@ impl TreeNodeOps {
         TreeNodeOps::move_to(nodes, Gap::EndOf(t), Moving::WithLater(x));
     }
 
-    /// Moves the whole list of a node, it and all its siblings, to the front of the children of another.
+    /// Moves the whole list of a node, it and all its siblings, to the front of the children of
+    /// another.
     pub fn prepend_children_of(nodes: &mut [TreeNode], t: NodeId, x: NodeId)
         requires linked { IsArenaOf (forest_of nodes.old) nodes.old }
         requires target_known { t < length nodes.old }

@@ -1,6 +1,7 @@
 //! What stands beside, above and below a node. An unknown number has nothing beside and below it.
 
-ghost use Rattle.std.specs.Prelude.{◌≡◌, ◌<◌, IfSome, MatchOption, Some, [], false, find, length, not, true, if◌then◌else◌};
+ghost use Rattle.std.specs.Prelude.{◌≡◌, ◌<◌, IfSome, MatchOption, Some, [], false, find, length};
+ghost use Rattle.std.specs.Prelude.{not, true, if◌then◌else◌};
 ghost use Rattle.dom_links.specs.Forest.{IsArenaOf, forest_of, children_of, siblings};
 ghost use Rattle.dom_links.specs.ListMoves.{element_above, element_at, with_later, wrapper};
 ghost use Rattle.dom_links.specs.Lists.{first, last};

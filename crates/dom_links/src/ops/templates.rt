@@ -1,6 +1,7 @@
 //! New elements with contents.
 
-ghost use Rattle.std.specs.Prelude.{◌≡◌, ◌<◌, ◌+◌, ◌∷◌, ◌++◌, [], List, IfErr, IfOk, OnErr, OnOk, vec_len};
+ghost use Rattle.std.specs.Prelude.{◌≡◌, ◌<◌, ◌+◌, ◌∷◌, ◌++◌, [], List, IfErr, IfOk, OnErr, OnOk};
+ghost use Rattle.std.specs.Prelude.{vec_len};
 ghost use Rattle.dom_nodes.specs.declared.node_data.TreeNode.{TreeNode};
 ghost use Rattle.dom_links.specs.Forest.{IsArenaOf, forest_of};
 ghost use Rattle.dom_links.specs.Growth.{AppendedTemplate, Created, NoRoom, NoRoomForTwo};
@@ -24,7 +25,9 @@ fn create_fragment(nodes: &mut Vec<TreeNode>) -> Result<(), EditFault>
     requires linked { IsArenaOf (forest_of nodes.old.items) nodes.old.items }
     ensures ok { OnOk result (Created nodes.old.items nodes.new.items NodeData.Fragment) }
     ensures grown { OnOk result (vec_len nodes.new ≡ vec_len nodes.old + 1) }
-    ensures err { OnErr result ((front : List TreeNode) (node : TreeNode) → nodes.old.items ≡ front ++ node ∷ [] → nodes.new.items ≡ front) }
+    ensures err { OnErr result
+        ((front : List TreeNode) (node : TreeNode) → nodes.old.items ≡ front ++ node ∷ []
+        → nodes.new.items ≡ front) }
     ensures cause { IfErr result (λ fault. NoRoom (vec_len nodes.old) fault) }
 {
     match push_alone(nodes, NodeData::Fragment) {
@@ -36,8 +39,8 @@ fn create_fragment(nodes: &mut Vec<TreeNode>) -> Result<(), EditFault>
     }
 }
 
-/// Makes a node as the last child of another, and right after it a fragment, for its contents: both or none. Whether
-/// that is allowed is the caller's condition for a forest.
+/// Makes a node as the last child of another, and right after it a fragment, for its contents: both
+/// or none. Whether that is allowed is the caller's condition for a forest.
 pub fn append_template_of(
     nodes: &mut Vec<TreeNode>,
     t: NodeId,

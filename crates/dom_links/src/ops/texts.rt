@@ -13,8 +13,8 @@ use dom_nodes::node_id::NodeId;
 use std::alloc::Global;
 
 impl TreeNodeOps {
-    /// The contents of the texts at the node and below, in walk order, joined; nothing for an unknown number. Template
-    /// contents are not entered.
+    /// The contents of the texts at the node and below, in walk order, joined; nothing for an
+    /// unknown number. Template contents are not entered.
     pub fn text_of(alloc: Global, nodes: &[TreeNode], id: &NodeId) -> Result<String, OutOfMemory>
         requires { IsSoundArena nodes.now }
         ensures { IfOk result (λ text. string_bytes text ≡ text_of (forest_of nodes.now) id.now) }

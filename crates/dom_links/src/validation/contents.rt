@@ -1,8 +1,10 @@
 //! The checks of what each node is.
 
-ghost use Rattle.std.specs.Prelude.{◌≡◌, ◌<◌, EachIndex, IfErr, IfOk, MatchBool, MatchResult, Some, SomeIndex, length, slice_get};
+ghost use Rattle.std.specs.Prelude.{◌≡◌, ◌<◌, EachIndex, IfErr, IfOk, MatchBool, MatchResult, Some};
+ghost use Rattle.std.specs.Prelude.{SomeIndex, length, slice_get};
 ghost use Rattle.dom_links.specs.Forest.{ids_of};
-ghost use Rattle.dom_links.specs.Validation.{AreHolders, ContentsHold, HoldsContents, IsAlone, IsBorne, IsRefused, LinksKnown, PassesBefore, Tells};
+ghost use Rattle.dom_links.specs.Validation.{AreHolders, ContentsHold, HoldsContents, IsAlone};
+ghost use Rattle.dom_links.specs.Validation.{IsBorne, IsRefused, LinksKnown, PassesBefore, Tells};
 ghost use Rattle.dom_links.specs.declared.validation.ValidateFault.TheVariants.{NoChildrenHere};
 
 use crate::validation::ValidateFault;

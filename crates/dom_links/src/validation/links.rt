@@ -1,9 +1,13 @@
 //! The checks of each node's number and links.
 
-ghost use Rattle.std.specs.Prelude.{◌≡◌, ◌<◌, ◌≤◌, [], EachIndex, Err, IfErr, IfSome, IsSomeAnd, MatchBool, MatchResult, None, Some, SomeIndex, length, slice_get};
-ghost use Rattle.dom_links.specs.Forest.{ids_of, first_link, last_link, next_link, parent_link, prev_link};
+ghost use Rattle.std.specs.Prelude.{◌≡◌, ◌<◌, ◌≤◌, [], EachIndex, Err, IfErr, IfSome, IsSomeAnd};
+ghost use Rattle.std.specs.Prelude.{MatchBool, MatchResult, None, Some, SomeIndex, length};
+ghost use Rattle.std.specs.Prelude.{slice_get};
+ghost use Rattle.dom_links.specs.Forest.{ids_of, first_link, last_link, next_link, parent_link};
+ghost use Rattle.dom_links.specs.Forest.{prev_link};
 ghost use Rattle.dom_links.specs.Lists.{names};
-ghost use Rattle.dom_links.specs.Validation.{Agrees, IsKnown, IsLinked, IsRefused, LinksAstray, LinksHold, LinksKnown, Tells};
+ghost use Rattle.dom_links.specs.Validation.{Agrees, IsKnown, IsLinked, IsRefused, LinksAstray};
+ghost use Rattle.dom_links.specs.Validation.{LinksHold, LinksKnown, Tells};
 ghost use Rattle.dom_links.specs.declared.validation.ValidateFault.TheVariants.{NoRoot};
 
 use crate::validation::ValidateFault;
@@ -143,8 +147,10 @@ pub(crate) fn agree(nodes: &[TreeNode]) -> bool
 fn shares_parent(nodes: &[TreeNode], n: usize) -> bool
     requires known { EachIndex nodes.now (λ n. LinksKnown nodes.now n) }
     requires here { n < length nodes.now }
-    ensures { MatchBool result (IfSome (prev_link nodes.now n) (λ m. parent_link nodes.now m ≡ parent_link nodes.now n))
-        (IfSome (prev_link nodes.now n) (λ m. parent_link nodes.now m ≡ parent_link nodes.now n) → ⊥) }
+    ensures { MatchBool result
+        (IfSome (prev_link nodes.now n) (λ m. parent_link nodes.now m ≡ parent_link nodes.now n))
+        (IfSome (prev_link nodes.now n) (λ m. parent_link nodes.now m ≡ parent_link nodes.now n)
+        → ⊥) }
 {
     let node = &nodes[n];
     let Some(prev) = node.prev_sibling else {
@@ -169,8 +175,13 @@ fn is_child(nodes: &[TreeNode], link: Option<NodeId>, n: usize) -> bool
 fn is_named(nodes: &[TreeNode], n: usize) -> bool
     requires known { EachIndex nodes.now (λ n. LinksKnown nodes.now n) }
     requires here { n < length nodes.now }
-    ensures { MatchBool result (IfSome (parent_link nodes.now n) (λ p. (prev_link nodes.now n ≡ None → first_link nodes.now p ≡ Some n) × (next_link nodes.now n ≡ None → last_link nodes.now p ≡ Some n)))
-        (IfSome (parent_link nodes.now n) (λ p. (prev_link nodes.now n ≡ None → first_link nodes.now p ≡ Some n) × (next_link nodes.now n ≡ None → last_link nodes.now p ≡ Some n)) → ⊥) }
+    ensures { MatchBool result
+        (IfSome (parent_link nodes.now n)
+        (λ p. (prev_link nodes.now n ≡ None → first_link nodes.now p ≡ Some n)
+        × (next_link nodes.now n ≡ None → last_link nodes.now p ≡ Some n)))
+        (IfSome (parent_link nodes.now n)
+        (λ p. (prev_link nodes.now n ≡ None → first_link nodes.now p ≡ Some n)
+        × (next_link nodes.now n ≡ None → last_link nodes.now p ≡ Some n)) → ⊥) }
 {
     let node = &nodes[n];
     let Some(parent) = node.parent else {

@@ -2,14 +2,15 @@
 
 ghost use Rattle.std.specs.Prelude.{ℕ, ◌≡◌, ◌<◌, ◌+◌, EachIndex, IfOk, IfSome, MatchBool, length};
 ghost use Rattle.dom_links.specs.Forest.{prev_link};
-ghost use Rattle.dom_links.specs.Validation.{AreHolders, AreLinksBy, AreMarks, Ends, HasRing, LinksKnown, link_at, step_up};
+ghost use Rattle.dom_links.specs.Validation.{AreHolders, AreLinksBy, AreMarks, Ends, HasRing};
+ghost use Rattle.dom_links.specs.Validation.{LinksKnown, link_at, step_up};
 
 use dom_nodes::node_data::TreeNode;
 use dom_nodes::node_id::NodeId;
 use std::alloc::{AllocError, Global};
 
-/// Follows the links from `start`, and marks what it meets, up to an end or to what is marked. Whether that was
-/// marked on the same way.
+/// Follows the links from `start`, and marks what it meets, up to an end or to what is marked.
+/// Whether that was marked on the same way.
 fn meets_itself(links: &[Option<NodeId>], marks: &mut [usize], start: usize) -> bool
     requires known { (n : ℕ) → IfSome (link_at links.now n) (λ m. m < length links.now) }
     requires here { start < length links.now }
@@ -31,7 +32,9 @@ fn meets_itself(links: &[Option<NodeId>], marks: &mut [usize], start: usize) -> 
 /// Whether some number leads back to itself. Each number is met once.
 fn has_ring(alloc: Global, links: &[Option<NodeId>]) -> Result<bool, AllocError>
     requires { (n : ℕ) → IfSome (link_at links.now n) (λ m. m < length links.now) }
-    ensures { IfOk result (λ ring. MatchBool ring (HasRing (link_at links.now)) ((n : ℕ) → Ends (link_at links.now) n)) }
+    ensures { IfOk result
+        (λ ring. MatchBool ring (HasRing (link_at links.now))
+        ((n : ℕ) → Ends (link_at links.now) n)) }
 {
     let mut marks = vec![in alloc; 0; links.len()]?;
     for start in 0..links.len() {
@@ -67,7 +70,9 @@ pub(crate) fn has_step_ring(
 ) -> Result<bool, AllocError>
     requires known { EachIndex nodes.now (λ n. LinksKnown nodes.now n) }
     requires holders { AreHolders nodes.now holders.now }
-    ensures { IfOk result (λ ring. MatchBool ring (HasRing (step_up nodes.now holders.now)) ((n : ℕ) → Ends (step_up nodes.now holders.now) n)) }
+    ensures { IfOk result
+        (λ ring. MatchBool ring (HasRing (step_up nodes.now holders.now))
+        ((n : ℕ) → Ends (step_up nodes.now holders.now) n)) }
 {
     let ups = steps_up(alloc, nodes, holders)?;
     has_ring(alloc, &ups)
@@ -88,7 +93,9 @@ fn siblings_before(alloc: Global, nodes: &[TreeNode]) -> Result<Vec<Option<NodeI
 /// Whether a node is met again by steps to the sibling before.
 pub(crate) fn has_sibling_ring(alloc: Global, nodes: &[TreeNode]) -> Result<bool, AllocError>
     requires { EachIndex nodes.now (λ n. LinksKnown nodes.now n) }
-    ensures { IfOk result (λ ring. MatchBool ring (HasRing (prev_link nodes.now)) ((n : ℕ) → Ends (prev_link nodes.now) n)) }
+    ensures { IfOk result
+        (λ ring. MatchBool ring (HasRing (prev_link nodes.now))
+        ((n : ℕ) → Ends (prev_link nodes.now) n)) }
 {
     let prevs = siblings_before(alloc, nodes)?;
     has_ring(alloc, &prevs)

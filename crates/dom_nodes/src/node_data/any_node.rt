@@ -7,7 +7,8 @@ use super::{Element, NodeData, TreeNode};
 
 impl NodeData {
     ghost use Rattle.dom_nodes.specs.Attrs.{element_of};
-    ghost use Rattle.dom_nodes.specs.Kinds.{is_document, is_element, is_text, is_comment, is_doctype};
+    ghost use Rattle.dom_nodes.specs.Kinds.{is_document, is_element, is_text, is_comment};
+    ghost use Rattle.dom_nodes.specs.Kinds.{is_doctype};
     ghost use Rattle.dom_nodes.specs.Changes.{is_link};
 
     pub fn is_document(&self) -> bool
@@ -53,7 +54,8 @@ impl NodeData {
 
 impl TreeNode {
     ghost use Rattle.dom_nodes.specs.Attrs.{element_of};
-    ghost use Rattle.dom_nodes.specs.Kinds.{is_document, is_element, is_text, is_comment, is_doctype, is_fragment, may_bear};
+    ghost use Rattle.dom_nodes.specs.Kinds.{is_document, is_element, is_text, is_comment};
+    ghost use Rattle.dom_nodes.specs.Kinds.{is_doctype, is_fragment, may_bear};
     ghost use Rattle.dom_nodes.specs.Changes.{is_link};
 
     pub fn is_document(&self) -> bool

@@ -71,7 +71,8 @@ impl Element {
     ghost use Rattle.std.specs.Prelude.{[]};
     ghost use Rattle.std.specs.Option.{option_copied};
     ghost use Rattle.dom_nodes.specs.Attrs.{attr_of};
-    ghost use Rattle.dom_nodes.specs.Changes.{with_attr, without_name, without_names, only_names, is_link, renamed};
+    ghost use Rattle.dom_nodes.specs.Changes.{with_attr, without_name, without_names, only_names};
+    ghost use Rattle.dom_nodes.specs.Changes.{is_link, renamed};
 
     /// The value of the first attribute of that local name.
     pub fn attr_ref(&self, name: &str) -> Option<&str>

@@ -58,7 +58,8 @@ impl NodeData {
 impl TreeNode {
     ghost use Rattle.dom_nodes.specs.Kinds.{is_element};
     ghost use Rattle.dom_nodes.specs.Change.{Tried, asks_of, changed};
-    ghost use Rattle.dom_nodes.specs.Changes.{on_element, only_names, renamed, with_attr, with_attrs, without_name, without_names};
+    ghost use Rattle.dom_nodes.specs.Changes.{on_element, only_names, renamed, with_attr};
+    ghost use Rattle.dom_nodes.specs.Changes.{with_attrs, without_name, without_names};
     ghost use Rattle.dom_nodes.specs.Classes.{is_blank, with_classes, without_classes};
 
     /// As `NodeData::change`.
@@ -72,7 +73,11 @@ impl TreeNode {
 
     /// As `Element::set_attr`.
     pub fn set_attr(&mut self, name: &str, value: &str) -> Result<(), OutOfMemory>
-        ensures ok { OnOk result (self.new ≡ record self.old { content = with_attrs (with_attr name.now value.now) self.old.content }) }
+        ensures ok { OnOk result
+            (self.new ≡ record self.old {
+              content = with_attrs (with_attr name.now value.now)
+                  self.old.content;
+            }) }
         ensures err { OnErr result (self.new ≡ self.old) }
         ensures no_element { is_element self.old.content ≡ false → IsOk result }
     {
@@ -89,14 +94,22 @@ impl TreeNode {
 
     /// As `Element::remove_attrs`.
     pub fn remove_attrs(&mut self, names: &[&str])
-        ensures { self.new ≡ record self.old { content = with_attrs (without_names (map (λ name. name.now) names.now)) self.old.content } }
+        ensures { self.new ≡ record
+            self.old {
+              content = with_attrs (without_names (map (λ name. name.now) names.now))
+                  self.old.content;
+            } }
     {
         let _ = self.change(Change::RemoveAttrs(names));
     }
 
     /// As `Element::retain_attrs`.
     pub fn retain_attrs(&mut self, names: &[&str])
-        ensures { self.new ≡ record self.old { content = with_attrs (only_names (map (λ name. name.now) names.now)) self.old.content } }
+        ensures { self.new ≡ record
+            self.old {
+              content = with_attrs (only_names (map (λ name. name.now) names.now))
+                  self.old.content;
+            } }
     {
         let _ = self.change(Change::RetainAttrs(names));
     }
@@ -109,7 +122,11 @@ impl TreeNode {
 
     /// As `Element::add_class`.
     pub fn add_class(&mut self, classes: &str) -> Result<(), OutOfMemory>
-        ensures ok { OnOk result (self.new ≡ record self.old { content = with_attrs (with_classes classes.now) self.old.content }) }
+        ensures ok { OnOk result
+            (self.new ≡ record self.old {
+              content = with_attrs (with_classes classes.now)
+                  self.old.content;
+            }) }
         ensures err { OnErr result (self.new ≡ self.old) }
         ensures no_element { is_element self.old.content ≡ false → IsOk result }
         ensures blank { is_blank classes.now ≡ true → IsOk result }
@@ -119,7 +136,11 @@ impl TreeNode {
 
     /// As `Element::remove_class`.
     pub fn remove_class(&mut self, classes: &str) -> Result<(), OutOfMemory>
-        ensures ok { OnOk result (self.new ≡ record self.old { content = with_attrs (without_classes classes.now) self.old.content }) }
+        ensures ok { OnOk result
+            (self.new ≡ record self.old {
+              content = with_attrs (without_classes classes.now)
+                  self.old.content;
+            }) }
         ensures err { OnErr result (self.new ≡ self.old) }
         ensures no_element { is_element self.old.content ≡ false → IsOk result }
         ensures blank { is_blank classes.now ≡ true → IsOk result }
@@ -129,7 +150,10 @@ impl TreeNode {
 
     /// As `Element::rename`.
     pub fn rename(&mut self, name: &str) -> Result<(), OutOfMemory>
-        ensures ok { OnOk result (self.new ≡ record self.old { content = on_element (renamed name.now) self.old.content }) }
+        ensures ok { OnOk result
+            (self.new ≡ record self.old {
+              content = on_element (renamed name.now) self.old.content;
+            }) }
         ensures err { OnErr result (self.new ≡ self.old) }
         ensures no_element { is_element self.old.content ≡ false → IsOk result }
     {

@@ -2,7 +2,8 @@
 
 ghost use Rattle.std.specs.Prelude.{◌≡◌, string_bytes, codes, true, IsOk, None, OnErr, OnOk, IfOk};
 ghost use Rattle.dom_nodes.specs.Words.{class_words, words_of};
-ghost use Rattle.dom_nodes.specs.Classes.{is_among_by, is_blank, with_word, words_joined, words_with, words_without};
+ghost use Rattle.dom_nodes.specs.Classes.{is_among_by, is_blank, with_word, words_joined};
+ghost use Rattle.dom_nodes.specs.Classes.{words_with, words_without};
 
 use super::Element;
 use crate::case_sensitivity::CaseSensitivity;
@@ -73,7 +74,8 @@ impl Element {
 /// The text's words that aren't among the others.
 fn words_without(alloc: Global, text: &str, others: &str) -> Result<String, OutOfMemory>
     ensures joined { IfOk result (λ made.
-        string_bytes made ≡ words_joined (words_without (words_of text.now) (words_of others.now))) }
+        string_bytes made ≡ words_joined
+        (words_without (words_of text.now) (words_of others.now))) }
     ensures words { IfOk result (λ made.
         words_of (string_bytes made) ≡ words_without (words_of text.now) (words_of others.now)) }
 {

@@ -3,7 +3,9 @@
 ghost use Rattle.std.specs.Prelude.{◌≡◌, ◌∷◌, ℕ, List, MatchOption, MatchResult};
 ghost use Rattle.dom_select.specs.Spelling.{Takes, TakesSome, no_other, same};
 ghost use Rattle.dom_select.specs.Characters.{after_white};
-ghost use Rattle.dom_select.specs.Attributes.{operator_of, flag_of, SpellsOperator, SpellsValue, SpellsFlag, SpellsCase, SpellsComparison, SpellsAsked, SpellsAttribute};
+ghost use Rattle.dom_select.specs.Attributes.{operator_of, flag_of, SpellsOperator, SpellsValue};
+ghost use Rattle.dom_select.specs.Attributes.{SpellsFlag, SpellsCase, SpellsComparison};
+ghost use Rattle.dom_select.specs.Attributes.{SpellsAsked, SpellsAttribute};
 
 use crate::fault::SelectorFault;
 use crate::matcher::names::{after_white, take_name};

@@ -8,8 +8,9 @@ use dom_nodes::node_id::NodeId;
 use dom_trees::tree::Tree;
 use std::marker::Model;
 
-/// The sibling indexes that selectors asked for in one tree. It borrows the tree, so that no edit comes between two questions. A
-/// contract sees the tree's forest: an index that is kept is right, and no answer depends on whether it is kept.
+/// The sibling indexes that selectors asked for in one tree. It borrows the tree, so that no edit
+/// comes between two questions. A contract sees the tree's forest: an index that is kept is right,
+/// and no answer depends on whether it is kept.
 #[derive(Drop)]
 pub struct SelectorCaches<'t> {
     tree: &'t Tree,
@@ -24,14 +25,17 @@ pub struct SelectorCaches<'t> {
 impl<'t> Model for SelectorCaches<'t> {
     ghost use Rattle.dom_links.specs.Forest.{Forest};
     ghost use Rattle.dom_links.specs.Indexes.{AreIndexes};
-    ghost use Rattle.dom_links.specs.declared.indexes.IndexKind.TheVariants.{Child, LastChild, OfType, LastOfType};
+    ghost use Rattle.dom_links.specs.declared.indexes.IndexKind.TheVariants.{Child, LastChild};
+    ghost use Rattle.dom_links.specs.declared.indexes.IndexKind.TheVariants.{OfType, LastOfType};
 
     ghost Value = { Forest };
 
     ghost view = { λ it. it.tree.now };
 
-    ghost invariant = { λ it. AreIndexes Child it.tree.now it.child.items × AreIndexes LastChild it.tree.now it.last_child.items
-        × AreIndexes OfType it.tree.now it.of_type.items × AreIndexes LastOfType it.tree.now it.last_of_type.items };
+    ghost invariant = { λ it. AreIndexes Child it.tree.now it.child.items
+        × AreIndexes LastChild it.tree.now it.last_child.items
+        × AreIndexes OfType it.tree.now it.of_type.items
+        × AreIndexes LastOfType it.tree.now it.last_of_type.items };
 }
 
 impl<'t> SelectorCaches<'t> {
@@ -97,7 +101,8 @@ impl<'t> SelectorCaches<'t> {
     }
 }
 
-/// An index of a node, from those that are known or by counting; what was counted is kept where there is room.
+/// An index of a node, from those that are known or by counting; what was counted is kept where
+/// there is room.
 fn index_in(tree: &Tree, known: &mut Vec<u32>, hits: &mut u64, id: &NodeId, kind: IndexKind) -> u64
     requires { AreIndexes kind tree.now known.old.items }
     ensures is { result ≡ index_at kind tree.now id.now }
@@ -129,7 +134,8 @@ fn make_room(known: &mut Vec<u32>, len: usize)
 
 /// The index that is kept for a node.
 fn kept(known: &[u32], id: &NodeId) -> Option<u64>
-    ensures { MatchOption result (Unit {0}) (λ index. (0 < index) × (index ≤ 4294967295) × (index ≡ index_known known.now id.now)) }
+    ensures { MatchOption result (Unit {0})
+        (λ index. (0 < index) × (index ≤ 4294967295) × (index ≡ index_known known.now id.now)) }
 {
     match known.get(id.value()) {
         Some(index) if *index > 0 => Some(u64::from(*index)),

@@ -4,7 +4,8 @@ ghost use Rattle.std.specs.Prelude.{◌≡◌, ◌&&◌, drop, length, nat_eq};
 ghost use Rattle.dom_nodes.specs.Ascii.{hyphen};
 ghost use Rattle.dom_nodes.specs.Words.{words_of};
 ghost use Rattle.dom_select.specs.Characters.{begins};
-ghost use Rattle.dom_select.specs.Comparisons.{begins_with, compares, ends_with, has_within, has_word, passes, same_byte, same_text};
+ghost use Rattle.dom_select.specs.Comparisons.{begins_with, compares, ends_with, has_within};
+ghost use Rattle.dom_select.specs.Comparisons.{has_word, passes, same_byte, same_text};
 
 use crate::matcher::syntax::{Comparison, Operator};
 use dom_nodes::case_sensitivity::CaseSensitivity;

@@ -72,7 +72,8 @@ impl<'a, 'b> Iterator for DescendantMatches<'a, 'b> {
     }
 }
 
-/// The elements below the root that the selector means, each before those below it; an unknown number has none.
+/// The elements below the root that the selector means, each before those below it; an unknown
+/// number has none.
 pub fn select_below(
     tree: &Tree,
     root: &NodeId,

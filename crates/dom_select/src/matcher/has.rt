@@ -11,7 +11,8 @@ use dom_links::iters::next_sibling_id;
 use dom_nodes::node_id::NodeId;
 use dom_trees::tree::Tree;
 
-/// What a first node is asked besides its compound: nothing, or to stand to the right of a node as a combinator says.
+/// What a first node is asked besides its compound: nothing, or to stand to the right of a node as
+/// a combinator says.
 #[derive(Clone, Copy)]
 pub(crate) enum Start {
     Anywhere,

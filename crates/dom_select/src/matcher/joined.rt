@@ -1,5 +1,5 @@
-//! Whether the texts at a node and below it, joined, contain a text. They are gone over where they lie, and take no memory: what
-//! is sought may begin in one text and go on in those that follow it.
+//! Whether the texts at a node and below it, joined, contain a text. They are gone over where they
+//! lie, and take no memory: what is sought may begin in one text and go on in those that follow it.
 
 ghost use Rattle.std.specs.Prelude.{◌≡◌, ◌++◌, drop, false, length, take, true, MatchOption};
 ghost use Rattle.std.specs.List.{flat_map};
@@ -34,10 +34,13 @@ fn text_in(node: &NodeData) -> &[u8]
     }
 }
 
-/// What is left of the text that is sought behind these bytes, which are its beginning or begin with it.
+/// What is left of the text that is sought behind these bytes, which are its beginning or begin
+/// with it.
 fn left_behind<'a>(text: &[u8], inner: &'a [u8]) -> Option<&'a [u8]>
-    ensures { MatchOption result (begins_with with_case text.now (take (length text.now) inner.now) ≡ false)
-        (λ left. (begins_with with_case text.now (take (length text.now) inner.now) ≡ true) × (left.now ≡ drop (length text.now) inner.now)) }
+    ensures { MatchOption result
+        (begins_with with_case text.now (take (length text.now) inner.now) ≡ false)
+        (λ left. (begins_with with_case text.now (take (length text.now) inner.now) ≡ true)
+        × (left.now ≡ drop (length text.now) inner.now)) }
 {
     let near = inner.len().min(text.len());
     if !begins_with(CaseSensitivity::CaseSensitive, text, &inner[..near]) {
@@ -48,7 +51,8 @@ fn left_behind<'a>(text: &[u8], inner: &'a [u8]) -> Option<&'a [u8]>
 
 /// Whether the texts that the walk still gives, joined, begin with the other.
 fn goes_on(tree: &Tree, rest: DescendantNodes<'_>, inner: &[u8]) -> bool
-    ensures { result ≡ begins_with with_case (flat_map (text_at tree.now) rest.entry.left) inner.now }
+    ensures { result ≡ begins_with with_case (flat_map (text_at tree.now) rest.entry.left)
+        inner.now }
 {
     let mut left = inner;
     for id in rest {
@@ -65,7 +69,8 @@ fn goes_on(tree: &Tree, rest: DescendantNodes<'_>, inner: &[u8]) -> bool
 
 /// Whether this text, and then those that the walk still gives, begin with the other.
 fn begins_here(tree: &Tree, text: &[u8], rest: &DescendantNodes<'_>, inner: &[u8]) -> bool
-    ensures { result ≡ begins_with with_case (text.now ++ flat_map (text_at tree.now) rest.now.left) inner.now }
+    ensures { result ≡ begins_with with_case (text.now ++ flat_map (text_at tree.now) rest.now.left)
+        inner.now }
 {
     let Some(behind) = left_behind(text, inner) else {
         return false;
@@ -76,7 +81,8 @@ fn begins_here(tree: &Tree, text: &[u8], rest: &DescendantNodes<'_>, inner: &[u8
     goes_on(tree, rest.again(), behind)
 }
 
-/// Whether the other begins somewhere in this text; it may go on in those that the walk still gives.
+/// Whether the other begins somewhere in this text; it may go on in those that the walk still
+/// gives.
 fn begins_among(tree: &Tree, text: &[u8], rest: &DescendantNodes<'_>, inner: &[u8]) -> bool
     ensures { result ≡ begins_among text.now (flat_map (text_at tree.now) rest.now.left) inner.now }
 {

@@ -1,14 +1,18 @@
-//! Whether a selector means a node. Its compounds are followed from right to left, those first that bind more tightly: `+`,
-//! then `~`, then `>`, then whitespace. Where a combinator leaves a choice, the nearest node from which they can be followed
-//! is taken and never given up: what stands on the left of a farther one stands on the left of that one too.
+//! Whether a selector means a node. Its compounds are followed from right to left, those first that
+//! bind more tightly: `+`, then `~`, then `>`, then whitespace. Where a combinator leaves a choice,
+//! the nearest node from which they can be followed is taken and never given up: what stands on the
+//! left of a farther one stands on the left of that one too.
 
-ghost use Rattle.std.specs.Prelude.{◌≡◌, ◌↔◌, ◌∷◌, [], map, IfSome, Some, IsTrue, MatchBool, MatchOption};
+ghost use Rattle.std.specs.Prelude.{◌≡◌, ◌↔◌, ◌∷◌, [], map, IfSome, Some, IsTrue, MatchBool};
+ghost use Rattle.std.specs.Prelude.{MatchOption};
 ghost use Rattle.dom_select.specs.ListsAsTrees.{lists_of, steps_of};
 ghost use Rattle.dom_select.specs.Leftward.{ends_at};
-ghost use Rattle.dom_select.specs.Meaning.{Holds, LeadsOn, LeadsToSome, ListsHold, ListHolds, Means, PartsHold, Reaches};
+ghost use Rattle.dom_select.specs.Meaning.{Holds, LeadsOn, LeadsToSome, ListsHold, ListHolds};
+ghost use Rattle.dom_select.specs.Meaning.{Means, PartsHold, Reaches};
 ghost use Rattle.dom_select.specs.ValuesAsTrees.{read_compound, read_list, read_nested, read_step};
 ghost use Rattle.dom_select.specs.Syntax.{no_lists, compound as the_compound};
-ghost use Rattle.dom_select.specs.Chains.{EndHolds, Followed, FollowedFrom, IsOrPrecedes, ReachesSome, looseness};
+ghost use Rattle.dom_select.specs.Chains.{EndHolds, Followed, FollowedFrom, IsOrPrecedes};
+ghost use Rattle.dom_select.specs.Chains.{ReachesSome, looseness};
 ghost use Rattle.dom_select.specs.Has.{Begins, IsReached, ReachesWithin, may_end};
 
 use crate::matcher::caches::SelectorCaches;
@@ -25,7 +29,8 @@ const ALL: usize = 5;
 
 /// The name, where the compound is a type and nothing else.
 fn bare_type(compound: &Compound) -> Option<&Text>
-    ensures { IfSome result (λ name. read_compound compound.now ≡ the_compound (Part.«Type» name.now ∷ []) no_lists) }
+    ensures { IfSome result
+        (λ name. read_compound compound.now ≡ the_compound (Part.«Type» name.now ∷ []) no_lists) }
 {
     if !compound.nested.is_empty() {
         return None;
@@ -38,7 +43,8 @@ fn bare_type(compound: &Compound) -> Option<&Text>
 
 /// Whether the number is an element's that bears the name as a type.
 fn bears_name(tree: &Tree, id: &NodeId, name: &str) -> bool
-    ensures { MatchBool result (PartsHold (Part.«Type» name.now ∷ []) tree.now id.now) (PartsHold (Part.«Type» name.now ∷ []) tree.now id.now → ⊥) }
+    ensures { MatchBool result (PartsHold (Part.«Type» name.now ∷ []) tree.now id.now)
+        (PartsHold (Part.«Type» name.now ∷ []) tree.now id.now → ⊥) }
 {
     match tree.get(id) {
         Some(found) => is_named_node(&found.content, name),
@@ -46,7 +52,8 @@ fn bears_name(tree: &Tree, id: &NodeId, name: &str) -> bool
     }
 }
 
-/// Whether the compound holds of the node. Of a type alone the names are compared, and nothing else is looked at.
+/// Whether the compound holds of the node. Of a type alone the names are compared, and nothing else
+/// is looked at.
 #[cycle(matching)]
 fn holds(compound: &Compound, tree: &Tree, caches: &mut SelectorCaches<'_>, id: NodeId) -> bool
     requires { caches.old ≡ tree.now }
@@ -138,7 +145,8 @@ fn leads_on(
     false
 }
 
-/// Whether a selector leads from the node to an element: it is followed from each node that it could lead to.
+/// Whether a selector leads from the node to an element: it is followed from each node that it
+/// could lead to.
 #[cycle(matching)]
 fn leads_to_some(
     lead: Combinator,
@@ -149,7 +157,9 @@ fn leads_to_some(
     id: NodeId,
 ) -> bool
     requires { caches.old ≡ tree.now }
-    ensures is { IsTrue result ↔ LeadsToSome lead (read_compound first.now) (steps_of (map read_step steps.now)) tree.now id }
+    ensures is { IsTrue result
+        ↔ LeadsToSome lead (read_compound first.now) (steps_of (map read_step steps.now)) tree.now
+        id }
     ensures kept { caches.new ≡ tree.now }
 {
     know_lines(tree);
@@ -175,8 +185,11 @@ fn leads_within(
     top: NodeId,
 ) -> bool
     requires { caches.old ≡ tree.now }
-    ensures is { MatchBool result (ReachesWithin start.now (read_compound first.now) (steps_of (map read_step steps.now)) tree.now top)
-        (ReachesWithin start.now (read_compound first.now) (steps_of (map read_step steps.now)) tree.now top → ⊥) }
+    ensures is { MatchBool result
+        (ReachesWithin start.now (read_compound first.now) (steps_of (map read_step steps.now))
+        tree.now top)
+        (ReachesWithin start.now (read_compound first.now) (steps_of (map read_step steps.now))
+        tree.now top → ⊥) }
     ensures kept { caches.new ≡ tree.now }
 {
     if reaches(start, first, steps, tree, caches, top) {
@@ -190,7 +203,8 @@ fn leads_within(
     false
 }
 
-/// Whether there are nodes for the first compound and for those of the steps, the last of them this one.
+/// Whether there are nodes for the first compound and for those of the steps, the last of them this
+/// one.
 #[cycle(matching)]
 fn reaches(
     start: &Start,
@@ -201,7 +215,9 @@ fn reaches(
     id: NodeId,
 ) -> bool
     requires { caches.old ≡ tree.now }
-    ensures is { IsTrue result ↔ IsReached start.now (read_compound first.now) (steps_of (map read_step steps.now)) tree.now id }
+    ensures is { IsTrue result
+        ↔ IsReached start.now (read_compound first.now) (steps_of (map read_step steps.now))
+        tree.now id }
     ensures kept { caches.new ≡ tree.now }
 {
     if !may_end(start, tree, id) {
@@ -249,8 +265,11 @@ fn end_holds(
     id: NodeId,
 ) -> bool
     requires { caches.old ≡ tree.now }
-    ensures is { MatchBool result (EndHolds tree.now spared (Begins start.now (read_compound first.now) tree.now) (map read_step steps.now) id)
-        (EndHolds tree.now spared (Begins start.now (read_compound first.now) tree.now) (map read_step steps.now) id → ⊥) }
+    ensures is { MatchBool result
+        (EndHolds tree.now spared (Begins start.now (read_compound first.now) tree.now)
+        (map read_step steps.now) id)
+        (EndHolds tree.now spared (Begins start.now (read_compound first.now) tree.now)
+        (map read_step steps.now) id → ⊥) }
     ensures kept { caches.new ≡ tree.now }
 {
     match steps.split_last() {
@@ -285,8 +304,11 @@ fn follow<'a>(
 ) -> Option<Place<'a>>
     requires before { IsOrPrecedes tree.now id spared }
     requires kept { caches.old ≡ tree.now }
-    ensures is { MatchOption result (Reaches (Begins start.now (read_compound first.now) tree.now) (steps_of (map read_step steps.now)) tree.now spared id → ⊥)
-        (λ place. Followed tree.now spared (Begins start.now (read_compound first.now) tree.now) level (map read_step steps.now) (map read_step place.left.now) id place.at) }
+    ensures is { MatchOption result
+        (Reaches (Begins start.now (read_compound first.now) tree.now)
+        (steps_of (map read_step steps.now)) tree.now spared id → ⊥)
+        (λ place. Followed tree.now spared (Begins start.now (read_compound first.now) tree.now)
+        level (map read_step steps.now) (map read_step place.left.now) id place.at) }
     ensures kept { caches.new ≡ tree.now }
 {
     if level <= 1 {
@@ -323,8 +345,8 @@ fn follow<'a>(
     Some(place)
 }
 
-/// Follows the steps from the nearest node that they can be followed from, of those that stand to this one as the combinator
-/// says.
+/// Follows the steps from the nearest node that they can be followed from, of those that stand to
+/// this one as the combinator says.
 #[cycle(matching)]
 fn follow_from<'a>(
     start: &Start,
@@ -338,8 +360,11 @@ fn follow_from<'a>(
 ) -> Option<Place<'a>>
     requires before { IsOrPrecedes tree.now id spared }
     requires kept { caches.old ≡ tree.now }
-    ensures is { MatchOption result (ReachesSome tree.now spared (Begins start.now (read_compound first.now) tree.now) (map read_step steps.now) combinator id → ⊥)
-        (λ place. FollowedFrom tree.now spared (Begins start.now (read_compound first.now) tree.now) combinator (map read_step steps.now) (map read_step place.left.now) id place.at) }
+    ensures is { MatchOption result
+        (ReachesSome tree.now spared (Begins start.now (read_compound first.now) tree.now)
+        (map read_step steps.now) combinator id → ⊥)
+        (λ place. FollowedFrom tree.now spared (Begins start.now (read_compound first.now) tree.now)
+        combinator (map read_step steps.now) (map read_step place.left.now) id place.at) }
     ensures kept { caches.new ≡ tree.now }
 {
     let mut at = id;

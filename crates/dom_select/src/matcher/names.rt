@@ -5,8 +5,10 @@ ghost use Rattle.std.specs.Str.Parse.{digits_value};
 ghost use Rattle.std.specs.Char.{digit_value};
 ghost use Rattle.std.specs.List.{prefix_len};
 ghost use Rattle.dom_select.specs.Spelling.{Takes, TakesSome, no_other, same};
-ghost use Rattle.dom_select.specs.Characters.{is_line_end, is_name_start, is_name_char, after_white};
-ghost use Rattle.dom_select.specs.Names.{is_hex, hex_len, after_space, char_of, SpellsEscape, SpellsNameChar, SpellsName, goes_on, starts, starts_name};
+ghost use Rattle.dom_select.specs.Characters.{is_line_end, is_name_start, is_name_char};
+ghost use Rattle.dom_select.specs.Characters.{after_white};
+ghost use Rattle.dom_select.specs.Names.{is_hex, hex_len, after_space, char_of, SpellsEscape};
+ghost use Rattle.dom_select.specs.Names.{SpellsNameChar, SpellsName, goes_on, starts, starts_name};
 
 use crate::fault::SelectorFault;
 use dom_nodes::text::Text;

@@ -3,7 +3,9 @@
 ghost use Rattle.std.specs.Prelude.{◌≡◌, ◌<◌, ◌≤◌, ℕ, List, MatchOption};
 ghost use Rattle.std.specs.Str.Parse.{digits_value};
 ghost use Rattle.dom_select.specs.Characters.{begins, digits_len, greatest_number};
-ghost use Rattle.dom_select.specs.Nth.{SpellsAfterNumber, SpellsNth, SpellsNumber, SpellsOffset, SpellsUnsigned, after_sign, begins_even, begins_odd, every_second, is_minus, is_n, is_sign, signed};
+ghost use Rattle.dom_select.specs.Nth.{SpellsAfterNumber, SpellsNth, SpellsNumber, SpellsOffset};
+ghost use Rattle.dom_select.specs.Nth.{SpellsUnsigned, after_sign, begins_even, begins_odd};
+ghost use Rattle.dom_select.specs.Nth.{every_second, is_minus, is_n, is_sign, signed};
 ghost use Rattle.dom_select.specs.Spelling.{Takes, large_stands, same};
 
 use crate::fault::SelectorFault;

@@ -1,16 +1,25 @@
 //! Reads selectors, over their characters.
 
-ghost use Rattle.std.specs.Prelude.{◌≡◌, ◌<◌, ◌++◌, ◌∷◌, [], ℕ, List, chars, map, Bool, true, false, cond, nat_eq, IfOk, MatchResult, OnOk};
+ghost use Rattle.std.specs.Prelude.{◌≡◌, ◌<◌, ◌++◌, ◌∷◌, [], ℕ, List, chars, map, Bool, true};
+ghost use Rattle.std.specs.Prelude.{false, cond, nat_eq, IfOk, MatchResult, OnOk};
 ghost use Rattle.std.specs.Char.{is_ascii_whitespace};
 ghost use Rattle.std.specs.List.{list_all};
 ghost use Rattle.dom_nodes.specs.Ascii.{right_parenthesis};
 ghost use Rattle.dom_select.specs.Characters.{after_white, begins};
-ghost use Rattle.dom_select.specs.Grammar.{Opens, Refused, StandsFor, TakesBehind, TakesIn, SpellsCombinator, SpellsCompound, SpellsEnclosed, SpellsForm, SpellsInner, SpellsItem, SpellsLater, SpellsLead, SpellsList, SpellsListed, SpellsPlain, SpellsPseudo, SpellsSelector, SpellsStep, SpellsType, begins_comma, begins_compound, begins_item, begins_open, begins_step, combinator_of, inner_room, is_combinator, is_star, stands_behind, stands_for, whole};
+ghost use Rattle.dom_select.specs.Grammar.{Opens, Refused, StandsFor, TakesBehind, TakesIn};
+ghost use Rattle.dom_select.specs.Grammar.{SpellsCombinator, SpellsCompound, SpellsEnclosed};
+ghost use Rattle.dom_select.specs.Grammar.{SpellsForm, SpellsInner, SpellsItem, SpellsLater};
+ghost use Rattle.dom_select.specs.Grammar.{SpellsLead, SpellsList, SpellsListed, SpellsPlain};
+ghost use Rattle.dom_select.specs.Grammar.{SpellsPseudo, SpellsSelector, SpellsStep, SpellsType};
+ghost use Rattle.dom_select.specs.Grammar.{begins_comma, begins_compound, begins_item, begins_open};
+ghost use Rattle.dom_select.specs.Grammar.{begins_step, combinator_of, inner_room, is_combinator};
+ghost use Rattle.dom_select.specs.Grammar.{is_star, stands_behind, stands_for, whole};
 ghost use Rattle.dom_select.specs.ListsAsTrees.{Item, lists_of};
 ghost use Rattle.dom_select.specs.Nth.{SpellsNth};
 ghost use Rattle.dom_select.specs.Strings.{SpellsString};
 ghost use Rattle.dom_select.specs.Spelling.{Refuses, TakesSome, Takes, no_other, same};
-ghost use Rattle.dom_select.specs.ValuesAsTrees.{PushesItem, lists_then, read_compound, read_item, read_list, read_nested, read_selector, read_step};
+ghost use Rattle.dom_select.specs.ValuesAsTrees.{PushesItem, lists_then, read_compound, read_item};
+ghost use Rattle.dom_select.specs.ValuesAsTrees.{read_list, read_nested, read_selector, read_step};
 
 use crate::fault::SelectorFault;
 use crate::matcher::attributes::{after_char, take_attribute};

@@ -5,7 +5,9 @@ ghost use Rattle.std.specs.List.{list_any};
 ghost use Rattle.std.specs.Str.{bytes_eq, str_to_ascii_lowercase};
 ghost use Rattle.dom_links.specs.ListMoves.{element_at};
 ghost use Rattle.dom_select.specs.Meaning.{PartsHold};
-ghost use Rattle.dom_select.specs.Parts.{EachHolds, PartHolds, attr_passes, element_passes, is_attr, is_without, name_within, node_passes, asked_passes, data_passes};
+ghost use Rattle.dom_select.specs.Parts.{EachHolds, PartHolds, attr_passes, element_passes};
+ghost use Rattle.dom_select.specs.Parts.{is_attr, is_without, name_within, node_passes};
+ghost use Rattle.dom_select.specs.Parts.{asked_passes, data_passes};
 ghost use Rattle.dom_select.specs.Spelling.{Decides};
 
 use crate::matcher::caches::SelectorCaches;

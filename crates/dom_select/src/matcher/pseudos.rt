@@ -1,7 +1,9 @@
 //! The pseudo-classes by their names, and what each stands for.
 
 ghost use Rattle.std.specs.Prelude.{◌≡◌, ◌||◌};
-ghost use Rattle.dom_select.specs.Pseudos.{bare_item, bare_of, first_of, index_kind_of, is_relative, is_state, is_word, place_of, pseudo_of, quantified, quantifier_of, text_part, text_test_of};
+ghost use Rattle.dom_select.specs.Pseudos.{bare_item, bare_of, first_of, index_kind_of};
+ghost use Rattle.dom_select.specs.Pseudos.{is_relative, is_state, is_word, place_of, pseudo_of};
+ghost use Rattle.dom_select.specs.Pseudos.{quantified, quantifier_of, text_part, text_test_of};
 ghost use Rattle.dom_select.specs.ValuesAsTrees.{read_item, read_list, read_nested};
 
 use crate::matcher::syntax::{

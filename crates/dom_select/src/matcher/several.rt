@@ -1,6 +1,7 @@
 //! What a selector means below several nodes, each node once.
 
-ghost use Rattle.std.specs.Prelude.{◌≡◌, ◌∷◌, [], ℕ, Bool, List, length, false, true, slice_set, slice_index_or, IfOk, MatchBool, MatchOption};
+ghost use Rattle.std.specs.Prelude.{◌≡◌, ◌∷◌, [], ℕ, Bool, List, length, false, true, slice_set};
+ghost use Rattle.std.specs.Prelude.{slice_index_or, IfOk, MatchBool, MatchOption};
 ghost use Rattle.std.specs.Iterator.{YieldsFirst, at_most, item_count};
 ghost use Rattle.dom_links.specs.Laws.{AreTrees};
 ghost use Rattle.dom_select.specs.Descendants.{GivesMatch, ToCome};
@@ -57,7 +58,8 @@ impl<'a, 'r> Iterator for Walks<'a, 'r> {
 
 /// The next node of a walk, if there is one.
 fn next_in(walk: &mut Option<DescendantNodes<'_>>) -> Option<NodeId>
-    ensures { MatchOption result ((left_in walk.old ≡ []) × (left_in walk.new ≡ [])) (λ id. left_in walk.old ≡ id ∷ left_in walk.new) }
+    ensures { MatchOption result ((left_in walk.old ≡ []) × (left_in walk.new ≡ []))
+        (λ id. left_in walk.old ≡ id ∷ left_in walk.new) }
 {
     match walk {
         Some(walk) => walk.next(),
@@ -101,7 +103,8 @@ impl<'a, 'r> Iterator for FirstMet<'a, 'r> {
 /// Marks the number; false where it has a mark.
 fn mark(marks: &mut Vec<bool>, id: NodeId) -> bool
     ensures { MatchBool result
-        ((has_mark marks.old.items id ≡ false) × (marks.new.items ≡ slice_set marks.old.items id true))
+        ((has_mark marks.old.items id ≡ false)
+        × (marks.new.items ≡ slice_set marks.old.items id true))
         ((has_mark marks.old.items id ≡ true) × (marks.new.items ≡ marks.old.items)) }
 {
     let place = id.value();
@@ -115,7 +118,8 @@ fn mark(marks: &mut Vec<bool>, id: NodeId) -> bool
     true
 }
 
-/// The elements below some nodes that a selector means, each once, in the order of the walks. Only making it takes memory.
+/// The elements below some nodes that a selector means, each once, in the order of the walks. Only
+/// making it takes memory.
 #[derive(Drop)]
 pub struct Matches<'a, 'b, 'r> {
     ids: FirstMet<'a, 'r>,
@@ -137,8 +141,8 @@ impl<'a, 'b, 'r> Model for Matches<'a, 'b, 'r> {
 }
 
 impl<'a, 'b, 'r> Matches<'a, 'b, 'r> {
-    /// What is to come is what the selector selects below the roots, which are numbers of the tree's nodes; an unknown number has
-    /// nothing below it.
+    /// What is to come is what the selector selects below the roots, which are numbers of the
+    /// tree's nodes; an unknown number has nothing below it.
     pub fn new(
         tree: &'a Tree,
         roots: &'r [NodeId],
@@ -147,7 +151,9 @@ impl<'a, 'b, 'r> Matches<'a, 'b, 'r> {
         ensures all { IfOk result (λ it. it.left ≡ walks_below tree.entry.now roots.entry.now) }
         ensures tree { IfOk result (λ it. it.tree ≡ tree.entry) }
         ensures selector { IfOk result (λ it. it.selector ≡ matcher.now) }
-        ensures selected { IfOk result (λ it. (ids : List ℕ) → ToCome it ids → Selected tree.entry.now roots.entry.now matcher.now ids) }
+        ensures selected { IfOk result
+            (λ it. (ids : List ℕ) → ToCome it ids
+            → Selected tree.entry.now roots.entry.now matcher.now ids) }
     {
         know_trees(tree);
         let marks = vec![in tree.allocator(); false; tree.len()]?;

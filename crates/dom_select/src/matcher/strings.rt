@@ -1,8 +1,10 @@
 //! Reads strings in quotes.
 
-ghost use Rattle.std.specs.Prelude.{◌≡◌, ◌++◌, ◌∷◌, [], Option, MatchOption, MatchResult, OnOk, string_bytes, encode_utf8_all};
+ghost use Rattle.std.specs.Prelude.{◌≡◌, ◌++◌, ◌∷◌, [], Option, MatchOption, MatchResult, OnOk};
+ghost use Rattle.std.specs.Prelude.{string_bytes, encode_utf8_all};
 ghost use Rattle.dom_select.specs.Spelling.{Takes, TakesSome, no_other, same};
-ghost use Rattle.dom_select.specs.Strings.{SpellsStringEscape, SpellsPiece, SpellsString, after_line_end, goes_on_in, is_quote, present};
+ghost use Rattle.dom_select.specs.Strings.{SpellsStringEscape, SpellsPiece, SpellsString};
+ghost use Rattle.dom_select.specs.Strings.{after_line_end, goes_on_in, is_quote, present};
 
 use crate::fault::SelectorFault;
 use crate::matcher::names::{is_line_end, take_escape};

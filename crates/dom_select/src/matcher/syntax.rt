@@ -115,8 +115,8 @@ pub struct Step {
     pub compound: Compound,
 }
 
-/// Compounds with a combinator between each two. In `:has` a combinator stands before the first too; elsewhere it counts for
-/// nothing.
+/// Compounds with a combinator between each two. In `:has` a combinator stands before the first
+/// too; elsewhere it counts for nothing.
 #[cycle(selectors)]
 #[derive(Drop)]
 pub struct Selector {

@@ -2,7 +2,8 @@
 
 ghost use Rattle.std.specs.Prelude.{◌≡◌, ◌||◌, not};
 ghost use Rattle.dom_links.specs.ListMoves.{element_at};
-ghost use Rattle.dom_select.specs.Texts.{contains_at, empty_at, filled_at, has_text_at, only_text_at, text_contains};
+ghost use Rattle.dom_select.specs.Texts.{contains_at, empty_at, filled_at, has_text_at};
+ghost use Rattle.dom_select.specs.Texts.{only_text_at, text_contains};
 
 use crate::matcher::comparisons::has_within;
 use crate::matcher::parts::is_element;

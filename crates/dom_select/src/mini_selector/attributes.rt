@@ -3,7 +3,9 @@
 ghost use Rattle.std.specs.Prelude.{◌≡◌, map, nat_eq, MatchOption, MatchResult};
 ghost use Rattle.dom_nodes.specs.Ascii.{right_bracket};
 ghost use Rattle.dom_select.specs.Characters.{begins};
-ghost use Rattle.dom_select.specs.MiniGrammar.{IsBadAttr, IsBadTest, IsPlainlyNone, Maybe, MeetsBad, SpellsAttr, SpellsAttrs, SpellsBare, SpellsQuoted, SpellsTest, TellsBad};
+ghost use Rattle.dom_select.specs.MiniGrammar.{IsBadAttr, IsBadTest, IsPlainlyNone, Maybe};
+ghost use Rattle.dom_select.specs.MiniGrammar.{MeetsBad, SpellsAttr, SpellsAttrs, SpellsBare};
+ghost use Rattle.dom_select.specs.MiniGrammar.{SpellsQuoted, SpellsTest, TellsBad};
 ghost use Rattle.dom_select.specs.MiniSyntax.{asked_of, shown_test};
 ghost use Rattle.dom_select.specs.Spelling.{SpellsNone};
 ghost use Rattle.dom_select.specs.Strings.{is_quote};
@@ -39,7 +41,8 @@ fn begins_bracket(text: &str) -> bool
 
 /// The value in quotes at the front, without them, and what follows it.
 fn take_quoted(text: &str) -> Option<(&str, &str)>
-    ensures { MatchOption result (SpellsNone SpellsQuoted text.now) (λ p. SpellsQuoted p.0.now text.now p.1.now) }
+    ensures { MatchOption result (SpellsNone SpellsQuoted text.now)
+        (λ p. SpellsQuoted p.0.now text.now p.1.now) }
 {
     let Some((quote, inside)) = split_ascii(text) else {
         return None;
@@ -59,7 +62,8 @@ fn take_quoted(text: &str) -> Option<(&str, &str)>
 
 /// The bare value at the front, and what follows it.
 fn take_bare(text: &str) -> Option<(&str, &str)>
-    ensures { MatchOption result (SpellsNone SpellsBare text.now) (λ p. SpellsBare p.0.now text.now p.1.now) }
+    ensures { MatchOption result (SpellsNone SpellsBare text.now)
+        (λ p. SpellsBare p.0.now text.now p.1.now) }
 {
     let (value, rest) = split_before(text, b']');
     if value.is_empty() {
@@ -73,7 +77,9 @@ type Test<'a> = (Operator, &'a str);
 
 /// The test at the front, if there is one, and what follows it.
 fn take_test(text: &str) -> Result<Option<(Test<'_>, &str)>, MiniFault>
-    ensures { MatchResult result (λ found. MatchOption found (IsPlainlyNone SpellsTest IsBadTest text.now) (λ p. SpellsTest (shown_test p.0) text.now p.1.now))
+    ensures { MatchResult result
+        (λ found. MatchOption found (IsPlainlyNone SpellsTest IsBadTest text.now)
+        (λ p. SpellsTest (shown_test p.0) text.now p.1.now))
         (λ fault. TellsBad fault (IsBadTest text.now)) }
 {
     let Some((operator, after)) = take_operator(after_blanks(text)) else {
@@ -94,7 +100,9 @@ fn take_test(text: &str) -> Result<Option<(Test<'_>, &str)>, MiniFault>
 
 /// The attribute at the front, if there is one, and what follows it.
 fn take_attr(text: &str) -> Result<Option<(MiniAttr<'_>, &str)>, MiniFault>
-    ensures { MatchResult result (λ found. MatchOption found (IsPlainlyNone SpellsAttr IsBadAttr text.now) (λ p. SpellsAttr (asked_of p.0) text.now p.1.now))
+    ensures { MatchResult result
+        (λ found. MatchOption found (IsPlainlyNone SpellsAttr IsBadAttr text.now)
+        (λ p. SpellsAttr (asked_of p.0) text.now p.1.now))
         (λ fault. TellsBad fault (IsBadAttr text.now)) }
 {
     let Some(inside) = strip(text, '[') else {

@@ -18,18 +18,20 @@ use dom_trees::tree::Tree;
 
 /// A node that mini selectors, and paths of them or of names, are asked of.
 pub trait MiniSelect<'a> {
-    /// The nodes that names find, each below the one before. No name finds the node itself, and nothing where it is unknown.
+    /// The nodes that names find, each below the one before. No name finds the node itself, and
+    /// nothing where it is unknown.
     fn find(&self, path: &[&str]) -> Result<Vec<NodeRef<'a>>, OutOfMemory>;
 
-    /// The nodes that the path finds. One of which nothing can be read finds the node itself, and nothing where it is unknown;
-    /// one with a bad value in quotes finds nothing.
+    /// The nodes that the path finds. One of which nothing can be read finds the node itself, and
+    /// nothing where it is unknown; one with a bad value in quotes finds nothing.
     fn find_descendants(&self, path: &str) -> Result<Vec<NodeRef<'a>>, OutOfMemory>;
 
-    /// The nodes that the path finds; `BadQuotedValue` where one of its values begins with a quote and is empty, or isn't
-    /// closed by that quote.
+    /// The nodes that the path finds; `BadQuotedValue` where one of its values begins with a quote
+    /// and is empty, or isn't closed by that quote.
     fn try_find_descendants(&self, path: &str) -> Result<Vec<NodeRef<'a>>, MiniFault>;
 
-    /// Whether the mini selector at the front of the text is true of the node; false where there is none.
+    /// Whether the mini selector at the front of the text is true of the node; false where there is
+    /// none.
     fn mini_is(&self, selector: &str) -> Result<bool, OutOfMemory>;
 
     /// Whether the mini selector is true of the node. It takes no memory.
@@ -46,7 +48,9 @@ fn refs<'a>(tree: &'a Tree, ids: &[NodeId]) -> Result<Vec<NodeRef<'a>>, OutOfMem
 
 impl<'a> MiniSelect<'a> for NodeRef<'a> {
     fn find(&self, path: &[&str]) -> Result<Vec<NodeRef<'a>>, OutOfMemory>
-        ensures { IfOk result (λ found. found.items ≡ refs_to self.now.tree (found_by_names self.now.tree.now (texts_of path.now) self.now.id)) }
+        ensures { IfOk result
+            (λ found. found.items ≡ refs_to self.now.tree
+            (found_by_names self.now.tree.now (texts_of path.now) self.now.id)) }
     {
         let tree = self.tree;
         let ids = follow_names(tree.allocator(), tree.nodes(), self.id, path)?;
@@ -54,7 +58,9 @@ impl<'a> MiniSelect<'a> for NodeRef<'a> {
     }
 
     fn find_descendants(&self, path: &str) -> Result<Vec<NodeRef<'a>>, OutOfMemory>
-        ensures { IfOk result (λ found. AreRefsFound path.now self.now.tree self.now.id found.items ⊎ (IsBadPath path.now × (found.items ≡ []))) }
+        ensures { IfOk result
+            (λ found. AreRefsFound path.now self.now.tree self.now.id found.items
+            ⊎ (IsBadPath path.now × (found.items ≡ []))) }
     {
         match self.try_find_descendants(path) {
             Ok(found) => Ok(found),
@@ -65,7 +71,9 @@ impl<'a> MiniSelect<'a> for NodeRef<'a> {
     }
 
     fn try_find_descendants(&self, path: &str) -> Result<Vec<NodeRef<'a>>, MiniFault>
-        ensures { MatchResult result (λ found. AreRefsFound path.now self.now.tree self.now.id found.items) (λ fault. RefusesPath fault path.now) }
+        ensures { MatchResult result
+            (λ found. AreRefsFound path.now self.now.tree self.now.id found.items)
+            (λ fault. RefusesPath fault path.now) }
     {
         let tree = self.tree;
         let (_, minis) = parse_selector_list(tree.allocator(), path)?;
@@ -74,7 +82,9 @@ impl<'a> MiniSelect<'a> for NodeRef<'a> {
     }
 
     fn mini_is(&self, selector: &str) -> Result<bool, OutOfMemory>
-        ensures { IfOk result (λ answer. MatchBool answer (IsMet selector.now self.now.tree.now self.now.id) (IsMet selector.now self.now.tree.now self.now.id → ⊥)) }
+        ensures { IfOk result
+            (λ answer. MatchBool answer (IsMet selector.now self.now.tree.now self.now.id)
+            (IsMet selector.now self.now.tree.now self.now.id → ⊥)) }
     {
         match MiniSelector::new(self.tree.allocator(), selector) {
             Ok(mini) => Ok(mini.match_node(self)),

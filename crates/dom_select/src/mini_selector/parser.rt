@@ -2,7 +2,10 @@
 
 ghost use Rattle.std.specs.Prelude.{◌≡◌, map, IfOk, MatchOption, MatchResult};
 ghost use Rattle.std.specs.Option.{option_copied};
-ghost use Rattle.dom_select.specs.MiniGrammar.{IsBadStep, IsPlainlyNone, Maybe, RefusesMini, RefusesPath, SpellsClasses, SpellsId, SpellsLead, SpellsMini, SpellsPath, SpellsStep, SpellsWord, TellsBad};
+ghost use Rattle.dom_select.specs.MiniGrammar.{IsBadStep, IsPlainlyNone, Maybe, RefusesMini};
+ghost use Rattle.dom_select.specs.MiniGrammar.{RefusesPath, SpellsClasses, SpellsId, SpellsLead};
+ghost use Rattle.dom_select.specs.MiniGrammar.{SpellsMini, SpellsPath, SpellsStep, SpellsWord};
+ghost use Rattle.dom_select.specs.MiniGrammar.{TellsBad};
 ghost use Rattle.dom_select.specs.MiniSyntax.{texts_of};
 
 use crate::matcher::syntax::Combinator;
@@ -44,7 +47,8 @@ fn maybe_id(text: &str) -> (Option<&str>, &str)
 
 /// The classes at the front, and what follows them.
 fn take_classes(alloc: Global, text: &str) -> Result<(Vec<&str>, &str), MiniFault>
-    ensures { MatchResult result (λ p. SpellsClasses (texts_of p.0.items) text.now p.1.now) (λ fault. TellsBad fault ⊥) }
+    ensures { MatchResult result (λ p. SpellsClasses (texts_of p.0.items) text.now p.1.now)
+        (λ fault. TellsBad fault ⊥) }
 {
     let mut classes = Vec::new(alloc);
     let mut rest = text;
@@ -55,10 +59,12 @@ fn take_classes(alloc: Global, text: &str) -> Result<(Vec<&str>, &str), MiniFaul
     Ok((classes, rest))
 }
 
-/// The mini selector at the front, and what is left behind it: `NoSelector` where none can be read, and `BadQuotedValue` where one
-/// of its attributes has a value that begins with a quote and is empty or not closed by that quote.
+/// The mini selector at the front, and what is left behind it: `NoSelector` where none can be read,
+/// and `BadQuotedValue` where one of its attributes has a value that begins with a quote and is
+/// empty or not closed by that quote.
 pub fn parse_mini_selector(alloc: Global, text: &str) -> Result<(&str, MiniSelector<'_>), MiniFault>
-    ensures { MatchResult result (λ p. SpellsMini p.1 text.now p.0.now) (λ fault. RefusesMini fault text.now) }
+    ensures { MatchResult result (λ p. SpellsMini p.1 text.now p.0.now)
+        (λ fault. RefusesMini fault text.now) }
 {
     let (lead, after_lead) = maybe_lead(text);
     let (name, after_name) = maybe_name(after_lead);
@@ -80,7 +86,9 @@ pub fn parse_mini_selector(alloc: Global, text: &str) -> Result<(&str, MiniSelec
 
 /// The mini selector at the front with the blanks round it, if there is one, and what follows it.
 fn take_step(alloc: Global, text: &str) -> Result<Option<(MiniSelector<'_>, &str)>, MiniFault>
-    ensures { MatchResult result (λ found. MatchOption found (IsPlainlyNone SpellsStep IsBadStep text.now) (λ p. SpellsStep p.0 text.now p.1.now))
+    ensures { MatchResult result
+        (λ found. MatchOption found (IsPlainlyNone SpellsStep IsBadStep text.now)
+        (λ p. SpellsStep p.0 text.now p.1.now))
         (λ fault. TellsBad fault (IsBadStep text.now)) }
 {
     match parse_mini_selector(alloc, after_blanks(text)) {
@@ -90,13 +98,14 @@ fn take_step(alloc: Global, text: &str) -> Result<Option<(MiniSelector<'_>, &str
     }
 }
 
-/// As many mini selectors as can be read, maybe none, and what is left behind them; blanks may stand round each. Only a
-/// `BadQuotedValue` refuses the list.
+/// As many mini selectors as can be read, maybe none, and what is left behind them; blanks may
+/// stand round each. Only a `BadQuotedValue` refuses the list.
 pub fn parse_selector_list(
     alloc: Global,
     text: &str,
 ) -> Result<(&str, Vec<MiniSelector<'_>>), MiniFault>
-    ensures { MatchResult result (λ p. SpellsPath p.1.items text.now p.0.now) (λ fault. RefusesPath fault text.now) }
+    ensures { MatchResult result (λ p. SpellsPath p.1.items text.now p.0.now)
+        (λ fault. RefusesPath fault text.now) }
 {
     let mut minis = Vec::new(alloc);
     let mut rest = text;

@@ -1,6 +1,7 @@
 //! Fronts of a text: blanks, words, what stands before a character.
 
-ghost use Rattle.std.specs.Prelude.{◌≡◌, ◌<◌, ◌∷◌, ℕ, List, Bool, false, nat_lt, IfSome, MatchOption};
+ghost use Rattle.std.specs.Prelude.{◌≡◌, ◌<◌, ◌∷◌, ℕ, List, Bool, false, nat_lt, IfSome};
+ghost use Rattle.std.specs.Prelude.{MatchOption};
 ghost use Rattle.std.specs.List.{prefix_len, take_while};
 ghost use Rattle.dom_select.specs.Attributes.{SpellsOperator, operator_of};
 ghost use Rattle.dom_select.specs.Grammar.{combinator_of};
@@ -62,7 +63,8 @@ fn len_before(stop: u8, bytes: &[u8]) -> usize
     bytes.len()
 }
 
-/// What stands before this character, and what begins with it; nothing where it doesn't stand there.
+/// What stands before this character, and what begins with it; nothing where it doesn't stand
+/// there.
 pub(crate) fn split_before(text: &str, stop: u8) -> (&str, &str)
     requires { stop < 128 }
     ensures front { result.0.now ≡ take_while (isnt stop) text.now }
@@ -82,14 +84,16 @@ pub(crate) fn after_blanks(text: &str) -> &str
 /// What follows the letter at the front, if it stands there.
 pub(crate) fn strip(text: &str, letter: char) -> Option<&str>
     requires { letter < 128 }
-    ensures { MatchOption result ((rest : List ℕ) → text.now ≡ letter ∷ rest → ⊥) (λ rest. text.now ≡ letter ∷ rest.now) }
+    ensures { MatchOption result ((rest : List ℕ) → text.now ≡ letter ∷ rest → ⊥)
+        (λ rest. text.now ≡ letter ∷ rest.now) }
 {
     text.strip_prefix(letter)
 }
 
 /// The ASCII character at the front, and what follows it.
 pub(crate) fn split_ascii(text: &str) -> Option<(u8, &str)>
-    ensures { MatchOption result (begins (λ c. nat_lt c 128) text.now ≡ false) (λ p. (p.0 < 128) × (text.now ≡ p.0 ∷ p.1.now)) }
+    ensures { MatchOption result (begins (λ c. nat_lt c 128) text.now ≡ false)
+        (λ p. (p.0 < 128) × (text.now ≡ p.0 ∷ p.1.now)) }
 {
     let (first, _) = text.as_bytes().split_first()?;
     if *first >= 128 {
@@ -100,7 +104,8 @@ pub(crate) fn split_ascii(text: &str) -> Option<(u8, &str)>
 
 /// The word at the front, and what follows it.
 pub(crate) fn take_word(text: &str) -> Option<(&str, &str)>
-    ensures { MatchOption result (SpellsNone SpellsWord text.now) (λ p. SpellsWord p.0.now text.now p.1.now) }
+    ensures { MatchOption result (SpellsNone SpellsWord text.now)
+        (λ p. SpellsWord p.0.now text.now p.1.now) }
 {
     let (word, rest) = split_stretch(Stretch::Word, text);
     if word.is_empty() {
@@ -112,7 +117,8 @@ pub(crate) fn take_word(text: &str) -> Option<(&str, &str)>
 /// The word behind the mark at the front, and what follows it.
 pub(crate) fn take_marked(text: &str, mark: char) -> Option<(&str, &str)>
     requires { mark < 128 }
-    ensures { MatchOption result (SpellsNone (SpellsMarked mark) text.now) (λ p. SpellsMarked mark p.0.now text.now p.1.now) }
+    ensures { MatchOption result (SpellsNone (SpellsMarked mark) text.now)
+        (λ p. SpellsMarked mark p.0.now text.now p.1.now) }
 {
     let Some(more) = strip(text, mark) else {
         return None;
@@ -134,7 +140,8 @@ fn combinator_of(sign: u8) -> Option<Combinator>
 
 /// The combinator at the front, with the blanks round its sign, and what follows it.
 pub(crate) fn take_lead(text: &str) -> Option<(Combinator, &str)>
-    ensures { MatchOption result (SpellsNone SpellsLead text.now) (λ p. SpellsLead p.0 text.now p.1.now) }
+    ensures { MatchOption result (SpellsNone SpellsLead text.now)
+        (λ p. SpellsLead p.0 text.now p.1.now) }
 {
     let Some((sign, more)) = split_ascii(after_blanks(text)) else {
         return None;
@@ -161,7 +168,8 @@ fn operator_of(sign: u8) -> Option<Operator>
 
 /// The operator at the front, and what follows it.
 pub(crate) fn take_operator(text: &str) -> Option<(Operator, &str)>
-    ensures { MatchOption result (SpellsNone SpellsOperator text.now) (λ p. SpellsOperator p.0 text.now p.1.now) }
+    ensures { MatchOption result (SpellsNone SpellsOperator text.now)
+        (λ p. SpellsOperator p.0 text.now p.1.now) }
 {
     let Some((sign, more)) = split_ascii(text) else {
         return None;

@@ -14,8 +14,8 @@ pub struct MiniAttr<'a> {
     pub test: Option<(Operator, &'a str)>,
 }
 
-/// A selector of one step: a name, an id, classes and attributes, and how it stands to the step before. Each text is a slice of the
-/// text that was read.
+/// A selector of one step: a name, an id, classes and attributes, and how it stands to the step
+/// before. Each text is a slice of the text that was read.
 #[derive(Drop)]
 pub struct MiniSelector<'a> {
     pub(crate) lead: Option<Combinator>,
@@ -49,16 +49,18 @@ impl<'a> MiniSelector<'a> {
     ghost use Rattle.dom_select.specs.MiniSyntax.{asked_of, combinator_of, has_part, texts_of};
     ghost use Rattle.dom_select.specs.MiniTruth.{mini_holds};
 
-    /// The mini selector at the front of the text, whatever follows it: `NoSelector` where none can be read, and
-    /// `BadQuotedValue` where a value in quotes is empty or isn't closed.
+    /// The mini selector at the front of the text, whatever follows it: `NoSelector` where none can
+    /// be read, and `BadQuotedValue` where a value in quotes is empty or isn't closed.
     pub fn new(alloc: Global, selector: &'a str) -> Result<MiniSelector<'a>, MiniFault>
-        ensures { MatchResult result (λ mini. (rest : List ℕ) × SpellsMini mini selector.now rest) (λ fault. RefusesMini fault selector.now) }
+        ensures { MatchResult result (λ mini. (rest : List ℕ) × SpellsMini mini selector.now rest)
+            (λ fault. RefusesMini fault selector.now) }
     {
         let (_, mini) = parse_mini_selector(alloc, selector)?;
         Ok(mini)
     }
 
-    /// Whether it is true of the node: an element of that name, id and classes, whose attributes are as asked. It takes no memory.
+    /// Whether it is true of the node: an element of that name, id and classes, whose attributes
+    /// are as asked. It takes no memory.
     pub fn match_node(&self, node: &NodeRef<'_>) -> bool
         ensures { result ≡ mini_holds self.now node.now.tree.now node.now.id }
     {

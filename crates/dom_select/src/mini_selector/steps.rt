@@ -1,11 +1,13 @@
 //! The steps of a path, each from some nodes to those that it finds.
 
-ghost use Rattle.std.specs.Prelude.{◌≡◌, ◌++◌, ◌∷◌, [], false, filter, find, IfOk, OnOk, if◌then◌else◌};
+ghost use Rattle.std.specs.Prelude.{◌≡◌, ◌++◌, ◌∷◌, [], false, filter, find, IfOk, OnOk};
+ghost use Rattle.std.specs.Prelude.{if◌then◌else◌};
 ghost use Rattle.dom_links.specs.Forest.{forest_of};
 ghost use Rattle.dom_links.specs.ListMoves.{element_at};
 ghost use Rattle.dom_links.specs.Sound.{IsSoundArena};
 ghost use Rattle.dom_links.specs.Walk.{later, row_on};
-ghost use Rattle.dom_select.specs.MiniPaths.{below_step, found_by_names, found_from, known, named, one_or_none, step_from, step_from_each};
+ghost use Rattle.dom_select.specs.MiniPaths.{below_step, found_by_names, found_from, known, named};
+ghost use Rattle.dom_select.specs.MiniPaths.{one_or_none, step_from, step_from_each};
 ghost use Rattle.dom_select.specs.MiniSyntax.{texts_of};
 ghost use Rattle.dom_select.specs.MiniTruth.{mini_holds};
 
@@ -49,7 +51,9 @@ fn collect_below(
     found: &mut Vec<NodeId>,
 ) -> Result<(), OutOfMemory>
     requires { IsSoundArena nodes.now }
-    ensures { OnOk result (found.new.items ≡ found.old.items ++ below_step (forest_of nodes.now) is_last (mini_holds mini.now (forest_of nodes.now)) start) }
+    ensures { OnOk result
+        (found.new.items ≡ found.old.items ++ below_step (forest_of nodes.now) is_last
+        (mini_holds mini.now (forest_of nodes.now)) start) }
 {
     let mut next = first_place(nodes, start);
     while let Some(place) = next {
@@ -68,7 +72,9 @@ fn collect_row(
     found: &mut Vec<NodeId>,
 ) -> Result<(), OutOfMemory>
     requires { IsSoundArena nodes.now }
-    ensures { OnOk result (found.new.items ≡ found.old.items ++ filter (mini_holds mini.now (forest_of nodes.now)) (row_on (forest_of nodes.now) false first)) }
+    ensures { OnOk result
+        (found.new.items ≡ found.old.items ++ filter (mini_holds mini.now (forest_of nodes.now))
+        (row_on (forest_of nodes.now) false first)) }
 {
     lines_of_a_forest();
     let mut next = first;
@@ -92,7 +98,8 @@ fn is_element(nodes: &[TreeNode], id: NodeId) -> bool
 /// The next element among the later siblings.
 fn next_element(nodes: &[TreeNode], id: NodeId) -> Option<NodeId>
     requires { IsSoundArena nodes.now }
-    ensures { result ≡ find (element_at (forest_of nodes.now)) (later (forest_of nodes.now) false id) }
+    ensures { result ≡ find (element_at (forest_of nodes.now))
+        (later (forest_of nodes.now) false id) }
 {
     lines_of_a_forest();
     let mut next = next_sibling_id(nodes, &id);
@@ -113,7 +120,10 @@ fn collect_next(
     found: &mut Vec<NodeId>,
 ) -> Result<(), OutOfMemory>
     requires { IsSoundArena nodes.now }
-    ensures { OnOk result (found.new.items ≡ found.old.items ++ filter (mini_holds mini.now (forest_of nodes.now)) (one_or_none (find (element_at (forest_of nodes.now)) (later (forest_of nodes.now) false id)))) }
+    ensures { OnOk result
+        (found.new.items ≡ found.old.items ++ filter (mini_holds mini.now (forest_of nodes.now))
+        (one_or_none (find (element_at (forest_of nodes.now))
+        (later (forest_of nodes.now) false id)))) }
 {
     match next_element(nodes, id) {
         Some(next) => push_if(found, next, holds_at(nodes, next, mini)),
@@ -130,7 +140,8 @@ fn collect_step(
     found: &mut Vec<NodeId>,
 ) -> Result<(), OutOfMemory>
     requires { IsSoundArena nodes.now }
-    ensures { OnOk result (found.new.items ≡ found.old.items ++ step_from (forest_of nodes.now) is_last mini.now id) }
+    ensures { OnOk result
+        (found.new.items ≡ found.old.items ++ step_from (forest_of nodes.now) is_last mini.now id) }
 {
     lines_of_a_forest();
     match mini.combinator() {
@@ -150,7 +161,8 @@ fn step_from_each(
     mini: &MiniSelector<'_>,
 ) -> Result<Vec<NodeId>, OutOfMemory>
     requires { IsSoundArena nodes.now }
-    ensures { IfOk result (λ found. found.items ≡ step_from_each (forest_of nodes.now) is_last mini.now from.now) }
+    ensures { IfOk result
+        (λ found. found.items ≡ step_from_each (forest_of nodes.now) is_last mini.now from.now) }
 {
     let mut found = Vec::new(alloc);
     for id in from {
@@ -208,7 +220,8 @@ pub(crate) fn follow_names(
     path: &[&str],
 ) -> Result<Vec<NodeId>, OutOfMemory>
     requires { IsSoundArena nodes.now }
-    ensures { IfOk result (λ found. found.items ≡ found_by_names (forest_of nodes.now) (texts_of path.now) id) }
+    ensures { IfOk result
+        (λ found. found.items ≡ found_by_names (forest_of nodes.now) (texts_of path.now) id) }
 {
     let mut found = known(alloc, nodes, id)?;
     for (n, name) in path.iter().enumerate() {

@@ -5,7 +5,8 @@ ghost use Rattle.std.specs.List.{list_all, list_any};
 ghost use Rattle.std.specs.Option.{option_copied};
 ghost use Rattle.dom_nodes.specs.Words.{class_words, is_among};
 ghost use Rattle.dom_select.specs.MiniSyntax.{asked_of};
-ghost use Rattle.dom_select.specs.MiniTruth.{asked_holds, attr_passes, element_passes, id_holds, name_holds, node_passes, test_passes};
+ghost use Rattle.dom_select.specs.MiniTruth.{asked_holds, attr_passes, element_passes, id_holds};
+ghost use Rattle.dom_select.specs.MiniTruth.{name_holds, node_passes, test_passes};
 
 use crate::matcher::comparisons::compares;
 use crate::matcher::syntax::Operator;
@@ -36,7 +37,8 @@ fn id_holds(id: Option<&str>, element: &Element) -> bool
 }
 
 fn classes_hold(classes: &[&str], element: &Element) -> bool
-    ensures { result ≡ list_all (λ class. is_among class.now (class_words element.now.attrs)) classes.now }
+    ensures { result ≡ list_all
+        (λ class. is_among class.now (class_words element.now.attrs)) classes.now }
 {
     classes.iter().all(|class| element.has_class(class))
 }
@@ -73,20 +75,23 @@ fn asked_holds(asked: &MiniAttr<'_>, element: &Element) -> bool
 }
 
 fn attrs_hold(attrs: &[MiniAttr<'_>], element: &Element) -> bool
-    ensures { result ≡ list_all (λ asked. asked_holds element.now (asked_of asked).key (asked_of asked).test) attrs.now }
+    ensures { result ≡ list_all
+        (λ asked. asked_holds element.now (asked_of asked).key (asked_of asked).test) attrs.now }
 {
     attrs.iter().all(|asked| asked_holds(asked, element))
 }
 
 impl<'a> MiniSelector<'a> {
     fn has_classes(&self, element: &Element) -> bool
-        ensures { result ≡ list_all (λ class. is_among class (class_words element.now.attrs)) self.now.classes }
+        ensures { result ≡ list_all
+            (λ class. is_among class (class_words element.now.attrs)) self.now.classes }
     {
         classes_hold(self.classes.as_slice(), element)
     }
 
     fn has_attrs(&self, element: &Element) -> bool
-        ensures { result ≡ list_all (λ asked. asked_holds element.now asked.key asked.test) self.now.attrs }
+        ensures { result ≡ list_all
+            (λ asked. asked_holds element.now asked.key asked.test) self.now.attrs }
     {
         attrs_hold(self.attrs.as_slice(), element)
     }

@@ -42,7 +42,8 @@ fn data_of(alloc: Global, kind: Kind<'_>) -> Result<NodeData, Fail> {
     }
 }
 
-/// How many elements the selector selects in a document of these nodes, which are numbered from 1 on.
+/// How many elements the selector selects in a document of these nodes, which are numbered from 1
+/// on.
 fn count(alloc: Global, rows: &[Row<'_>], selector: &str) -> Result<usize, Fail> {
     let mut tree = Tree::new(alloc, NodeData::Document)?;
     for row in rows {

@@ -155,7 +155,8 @@ fn asks_for_attributes(rt: HostRuntime) -> Result<(), Fail> {
     Ok(())
 }
 
-/// A document with the SVG element `linearGradient`, which has attributes of two namespaces, and a text in it.
+/// A document with the SVG element `linearGradient`, which has attributes of two namespaces, and a
+/// text in it.
 fn graphic(alloc: Global) -> Result<Tree, Fail> {
     let mut tree = Tree::new(alloc, NodeData::Document)?;
     let mut attrs = Attrs::new(alloc);

@@ -1,6 +1,7 @@
 //! Walks below a node that may be stopped from going below another. They take no memory.
 
-ghost use Rattle.std.specs.Prelude.{◌≡◌, ◌≤◌, ◌+◌, ◌^◌, ◌<◌, ◌∷◌, ◌++◌, ℕ, List, Bool, Some, [], not, length, IfNone, IfSome};
+ghost use Rattle.std.specs.Prelude.{◌≡◌, ◌≤◌, ◌+◌, ◌^◌, ◌<◌, ◌∷◌, ◌++◌, ℕ, List, Bool, Some, []};
+ghost use Rattle.std.specs.Prelude.{not, length, IfNone, IfSome};
 ghost use Rattle.dom_links.specs.Forest.{children_of, forest_of};
 ghost use Rattle.dom_links.specs.Sound.{IsSoundArena};
 ghost use Rattle.dom_links.specs.Trees.{trees};
@@ -22,7 +23,9 @@ pub(crate) struct Place {
 /// Where a walk below the node begins.
 pub(crate) fn first_place(nodes: &[TreeNode], start: NodeId) -> Option<Place>
     requires { IsSoundArena nodes.now }
-    ensures all { (stops : ℕ → Bool) → ahead stops (forest_of nodes.now) result ≡ walk_until stops (trees (forest_of nodes.now) (children_of (forest_of nodes.now) start)) }
+    ensures all { (stops : ℕ → Bool)
+        → ahead stops (forest_of nodes.now) result ≡ walk_until stops
+        (trees (forest_of nodes.now) (children_of (forest_of nodes.now) start)) }
     ensures place { IsPlace (forest_of nodes.now) result }
 {
     lines_of_a_forest();
@@ -35,7 +38,8 @@ pub(crate) fn first_place(nodes: &[TreeNode], start: NodeId) -> Option<Place>
 fn place_below(nodes: &[TreeNode], place: &Place) -> Option<Place>
     requires sound { IsSoundArena nodes.now }
     requires place { IsPlace (forest_of nodes.now) (Some place.now) }
-    ensures inner { (stops : ℕ → Bool) → IfSome result (λ inner. ahead stops (forest_of nodes.now) result ≡
+    ensures inner { (stops : ℕ → Bool)
+        → IfSome result (λ inner. ahead stops (forest_of nodes.now) result ≡
         walk_until stops (trees (forest_of nodes.now) (children_of (forest_of nodes.now) place.now.id)) ++ behind stops (forest_of nodes.now) place.now) }
     ensures leaf { IfNone result (children_of (forest_of nodes.now) place.now.id ≡ []) }
     ensures place { IsPlace (forest_of nodes.now) result }
@@ -53,7 +57,8 @@ fn place_below(nodes: &[TreeNode], place: &Place) -> Option<Place>
 fn place_behind(nodes: &[TreeNode], place: &Place) -> Option<Place>
     requires sound { IsSoundArena nodes.now }
     requires place { IsPlace (forest_of nodes.now) (Some place.now) }
-    ensures on { (stops : ℕ → Bool) → ahead stops (forest_of nodes.now) result ≡ behind stops (forest_of nodes.now) place.now }
+    ensures on { (stops : ℕ → Bool)
+        → ahead stops (forest_of nodes.now) result ≡ behind stops (forest_of nodes.now) place.now }
     ensures place { IsPlace (forest_of nodes.now) result }
 {
     lines_of_a_forest();
@@ -83,7 +88,9 @@ fn place_behind(nodes: &[TreeNode], place: &Place) -> Option<Place>
 pub(crate) fn next_place(nodes: &[TreeNode], place: &Place, enters: bool) -> Option<Place>
     requires sound { IsSoundArena nodes.now }
     requires place { IsPlace (forest_of nodes.now) (Some place.now) }
-    ensures on { (stops : ℕ → Bool) → enters ≡ not (stops place.now.id) → ahead stops (forest_of nodes.now) (Some place.now) ≡ place.now.id ∷ ahead stops (forest_of nodes.now) result }
+    ensures on { (stops : ℕ → Bool) → enters ≡ not (stops place.now.id)
+        → ahead stops (forest_of nodes.now) (Some place.now) ≡ place.now.id ∷ ahead stops
+        (forest_of nodes.now) result }
     ensures place { IsPlace (forest_of nodes.now) result }
 {
     lines_of_a_forest();
