@@ -20,7 +20,7 @@ use Rattle.dom_links.specs.Forest.{Forest, children_of}
 use Rattle.dom_links.specs.Texts.{text_at, text_in, text_of}
 use Rattle.dom_links.specs.Trees.{Trees, NoTrees, Tree, trees, walk}
 use Rattle.dom_trees.specs.Views.{node_is}
-use Rattle.dom_markup.specs.Names.{is_among}
+use Rattle.dom_nodes.specs.Words.{is_among}
 use Rattle.dom_md.specs.Formatted.{Event, block_names, cell_names, line_names, events, events_below, folded, formatted_below, joined_texts, node_events, step}
 use Rattle.dom_md.specs.Formatted.Event.{opens, closes, has_text, keeps_text}
 use Rattle.dom_md.specs.FormatOps.{AreUtf8, IsFolded}

@@ -1,5 +1,5 @@
 -- The stack of what is still to be formatted.
-use Rattle.std.proofs.Common.{◌≡◌, ℕ, ◌+◌, ◌<◌, ◌≤◌, true, false, List, [], ◌∷◌, ◌++◌, length, Option, Some, refl, sym, ◌∙◌, ap, subst, arith, slice_get, zero, suc, Result, Ok, Err, OnOk}
+use Rattle.std.proofs.Common.{◌≡◌, ℕ, ◌+◌, ◌<◌, ◌≤◌, true, false, List, [], ◌∷◌, ◌++◌, length, Option, Some, None, refl, sym, ◌∙◌, ap, subst, arith, slice_get, zero, suc, Result, Ok, Err, OnOk}
 use Rattle.dom_nodes.specs.declared.node_data.NodeData.{NodeData}
 use Rattle.dom_nodes.specs.declared.node_data.NodeData.TheVariants.{Document, Fragment, Doctype, Text, Comment, Element as AnElement, ProcessingInstruction}
 use Rattle.dom_nodes.specs.declared.node_data.TreeNode.{TreeNode}
@@ -14,10 +14,10 @@ use Rattle.dom_markup.proofs.RowLemmas.{known_node}
 use Rattle.std.proofs.Common.{inl, inr}
 use Rattle.dom_links.specs.Forest.{Forest, children_of}
 use Rattle.dom_links.specs.Sound.{IsForest}
-use Rattle.dom_links.specs.Trees.{trees, trees_to}
+use Rattle.dom_links.specs.Trees.{NoTrees, trees, trees_to}
 use Rattle.dom_links.specs.Walk.{IsNodeOf, IsWithin, row_on}
 use Rattle.dom_links.proofs.Later.{begins, follows, tree_at}
-use Rattle.dom_markup.specs.Ops.{row_weight, trees_weight, weight_below}
+use Rattle.dom_markup.specs.Pending.{row_weight, trees_weight, weight_below}
 use Rattle.dom_md.specs.declared.formatting.stack.FormatOp.{FormatOp}
 use Rattle.dom_md.specs.declared.formatting.stack.FormatOp.TheVariants.{Open, Close}
 use Rattle.dom_nodes.specs.Kinds.{is_top}
@@ -132,6 +132,21 @@ row-tree forest good n node is known =
     let whole : row_events forest (Some n) ≡ node_events node.content (joined_texts forest (trees forest (children_of forest n))) (events_below forest n) ++ row_events forest node.next_sibling =
     rw (tree_at forest n good known, is.content_is, rest) refl in
     whole ∙ ap (λ t. t ++ row_events forest node.next_sibling) (node-parts forest n node.content is.content_is)
+
+-- no node: no row
+pub no_row : (forest : Forest) (first : Option ℕ) → first ≡ None → trees forest (row_on forest false first) ≡ NoTrees
+no_row forest first none = rw none (trees-none forest)
+
+row-weight : (forest : Forest) → IsForest forest → (n : ℕ) (node : TreeNode) → IsNodeOf forest n node → n < length forest.content →
+    row_weight forest (Some n) ≡ 2 + weight_below forest n + row_weight forest node.next_sibling
+row-weight forest good n node is known =
+    let rest = (follows forest false n node.next_sibling good is.next_is).rest in
+    rw (tree_at forest n good known, rest) (omega arith)
+
+pub opened-weight : (forest : Forest) → IsForest forest → (n : ℕ) (node : TreeNode) → IsNodeOf forest n node → n < length forest.content → (old one new : ℕ) →
+    one ≡ row_weight forest node.next_sibling + old → new ≤ 1 + weight_below forest n + one →
+    new < row_weight forest (Some n) + old
+opened-weight forest good n node is known old one new first second = omega (arith, row-weight forest good n node is known, first, second)
 
 pub next-within : (forest : Forest) → IsForest forest → (n : ℕ) (node : TreeNode) → IsNodeOf forest n node → IsWithin forest node.next_sibling
 next-within forest good n node is = (follows forest false n node.next_sibling good is.next_is).within

@@ -12,7 +12,7 @@ use Rattle.dom_links.specs.Texts.{text_at}
 use Rattle.dom_links.specs.Trees.{Trees, NoTrees, Tree, trees, walk}
 use Rattle.dom_nodes.specs.Kinds.{is_top}
 use Rattle.dom_trees.specs.Views.{node_is}
-use Rattle.dom_markup.specs.Names.{is_among}
+use Rattle.dom_nodes.specs.Words.{is_among}
 
 -- ---- names
 

@@ -3,7 +3,7 @@
 ghost use Rattle.std.specs.Prelude.{◌≡◌, IfOk, OnOk, encode_utf8_all, false, string_bytes};
 ghost use Rattle.std.specs.List.{list_any};
 ghost use Rattle.std.specs.Str.{bytes_eq, chars};
-ghost use Rattle.dom_markup.specs.Names.{is_among};
+ghost use Rattle.dom_nodes.specs.Words.{is_among};
 ghost use Rattle.dom_md.specs.Formatted.{block_names, cell_names, drop_spaces, ends_with};
 ghost use Rattle.dom_md.specs.Formatted.{ends_with_whitespace, is_fresh, is_parted};
 ghost use Rattle.dom_md.specs.Formatted.{joined_words, line_names, spaced_on, with_close};

@@ -2,7 +2,7 @@ use Rattle.std.proofs.Common.{◌≡◌, ◌∙◌, sym, ap, refl, true, false, 
 use Rattle.std.specs.Prelude.{codes}
 use Rattle.std.specs.Str.{bytes_eq}
 use Rattle.dom_links.specs.Forest.{forest_of}
-use Rattle.dom_markup.proofs.OpsLemmas.{on_ok, on_ok-any}
+use Rattle.dom_markup.proofs.PendingLemmas.{on_ok, on_ok-any}
 use Rattle.dom_markup.proofs.RowLemmas.{known_node}
 use Rattle.dom_md.specs.declared.formatting.stack.FormatOp.TheVariants.{Close}
 use Rattle.dom_md.proofs.StackLemmas.{other-node, other-rest, other-weight, pushed, pre-rest, children-rest, children-weight, children-within}

@@ -1,7 +1,6 @@
 use Rattle.dom_links.specs.Forest.{forest_of}
-use Rattle.dom_markup.proofs.OpsLemmas.{opened-weight}
 use Rattle.dom_md.specs.FormatOps.{ops_events, weight}
-use Rattle.dom_md.proofs.StackLemmas.{next-within, opened, on_ok-both, on_ok-one}
+use Rattle.dom_md.proofs.StackLemmas.{next-within, opened, opened-weight, on_ok-both, on_ok-one}
 use Rattle.std.proofs.Common.{string_bytes}
 use Rattle.dom_md.proofs.formatting.stack.open_node.Goals as goal
 

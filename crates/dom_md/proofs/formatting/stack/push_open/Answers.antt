@@ -1,7 +1,6 @@
 use Rattle.std.proofs.Common.{arith, refl}
 use Rattle.dom_links.specs.Forest.{forest_of}
-use Rattle.dom_markup.proofs.RowLemmas.{no_row}
-use Rattle.dom_md.proofs.StackLemmas.{row_pushed}
+use Rattle.dom_md.proofs.StackLemmas.{no_row, row_pushed}
 use Rattle.dom_md.proofs.formatting.stack.push_open.Goals as goal
 
 pub returns-in_ok-push_op : goal.returns-in_ok-push_op
