@@ -9,4 +9,4 @@ returns-in_err-write_number g c =
     rw p.1 (beginning-more _ _ _ (10 ∷ []) c.in_err-write_number.ensures)
 
 pub returns : goal.returns
-returns g c = then-writes _ _ _ c.write_bytes.result _ _ _ c.in_ok-write_number.ensures c.write_bytes.ensures refl
+returns g c = then-writes _ _ _ c.write_bytes.result _ _ _ c.in_ok-write_number.ensures c.write_bytes.ensures.written refl
