@@ -113,7 +113,7 @@ fn names_of_the_crate(rt: HostRuntime) -> Result<(), Fail> {
     assert!(rt; matches!(body.prev_sibling_element(), Some(found) if found.id == node(4)));
     let head = NodeRef::new(node(4), &tree);
     assert!(rt; matches!(head.next_sibling_element(), Some(found) if found.id == node(6)));
-    assert_eq!(rt; child_nodes(&tree, &node(2), false).count(), 4);
+    assert!(rt; child_nodes(&tree, &node(2), false).next() == Some(node(3)));
     assert!(rt; child_nodes(&tree, &node(2), true).next() == Some(node(6)));
     assert_eq!(rt; ancestor_nodes(&tree, &node(6), None).count(), 2);
     assert_eq!(rt; descendant_nodes(&tree, &node(0)).count(), 6);

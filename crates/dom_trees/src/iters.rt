@@ -1,7 +1,8 @@
 //! The nodes around a node of a tree, by number. They take no memory.
 
-ghost use Rattle.std.specs.Prelude.{◌≡◌};
+ghost use Rattle.std.specs.Prelude.{◌≡◌, ◌≤◌, length};
 ghost use Rattle.dom_links.specs.Forest.{children_of};
+ghost use Rattle.dom_links.specs.Lists.{IsDistinct};
 ghost use Rattle.dom_links.specs.Trees.{ancestors, in_order, limited, walk_below};
 
 use crate::tree::Tree;
@@ -29,7 +30,10 @@ pub fn ancestor_nodes<'a>(
 
 /// The nodes below a node, each before what is below it.
 pub fn descendant_nodes<'a>(tree: &'a Tree, id: &NodeId) -> DescendantNodes<'a>
-    ensures { result.left ≡ walk_below tree.now id.now }
+    ensures all { result.left ≡ walk_below tree.now id.now }
+    ensures whole { result.whole ≡ walk_below tree.now id.now }
+    ensures once { IsDistinct result.left }
+    ensures few { length result.left ≤ 4294967295 }
 {
     tree.descendant_ids_of_it(id)
 }
