@@ -20,6 +20,7 @@ pub(crate) mod copies;
 pub mod descendants;
 pub(crate) mod has;
 pub(crate) mod joined;
+pub mod matcher_iter;
 pub(crate) mod matches;
 pub(crate) mod names;
 pub(crate) mod nth;

@@ -3,6 +3,7 @@
 use crate::css::{CssLocalName, CssString, ToCss};
 use crate::matcher::Matcher;
 use crate::matcher::caches::SelectorCaches;
+use crate::matcher::matcher_iter::MatcherIter;
 use crate::matcher::several::{Matches, select_below_all};
 use crate::node_select::NodeSelect;
 use crate::pseudo_class::{NonTSPseudoClass, PseudoElement};
@@ -130,6 +131,14 @@ fn selects_below_several(rt: HostRuntime) -> Result<(), Fail> {
     assert_eq!(rt; found.as_slice(), [3, 1, 5, 7].as_slice());
     let mut matches = Matches::new(&tree, &[], &all)?;
     assert!(rt; matches.next().is_none());
+    for (count, wanted) in [(0, 0), (1, 1), (3, 4)] {
+        let mut given: usize = 0;
+        for node in MatcherIter::new(&tree, &roots[1..][..count], &all)? {
+            assert!(rt; all.match_element(&node));
+            given += 1;
+        }
+        assert_eq!(rt; given, wanted);
+    }
     Ok(())
 }
 
