@@ -131,13 +131,18 @@ fn selects_below_several(rt: HostRuntime) -> Result<(), Fail> {
     assert_eq!(rt; found.as_slice(), [3, 1, 5, 7].as_slice());
     let mut matches = Matches::new(&tree, &[], &all)?;
     assert!(rt; matches.next().is_none());
-    for (count, wanted) in [(0, 0), (1, 1), (3, 4)] {
-        let mut given: usize = 0;
-        for node in MatcherIter::new(&tree, &roots[1..][..count], &all)? {
-            assert!(rt; all.match_element(&node));
-            given += 1;
+    let several = [number(1)?, number(5)?, number(0)?];
+    let cases: [(&[NodeId], &[usize]); 3] = [
+        (&[], &[]),
+        (&several[..1], &[3]),
+        (&several, &[3, 1, 5, 7]),
+    ];
+    for (roots, wanted) in cases {
+        let mut found = Vec::new(alloc);
+        for node in MatcherIter::new(&tree, roots, &all)? {
+            found.push(node.id.value())?;
         }
-        assert_eq!(rt; given, wanted);
+        assert_eq!(rt; found.as_slice(), wanted);
     }
     Ok(())
 }
