@@ -1,7 +1,7 @@
 //! Copies of selectors in memory of their own.
 
 ghost use Rattle.std.specs.Prelude.{◌≡◌, ◌++◌, ◌∷◌, [], map, IfOk, OnOk};
-ghost use Rattle.dom_select.specs.ValuesAsTrees.{read_compound, read_list, read_nested};
+ghost use Rattle.dom_select.specs.ValuesAsTrees.{read_compound, read_nested};
 ghost use Rattle.dom_select.specs.ValuesAsTrees.{read_selector, read_step};
 
 use crate::matcher::syntax::{Attribute, Comparison, Compound, Nested, Part, Selector, Step};

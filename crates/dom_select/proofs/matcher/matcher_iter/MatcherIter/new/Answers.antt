@@ -1,4 +1,4 @@
-use Rattle.std.proofs.Common.{◌≡◌, ℕ, List, [], length, ap, sym, arith}
+use Rattle.std.proofs.Common.{◌≡◌, [], length, ap, sym, arith}
 use Rattle.std.proofs.lemmas.Bool.{eq-eqb}
 use Rattle.dom_select.specs.Selected.{walks_below}
 use Rattle.dom_select.proofs.FollowLemmas.{is_nil}
