@@ -2,11 +2,12 @@
 
 ghost use Rattle.std.specs.Prelude.{◌≡◌, ◌≤◌, [], List, codes, find, length, string_bytes};
 ghost use Rattle.std.specs.Prelude.{IfErr, IfOk, IfSome, MatchResult};
+ghost use Rattle.std.specs.Option.{option_copied};
 ghost use Rattle.dom_links.specs.Forest.{Forest, children_of};
 ghost use Rattle.dom_links.specs.Growth.{lone};
 ghost use Rattle.dom_links.specs.ListMoves.{element_at};
 ghost use Rattle.dom_links.specs.Texts.{text_of};
-ghost use Rattle.dom_trees.specs.Views.{page_part};
+ghost use Rattle.dom_trees.specs.Views.{base_uri, page_part};
 ghost use Rattle.dom_markup.specs.Documents.{IsHtml, IsNodeAt, IsSpelled};
 ghost use Rattle.dom_markup.specs.Html.{html_of, inner_html_of};
 ghost use Rattle.dom_markup.specs.Markup.{Item, SpellsItemsUpTo};
@@ -168,6 +169,13 @@ impl Document {
         ensures { IsNodeAt self.now.tree (page_part self.now.tree (codes "body")) result }
     {
         self.tree.body()
+    }
+
+    /// The value of the first `href` of the head's first child `base`.
+    pub fn base_uri(&self) -> Option<&str>
+        ensures { option_copied result ≡ base_uri self.now.tree }
+    {
+        self.tree.base_uri()
     }
 
     /// The document's HTML. That of a plain document spells it, so `parse` reads it back.

@@ -9,6 +9,7 @@ pub mod Has
 pub mod Leftward
 pub mod ListsAsTrees
 pub mod Marks
+pub mod MatcherIters
 pub mod Meaning
 pub mod MiniGrammar
 pub mod MiniLetters

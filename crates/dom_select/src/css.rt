@@ -27,6 +27,22 @@ pub trait ToCss {
 #[derive(Drop)]
 pub struct CssString(pub Text);
 
+impl CssString {
+    /// The string of that text.
+    pub fn new(alloc: Global, text: &str) -> Result<CssString, OutOfMemory>
+        ensures { IfOk result (λ made. made.0 ≡ text.now) }
+    {
+        Ok(CssString(Text::new(alloc, text)?))
+    }
+
+    /// The same string in memory of its own.
+    pub fn try_clone(&self) -> Result<CssString, OutOfMemory>
+        ensures { IfOk result (λ made. made ≡ self.now) }
+    {
+        Ok(CssString(self.0.try_clone()?))
+    }
+}
+
 impl ToCss for CssString {
     ghost css = { λ text. css_text text.0 };
 
@@ -40,6 +56,22 @@ impl ToCss for CssString {
 /// A local name, which is written as it is.
 #[derive(Drop)]
 pub struct CssLocalName(pub LocalName);
+
+impl CssLocalName {
+    /// That name. Asks for memory only where it isn't known.
+    pub fn new(alloc: Global, name: &str) -> Result<CssLocalName, OutOfMemory>
+        ensures { IfOk result (λ made. made.0 ≡ name.now) }
+    {
+        Ok(CssLocalName(LocalName::new(alloc, name)?))
+    }
+
+    /// The same name.
+    pub fn try_clone(&self) -> Result<CssLocalName, OutOfMemory>
+        ensures { IfOk result (λ made. made ≡ self.now) }
+    {
+        Ok(CssLocalName(self.0.try_clone()?))
+    }
+}
 
 impl ToCss for CssLocalName {
     ghost css = { λ name. name.0 };

@@ -2,9 +2,12 @@
 
 use crate::fault::SelectorFault;
 use crate::matcher::caches::SelectorCaches;
-use crate::matcher::matches::means;
+use crate::matcher::copies::copy_selectors;
+use crate::matcher::matches::{is_meant, means};
 use crate::matcher::parser::{letters, parse};
+pub use crate::matcher::syntax::Selector as InnerSelector;
 use crate::matcher::syntax::Selector;
+use dom_nodes::fault::OutOfMemory;
 use dom_trees::node_ref::NodeRef;
 use std::alloc::Global;
 use std::marker::Model;
@@ -13,9 +16,11 @@ pub(crate) mod attributes;
 pub mod caches;
 pub(crate) mod chains;
 pub(crate) mod comparisons;
+pub(crate) mod copies;
 pub mod descendants;
 pub(crate) mod has;
 pub(crate) mod joined;
+pub mod matcher_iter;
 pub(crate) mod matches;
 pub(crate) mod names;
 pub(crate) mod nth;
@@ -54,6 +59,7 @@ impl Matcher {
     ghost use Rattle.dom_select.specs.Grammar.{Refused, StandsFor};
     ghost use Rattle.dom_select.specs.Meaning.{Means};
     ghost use Rattle.dom_select.specs.Spelling.{Decides};
+    ghost use Rattle.dom_select.specs.ValuesAsTrees.{read_list};
 
     /// Reads a selector's text. `UnknownPseudoClass` comes only where the text stands for nothing
     /// and has a `:`, `TooDeep` only where it stands for nothing and has 65 `(`, `Memory` where
@@ -65,6 +71,21 @@ impl Matcher {
         let letters = letters(alloc, text)?;
         let selectors = parse(alloc, &letters)?;
         Ok(Matcher { selectors })
+    }
+
+    /// The same selectors in memory of their own.
+    pub fn try_clone(&self) -> Result<Matcher, OutOfMemory>
+        ensures { IfOk result (λ made. made ≡ self.now) }
+    {
+        let copies = copy_selectors(*self.selectors.allocator(), &self.selectors)?;
+        Ok(Matcher { selectors: copies })
+    }
+
+    /// The selectors of the list, in their order.
+    pub fn selectors(&self) -> &[InnerSelector]
+        ensures { read_list result.now ≡ self.now }
+    {
+        &self.selectors
     }
 
     /// Whether one of the selectors means the node; false for an unknown number. It takes no
@@ -88,5 +109,20 @@ impl Matcher {
     {
         let tree = caches.tree();
         means(&self.selectors, tree, caches, node.id)
+    }
+}
+
+impl InnerSelector {
+    ghost use Rattle.std.specs.Prelude.{◌∷◌, []};
+    ghost use Rattle.dom_select.specs.Meaning.{Means};
+    ghost use Rattle.dom_select.specs.Spelling.{Decides};
+    ghost use Rattle.dom_select.specs.ValuesAsTrees.{read_list};
+
+    /// Whether this selector alone means the node; false for an unknown number. It takes no memory.
+    pub fn match_node(&self, node: &NodeRef<'_>) -> bool
+        ensures { Decides result (Means (read_list (self.now ∷ [])) node.now.tree.now node.now.id) }
+    {
+        let mut caches = SelectorCaches::none(node.tree);
+        is_meant(self, node.tree, &mut caches, node.id)
     }
 }

@@ -1,11 +1,12 @@
 //! Children and nodes below that are found by their names, over an arena's nodes.
 
-ghost use Rattle.std.specs.Prelude.{◌≡◌, IfOk};
+ghost use Rattle.std.specs.Prelude.{◌≡◌, IfOk, MatchBool};
+ghost use Rattle.std.specs.Fn.{FnReturnsAt};
 ghost use Rattle.dom_links.specs.Forest.{forest_of};
 ghost use Rattle.dom_links.specs.Sound.{IsSoundArena};
 ghost use Rattle.dom_select.specs.MiniPaths.{found_by_names};
 ghost use Rattle.dom_select.specs.MiniSyntax.{texts_of};
-ghost use Rattle.dom_select.specs.Traversals.{child_by_names};
+ghost use Rattle.dom_select.specs.Traversals.{FindsChild, IsFailing, IsPassing, child_by_names};
 ghost use Rattle.dom_trees.specs.Views.{child_named, has_local_name};
 
 use crate::mini_selector::steps::follow_names;
@@ -34,7 +35,45 @@ fn is_named(nodes: &[TreeNode], id: NodeId, name: &str) -> bool
     }
 }
 
+/// Whether the node is an element that passes the test.
+fn passes<F: Fn(&TreeNode) -> bool>(nodes: &[TreeNode], id: NodeId, test: &F) -> bool
+    requires sound { IsSoundArena nodes.now }
+    requires callable { F.IsAlwaysCallable test.now }
+    ensures { MatchBool result
+        (IsPassing (FnReturnsAt F.Fn test.now) (forest_of nodes.now) id)
+        (IsFailing (FnReturnsAt F.Fn test.now) (forest_of nodes.now) id) }
+{
+    let Some(node) = find_node(nodes, id) else {
+        return false;
+    };
+    if !node.is_element() {
+        return false;
+    }
+    test(node)
+}
+
 impl Traversal {
+    /// The first child that is an element which passes the test; none where the number is unknown.
+    pub fn find_child_element<F: Fn(&TreeNode) -> bool + Drop>(
+        nodes: &[TreeNode],
+        id: NodeId,
+        f: F,
+    ) -> Option<NodeId>
+        requires sound { IsSoundArena nodes.now }
+        requires callable { F.IsAlwaysCallable f }
+        ensures { FindsChild (FnReturnsAt F.Fn f) (forest_of nodes.now) id result }
+    {
+        lines_of_a_forest();
+        let mut next = first_child_id(nodes, &id);
+        while let Some(child) = next {
+            if passes(nodes, child, &f) {
+                return Some(child);
+            }
+            next = next_sibling_id(nodes, &child);
+        }
+        None
+    }
+
     /// The first child that is an element of that local name; none where the number is unknown.
     pub fn find_child_element_by_name(nodes: &[TreeNode], id: NodeId, name: &str) -> Option<NodeId>
         requires { IsSoundArena nodes.now }

@@ -301,5 +301,8 @@ fn tells_of_the_whole_document(rt: HostRuntime) -> Result<(), Fail> {
     assert!(rt; matches!(document.head(), Some(head) if head.node_name() == Some("head")));
     assert!(rt; matches!(document.body(), Some(body) if body.node_name() == Some("body")));
     assert!(rt; Document::new(alloc)?.body().is_none());
+    assert!(rt; document.base_uri().is_none());
+    let based = "<html><head><base href=\"a/\"><base href=\"b/\"></head></html>";
+    assert!(rt; Document::parse(alloc, based)?.base_uri() == Some("a/"));
     Ok(())
 }

@@ -382,3 +382,17 @@ fn follow_from<'a>(
     }
     None
 }
+
+/// Whether the selector means the node.
+pub(crate) fn is_meant(
+    selector: &Selector,
+    tree: &Tree,
+    caches: &mut SelectorCaches<'_>,
+    id: NodeId,
+) -> bool
+    requires { caches.old ≡ tree.now }
+    ensures { IsTrue result ↔ Means (read_list (selector.now ∷ [])) tree.now id }
+{
+    let start = Start::Anywhere;
+    reaches(&start, &selector.first, &selector.rest, tree, caches, id)
+}

@@ -3,6 +3,7 @@
 use crate::css::{CssLocalName, CssString, ToCss};
 use crate::matcher::Matcher;
 use crate::matcher::caches::SelectorCaches;
+use crate::matcher::matcher_iter::MatcherIter;
 use crate::matcher::several::{Matches, select_below_all};
 use crate::node_select::NodeSelect;
 use crate::pseudo_class::{NonTSPseudoClass, PseudoElement};
@@ -130,6 +131,19 @@ fn selects_below_several(rt: HostRuntime) -> Result<(), Fail> {
     assert_eq!(rt; found.as_slice(), [3, 1, 5, 7].as_slice());
     let mut matches = Matches::new(&tree, &[], &all)?;
     assert!(rt; matches.next().is_none());
+    let several = [number(1)?, number(5)?, number(0)?];
+    let cases: [(&[NodeId], &[usize]); 3] = [
+        (&[], &[]),
+        (&several[..1], &[3]),
+        (&several, &[3, 1, 5, 7]),
+    ];
+    for (roots, wanted) in cases {
+        let mut found = Vec::new(alloc);
+        for node in MatcherIter::new(&tree, roots, &all)? {
+            found.push(node.id.value())?;
+        }
+        assert_eq!(rt; found.as_slice(), wanted);
+    }
     Ok(())
 }
 

@@ -40,10 +40,16 @@ fn element(alloc: Global, row: Row<'_>) -> Result<NodeData, Fail> {
 pub(crate) fn tree_of(alloc: Global, rows: &[Row<'_>]) -> Result<Tree, Fail> {
     let mut tree = Tree::new(alloc, NodeData::Document)?;
     for row in rows {
-        let parent = NodeId::new(row.0).ok_or("number")?;
-        tree.append_child_data_of(&parent, element(alloc, *row)?)?;
+        append(alloc, &mut tree, *row)?;
     }
     Ok(tree)
+}
+
+/// Adds an element behind the others.
+pub(crate) fn append(alloc: Global, tree: &mut Tree, row: Row<'_>) -> Result<(), Fail> {
+    let parent = NodeId::new(row.0).ok_or("number")?;
+    tree.append_child_data_of(&parent, element(alloc, row)?)?;
+    Ok(())
 }
 
 fn numbers(alloc: Global, tree: &Tree, text: &str) -> Result<Vec<usize>, Fail> {

@@ -1,0 +1,67 @@
+//! What a selector means below any number of nodes.
+
+ghost use Rattle.std.specs.Prelude.{◌≡◌, ℕ, List, length, IfOk};
+ghost use Rattle.std.specs.Iterator.{at_most};
+ghost use Rattle.dom_select.specs.Descendants.{ToCome};
+ghost use Rattle.dom_select.specs.Selected.{Selected};
+ghost use Rattle.dom_select.specs.MatcherIters.{gives_match, matches_of};
+
+use crate::matcher::Matcher;
+use crate::matcher::descendants::DescendantMatches;
+use crate::matcher::several::Matches;
+use dom_nodes::fault::OutOfMemory;
+use dom_nodes::node_id::NodeId;
+use dom_trees::node_ref::NodeRef;
+use dom_trees::tree::Tree;
+
+/// The elements below any number of nodes that a selector means, each once.
+#[derive(Drop)]
+pub enum MatcherIter<'a, 'b, 'r> {
+    /// Below one node.
+    One(DescendantMatches<'a, 'b>),
+    /// Below several nodes.
+    Several(Matches<'a, 'b, 'r>),
+    /// Below no node.
+    Empty(&'a Tree, &'b Matcher),
+}
+
+impl<'a, 'b, 'r> MatcherIter<'a, 'b, 'r> {
+    /// What is to come is what the selector selects below the roots, which are numbers of the
+    /// tree's nodes; an unknown number has nothing below it. It takes memory for two and more.
+    pub fn new(
+        tree: &'a Tree,
+        roots: &'r [NodeId],
+        matcher: &'b Matcher,
+    ) -> Result<MatcherIter<'a, 'b, 'r>, OutOfMemory>
+        ensures tree { IfOk result (λ it. (matches_of it).tree ≡ tree.entry) }
+        ensures selector { IfOk result (λ it. (matches_of it).selector ≡ matcher.now) }
+        ensures selected { IfOk result
+            (λ it. (ids : List ℕ) → ToCome (matches_of it) ids
+            → Selected tree.entry.now roots.entry.now matcher.now ids) }
+    {
+        match roots {
+            [] => Ok(MatcherIter::Empty(tree, matcher)),
+            [root] => Ok(MatcherIter::One(DescendantMatches::new(
+                NodeRef::new(*root, tree),
+                matcher,
+            ))),
+            _ => Ok(MatcherIter::Several(Matches::new(tree, roots, matcher)?)),
+        }
+    }
+}
+
+impl<'a, 'b, 'r> Iterator for MatcherIter<'a, 'b, 'r> {
+    type Item = NodeRef<'a>;
+
+    ghost next_gives = { gives_match };
+
+    ghost remaining = { λ it. at_most (length (matches_of it).left) };
+
+    fn next(&mut self) -> Option<NodeRef<'a>> {
+        match self {
+            MatcherIter::One(matches) => matches.next(),
+            MatcherIter::Several(matches) => matches.next(),
+            MatcherIter::Empty(_, _) => None,
+        }
+    }
+}
