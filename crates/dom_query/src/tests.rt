@@ -75,6 +75,16 @@ fn runs(rt: HostRuntime) -> Result<(), Fail> {
         ("<p>a<b>b</b></p>c", "select p, b\ncount\ntext", "2\nabb\n"),
         ("<p>a</p>", "select b\ncount\ntext", "0\n\n"),
         (
+            "<div><p>a  b</p><p>c</p></div>",
+            "formatted\nselect div\nformatted\nselect b\nformatted",
+            "\na b\n\nc\n\n\n\n",
+        ),
+        (
+            "<ul><li>a</li><li>b</li></ul><pre> c\n</pre>",
+            "select *\nformatted",
+            "a\nb\n\n\na\nb\n c\n\n\n\n",
+        ),
+        (
             "<p>a</p><p>b</p>",
             "html\nselect p\nhtml\ndocument",
             "<p>a</p><p>b</p>\n<p>a</p>\n<p>a</p><p>b</p>\n",
@@ -105,6 +115,7 @@ fn refuses(rt: HostRuntime) -> Result<(), Fail> {
         (b"<p>a</p>", b"count 1", RunFault::BadScript(1)),
         (b"<p>a</p>", b"count\ntext ", RunFault::BadScript(2)),
         (b"<p>a</p>", b"\nhtml x\nselect", RunFault::BadScript(2)),
+        (b"<p>a</p>", b"formatted ", RunFault::BadScript(1)),
         (b"<p>a", b"documents", RunFault::BadScript(1)),
         (b"\xff", b"document\n\xff", RunFault::BadScript(0)),
     ] {
@@ -161,10 +172,15 @@ fn drives(rt: HostRuntime) -> Result<(), Fail> {
     Ok(())
 }
 
-/// The status where the writer takes so many bytes. What it took begins the output.
-fn status_with(rt: &(impl Abort + Alloc<A = Global>), left: usize) -> Result<u8, Fail> {
+/// The status where the writer takes so many bytes. What it took begins the whole output.
+fn status_with(
+    rt: &(impl Abort + Alloc<A = Global>),
+    word: &str,
+    whole: &str,
+    left: usize,
+) -> Result<u8, Fail> {
     let alloc = rt.alloc();
-    let args = words(alloc, &["html\nselect p\nhtml"])?;
+    let args = words(alloc, &[word])?;
     let mut out = Failing {
         left,
         taken: Vec::new(alloc),
@@ -178,7 +194,7 @@ fn status_with(rt: &(impl Abort + Alloc<A = Global>), left: usize) -> Result<u8,
         "dq: write failed\n"
     };
     assert_eq!(rt; err.as_slice(), line.as_bytes());
-    assert!(rt; b"<p>a</p>\n<p>a</p>\n".starts_with(out.taken.as_slice()));
+    assert!(rt; whole.as_bytes().starts_with(out.taken.as_slice()));
     assert!(rt; out.taken.len() == left);
     Ok(status)
 }
@@ -200,9 +216,14 @@ fn streams_fail(rt: HostRuntime) -> Result<(), Fail> {
         assert_eq!(rt; err.as_slice(), line.as_bytes());
         assert!(rt; out.is_empty());
     }
-    for left in 0..18 {
-        assert_eq!(rt; status_with(&rt, left)?, 5);
+    for (word, whole) in [
+        ("html\nselect p\nhtml", "<p>a</p>\n<p>a</p>\n"),
+        ("select p\ntext\nformatted", "a\na\n\n\n"),
+    ] {
+        for left in 0..whole.len() {
+            assert_eq!(rt; status_with(&rt, word, whole, left)?, 5);
+        }
+        assert_eq!(rt; status_with(&rt, word, whole, whole.len())?, 0);
     }
-    assert_eq!(rt; status_with(&rt, 18)?, 0);
     Ok(())
 }
