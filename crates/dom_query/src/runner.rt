@@ -219,7 +219,7 @@ fn do_commands<W: Write>(
 }
 
 /// The document that the bytes spell.
-fn read_markup(alloc: Global, markup: &[u8]) -> Result<Document, RunFault>
+pub(crate) fn read_markup(alloc: Global, markup: &[u8]) -> Result<Document, RunFault>
     ensures ok { IfOk result (λ document. IsMarkup markup.now document.tree) }
     ensures refused { IfErr result (MarkupRefused markup.now) }
 {

@@ -148,7 +148,8 @@ fn drives(rt: HostRuntime) -> Result<(), Fail> {
         (["document"].as_slice(), "<p>", 3, "dq: markup: refused\n"),
         ([].as_slice(), PAGE, 64, usage),
         (["document", "document"].as_slice(), PAGE, 64, usage),
-        (["--md"].as_slice(), PAGE, 64, usage),
+        (["--md", "document"].as_slice(), PAGE, 64, usage),
+        (["--md", "--md"].as_slice(), PAGE, 64, usage),
     ] {
         let args = words(alloc, args)?;
         let mut out: Vec<u8> = Vec::new(alloc);
@@ -168,6 +169,33 @@ fn drives(rt: HostRuntime) -> Result<(), Fail> {
             drive(alloc, &args, &mut input, &mut out, &mut deaf),
             status
         );
+    }
+    Ok(())
+}
+
+#[test]
+fn writes_markdown(rt: HostRuntime) -> Result<(), Fail> {
+    let alloc = rt.alloc();
+    let args = words(alloc, &["--md"])?;
+    for (markup, status, written, line) in [
+        (PAGE, 0, "a\n", ""),
+        ("", 0, "\n", ""),
+        ("<h2>Title #</h2>", 0, "## Title \\#\n", ""),
+        (
+            "<ol><li>a</li><li value=\"9\">b</li><li>c</li></ol>",
+            0,
+            "1. a\n9. b\n10. c\n",
+            "",
+        ),
+        ("<style>p{}</style>", 0, "\n", ""),
+        ("<p>a", 3, "", "dq: markup: refused\n"),
+    ] {
+        let mut out: Vec<u8> = Vec::new(alloc);
+        let mut err: Vec<u8> = Vec::new(alloc);
+        let mut input = markup.as_bytes();
+        assert_eq!(rt; drive(alloc, &args, &mut input, &mut out, &mut err), status);
+        assert_eq!(rt; out.as_slice(), written.as_bytes());
+        assert_eq!(rt; err.as_slice(), line.as_bytes());
     }
     Ok(())
 }
@@ -219,6 +247,7 @@ fn streams_fail(rt: HostRuntime) -> Result<(), Fail> {
     for (word, whole) in [
         ("html\nselect p\nhtml", "<p>a</p>\n<p>a</p>\n"),
         ("select p\ntext\nformatted", "a\na\n\n\n"),
+        ("--md", "a\n"),
     ] {
         for left in 0..whole.len() {
             assert_eq!(rt; status_with(&rt, word, whole, left)?, 5);
