@@ -7,7 +7,7 @@ use Rattle.dom_markup.specs.Writing.{AppendsBeginning}
 use Rattle.dom_select.specs.Syntax.{SelectorList}
 use Rattle.dom_select.specs.Selected.{Selected}
 use Rattle.dom_query.specs.declared.script.Command.{Command}
-use Rattle.dom_query.specs.declared.script.Command.TheVariants.{Nothing, Select, Count, Text, Html, Document}
+use Rattle.dom_query.specs.declared.script.Command.TheVariants.{Nothing, Select, Count, Text, Formatted, Html, Document}
 use Rattle.dom_query.specs.Out.{Does, DoesAll}
 use Rattle.dom_markup.proofs.WritingLemmas.{beginning-then, beginning-more}
 
@@ -22,6 +22,7 @@ does-once one forest selection Nothing text other selected others a b = (a.0 ∙
 does-once one forest selection (Select selector) text other selected others a b = (a.0 ∙ sym b.0, one forest _ selector selected others a.1 b.1)
 does-once one forest selection Count text other selected others a b = (a.0 ∙ sym b.0, a.1 ∙ sym b.1)
 does-once one forest selection Text text other selected others a b = (a.0 ∙ sym b.0, a.1 ∙ sym b.1)
+does-once one forest selection Formatted text other selected others a b = (a.0 ∙ sym b.0, a.1 ∙ sym b.1)
 does-once one forest selection Html text other selected others a b = (a.0 ∙ sym b.0, a.1 ∙ sym b.1)
 does-once one forest selection Document text other selected others a b = (a.0 ∙ sym b.0, a.1 ∙ sym b.1)
 

@@ -1,50 +1,86 @@
--- The script that the words are, and the markup that a reader gave.
-use Rattle.std.proofs.Common.{Global, ◌≡◌, ◌⊎◌, inl, inr, ℕ, List, [], ◌∷◌, Option, Some, None, IfSome, Result, Ok, Err, refl, sym, ◌∙◌, get_or, subst}
+-- What the words ask for, and the markup that a reader gave.
+use Rattle.std.proofs.Common.{Global, ◌≡◌, ◌⊎◌, inl, inr, ℕ, List, [], ◌∷◌, Option, Some, None, IfSome, Result, Ok, Err, refl, sym, ◌∙◌, get_or, subst, codes, length, ◌<◌, ◌≤◌, arith, ap}
 use Rattle.std.specs.Prelude.{String, string_bytes}
 use Rattle.std.specs.Io.KnownBytes.{Appends}
 use Rattle.dom_markup.specs.Writing.{AppendsBeginning, Writes}
 use Rattle.dom_markup.proofs.WritingLemmas.{nothing-written}
-use Rattle.dom_query.specs.declared.runner.RunFault.TheVariants.{Memory}
+use Rattle.dom_query.specs.declared.driver.Job.{Job}
+use Rattle.dom_query.specs.declared.driver.Job.TheVariants.{Script, Markdown}
+use Rattle.dom_query.specs.declared.runner.RunFault.{RunFault}
+use Rattle.dom_query.specs.declared.runner.RunFault.TheVariants.{BadScript, BadMarkup, Edit, TooManyNodes, Memory, Write}
 use Rattle.dom_query.specs.declared.telling.DriveFault.{DriveFault}
 use Rattle.dom_query.specs.declared.telling.DriveFault.TheVariants.{Read, Run}
-use Rattle.dom_query.specs.Drive.{AsksFor, BeganOver, Ran, Stopped, words_of}
-use Rattle.dom_query.specs.Out.{Ending, HasOneOutput}
+use Rattle.dom_query.specs.Drive.{AsksFor, BeganOver, JobBegan, JobTells, Ran, Stopped, words_of}
+use Rattle.dom_query.specs.Markdown.{MarkdownTells, WroteMarkdown}
+use Rattle.dom_query.specs.Out.{Ending, HasOneOutput, line_of}
 use Rattle.dom_query.specs.Runs.{Began, Ended}
 use Rattle.dom_query.proofs.Writing.{whole-begun}
 
--- one word, where the words are one
-pub sole-word : (words : List (String Global)) (word : String Global) (script : List ℕ) → word ≡ get_or words 0 word → words_of words ≡ script ∷ [] → string_bytes word ≡ script
-sole-word [] word script is alone = cc
-sole-word (w ∷ ws) word script is alone = cc
+-- the words are one, and this is it
+pub words-alone : (words : List (String Global)) (word : String Global) (text : List ℕ)
+    → word ≡ get_or words 0 word → 1 ≤ length words → length words < 2 → string_bytes word ≡ text → words_of words ≡ text ∷ []
+words-alone [] word text is some few same = let no : ⊥ = omega (arith, some) in absurd no
+words-alone (w ∷ []) word text is some few same = ap (λ x. x ∷ []) (ap string_bytes (sym is) ∙ same)
+words-alone (w ∷ v ∷ ws) word text is some few same = let no : ⊥ = omega (arith, few) in absurd no
 
-asks-once : (words : List (List ℕ)) (a b : List ℕ) → AsksFor words a → AsksFor words b → a ≡ b
-asks-once words a b p q = let e : a ∷ [] ≡ b ∷ [] = sym p.0 ∙ q.0 in cc
+-- what two jobs that the same words ask for begin is one
+job-begun : (words : List (List ℕ)) (job other : Job) (markup : List ℕ) (a b : Option (List ℕ))
+    → AsksFor words job → AsksFor words other → JobBegan job markup a b → JobBegan other markup a b
+job-begun words (Script s) (Script t) markup a b p q began =
+    let e : s.now ∷ [] ≡ t.now ∷ [] = sym p.0 ∙ q.0 in
+    let same : s.now ≡ t.now = cc in
+    subst (λ text. Began markup text a b) same began
+job-begun words (Script s) Markdown markup a b p q began =
+    let e : s.now ∷ [] ≡ codes "--md" ∷ [] = sym p.0 ∙ q in
+    let same : s.now ≡ codes "--md" = cc in
+    absurd (p.1 same)
+job-begun words Markdown (Script t) markup a b p q began =
+    let e : t.now ∷ [] ≡ codes "--md" ∷ [] = sym q.0 ∙ p in
+    let same : t.now ≡ codes "--md" = cc in
+    absurd (q.1 same)
+job-begun words Markdown Markdown markup a b p q began = began
 
 -- the markup that was read is what the reader had
 pub read-as : (known : Option (List ℕ)) (given items : List ℕ) → given ≡ items → IfSome known (λ xs. items ≡ xs) → IfSome known (λ xs. given ≡ xs)
 read-as None given items same read = tt
 read-as (Some xs) given items same read = same ∙ read
 
--- nothing need be known of the markup
-ran-none : (words : List (List ℕ)) (known : Option (List ℕ)) (script : List ℕ) → AsksFor words script → Ran words known (λ markup script. Unit {0})
-ran-none words None script asked = (script, [], asked, tt, tt)
-ran-none words (Some xs) script asked = (script, xs, asked, refl, tt)
+-- memory was refused, and nothing was written
+refused : (job : Job) (markup : List ℕ) (a : Option (List ℕ)) → JobTells job markup a a Memory
+refused (Script text) markup a = tt
+refused Markdown markup a = (tt, nothing-written a)
+
+ran-refused : (words : List (List ℕ)) (known a : Option (List ℕ)) (job : Job) → AsksFor words job → Ran words known (λ asked markup. JobTells asked markup a a Memory)
+ran-refused words None a job asked = (job, [], asked, tt, refused job [] a)
+ran-refused words (Some xs) a job asked = (job, xs, asked, refl, refused job xs a)
 
 -- the reader, or memory for what it has, gave out
-pub stopped-reading : (words : List (List ℕ)) (known a : Option (List ℕ)) (script : List ℕ) (fault : DriveFault)
-    → AsksFor words script → (fault ≡ Read) ⊎ (fault ≡ Run Memory) → Stopped words known a a (Some fault)
-stopped-reading words known a script fault asked (inl is) = subst (λ f. Stopped words known a a (Some f)) (sym is) ((script, asked), nothing-written a)
-stopped-reading words known a script fault asked (inr is) = subst (λ f. Stopped words known a a (Some f)) (sym is) (ran-none words known script asked)
+pub stopped-reading : (words : List (List ℕ)) (known a : Option (List ℕ)) (job : Job) (fault : DriveFault)
+    → AsksFor words job → (fault ≡ Read) ⊎ (fault ≡ Run Memory) → Stopped words known a a (Some fault)
+stopped-reading words known a job fault asked (inl is) = subst (λ f. Stopped words known a a (Some f)) (sym is) ((job, asked), nothing-written a)
+stopped-reading words known a job fault asked (inr is) = subst (λ f. Stopped words known a a (Some f)) (sym is) (ran-refused words known a job asked)
 
 given-is : (known : Option (List ℕ)) (given markup : List ℕ) → IfSome known (λ xs. given ≡ xs) → known ≡ Some markup → given ≡ markup
 given-is None given markup read is = cc
 given-is (Some xs) given markup read is = let same : xs ≡ markup = cc in read ∙ same
 
--- a beginning was written, told of the markup that the reader had and the script that the words are
-pub began-over : (words : List (List ℕ)) (known : Option (List ℕ)) (script given : List ℕ) (a b : Option (List ℕ))
-    → AsksFor words script → IfSome known (λ xs. given ≡ xs) → Began given script a b → BeganOver words known a b
-began-over words known script given a b asked read began = λ other markup asks is.
-    subst (λ m. Began m other a b) (given-is known given markup read is) (subst (λ s. Began given s a b) (asks-once words script other asked asks) began)
+-- a beginning was written, told of the markup that the reader had and the job that the words ask for
+pub began-over : (words : List (List ℕ)) (known : Option (List ℕ)) (job : Job) (given : List ℕ) (a b : Option (List ℕ))
+    → AsksFor words job → IfSome known (λ xs. given ≡ xs) → JobBegan job given a b → BeganOver words known a b
+began-over words known job given a b asked read began = λ other markup asks is.
+    subst (λ m. JobBegan other m a b) (given-is known given markup read is) (job-begun words job other given a b asked asks began)
+
+-- Markdown adds to what stood before, whole or not
+pub wrote-begun : (markup : List ℕ) (a b : Option (List ℕ)) → WroteMarkdown markup a b → JobBegan Markdown markup a b
+wrote-begun markup a b (is, text, written) = (line_of text, written)
+
+pub fault-begun : (markup : List ℕ) (a b : Option (List ℕ)) (fault : RunFault) → MarkdownTells markup a b fault → JobBegan Markdown markup a b
+fault-begun markup a b (BadScript line) tells = ([], tells.1)
+fault-begun markup a b BadMarkup tells = ([], tells.1)
+fault-begun markup a b (Edit line fault) tells = ([], tells.1)
+fault-begun markup a b TooManyNodes tells = ([], tells.1)
+fault-begun markup a b Memory tells = ([], tells.1)
+fault-begun markup a b Write (is, text, written) = (text, written)
 
 -- what was written whole was begun
 pub began-ended : ((markup script : List ℕ) → HasOneOutput markup script)

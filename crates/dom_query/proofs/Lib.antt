@@ -5,4 +5,5 @@ pub mod Doing
 pub mod Scripts
 pub mod Outputs
 pub mod Refusals
+pub mod Failing
 pub mod Driving

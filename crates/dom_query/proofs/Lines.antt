@@ -3,7 +3,7 @@ use Rattle.std.proofs.Common.{◌≡◌, ◌≢◌, ℕ, List, [], ◌∷◌, �
 use Rattle.std.specs.Str.{chars}
 use Rattle.std.specs.Str.Pattern.{FindsTextPrefix, StripsPrefix}
 use Rattle.std.proofs.lemmas.List.{append_cancel_left}
-use Rattle.dom_query.specs.declared.script.Command.TheVariants.{Nothing, Select, Count, Text, Html, Document}
+use Rattle.dom_query.specs.declared.script.Command.TheVariants.{Nothing, Select, Count, Text, Formatted, Html, Document}
 use Rattle.dom_query.specs.Script.{HasArgument, IsBad, StandsForNothing}
 
 pub argument-none : (line word : List ℕ) → FindsTextPrefix word line None → (argument : List ℕ) → HasArgument line word argument → ⊥
@@ -43,6 +43,7 @@ pub record IsNoWord (line : List ℕ) : Type 0 where
   pub full : line ≢ []
   pub count : line ≢ codes "count"
   pub text : line ≢ codes "text"
+  pub formatted : line ≢ codes "formatted"
   pub html : line ≢ codes "html"
   pub document : line ≢ codes "document"
 
@@ -52,5 +53,6 @@ bad-line line none unselected Nothing h = none.full h
 bad-line line none unselected (Select selector) h = unselected h.0 h.1 selector h.2
 bad-line line none unselected Count h = none.count h
 bad-line line none unselected Text h = none.text h
+bad-line line none unselected Formatted h = none.formatted h
 bad-line line none unselected Html h = none.html h
 bad-line line none unselected Document h = none.document h

@@ -6,7 +6,7 @@ use Rattle.std.specs.Str.{chars}
 use Rattle.dom_select.specs.Syntax.{SelectorList}
 use Rattle.dom_select.specs.Grammar.{StandsFor}
 use Rattle.dom_query.specs.declared.script.Command.{Command}
-use Rattle.dom_query.specs.declared.script.Command.TheVariants.{Nothing, Select, Count, Text, Html, Document}
+use Rattle.dom_query.specs.declared.script.Command.TheVariants.{Nothing, Select, Count, Text, Formatted, Html, Document}
 use Rattle.dom_query.specs.Script.{AreCommands, FirstBad, HasArgument, IsBad, IsCommand, IsNoScript, IsScript, lines_of}
 use Rattle.dom_query.proofs.Lines.{argument-once}
 
@@ -24,6 +24,7 @@ initial Nothing = 0
 initial (Select selector) = 115
 initial Count = 99
 initial Text = 116
+initial Formatted = 102
 initial Html = 104
 initial Document = 100
 
@@ -37,6 +38,7 @@ begins line Nothing p = ap letter p
 begins line (Select selector) p = selects line p.0 p.1
 begins line Count p = ap letter p
 begins line Text p = ap letter p
+begins line Formatted p = ap letter p
 begins line Html p = ap letter p
 begins line Document p = ap letter p
 
@@ -50,6 +52,7 @@ command-once one line Nothing Nothing p q = refl
 command-once one line Nothing (Select t) p q = absurd (other line Nothing (Select t) p q refl)
 command-once one line Nothing Count p q = absurd (other line Nothing Count p q refl)
 command-once one line Nothing Text p q = absurd (other line Nothing Text p q refl)
+command-once one line Nothing Formatted p q = absurd (other line Nothing Formatted p q refl)
 command-once one line Nothing Html p q = absurd (other line Nothing Html p q refl)
 command-once one line Nothing Document p q = absurd (other line Nothing Document p q refl)
 command-once one line (Select s) Nothing p q = absurd (other line (Select s) Nothing p q refl)
@@ -58,30 +61,42 @@ command-once one line (Select s) (Select t) p q =
     ap Select (one (chars q.0) s t (subst (λ text. StandsFor (chars text) s) same p.2) q.2)
 command-once one line (Select s) Count p q = absurd (other line (Select s) Count p q refl)
 command-once one line (Select s) Text p q = absurd (other line (Select s) Text p q refl)
+command-once one line (Select s) Formatted p q = absurd (other line (Select s) Formatted p q refl)
 command-once one line (Select s) Html p q = absurd (other line (Select s) Html p q refl)
 command-once one line (Select s) Document p q = absurd (other line (Select s) Document p q refl)
 command-once one line Count Nothing p q = absurd (other line Count Nothing p q refl)
 command-once one line Count (Select t) p q = absurd (other line Count (Select t) p q refl)
 command-once one line Count Count p q = refl
 command-once one line Count Text p q = absurd (other line Count Text p q refl)
+command-once one line Count Formatted p q = absurd (other line Count Formatted p q refl)
 command-once one line Count Html p q = absurd (other line Count Html p q refl)
 command-once one line Count Document p q = absurd (other line Count Document p q refl)
 command-once one line Text Nothing p q = absurd (other line Text Nothing p q refl)
 command-once one line Text (Select t) p q = absurd (other line Text (Select t) p q refl)
 command-once one line Text Count p q = absurd (other line Text Count p q refl)
 command-once one line Text Text p q = refl
+command-once one line Text Formatted p q = absurd (other line Text Formatted p q refl)
 command-once one line Text Html p q = absurd (other line Text Html p q refl)
 command-once one line Text Document p q = absurd (other line Text Document p q refl)
+command-once one line Formatted Nothing p q = absurd (other line Formatted Nothing p q refl)
+command-once one line Formatted (Select t) p q = absurd (other line Formatted (Select t) p q refl)
+command-once one line Formatted Count p q = absurd (other line Formatted Count p q refl)
+command-once one line Formatted Text p q = absurd (other line Formatted Text p q refl)
+command-once one line Formatted Formatted p q = refl
+command-once one line Formatted Html p q = absurd (other line Formatted Html p q refl)
+command-once one line Formatted Document p q = absurd (other line Formatted Document p q refl)
 command-once one line Html Nothing p q = absurd (other line Html Nothing p q refl)
 command-once one line Html (Select t) p q = absurd (other line Html (Select t) p q refl)
 command-once one line Html Count p q = absurd (other line Html Count p q refl)
 command-once one line Html Text p q = absurd (other line Html Text p q refl)
+command-once one line Html Formatted p q = absurd (other line Html Formatted p q refl)
 command-once one line Html Html p q = refl
 command-once one line Html Document p q = absurd (other line Html Document p q refl)
 command-once one line Document Nothing p q = absurd (other line Document Nothing p q refl)
 command-once one line Document (Select t) p q = absurd (other line Document (Select t) p q refl)
 command-once one line Document Count p q = absurd (other line Document Count p q refl)
 command-once one line Document Text p q = absurd (other line Document Text p q refl)
+command-once one line Document Formatted p q = absurd (other line Document Formatted p q refl)
 command-once one line Document Html p q = absurd (other line Document Html p q refl)
 command-once one line Document Document p q = refl
 

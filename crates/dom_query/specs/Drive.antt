@@ -3,8 +3,12 @@ use Rattle.std.specs.Prelude.{◌≡◌, ◌≢◌, ℕ, List, [], ◌∷◌, Op
 use Rattle.std.specs.Global.{Global}
 use Rattle.std.specs.Io.KnownBytes.{Appends}
 use Rattle.dom_markup.specs.Writing.{AppendsBeginning}
+use Rattle.dom_query.specs.declared.driver.Job.{Job}
+use Rattle.dom_query.specs.declared.driver.Job.TheVariants.{Script, Markdown}
+use Rattle.dom_query.specs.declared.runner.RunFault.{RunFault}
 use Rattle.dom_query.specs.declared.telling.DriveFault.{DriveFault}
 use Rattle.dom_query.specs.declared.telling.DriveFault.TheVariants.{Usage, Read, Run}
+use Rattle.dom_query.specs.Markdown.{MarkdownTells, WroteMarkdown}
 use Rattle.dom_query.specs.Out.Ending.{done}
 use Rattle.dom_query.specs.Runs.{Began, Ended, Tells}
 use Rattle.dom_query.specs.Telling.{status_of, told_of}
@@ -12,30 +16,46 @@ use Rattle.dom_query.specs.Telling.{status_of, told_of}
 abbrev pub words_of : List (String Global) → List (List ℕ)
 words_of args = map string_bytes args
 
--- the words are one, the script; there is no Markdown yet
-abbrev pub AsksFor : List (List ℕ) → List ℕ → Type 0
-AsksFor words script = (words ≡ script ∷ []) × (script ≢ codes "--md")
+-- the words are one, the script or `--md`
+abbrev pub AsksFor : List (List ℕ) → Job → Type 0
+AsksFor words (Script text) = (words ≡ text.now ∷ []) × (text.now ≢ codes "--md")
+AsksFor words Markdown = words ≡ codes "--md" ∷ []
 
--- the words are no script
+-- the words are neither
 abbrev pub AsksForNothing : List (List ℕ) → Type 0
-AsksForNothing words = (script : List ℕ) → AsksFor words script → ⊥
+AsksForNothing words = (job : Job) → AsksFor words job → ⊥
 
--- the words are a script, and the fact holds of all that the reader had, as markup, and the script
-abbrev pub Ran : List (List ℕ) → Option (List ℕ) → (List ℕ → List ℕ → Type 0) → Type 0
-Ran words known P = (script markup : List ℕ) × AsksFor words script × IfSome known (λ bytes. markup ≡ bytes) × P markup script
+-- over this markup the job was done
+abbrev pub JobDid : Job → List ℕ → Option (List ℕ) → Option (List ℕ) → Type 0
+JobDid (Script text) markup old new = Ended markup text.now old new done
+JobDid Markdown markup old new = WroteMarkdown markup old new
+
+-- the job ended early, by this fault
+abbrev pub JobTells : Job → List ℕ → Option (List ℕ) → Option (List ℕ) → RunFault → Type 0
+JobTells (Script text) markup old new fault = Tells markup text.now old new fault
+JobTells Markdown markup old new fault = MarkdownTells markup old new fault
+
+-- the job wrote a beginning of what it writes; of Markdown it is told that what stood before stays
+abbrev pub JobBegan : Job → List ℕ → Option (List ℕ) → Option (List ℕ) → Type 0
+JobBegan (Script text) markup old new = Began markup text.now old new
+JobBegan Markdown markup old new = (text : List ℕ) × Appends old new text
+
+-- the words ask for a job, and the fact holds of it and of all that the reader had, as markup
+abbrev pub Ran : List (List ℕ) → Option (List ℕ) → (Job → List ℕ → Type 0) → Type 0
+Ran words known P = (job : Job) × (markup : List ℕ) × AsksFor words job × IfSome known (λ bytes. markup ≡ bytes) × P job markup
 
 -- With these words, over a reader that had the bytes `known`, standard output held `old` and holds `new`: why the
 -- program ended early, if it did
 abbrev pub Stopped : List (List ℕ) → Option (List ℕ) → Option (List ℕ) → Option (List ℕ) → Option DriveFault → Type 0
-Stopped words known old new None = Ran words known (λ markup script. Ended markup script old new done)
+Stopped words known old new None = Ran words known (λ job markup. JobDid job markup old new)
 Stopped words known old new (Some Usage) = AsksForNothing words × Appends old new []
-Stopped words known old new (Some Read) = ((script : List ℕ) × AsksFor words script) × Appends old new []
-Stopped words known old new (Some (Run fault)) = Ran words known (λ markup script. Tells markup script old new fault)
+Stopped words known old new (Some Read) = ((job : Job) × AsksFor words job) × Appends old new []
+Stopped words known old new (Some (Run fault)) = Ran words known (λ job markup. JobTells job markup old new fault)
 
--- a beginning of what the run writes was written, where the words are a script
+-- what was written is a beginning of what the job writes
 abbrev pub BeganOver : List (List ℕ) → Option (List ℕ) → Option (List ℕ) → Option (List ℕ) → Type 0
 BeganOver words known old new =
-    (script markup : List ℕ) → AsksFor words script → known ≡ Some markup → Began markup script old new
+    (job : Job) (markup : List ℕ) → AsksFor words job → known ≡ Some markup → JobBegan job markup old new
 
 -- the status, and the line that is told
 abbrev pub status_after : Option DriveFault → ℕ

@@ -8,9 +8,10 @@ use Rattle.dom_markup.specs.Html.{html_of}
 use Rattle.dom_markup.specs.Markup.{Spells, SpellsNothing}
 use Rattle.dom_markup.specs.Numbered.{document_of}
 use Rattle.dom_markup.specs.ValueTrees.{ValueTrees}
+use Rattle.dom_md.specs.Formatted.{formatted_node}
 use Rattle.dom_select.specs.Selected.{Selected}
 use Rattle.dom_query.specs.declared.script.Command.{Command}
-use Rattle.dom_query.specs.declared.script.Command.TheVariants.{Nothing, Select, Count, Text, Html, Document}
+use Rattle.dom_query.specs.declared.script.Command.TheVariants.{Nothing, Select, Count, Text, Formatted, Html, Document}
 use Rattle.dom_query.specs.Script.{IsScript, IsNoScript}
 
 -- the commands were done; a line is no command; the markup is none
@@ -28,6 +29,10 @@ first_html forest (n ∷ ns) = html_of forest n
 abbrev pub texts_of : Forest → List ℕ → List ℕ
 texts_of forest ns = flat_map (text_of forest) ns
 
+-- the formatted texts of the nodes, each with its own tags, joined
+abbrev pub formatted_of : Forest → List ℕ → List ℕ
+formatted_of forest ns = flat_map (formatted_node forest) ns
+
 -- the text, and a line feed
 abbrev pub line_of : List ℕ → List ℕ
 line_of text = text ++ 10 ∷ []
@@ -38,6 +43,7 @@ Does forest selection Nothing text selected = (text ≡ []) × (selected ≡ sel
 Does forest selection (Select selector) text selected = (text ≡ []) × Selected forest (0 ∷ []) selector selected
 Does forest selection Count text selected = (text ≡ line_of (decimal (length selection))) × (selected ≡ selection)
 Does forest selection Text text selected = (text ≡ line_of (texts_of forest selection)) × (selected ≡ selection)
+Does forest selection Formatted text selected = (text ≡ line_of (formatted_of forest selection)) × (selected ≡ selection)
 Does forest selection Html text selected = (text ≡ line_of (first_html forest selection)) × (selected ≡ selection)
 Does forest selection Document text selected = (text ≡ line_of (html_of forest 0)) × (selected ≡ selection)
 

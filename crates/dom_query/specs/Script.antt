@@ -5,7 +5,7 @@ use Rattle.std.specs.Str.{IsUtf8, chars}
 use Rattle.dom_select.specs.Grammar.{StandsFor}
 use Rattle.dom_select.specs.Syntax.{SelectorList}
 use Rattle.dom_query.specs.declared.script.Command.{Command}
-use Rattle.dom_query.specs.declared.script.Command.TheVariants.{Nothing, Select, Count, Text, Html, Document}
+use Rattle.dom_query.specs.declared.script.Command.TheVariants.{Nothing, Select, Count, Text, Formatted, Html, Document}
 
 -- the line is the word, one space and the argument, or the word alone, whose argument is empty
 abbrev pub HasArgument : List ℕ → List ℕ → List ℕ → Type 0
@@ -25,6 +25,7 @@ IsCommand line Nothing = line ≡ []
 IsCommand line (Select selector) = (argument : List ℕ) × HasArgument line (codes "select") argument × StandsFor (chars argument) selector
 IsCommand line Count = line ≡ codes "count"
 IsCommand line Text = line ≡ codes "text"
+IsCommand line Formatted = line ≡ codes "formatted"
 IsCommand line Html = line ≡ codes "html"
 IsCommand line Document = line ≡ codes "document"
 

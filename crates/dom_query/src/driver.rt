@@ -5,24 +5,34 @@ ghost use Rattle.dom_query.specs.Drive.{AsksFor, AsksForNothing, words_of};
 ghost use Rattle.dom_query.specs.Drive.{BeganOver, Drove, Stopped};
 
 use crate::laws::one_output;
+use crate::markdown::write_markdown;
 use crate::runner::{RunFault, run};
 use crate::telling::{DriveFault, status_of_fault, tell};
 use std::alloc::Global;
 use std::io::{ErrorKind, Read, Write};
 
-/// The script, if the words are one and not `--md`.
-fn script_of(words: &[String]) -> Option<&str>
+/// What the words ask for.
+#[derive(Clone, Copy, Drop)]
+pub enum Job<'a> {
+    /// This script is run over the markup.
+    Script(&'a str),
+    /// The markup's Markdown is written.
+    Markdown,
+}
+
+/// What the words ask for, if they are one.
+fn job_of(words: &[String]) -> Option<Job<'_>>
     ensures { MatchOption result (AsksForNothing (words_of words.now))
-        (λ script. AsksFor (words_of words.now) script.now) }
+        (AsksFor (words_of words.now)) }
 {
     let [word] = words else {
         return None;
     };
     let script = word.as_str();
     if script == "--md" {
-        return None;
+        return Some(Job::Markdown);
     }
-    Some(script)
+    Some(Job::Script(script))
 }
 
 /// All that the reader has.
@@ -44,7 +54,7 @@ fn read_whole<R: Read>(alloc: Global, input: &mut R) -> Result<Vec<u8>, DriveFau
     }
 }
 
-/// Runs the script that the words are over what the reader has.
+/// Does what the words ask for, over what the reader has.
 fn run_words<R: Read, W: Write>(
     alloc: Global,
     args: &[String],
@@ -61,16 +71,20 @@ fn run_words<R: Read, W: Write>(
         → (input.new ≡ input.old) × (out.new ≡ out.old)) }
 {
     one_output();
-    let Some(script) = script_of(args) else {
+    let Some(job) = job_of(args) else {
         return Err(DriveFault::Usage);
     };
     let markup = read_whole(alloc, input)?;
-    Ok(run(alloc, &markup, script.as_bytes(), out)?)
+    match job {
+        Job::Script(script) => Ok(run(alloc, &markup, script.as_bytes(), out)?),
+        Job::Markdown => Ok(write_markdown(alloc, &markup, out)?),
+    }
 }
 
-/// Runs the script that the words are over what the reader has, and gives the program's status: 0,
-/// or 64 for words that are no script, 2 for a bad script, 3 for bad markup, 4 where numbers gave
-/// out, 5 where memory, the reader or the writer did. Where it isn't 0, a line on `err` tells why.
+/// Runs the script that is the one word over what the reader has, or writes the Markdown of that
+/// and a line feed where the word is `--md`. Gives the program's status: 0, or 64 where there isn't
+/// one word, 2 for a bad script, 3 for bad markup, 4 where numbers gave out, 5 where memory, the
+/// reader or the writer did. Where it isn't 0, a line on `err` tells why.
 pub fn drive<R: Read, W: Write, E: Write>(
     alloc: Global,
     args: &[String],

@@ -3,6 +3,7 @@
 
 mod driver;
 pub mod laws;
+mod markdown;
 mod numbers;
 mod runner;
 mod script;

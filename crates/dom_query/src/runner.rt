@@ -4,7 +4,7 @@ ghost use Rattle.std.specs.Prelude.{◌≡◌, ◌∷◌, [], decimal, length, I
 ghost use Rattle.dom_markup.specs.Html.{html_of};
 ghost use Rattle.dom_markup.specs.Writing.{Writes};
 ghost use Rattle.dom_query.specs.Faults.{GaveOut, IsMarkup, MarkupRefused};
-ghost use Rattle.dom_query.specs.Out.{first_html, line_of, texts_of};
+ghost use Rattle.dom_query.specs.Out.{first_html, formatted_of, line_of, texts_of};
 ghost use Rattle.dom_query.specs.Out.Ending.{done};
 ghost use Rattle.dom_query.specs.Runs.{Began, Did, DidAll, DidAllBegin, DidBegin, Ended, Tells};
 
@@ -13,6 +13,7 @@ use crate::script::{Command, ScriptFault, read_script};
 use dom_markup::document::Document;
 use dom_markup::serializing::{NodeMarkup, TraversalScope, WriteFault};
 use dom_markup::writing::write_bytes;
+use dom_md::formatting::formatted_node;
 use dom_nodes::fault::{EditFault, MarkupFaultKind, OutOfMemory};
 use dom_nodes::node_id::NodeId;
 use dom_select::matcher::descendants::select_below;
@@ -112,6 +113,19 @@ fn write_texts<W: Write>(tree: &Tree, selection: &[NodeId], out: &mut W) -> Resu
     Ok(write_bytes(out, b"\n")?)
 }
 
+/// Writes the formatted texts of the nodes, each with its own tags, and a line feed.
+fn write_formatted<W: Write>(tree: &Tree, selection: &[NodeId], out: &mut W) -> Result<(), RunFault>
+    ensures writes { Writes (W.contents out.old) (W.contents out.new) result
+        (line_of (formatted_of tree.now selection.now)) }
+    ensures cause { IfErr result GaveOut }
+{
+    for id in selection {
+        let text = formatted_node(&NodeRef::new(*id, tree))?;
+        write_bytes(out, text.as_bytes())?;
+    }
+    Ok(write_bytes(out, b"\n")?)
+}
+
 /// Writes the HTML of a node, and a line feed.
 fn write_node<W: Write>(tree: &Tree, id: NodeId, out: &mut W) -> Result<(), WriteFault>
     ensures { Writes (W.contents out.old) (W.contents out.new) result
@@ -154,6 +168,10 @@ fn do_command<W: Write>(
         }
         Command::Text => {
             write_texts(tree, &selection, out)?;
+            Ok(selection)
+        }
+        Command::Formatted => {
+            write_formatted(tree, &selection, out)?;
             Ok(selection)
         }
         Command::Html => {
@@ -201,7 +219,7 @@ fn do_commands<W: Write>(
 }
 
 /// The document that the bytes spell.
-fn read_markup(alloc: Global, markup: &[u8]) -> Result<Document, RunFault>
+pub(crate) fn read_markup(alloc: Global, markup: &[u8]) -> Result<Document, RunFault>
     ensures ok { IfOk result (λ document. IsMarkup markup.now document.tree) }
     ensures refused { IfErr result (MarkupRefused markup.now) }
 {

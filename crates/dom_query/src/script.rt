@@ -23,6 +23,8 @@ pub enum Command {
     Count,
     /// The texts of the selected nodes are written.
     Text,
+    /// The formatted texts of the selected nodes are written.
+    Formatted,
     /// The HTML of the first selected node is written.
     Html,
     /// The HTML of the root is written.
@@ -96,6 +98,9 @@ fn command_of(alloc: Global, line: &str) -> Result<Option<Command>, OutOfMemory>
     }
     if line == "text" {
         return Ok(Some(Command::Text));
+    }
+    if line == "formatted" {
+        return Ok(Some(Command::Formatted));
     }
     if line == "html" {
         return Ok(Some(Command::Html));

@@ -75,6 +75,16 @@ fn runs(rt: HostRuntime) -> Result<(), Fail> {
         ("<p>a<b>b</b></p>c", "select p, b\ncount\ntext", "2\nabb\n"),
         ("<p>a</p>", "select b\ncount\ntext", "0\n\n"),
         (
+            "<div><p>a  b</p><p>c</p></div>",
+            "formatted\nselect div\nformatted\nselect b\nformatted",
+            "\na b\n\nc\n\n\n\n",
+        ),
+        (
+            "<ul><li>a</li><li>b</li></ul><pre> c\n</pre>",
+            "select *\nformatted",
+            "a\nb\n\n\na\nb\n c\n\n\n\n",
+        ),
+        (
             "<p>a</p><p>b</p>",
             "html\nselect p\nhtml\ndocument",
             "<p>a</p><p>b</p>\n<p>a</p>\n<p>a</p><p>b</p>\n",
@@ -105,6 +115,7 @@ fn refuses(rt: HostRuntime) -> Result<(), Fail> {
         (b"<p>a</p>", b"count 1", RunFault::BadScript(1)),
         (b"<p>a</p>", b"count\ntext ", RunFault::BadScript(2)),
         (b"<p>a</p>", b"\nhtml x\nselect", RunFault::BadScript(2)),
+        (b"<p>a</p>", b"formatted ", RunFault::BadScript(1)),
         (b"<p>a", b"documents", RunFault::BadScript(1)),
         (b"\xff", b"document\n\xff", RunFault::BadScript(0)),
     ] {
@@ -137,7 +148,8 @@ fn drives(rt: HostRuntime) -> Result<(), Fail> {
         (["document"].as_slice(), "<p>", 3, "dq: markup: refused\n"),
         ([].as_slice(), PAGE, 64, usage),
         (["document", "document"].as_slice(), PAGE, 64, usage),
-        (["--md"].as_slice(), PAGE, 64, usage),
+        (["--md", "document"].as_slice(), PAGE, 64, usage),
+        (["--md", "--md"].as_slice(), PAGE, 64, usage),
     ] {
         let args = words(alloc, args)?;
         let mut out: Vec<u8> = Vec::new(alloc);
@@ -161,10 +173,42 @@ fn drives(rt: HostRuntime) -> Result<(), Fail> {
     Ok(())
 }
 
-/// The status where the writer takes so many bytes. What it took begins the output.
-fn status_with(rt: &(impl Abort + Alloc<A = Global>), left: usize) -> Result<u8, Fail> {
+#[test]
+fn writes_markdown(rt: HostRuntime) -> Result<(), Fail> {
     let alloc = rt.alloc();
-    let args = words(alloc, &["html\nselect p\nhtml"])?;
+    let args = words(alloc, &["--md"])?;
+    for (markup, status, written, line) in [
+        (PAGE, 0, "a\n", ""),
+        ("", 0, "\n", ""),
+        ("<h2>Title #</h2>", 0, "## Title \\#\n", ""),
+        (
+            "<ol><li>a</li><li value=\"9\">b</li><li>c</li></ol>",
+            0,
+            "1. a\n9. b\n10. c\n",
+            "",
+        ),
+        ("<style>p{}</style>", 0, "\n", ""),
+        ("<p>a", 3, "", "dq: markup: refused\n"),
+    ] {
+        let mut out: Vec<u8> = Vec::new(alloc);
+        let mut err: Vec<u8> = Vec::new(alloc);
+        let mut input = markup.as_bytes();
+        assert_eq!(rt; drive(alloc, &args, &mut input, &mut out, &mut err), status);
+        assert_eq!(rt; out.as_slice(), written.as_bytes());
+        assert_eq!(rt; err.as_slice(), line.as_bytes());
+    }
+    Ok(())
+}
+
+/// The status where the writer takes so many bytes. What it took begins the whole output.
+fn status_with(
+    rt: &(impl Abort + Alloc<A = Global>),
+    word: &str,
+    whole: &str,
+    left: usize,
+) -> Result<u8, Fail> {
+    let alloc = rt.alloc();
+    let args = words(alloc, &[word])?;
     let mut out = Failing {
         left,
         taken: Vec::new(alloc),
@@ -178,7 +222,7 @@ fn status_with(rt: &(impl Abort + Alloc<A = Global>), left: usize) -> Result<u8,
         "dq: write failed\n"
     };
     assert_eq!(rt; err.as_slice(), line.as_bytes());
-    assert!(rt; b"<p>a</p>\n<p>a</p>\n".starts_with(out.taken.as_slice()));
+    assert!(rt; whole.as_bytes().starts_with(out.taken.as_slice()));
     assert!(rt; out.taken.len() == left);
     Ok(status)
 }
@@ -200,9 +244,15 @@ fn streams_fail(rt: HostRuntime) -> Result<(), Fail> {
         assert_eq!(rt; err.as_slice(), line.as_bytes());
         assert!(rt; out.is_empty());
     }
-    for left in 0..18 {
-        assert_eq!(rt; status_with(&rt, left)?, 5);
+    for (word, whole) in [
+        ("html\nselect p\nhtml", "<p>a</p>\n<p>a</p>\n"),
+        ("select p\ntext\nformatted", "a\na\n\n\n"),
+        ("--md", "a\n"),
+    ] {
+        for left in 0..whole.len() {
+            assert_eq!(rt; status_with(&rt, word, whole, left)?, 5);
+        }
+        assert_eq!(rt; status_with(&rt, word, whole, whole.len())?, 0);
     }
-    assert_eq!(rt; status_with(&rt, 18)?, 0);
     Ok(())
 }

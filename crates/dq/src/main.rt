@@ -1,4 +1,4 @@
-//! `dq SCRIPT` runs a script over the markup on standard input.
+//! `dq SCRIPT` runs a script over the markup on standard input, `dq --md` writes its Markdown.
 #![tactic(auto)]
 
 use dom_query::drive;

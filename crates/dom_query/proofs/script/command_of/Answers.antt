@@ -10,6 +10,7 @@ returns-in_default c =
       full = λ e. search rules;
       count = λ e. search rules;
       text = λ e. search rules;
+      formatted = λ e. search rules;
       html = λ e. search rules;
       document = λ e. search rules;
     } in
@@ -21,6 +22,7 @@ returns-in-None c =
       full = λ e. search rules;
       count = λ e. search rules;
       text = λ e. search rules;
+      formatted = λ e. search rules;
       html = λ e. search rules;
       document = λ e. search rules;
     } in

@@ -1,0 +1,23 @@
+//! The Markdown of markup.
+
+ghost use Rattle.std.specs.Prelude.{IfErr, OnOk};
+ghost use Rattle.dom_query.specs.Markdown.{MarkdownTells, WroteMarkdown};
+
+use crate::runner::{RunFault, read_markup};
+use dom_markup::writing::write_bytes;
+use dom_md::node_md::DocumentMd;
+use std::alloc::Global;
+use std::io::Write;
+
+/// Writes the Markdown of the document that the bytes spell, and a line feed.
+pub fn write_markdown<W: Write>(alloc: Global, markup: &[u8], out: &mut W) -> Result<(), RunFault>
+    ensures done { OnOk result (WroteMarkdown markup.now
+        (W.contents out.old) (W.contents out.new)) }
+    ensures cause { IfErr result (MarkdownTells markup.now
+        (W.contents out.old) (W.contents out.new)) }
+{
+    let document = read_markup(alloc, markup)?;
+    let text = document.md(None)?;
+    write_bytes(out, text.as_bytes())?;
+    Ok(write_bytes(out, b"\n")?)
+}
