@@ -177,7 +177,7 @@ fn keeps_indexes(rt: HostRuntime) -> Result<(), Fail> {
             assert!(rt; caches.index_at(&id, kind) == fresh.index_at(&id, kind));
             let hits = caches.hits();
             assert!(rt; caches.index_at(&id, kind) == fresh.index_at(&id, kind));
-            assert!(rt; at >= 8 || caches.hits() == hits + 1);
+            assert!(rt; at >= 8 || caches.hits() == hits.saturating_add(1));
         }
         assert_eq!(rt; fresh.hits(), 0);
     }
