@@ -181,11 +181,11 @@ element_here nodes i x d arena here same =
     let at : slice_get (forest_of nodes).content i ≡ Some (get_or nodes i d).content = ap (λ contents. slice_get contents i) (sym arena.links.contents) ∙ content_got nodes i d here in
     ap (λ (k : ℕ). element_at (forest_of nodes) k) (sym same) ∙ ap (λ o. option_map_or is_element o false) at
 
--- what the element at a place is asked for
-pub asks_read : (nodes : List TreeNode) (i x : ℕ) (d : TreeNode) (asking : Bool) → IsSoundArena nodes → i < length nodes → i ≡ x → (element_at (forest_of nodes) x && asking) ≡ false → (is_element (get_or nodes i d).content && asking) ≡ false
-asks_read nodes i x d asking sound here same none =
+-- what is asked of the node at a place
+pub asks_read : (nodes : List TreeNode) (i x : ℕ) (d : TreeNode) (asks : NodeData → Bool) → IsSoundArena nodes → i < length nodes → i ≡ x → option_map_or asks (slice_get (forest_of nodes).content x) false ≡ false → asks (get_or nodes i d).content ≡ false
+asks_read nodes i x d asks sound here same none =
     let at : slice_get (forest_of nodes).content i ≡ Some (get_or nodes i d).content = ap (λ contents. slice_get contents i) (sym sound.arena.links.contents) ∙ content_got nodes i d here in
-    sym (ap (λ o. option_map_or is_element o false && asking) at) ∙ ap (λ (k : ℕ). element_at (forest_of nodes) k && asking) same ∙ none
+    sym (ap (λ o. option_map_or asks o false) at) ∙ ap (λ (k : ℕ). option_map_or asks (slice_get (forest_of nodes).content k) false) same ∙ none
 
 -- What keeps the kind
 

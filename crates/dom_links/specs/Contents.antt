@@ -1,14 +1,14 @@
 -- Changes of what one node is.
-use Rattle.std.specs.Prelude.{ℕ, Bool, ◌&&◌, zero, suc, ◌≡◌, ◌≢◌, ◌≤◌, List, [], ◌∷◌, Some, length, slice_get, IfSome}
+use Rattle.std.specs.Prelude.{ℕ, Bool, false, zero, suc, ◌≡◌, ◌≢◌, ◌≤◌, List, [], ◌∷◌, Some, length, slice_get, IfSome}
+use Rattle.std.specs.Option.{option_map_or}
 use Rattle.dom_nodes.specs.declared.node_data.NodeData.{NodeData}
 use Rattle.dom_nodes.specs.declared.node_data.TreeNode.{TreeNode}
 use Rattle.dom_nodes.specs.declared.node_data.node_edit.NodeEdit.{NodeEdit}
 use Rattle.dom_nodes.specs.Kinds.{contents_named, is_fragment, is_top, may_bear}
 use Rattle.dom_nodes.specs.declared.node_data.changing.Change.{Change}
-use Rattle.dom_nodes.specs.Change.{asks}
+use Rattle.dom_nodes.specs.Change.{asks_of}
 use Rattle.dom_nodes.specs.Updates.{edit_of, with_edit}
 use Rattle.dom_links.specs.Forest.{Forest, forest_of}
-use Rattle.dom_links.specs.ListMoves.{element_at}
 use Rattle.dom_links.specs.Sound.{IsForest, IsSoundArena}
 
 -- the list with a change of what stands at place x; past its end nothing changes
@@ -44,7 +44,7 @@ pub record IsUpdatedAt (MayLeave : NodeEdit → NodeEdit → Type 0) (x : ℕ) (
 
 -- the change of x may ask for memory
 abbrev pub asks_at : Forest → ℕ → Change → Bool
-asks_at forest x change = element_at forest x && asks change
+asks_at forest x change = option_map_or (asks_of change) (slice_get forest.content x) false
 
 -- what a change of the data of one node does to a forest
 pub record AreChanges (forest : Forest) : Type 0 where

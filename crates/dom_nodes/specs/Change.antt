@@ -1,9 +1,11 @@
 -- One change of a node, what it leaves, and whether it asks for memory.
-use Rattle.std.specs.Prelude.{◌≡◌, Bool, true, false, not, ◌&&◌, [], map, Result, IsOk, OnOk, OnErr}
+use Rattle.std.specs.Prelude.{◌≡◌, Bool, true, false, not, ◌&&◌, List, [], codes, is_some, map, Result, IsOk, OnOk, OnErr}
 use Rattle.dom_nodes.specs.declared.fault.OutOfMemory.{OutOfMemory}
+use Rattle.dom_nodes.specs.declared.name.Attr.{Attr}
 use Rattle.dom_nodes.specs.declared.node_data.NodeData.{NodeData}
 use Rattle.dom_nodes.specs.declared.node_data.changing.Change.{Change}
 use Rattle.dom_nodes.specs.declared.node_data.changing.Change.TheVariants.{SetAttr, RemoveAttr, RemoveAttrs, RetainAttrs, RemoveAllAttrs, Rename, AddClass, RemoveClass}
+use Rattle.dom_nodes.specs.Attrs.{attr_of, attrs_in}
 use Rattle.dom_nodes.specs.Kinds.{is_element}
 use Rattle.dom_nodes.specs.Changes.{on_element, only_names, renamed, with_attr, with_attrs, without_name, without_names}
 use Rattle.dom_nodes.specs.Classes.{is_blank, with_classes, without_classes}
@@ -29,9 +31,14 @@ asks (RetainAttrs names) = false
 asks RemoveAllAttrs = false
 asks _ = true
 
+-- there is something to change: classes are taken out only where an attribute holds some
+abbrev pub finds : Change → List Attr → Bool
+finds (RemoveClass classes) attrs = is_some (attr_of attrs (codes "class"))
+finds _ attrs = true
+
 -- the change may ask for memory at this node
 abbrev pub asks_of : Change → NodeData → Bool
-asks_of change node = is_element node && asks change
+asks_of change node = is_element node && finds change (attrs_in node) && asks change
 
 -- what should come was made, or a request for memory was refused and nothing changed
 pub record Tried {A : Type 0} (result : Result Unit OutOfMemory) (old new after : A) (asking : Bool) : Type 0 where

@@ -19,12 +19,13 @@ pub enum Change<'a> {
 }
 
 impl Element {
-    ghost use Rattle.dom_nodes.specs.Change.{Tried, asks, changed};
+    ghost use Rattle.dom_nodes.specs.Change.{Tried, asks_of, changed};
 
     /// Makes the change. Removals of attributes ask for no memory.
     pub fn change(&mut self, change: Change) -> Result<(), OutOfMemory>
         ensures { Tried result (NodeData.Element self.old) (NodeData.Element self.new)
-            (changed change.entry (NodeData.Element self.old)) (asks change.entry) }
+            (changed change.entry (NodeData.Element self.old))
+            (asks_of change.entry (NodeData.Element self.old)) }
     {
         match change {
             Change::SetAttr { name, value } => return self.set_attr(name, value),
@@ -56,6 +57,8 @@ impl NodeData {
 }
 
 impl TreeNode {
+    ghost use Rattle.std.specs.Prelude.{None, codes};
+    ghost use Rattle.dom_nodes.specs.Attrs.{attr_of, attrs_in};
     ghost use Rattle.dom_nodes.specs.Kinds.{is_element};
     ghost use Rattle.dom_nodes.specs.Change.{Tried, asks_of, changed};
     ghost use Rattle.dom_nodes.specs.Changes.{on_element, only_names, renamed, with_attr};
@@ -144,6 +147,8 @@ impl TreeNode {
         ensures err { OnErr result (self.new ≡ self.old) }
         ensures no_element { is_element self.old.content ≡ false → IsOk result }
         ensures blank { is_blank classes.now ≡ true → IsOk result }
+        ensures no_class { attr_of (attrs_in self.old.content) (codes "class") ≡ None
+            → IsOk result }
     {
         self.change(Change::RemoveClass(classes))
     }
