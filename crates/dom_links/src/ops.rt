@@ -8,6 +8,7 @@ pub mod lists;
 pub mod moves;
 pub mod placing;
 pub mod siblings;
+mod strip;
 pub mod templates;
 pub mod texts;
 mod writes;
