@@ -1,8 +1,8 @@
 -- Named elements are replaced by their children, in the order of the walk.
 use Rattle.std.proofs.Common.{ℕ, ◌≡◌, ◌<◌, Bool, true, false, List, [], ◌∷◌, ◌++◌, Option, Some, None, refl, sym, ap, ◌∙◌, subst, arith, inl, inr, length, append_assoc, append-nil}
-use Rattle.std.specs.Prelude.{◌||◌, filter}
+use Rattle.std.specs.Prelude.{◌==◌, ◌&&◌, ◌||◌, filter, not}
 use Rattle.std.specs.Option.{option_and_then, option_map_or}
-use Rattle.std.proofs.lemmas.Bool.{cases_Bool, true≢false}
+use Rattle.std.proofs.lemmas.Bool.{cases_Bool, eqb-true, true≢false}
 use Rattle.std.proofs.lemmas.List.Elements.{filter-append}
 use Rattle.dom_nodes.specs.Attrs.{name_in}
 use Rattle.dom_nodes.specs.Words.{is_among}
@@ -11,19 +11,20 @@ use Rattle.dom_nodes.specs.declared.node_data.TreeNode.{TreeNode}
 use Rattle.dom_links.specs.Lists.{stands_in, IsDistinct, first, without}
 use Rattle.dom_links.specs.Forest.{Forest, children_of, forest_of, parent}
 use Rattle.dom_links.specs.Sound.{IsForest, IsSoundArena}
-use Rattle.dom_links.specs.Stripped.{all_dissolved, dissolved, is_named, stripped}
+use Rattle.dom_links.specs.Stripped.{IsStripped, all_dissolved, dissolved, is_named, stripped}
 use Rattle.dom_links.specs.Trees.{walk_below, ancestors, upward}
 use Rattle.dom_links.specs.Walk.{IsBelow, rest_after, walk_on}
 use Rattle.dom_links.proofs.Apart.{walk-inside, walk-once}
 use Rattle.dom_links.proofs.BlockMoves.{rest_here}
-use Rattle.dom_links.proofs.Depth.{here_stands, upward-none}
-use Rattle.dom_links.proofs.Dissolving.{walk_dissolved}
+use Rattle.dom_links.proofs.Depth.{here_stands, later_stands, upward-none}
+use Rattle.dom_links.proofs.Dissolving.{forest-dissolved, walk_dissolved}
 use Rattle.dom_links.proofs.DownUp.{below_or_above}
 use Rattle.dom_links.proofs.Later.{not_above_itself}
-use Rattle.dom_links.proofs.Neighbours.{distinct_parts, stands_in-append, without_here}
+use Rattle.dom_links.proofs.Neighbours.{distinct_parts, stands_in-append, stands_in-without, without_here}
 use Rattle.dom_links.proofs.Places.{cases_Option}
 use Rattle.dom_links.proofs.Steps.{walk_given, walk_starts}
 use Rattle.dom_links.proofs.Suffixes.{is_end}
+use Rattle.dom_links.proofs.TwoSteps.{without_nothing}
 
 pub content_stays : (ps : List ℕ) (forest : Forest) → (all_dissolved ps forest).content ≡ forest.content
 content_stays [] forest = refl
@@ -153,3 +154,96 @@ strip_shorter now new x at next beyond some steps same =
     let here = ap length (ap (walk_on now x) some ∙ steps) in
     let there = ap length same in
     omega (arith, here, there)
+
+-- all at once
+
+without_two : (p : ℕ) (ps ns : List ℕ) → without ps (without (p ∷ []) ns) ≡ without (p ∷ ps) ns
+without_two p ps [] = refl
+without_two p ps (n ∷ ns) = elim (cases_Bool (p == n)) [
+  | inl t ↦ rw (t, without_two p ps ns) refl
+  | inr f ↦ elim (cases_Bool (stands_in n ps)) [ inl s ↦ rw (f, s, without_two p ps ns) refl | inr s ↦ rw (f, s, without_two p ps ns) refl ]
+]
+
+still_stands : (p m : ℕ) (ns : List ℕ) → (p == m) ≡ false → stands_in m ns ≡ true → stands_in m (without (p ∷ []) ns) ≡ true
+still_stands p m ns ne s = stands_in-without (p ∷ []) ns m ∙ rw (s, ne) refl
+
+pub record AllDissolved (ps : List ℕ) (x : ℕ) (forest : Forest) : Type 0 where
+  pub good : IsForest (all_dissolved ps forest)
+  pub left : walk_below (all_dissolved ps forest) x ≡ without ps (walk_below forest x)
+
+each_dissolved : (ps : List ℕ) (x : ℕ) (forest : Forest) → IsForest forest → IsDistinct ps → ((p : ℕ) → stands_in p ps ≡ true → stands_in p (walk_below forest x) ≡ true) → AllDissolved ps x forest
+each_dissolved [] x forest good once below = record { good = good; left = sym (without_nothing (walk_below forest x)) }
+each_dissolved (p ∷ ps) x forest good once below =
+    let above : stands_in x (ancestors forest p) ≡ true = sym (below_or_above forest good x p) ∙ below p (here_stands p ps) in
+    let up = has_parent forest x p above in
+    let out = walk_dissolved forest p up.0 good up.1 x (λ e. not_above_itself forest p x good above (sym e)) in
+    let rest = each_dissolved ps x (dissolved p forest) (forest-dissolved forest p up.0 good up.1) once.1
+      (λ m s. ap (stands_in m) out ∙ still_stands p m (walk_below forest x) (other m s) (below m (later_stands p m ps s))) in
+    record { good = rest.good; left = rest.left ∙ ap (without ps) out ∙ without_two p ps (walk_below forest x) }
+  where
+    other : (m : ℕ) → stands_in m ps ≡ true → (p == m) ≡ false
+    other m s = elim (cases_Bool (p == m)) [
+      | inr f ↦ f
+      | inl t ↦ absurd (true≢false (sym (ap (λ k. stands_in k ps) (eqb-true p m t) ∙ s) ∙ once.0))
+    ]
+
+stands_in-filter : (test : ℕ → Bool) (ns : List ℕ) (n : ℕ) → stands_in n (filter test ns) ≡ (stands_in n ns && test n)
+stands_in-filter test [] n = refl
+stands_in-filter test (m ∷ ns) n = elim (cases_Bool (m == n)) [
+  | inl t ↦ elim (cases_Bool (test n)) [
+    | inl h ↦ (let same : test m ≡ true = ap test (eqb-true m n t) ∙ h in rw (same, t, h) refl)
+    | inr f ↦ (let same : test m ≡ false = ap test (eqb-true m n t) ∙ f in rw (same, t, f) (stands_in-filter test ns n ∙ rw f (and-false (stands_in n ns))))
+  ]
+  | inr f ↦ elim (cases_Bool (test m)) [
+    | inl h ↦ rw (h, f) (stands_in-filter test ns n)
+    | inr h ↦ rw (h, f) (stands_in-filter test ns n)
+  ]
+]
+  where
+    and-false : (a : Bool) → (a && false) ≡ false
+    and-false true = refl
+    and-false false = refl
+
+without_tested : (test : ℕ → Bool) (moved ns : List ℕ) → ((n : ℕ) → stands_in n ns ≡ true → stands_in n moved ≡ test n) → without moved ns ≡ filter (λ n. not (test n)) ns
+without_tested test moved [] same = refl
+without_tested test moved (n ∷ ns) same =
+    let rest = without_tested test moved ns (λ m s. same m (later_stands n m ns s)) in
+    let here = same n (here_stands n ns) in
+    elim (cases_Bool (test n)) [
+      | inl t ↦ (let in_it = here ∙ t in rw (in_it, t) rest)
+      | inr f ↦ (let out = here ∙ f in rw (out, f) (ap (λ ms. n ∷ ms) rest))
+    ]
+
+distinct-filter : (test : ℕ → Bool) (ns : List ℕ) → IsDistinct ns → IsDistinct (filter test ns)
+distinct-filter test [] once = tt
+distinct-filter test (n ∷ ns) once = elim (cases_Bool (test n)) [
+  | inr f ↦ rw f (distinct-filter test ns once.1)
+  | inl t ↦ rw t (stands_in-filter test ns n ∙ rw once.0 refl, distinct-filter test ns once.1)
+]
+
+none_twice : (test : ℕ → Bool) (ns : List ℕ) → filter test (filter (λ n. not (test n)) ns) ≡ []
+none_twice test [] = refl
+none_twice test (n ∷ ns) = elim (cases_Bool (test n)) [
+  | inl t ↦ rw t (none_twice test ns)
+  | inr f ↦ rw (f, f) (none_twice test ns)
+]
+
+filter_alike : (test other : ℕ → Bool) (ns : List ℕ) → ((n : ℕ) → test n ≡ other n) → filter test ns ≡ filter other ns
+filter_alike test other [] same = refl
+filter_alike test other (n ∷ ns) same = rw (same n, filter_alike test other ns same) refl
+
+pub is_stripped : (names : List (List ℕ)) (x : ℕ) (forest : Forest) → IsForest forest → IsStripped names x forest
+is_stripped names x forest good =
+    let test = is_named names forest in
+    let nodes = walk_below forest x in
+    let after = stripped names x forest in
+    let all = each_dissolved (filter test nodes) x forest good (distinct-filter test nodes (walk-once forest x good))
+      (λ p s. and-left (stands_in p nodes) (test p) (sym (stands_in-filter test nodes p) ∙ s)) in
+    let left : walk_below after x ≡ filter (λ n. not (test n)) nodes = all.left ∙ without_tested test (filter test nodes) nodes (λ n s. stands_in-filter test nodes n ∙ rw s refl) in
+    let none : filter (is_named names after) (walk_below after x) ≡ [] =
+      filter_alike (is_named names after) test (walk_below after x) (λ n. same_names names after forest n (content_stays (filter test nodes) forest)) ∙ ap (filter test) left ∙ none_twice test nodes in
+    record { kept = all.good; left = left; again = ap (λ ps. all_dissolved ps after) none }
+  where
+    and-left : (a b : Bool) → (a && b) ≡ true → a ≡ true
+    and-left true b h = refl
+    and-left false b h = h

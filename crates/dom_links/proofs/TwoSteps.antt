@@ -30,7 +30,7 @@ map_from_same i f (ns ∷ lists) same =
     let others : map_from (i + 1) f lists ≡ lists = map_from_same (i + 1) f lists (λ n h. (let e : i + 1 + n ≡ i + suc n = omega arith in ap (λ (k : ℕ). f k (get_or lists n [])) e ∙ same (suc n) (omega arith))) in
     rw (here, others) refl
 
-without_nothing : (ns : List ℕ) → without [] ns ≡ ns
+pub without_nothing : (ns : List ℕ) → without [] ns ≡ ns
 without_nothing [] = refl
 without_nothing (n ∷ ns) = ap (λ ms. n ∷ ms) (without_nothing ns)
 

@@ -5,6 +5,7 @@ use Rattle.dom_nodes.specs.Attrs.{name_in}
 use Rattle.dom_nodes.specs.Words.{is_among}
 use Rattle.dom_links.specs.Forest.{Forest, children_of}
 use Rattle.dom_links.specs.Moves.{before_node, cut, moved_to}
+use Rattle.dom_links.specs.Sound.{IsForest}
 use Rattle.dom_links.specs.Trees.{walk_below}
 
 -- the children of p are put right before it, and p is cut out
@@ -26,5 +27,6 @@ stripped names x forest = all_dissolved (filter (is_named names forest) (walk_be
 
 -- what stripping comes to: the nodes below x are then those that weren't named, in their order; to strip again changes nothing
 pub record IsStripped (names : List (List ℕ)) (x : ℕ) (forest : Forest) : Type 0 where
+  pub kept : IsForest (stripped names x forest)
   pub left : walk_below (stripped names x forest) x ≡ filter (λ n. not (is_named names forest n)) (walk_below forest x)
   pub again : stripped names x (stripped names x forest) ≡ stripped names x forest
