@@ -24,7 +24,7 @@ use Rattle.dom_links.proofs.BlockFills.{AreAlone, arena-put}
 use Rattle.dom_links.proofs.BlockGaps.{put-end_of, put-front_of, put-before, put-after}
 use Rattle.dom_links.proofs.BlockKept.{alone-cut_list, list_moved}
 
-rest_here : (front back : List ℕ) (x : ℕ) → stands_in x front ≡ false → rest_after (front ++ x ∷ back) x ≡ back
+pub rest_here : (front back : List ℕ) (x : ℕ) → stands_in x front ≡ false → rest_after (front ++ x ∷ back) x ≡ back
 rest_here [] back x h = rw (eq-eqb x x refl) refl
 rest_here (n ∷ front) back x h =
     let two = or_parts (n == x) (stands_in x front) h in

@@ -22,7 +22,7 @@ use Rattle.dom_links.proofs.BlockMoves.{all_children}
 
 -- no node at all is cut out or put anywhere
 
-map_from_same : (i : ℕ) (f : ℕ → List ℕ → List ℕ) (lists : List (List ℕ)) → ((n : ℕ) → n < length lists → f (i + n) (get_or lists n []) ≡ get_or lists n []) → map_from i f lists ≡ lists
+pub map_from_same : (i : ℕ) (f : ℕ → List ℕ → List ℕ) (lists : List (List ℕ)) → ((n : ℕ) → n < length lists → f (i + n) (get_or lists n []) ≡ get_or lists n []) → map_from i f lists ≡ lists
 map_from_same i f [] same = refl
 map_from_same i f (ns ∷ lists) same =
     let z : i ≡ i + 0 = omega arith in
@@ -30,7 +30,7 @@ map_from_same i f (ns ∷ lists) same =
     let others : map_from (i + 1) f lists ≡ lists = map_from_same (i + 1) f lists (λ n h. (let e : i + 1 + n ≡ i + suc n = omega arith in ap (λ (k : ℕ). f k (get_or lists n [])) e ∙ same (suc n) (omega arith))) in
     rw (here, others) refl
 
-without_nothing : (ns : List ℕ) → without [] ns ≡ ns
+pub without_nothing : (ns : List ℕ) → without [] ns ≡ ns
 without_nothing [] = refl
 without_nothing (n ∷ ns) = ap (λ ms. n ∷ ms) (without_nothing ns)
 
@@ -43,7 +43,7 @@ cut_nothing forest =
     let runs : map_from 0 (λ n run. without [] run) forest.runs ≡ forest.runs = map_from_same 0 (λ n run. without [] run) forest.runs (λ n h. without_nothing (get_or forest.runs n [])) in
     rw (map_without_nothing forest.children, runs) refl
 
-put_nothing : (forest : Forest) (t : ℕ) → put (end_of t) [] forest ≡ forest
+pub put_nothing : (forest : Forest) (t : ℕ) → put (end_of t) [] forest ≡ forest
 put_nothing forest t =
     let children : map_from 0 (children_with (end_of t) []) forest.children ≡ forest.children = map_from_same 0 (children_with (end_of t) []) forest.children (λ n h.
     elim ((0 + n) == t) as (λ u. cond u (get_or forest.children n [] ++ []) (get_or forest.children n []) ≡ get_or forest.children n []) [ true ↦ append-nil (get_or forest.children n []) | false ↦ refl ]) in

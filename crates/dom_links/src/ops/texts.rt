@@ -3,9 +3,9 @@
 ghost use Rattle.std.specs.Prelude.{◌≡◌, ◌++◌, ◌∷◌, IfOk, OnOk, string_bytes};
 ghost use Rattle.dom_links.specs.Forest.{forest_of};
 ghost use Rattle.dom_links.specs.Sound.{IsSoundArena};
-ghost use Rattle.dom_links.specs.Texts.{text_at, text_in, text_of};
+ghost use Rattle.dom_links.specs.Texts.{immediate_text_of, text_at, text_in, text_of};
 
-use crate::iters::{DescendantNodes, find_node};
+use crate::iters::{ChildNodes, DescendantNodes, find_node};
 use crate::ops::TreeNodeOps;
 use dom_nodes::fault::OutOfMemory;
 use dom_nodes::node_data::{NodeData, TreeNode};
@@ -26,10 +26,29 @@ impl TreeNodeOps {
         }
         Ok(text)
     }
+
+    /// The contents of the texts among the node and its children, joined; nothing for an unknown
+    /// number.
+    pub fn immediate_text_of(
+        alloc: Global,
+        nodes: &[TreeNode],
+        id: &NodeId,
+    ) -> Result<String, OutOfMemory>
+        requires { IsSoundArena nodes.now }
+        ensures { IfOk result
+            (λ text. string_bytes text ≡ immediate_text_of (forest_of nodes.now) id.now) }
+    {
+        let mut joined = String::new(alloc);
+        joined.push_str(text_at(nodes, *id))?;
+        for child in ChildNodes::new(nodes, id, false) {
+            joined.push_str(text_at(nodes, child))?;
+        }
+        Ok(joined)
+    }
 }
 
 /// What the node itself holds as a text.
-fn text_at(nodes: &[TreeNode], id: NodeId) -> &str
+pub(crate) fn text_at(nodes: &[TreeNode], id: NodeId) -> &str
     requires { IsSoundArena nodes.now }
     ensures { result.now ≡ text_at (forest_of nodes.now) id }
 {

@@ -8,7 +8,7 @@ ghost use Rattle.std.specs.Option.{option_copied};
 ghost use Rattle.dom_nodes.specs.Kinds.{is_comment, is_doctype, is_document, is_element};
 ghost use Rattle.dom_nodes.specs.Kinds.{is_fragment, is_text, may_bear};
 ghost use Rattle.dom_nodes.specs.Words.{class_words, is_among};
-ghost use Rattle.dom_links.specs.Texts.{text_of};
+ghost use Rattle.dom_links.specs.Texts.{collapsed, immediate_text_of, text_of, told};
 ghost use Rattle.dom_trees.specs.Views.{IsAnswerOf, base_uri, has_local_name, is_filled_text};
 ghost use Rattle.dom_trees.specs.Views.{is_link_at, node_attr, node_attrs, node_element, node_is};
 ghost use Rattle.dom_trees.specs.Views.{node_name, node_qual_name};
@@ -209,6 +209,23 @@ impl<'a> NodeRef<'a> {
         ensures { IfOk result (λ text. string_bytes text ≡ text_of self.now.tree.now self.now.id) }
     {
         TreeNodeOps::text_of(self.tree.allocator(), self.tree.nodes(), &self.id)
+    }
+
+    /// The contents of the texts among the node and its children, joined; nothing for an unknown
+    /// number.
+    pub fn immediate_text(&self) -> Result<String, OutOfMemory>
+        ensures { IfOk result
+            (λ text. string_bytes text ≡ immediate_text_of self.now.tree.now self.now.id) }
+    {
+        TreeNodeOps::immediate_text_of(self.tree.allocator(), self.tree.nodes(), &self.id)
+    }
+
+    /// How many characters the text has, where each run of whitespace counts as one space and none
+    /// counts at its ends. Takes no memory. More than `usize::MAX` are told as that.
+    pub fn normalized_char_count(&self) -> usize
+        ensures { result ≡ told (length (collapsed (text_of self.now.tree.now self.now.id))) }
+    {
+        TreeNodeOps::normalized_char_count(self.tree.nodes(), &self.id)
     }
 }
 

@@ -1,0 +1,23 @@
+use Rattle.std.proofs.Common.{◌∙◌, ap, subst}
+use Rattle.dom_links.specs.Forest.{forest_of}
+use Rattle.dom_links.specs.Lists.{stands_in}
+use Rattle.dom_links.specs.ListMoves.{MovedList}
+use Rattle.dom_links.specs.Moves.{before_node}
+use Rattle.dom_links.proofs.Dissolving.{known_in, none_put_before}
+use Rattle.dom_links.proofs.TwoSteps.{wrapper_apart}
+use Rattle.dom_links.proofs.ops.strip.put_children_before.Goals as goal
+
+pub first_child_of-requires-clause-known : goal.first_child_of-requires-clause-known
+first_child_of-requires-clause-known c = known_in c.args.nodes.now c.args.p c.requires.placed.0 c.requires.sound c.requires.placed.1
+
+pub move_to-requires-clause-target_known : goal.move_to-requires-clause-target_known
+move_to-requires-clause-target_known c = known_in c.args.nodes.now c.args.p c.requires.placed.0 c.requires.sound c.requires.placed.1
+
+pub move_to-requires-clause-apart : goal.move_to-requires-clause-apart
+move_to-requires-clause-apart c = ap (stands_in c.args.p) c.in-Some.ensures.all ∙ wrapper_apart (forest_of c.args.nodes.now) c.args.p c.requires.sound.forest
+
+pub returns-in_default : goal.returns-in_default
+returns-in_default c = none_put_before c.args.nodes.now c.args.p c.requires.sound.arena c.in_default.ensures.all
+
+pub returns : goal.returns
+returns c = subst (MovedList c.args.nodes.now c.move_to.new.nodes (before_node c.args.p)) c.in-Some.ensures.all c.move_to.ensures

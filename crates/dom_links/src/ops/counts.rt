@@ -1,0 +1,54 @@
+//! How many characters the texts of nodes have.
+
+ghost use Rattle.std.specs.Prelude.{◌≡◌, ◌++◌, ℕ, List, length};
+ghost use Rattle.dom_links.specs.Forest.{forest_of};
+ghost use Rattle.dom_links.specs.Sound.{IsSoundArena};
+ghost use Rattle.dom_links.specs.Texts.{IsCounting, collapsed, text_of, told};
+
+use crate::iters::DescendantNodes;
+use crate::ops::TreeNodeOps;
+use crate::ops::texts::text_at;
+use dom_nodes::node_data::TreeNode;
+use dom_nodes::node_id::NodeId;
+
+impl TreeNodeOps {
+    /// How many characters the text of a node has, where each run of whitespace counts as one space
+    /// and none counts at its ends. Takes no memory. More than `usize::MAX` are told as that.
+    pub fn normalized_char_count(nodes: &[TreeNode], id: &NodeId) -> usize
+        requires { IsSoundArena nodes.now }
+        ensures { result ≡ told (length (collapsed (text_of (forest_of nodes.now) id.now))) }
+    {
+        let mut read = Collapsing {
+            count: 0,
+            gap: false,
+        };
+        add_text(&mut read, text_at(nodes, *id));
+        for below in DescendantNodes::new(nodes, id) {
+            add_text(&mut read, text_at(nodes, below));
+        }
+        read.count
+    }
+}
+
+/// How many characters of a collapsed text were read, and whether whitespace was read since.
+#[derive(Drop)]
+struct Collapsing {
+    count: usize,
+    gap: bool,
+}
+
+/// Reads a text.
+fn add_text(read: &mut Collapsing, text: &str)
+    ensures { (rest : List ℕ) (total : ℕ) → IsCounting read.old.count read.old.gap (text.now ++ rest) total
+        → IsCounting read.new.count read.new.gap rest total }
+{
+    for c in text.chars() {
+        if c.is_whitespace() {
+            read.gap = read.count > 0;
+        } else {
+            let more = if read.gap { 2 } else { 1 };
+            read.count = read.count.saturating_add(more);
+            read.gap = false;
+        }
+    }
+}
