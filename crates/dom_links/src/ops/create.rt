@@ -1,17 +1,19 @@
 //! New nodes.
 
 ghost use Rattle.std.specs.Prelude.{◌≡◌, ◌<◌, ◌+◌, ◌∷◌, ◌++◌, [], IfErr, IfOk, MatchResult, None};
-ghost use Rattle.std.specs.Prelude.{OnErr, OnOk, vec_len};
+ghost use Rattle.std.specs.Prelude.{OnErr, OnOk, length, vec_len};
 ghost use Rattle.dom_nodes.specs.Kinds.{contents_named};
 ghost use Rattle.dom_nodes.specs.declared.fault.EditFault.TheVariants.{Memory};
 ghost use Rattle.dom_nodes.specs.declared.node_data.TreeNode.{TreeNode};
 ghost use Rattle.dom_links.specs.Forest.{IsArenaOf, forest_of};
 ghost use Rattle.dom_links.specs.Growth.{Appended, Created, DataCause, HasFreeContents, Limit};
-ghost use Rattle.dom_links.specs.Growth.{MayAppend, NoRoom, NodeCause, lone, with_child, with_node};
+ghost use Rattle.dom_links.specs.Growth.{MayAppend, NoRoom, NodeCause, lone, new_node, with_child};
+ghost use Rattle.dom_links.specs.Growth.{with_node};
 ghost use Rattle.dom_links.specs.Sound.{IsSoundArena};
 
 use crate::ops::TreeNodeOps;
 use crate::ops::placing::{is_at_or_below, is_free};
+use crate::ops::writes::link_last;
 use dom_nodes::fault::EditFault;
 use dom_nodes::node_data::{NodeData, TreeNode};
 use dom_nodes::node_id::NodeId;
@@ -39,6 +41,7 @@ impl TreeNodeOps {
 
     /// Makes a node as the last child of another. With the contents that it names it counts as
     /// moved there.
+    #[inline(always)]
     pub fn append_child_data_of(
         nodes: &mut Vec<TreeNode>,
         t: NodeId,
@@ -71,24 +74,12 @@ pub(crate) fn push_alone(nodes: &mut Vec<TreeNode>, content: NodeData) -> Result
     ensures err { OnErr result (nodes.new.items ≡ nodes.old.items) }
     ensures cause { IfErr result (λ fault. NoRoom (vec_len nodes.old) fault) }
 {
-    let Some(id) = NodeId::new(nodes.as_slice().len()) else {
-        return Err(EditFault::TooManyNodes);
-    };
-    let node = TreeNode {
-        id,
-        parent: None,
-        prev_sibling: None,
-        next_sibling: None,
-        first_child: None,
-        last_child: None,
-        content,
-    };
-    push_node(nodes, node)?;
-    Ok(id)
+    push_new(nodes, None, None, content)
 }
 
 /// Makes a node as the last child of another. Whether that is allowed is the caller's condition for
 /// a forest.
+#[inline(always)]
 fn add_child(nodes: &mut Vec<TreeNode>, t: NodeId, content: NodeData) -> Result<NodeId, EditFault>
     requires linked { IsArenaOf (forest_of nodes.old.items) nodes.old.items }
     requires target_known { t < vec_len nodes.old }
@@ -98,8 +89,41 @@ fn add_child(nodes: &mut Vec<TreeNode>, t: NodeId, content: NodeData) -> Result<
     ensures err { OnErr result (nodes.new.items ≡ nodes.old.items) }
     ensures cause { IfErr result (λ fault. NoRoom (vec_len nodes.old) fault) }
 {
-    let id = push_alone(nodes, content)?;
-    TreeNodeOps::append_child_of(nodes, t, id);
+    let left = nodes[t.value()].last_child;
+    let before = left;
+    let id = push_new(nodes, Some(t), before, content)?;
+    link_last(nodes, t, left, id);
+    Ok(id)
+}
+
+/// Makes a node behind the others, with a parent and a sibling before it, which don't name it yet.
+#[inline(always)]
+fn push_new(
+    nodes: &mut Vec<TreeNode>,
+    parent: Option<NodeId>,
+    prev: Option<NodeId>,
+    content: NodeData,
+) -> Result<NodeId, EditFault>
+    ensures ok { let node = new_node (length nodes.old.items) parent prev content in
+        OnOk result (nodes.new.items ≡ nodes.old.items ++ node ∷ []) }
+    ensures number { IfOk result (λ id. id ≡ vec_len nodes.old) }
+    ensures grown { OnOk result (vec_len nodes.new ≡ vec_len nodes.old + 1) }
+    ensures err { OnErr result (nodes.new.items ≡ nodes.old.items) }
+    ensures cause { IfErr result (λ fault. NoRoom (vec_len nodes.old) fault) }
+{
+    let Some(id) = NodeId::new(nodes.as_slice().len()) else {
+        return Err(EditFault::TooManyNodes);
+    };
+    let node = TreeNode {
+        id,
+        parent,
+        prev_sibling: prev,
+        next_sibling: None,
+        first_child: None,
+        last_child: None,
+        content,
+    };
+    push_node(nodes, node)?;
     Ok(id)
 }
 
@@ -120,6 +144,7 @@ fn check_contents(nodes: &[TreeNode], content: &NodeData) -> Result<(), EditFaul
 }
 
 /// Whether a node of this data may be made as a child of t.
+#[inline(always)]
 fn check_data(nodes: &[TreeNode], t: NodeId, content: &NodeData) -> Result<(), EditFault>
     requires { IsSoundArena nodes.now }
     ensures { MatchResult result (λ _. MayAppend (forest_of nodes.now) t content.now)
@@ -159,6 +184,7 @@ pub fn create_root(alloc: Global, content: NodeData) -> Result<Vec<TreeNode>, Ed
 }
 
 /// Adds a node at the end.
+#[inline(always)]
 fn push_node(nodes: &mut Vec<TreeNode>, node: TreeNode) -> Result<(), EditFault>
     ensures ok { OnOk result (nodes.new.items ≡ nodes.old.items ++ node ∷ []) }
     ensures grown { OnOk result (vec_len nodes.new ≡ vec_len nodes.old + 1) }

@@ -17,6 +17,14 @@ use dom_nodes::text::Text;
 use std::alloc::Global;
 
 impl Tree {
+    /// Makes room for so many more nodes, if there is memory for them. A tree grows without it too,
+    /// but a tree whose size is known is then made in one piece.
+    pub fn reserve(&mut self, additional: usize)
+        ensures { self.new ≡ self.old }
+    {
+        let _ = self.nodes.reserve(additional);
+    }
+
     /// Makes a node that stands alone, with the contents that it names. Refused as `BadContents`,
     /// where these are no free fragment; as `TooManyNodes` or `Memory`.
     pub fn create_node(&mut self, content: NodeData) -> Result<NodeId, EditFault>
@@ -30,6 +38,7 @@ impl Tree {
     /// `RootOrFragment`, where it is a document or a fragment; as `BadContents`, where its contents
     /// are no free fragment, and `Cycle`, where they reach the other one; as `TooManyNodes` or
     /// `Memory`.
+    #[inline(always)]
     pub fn append_child_data_of(
         &mut self,
         id: &NodeId,
