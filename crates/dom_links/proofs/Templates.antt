@@ -71,14 +71,14 @@ put-more new forest t n once ht hn =
 -- ---- a forest keeps being one where a node names contents that nobody else does
 
 -- one of the list's elements is another
-swapped : {X : Type 0} (xs ys : List X) (a b : X) (m : ℕ) → (slice_get (xs ++ a ∷ ys) m ≡ slice_get (xs ++ b ∷ ys) m) ⊎ ((m ≡ length xs) × (slice_get (xs ++ a ∷ ys) m ≡ Some a) × (slice_get (xs ++ b ∷ ys) m ≡ Some b))
+pub swapped : {X : Type 0} (xs ys : List X) (a b : X) (m : ℕ) → (slice_get (xs ++ a ∷ ys) m ≡ slice_get (xs ++ b ∷ ys) m) ⊎ ((m ≡ length xs) × (slice_get (xs ++ a ∷ ys) m ≡ Some a) × (slice_get (xs ++ b ∷ ys) m ≡ Some b))
 swapped [] ys a b zero = inr (refl, refl, refl)
 swapped [] ys a b (suc m) = inl refl
 swapped (x ∷ xs) ys a b zero = inl refl
 swapped (x ∷ xs) ys a b (suc m) = elim (swapped xs ys a b m) [ inl e ↦ inl e | inr p ↦ inr (ap suc p.0, p.1, p.2) ]
 
 -- the data at n was that of a text, and names contents c, which nobody names and from where no step leads on
-record Held (content : List NodeData) (forest : Forest) (data' : NodeData) (n c : ℕ) : Type 0 where
+pub record Held (content : List NodeData) (forest : Forest) (data' : NodeData) (n c : ℕ) : Type 0 where
   pub long : length content ≡ length forest.content
   pub same : (m : ℕ) → (slice_get content m ≡ slice_get forest.content m) ⊎ ((m ≡ n) × (slice_get content m ≡ Some data') × (slice_get forest.content m ≡ Some (Text [])))
   pub no_top : is_top data' ≡ false
@@ -143,7 +143,7 @@ once-changed content forest once long = record {
   no_run = once.no_run;
 }
 
-held_forest : (content : List NodeData) (forest : Forest) (a : NodeData) (n c : ℕ) → IsForest forest → Held content forest a n c → IsForest (changed content forest)
+pub held_forest : (content : List NodeData) (forest : Forest) (a : NodeData) (n c : ℕ) → IsForest forest → Held content forest a n c → IsForest (changed content forest)
 held_forest content forest a n c good h = record {
   once = once-changed content forest good.once h.long;
   rooted = omega (arith, good.rooted, h.long);
@@ -174,7 +174,7 @@ held_forest content forest a n c good h = record {
 
 -- ---- the node and the fragment
 
-child_kept : (forest : Forest) (t : ℕ) (content : NodeData) → IsForest forest → MayAppend forest t content → IsForest (with_child t content forest)
+pub child_kept : (forest : Forest) (t : ℕ) (content : NodeData) → IsForest forest → MayAppend forest t content → IsForest (with_child t content forest)
 child_kept forest t content good may =
     let n = length forest.content in
     let more = length_push forest.content content in
@@ -185,13 +185,13 @@ child_kept forest t content good may =
     (forest-moved (with_node content forest) (end_of t) n (forest-more content forest good may.free) (omega arith) (omega arith)
     (test-more may_bear forest.content content t may.open_here) (may_place_new content forest t good may))
 
-no_contents : (forest : Forest) (m c : ℕ) → length forest.content ≤ m → contents_at (with_node Fragment forest) m ≡ Some c → ⊥
+pub no_contents : (forest : Forest) (m c : ℕ) → length forest.content ≤ m → contents_at (with_node Fragment forest) m ≡ Some c → ⊥
 no_contents forest m c past e = elim (contents-more Fragment forest m c e) [
   | inl old ↦ (let known = contents_at-known forest m c old in absurd (omega arith))
   | inr new ↦ (let is = new.1 in cc)
 ]
 
-template_kept : (forest : Forest) (t : ℕ) (content : NodeData) → IsForest forest → MayAppendTemplate forest t content → IsForest (with_template t content forest)
+pub template_kept : (forest : Forest) (t : ℕ) (content : NodeData) → IsForest forest → MayAppendTemplate forest t content → IsForest (with_template t content forest)
 template_kept forest t content good may =
     let n = length forest.content in
     let plain : NodeData = Text [] in
@@ -210,6 +210,41 @@ template_kept forest t content good may =
       same = λ m. rw (one, two) (swapped forest.content (Fragment ∷ []) content plain m);
       no_top = may.no_top;
       named = may.named;
+      not_root = λ e. absurd (omega (arith, e));
+      fragment = ap (λ o. option_map_or is_fragment o false) (slice_get-there (forest.content ++ plain ∷ []) Fragment (n + 1) (omega (arith, more)));
+      unnamed = λ m e. elim (contents-more Fragment inner m (n + 1) e) [
+        | inl old ↦ (let known = within is_fragment inner.content (n + 1) (kept.contents_known m (n + 1) old).1 in absurd (omega (arith, more)))
+        | inr new ↦ (let is = new.1 in cc)
+      ];
+      ends = λ k s. elim s [
+        | inl up ↦ (let known = parent_inside inner k (n + 1) kept (sym (parent-more Fragment inner k) ∙ up) in absurd (omega (arith, more)))
+        | inr has ↦ no_contents inner (n + 1) k (omega (arith, more)) has
+      ];
+      apart = λ e. absurd (omega (arith, e));
+    } in
+    let same : length (forest.content ++ plain ∷ []) ≡ length (forest.content ++ content ∷ []) = more ∙ sym other in
+    let build : ℕ → Forest = λ k. record { content = all; children = outer.children; runs = inner.runs ++ (k ∷ []) ∷ [] } in
+    subst IsForest (ap build same) (held_forest all outer content n (n + 1) whole held)
+
+-- the same where both stand alone
+pub lone_template_kept : (forest : Forest) (content : NodeData) → IsForest forest → is_top content ≡ false → contents_named content ≡ Some (length forest.content + 1) → IsForest (with_node Fragment (with_node content forest))
+lone_template_kept forest content good no_top named =
+    let n = length forest.content in
+    let plain : NodeData = Text [] in
+    let inner : Forest = with_node plain forest in
+    let outer : Forest = with_node Fragment inner in
+    let kept : IsForest inner = forest-more plain forest good (λ c e. cc) in
+    let whole : IsForest outer = forest-more Fragment inner kept (λ c e. cc) in
+    let more = length_push forest.content plain in
+    let other = length_push forest.content content in
+    let all : List NodeData = (forest.content ++ content ∷ []) ++ Fragment ∷ [] in
+    let one : all ≡ forest.content ++ content ∷ (Fragment ∷ []) = append_assoc forest.content (content ∷ []) (Fragment ∷ []) in
+    let two : outer.content ≡ forest.content ++ plain ∷ (Fragment ∷ []) = append_assoc forest.content (plain ∷ []) (Fragment ∷ []) in
+    let held : Held all outer content n (n + 1) = record {
+      long = length_push (forest.content ++ content ∷ []) Fragment ∙ (omega (arith, more, other, length_push (forest.content ++ plain ∷ []) Fragment));
+      same = λ m. rw (one, two) (swapped forest.content (Fragment ∷ []) content plain m);
+      no_top = no_top;
+      named = named;
       not_root = λ e. absurd (omega (arith, e));
       fragment = ap (λ o. option_map_or is_fragment o false) (slice_get-there (forest.content ++ plain ∷ []) Fragment (n + 1) (omega (arith, more)));
       unnamed = λ m e. elim (contents-more Fragment inner m (n + 1) e) [

@@ -1,6 +1,7 @@
 //! Edits of an arena of nodes, and the tests that tell whether an edit is allowed.
 
 pub mod changes;
+pub mod copies;
 mod counts;
 pub mod create;
 mod list_writes;

@@ -1,5 +1,6 @@
 -- Edits of a tree, and what a call promises that makes one.
 use Rattle.std.specs.Prelude.{ℕ, ◌≡◌, ◌<◌, ◌+◌, true, List, [], ◌∷◌, Option, Result, IfErr, IfOk, OnErr, OnOk, length}
+use Rattle.std.specs.Global.{Vec}
 use Rattle.dom_nodes.specs.Change.{changed}
 use Rattle.dom_nodes.specs.declared.fault.EditFault.{EditFault}
 use Rattle.dom_nodes.specs.declared.name.Attr.{Attr}
@@ -7,6 +8,7 @@ use Rattle.dom_nodes.specs.declared.name.QualName.{QualName}
 use Rattle.dom_nodes.specs.declared.node_data.NodeData.{NodeData}
 use Rattle.dom_nodes.specs.declared.node_data.changing.Change.{Change}
 use Rattle.dom_links.specs.Contents.{with_content}
+use Rattle.dom_links.specs.Copies.{CopyCause, MayCopy, copied, copy_numbers}
 use Rattle.dom_links.specs.Forest.{Forest, children_of}
 use Rattle.dom_links.specs.Growth.{DataCause, HasFreeContents, MayAppend, NodeCause, with_child, with_node, with_template}
 use Rattle.dom_links.specs.ListMoves.{AllowedList, MayReparent, MayWrap, moved_nodes, mover, reparented, replaced, unwrapped, wrapped}
@@ -132,3 +134,16 @@ appending_template t name attrs = record {
   Allowed = λ forest. IsKnown t forest × (bears forest t ≡ true);
   Cause = TemplateCause t;
 }
+
+-- nodes of a source are copied, each to be a run of its own
+abbrev pub copying : Forest → List ℕ → TreeEdit
+copying source ns = record {
+  after = copied source ns;
+  Allowed = λ forest. MayCopy source ns;
+  Cause = CopyCause source ns;
+}
+
+-- The same of such copies: their numbers are told
+pub record Copies (result : Result (Vec ℕ) EditFault) (old new source : Forest) (ns : List ℕ) : Type 0 where
+  pub edits : Edits result old new (copying source ns)
+  pub numbers : IfOk result (λ made. made.items ≡ copy_numbers source ns old)

@@ -23,6 +23,7 @@ use std::fmt;
 use std::marker::Model;
 
 mod changes;
+mod copies;
 mod creation;
 mod moves;
 mod reading;

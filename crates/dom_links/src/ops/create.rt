@@ -80,7 +80,11 @@ pub(crate) fn push_alone(nodes: &mut Vec<TreeNode>, content: NodeData) -> Result
 /// Makes a node as the last child of another. Whether that is allowed is the caller's condition for
 /// a forest.
 #[inline(always)]
-fn add_child(nodes: &mut Vec<TreeNode>, t: NodeId, content: NodeData) -> Result<NodeId, EditFault>
+pub(crate) fn add_child(
+    nodes: &mut Vec<TreeNode>,
+    t: NodeId,
+    content: NodeData,
+) -> Result<NodeId, EditFault>
     requires linked { IsArenaOf (forest_of nodes.old.items) nodes.old.items }
     requires target_known { t < vec_len nodes.old }
     ensures ok { OnOk result (Appended nodes.old.items nodes.new.items t content) }

@@ -5,13 +5,13 @@ use Rattle.dom_links.specs.Forest.{forest_of}
 use Rattle.dom_links.proofs.Cuts.{length-contents}
 use Rattle.dom_links.proofs.Climbs.{holder_found, holder_passed, contents_at-known}
 use Rattle.dom_links.proofs.ops.placing.holder_of.Goals as goal
-use Rattle.dom_links.proofs.ops.placing.holder_of.Goals.{in-Some+else-eq, in_default}
+use Rattle.dom_links.proofs.ops.placing.holder_of.Goals.{in-Some-template_contents+else-eq, in_default-template_contents}
 
 pub returns-then-eq : goal.returns-then-eq
 returns-then-eq c =
     let here : c.loop-node.node-index < length c.args.nodes.now = omega arith in
-    let same : c.in-Some.contents ≡ c.args.n = eqb-true c.in-Some.contents c.args.n (sym c.eq.ensures ∙ c.if-eq.true) in
-    holder_found (forest_of c.args.nodes.now) c.args.nodes.now c.loop-node.node-index c.in-Some.contents c.args.n c.node-item.result c.requires.linked here c.node-item.is (sym c.template_contents.ensures ∙ c.in-Some.is) same
+    let same : c.in-Some-template_contents.contents ≡ c.args.n = eqb-true c.in-Some-template_contents.contents c.args.n (sym c.eq.ensures ∙ c.if-eq.true) in
+    holder_found (forest_of c.args.nodes.now) c.args.nodes.now c.loop-node.node-index c.in-Some-template_contents.contents c.args.n c.node-item.result c.requires.linked here c.node-item.is (sym c.template_contents.ensures ∙ c.in-Some-template_contents.is) same
 
 pub loop-node-preserved : goal.loop-node-preserved
 loop-node-preserved c =
@@ -19,9 +19,9 @@ loop-node-preserved c =
     below_more _ _ c.loop-node.invariant
     (holder_passed (forest_of c.args.nodes.now) c.args.nodes.now c.loop-node.node-index c.args.n c.node-item.result c.requires.linked here c.node-item.is
     (λ holds. elim c.match-template_contents.branch [
-      | in-Some+else-eq w ↦ (let same : w.in-Some.contents ≡ c.args.n = same_Some _ _ (sym w.in-Some.is ∙ c.template_contents.ensures ∙ holds) in
-          eqb-false w.in-Some.contents c.args.n (sym w.eq.ensures ∙ w.if-eq.false) same)
-      | in_default w ↦ none-some _ (sym w.in_default.is ∙ c.template_contents.ensures ∙ holds)
+      | in-Some-template_contents+else-eq w ↦ (let same : w.in-Some-template_contents.contents ≡ c.args.n = same_Some _ _ (sym w.in-Some-template_contents.is ∙ c.template_contents.ensures ∙ holds) in
+          eqb-false w.in-Some-template_contents.contents c.args.n (sym w.eq.ensures ∙ w.if-eq.false) same)
+      | in_default-template_contents w ↦ none-some _ (sym w.in_default-template_contents.is ∙ c.template_contents.ensures ∙ holds)
     ]))
 
 pub returns : goal.returns

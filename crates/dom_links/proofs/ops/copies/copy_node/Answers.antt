@@ -1,0 +1,63 @@
+use Rattle.std.proofs.Common.{◌≡◌, ◌≤◌, ◌+◌, ◌∙◌, ◌∷◌, [], arith, length, vec_len}
+use Rattle.std.proofs.lemmas.Result.{err_from_is_err_and}
+use Rattle.dom_links.specs.Copies.{with_copies}
+use Rattle.dom_links.specs.Copying.{AreRows, IsTooLarge}
+use Rattle.dom_links.specs.Forest.{children_of, forest_of}
+use Rattle.dom_links.specs.Lists.{first}
+use Rattle.dom_links.specs.Trees.{trees}
+use Rattle.dom_links.proofs.Copied.{count_is, fault_passed, first_inside, held_is, held_known, held_made, lent_node, no_room, no_room_held, plain_made, rows_more, rows_pushed}
+use Rattle.dom_links.proofs.ops.copies.copy_node.Goals as goal
+use Rattle.dom_links.proofs.ops.copies.copy_node.Goals.{in-Some+in_ok-copy_alone, in_default}
+
+pub returns-in_err-made-clause-cause : goal.returns-in_err-made-clause-cause
+returns-in_err-made-clause-cause g c =
+    let way = c.requires.0 in
+    let count : vec_len c.args.nodes.now ≡ length (forest_of c.args.nodes.now.items).content = count_is g.at c.args.other c.args.nodes.now.items (vec_len c.args.nodes.now) way (omega arith) in
+    fault_passed c.from_residual.result c.in_err-made.field-0.0 (IsTooLarge (with_copies g.at.source c.args.parent (trees g.at.source (c.args.id ∷ [])) (forest_of c.args.nodes.now.items))) (err_from_is_err_and c.from_residual.result c.from_residual.ensures.1)
+    (no_room g.at.source c.args.parent c.args.id (vec_len c.args.nodes.now) (forest_of c.args.nodes.now.items) c.in_err-made.field-0.0 way.good c.requires.1.0 count c.in_err-made.ensures.cause)
+
+pub copy_alone-requires-in-Some : goal.copy_alone-requires-in-Some
+copy_alone-requires-in-Some g c =
+    let node = lent_node g.at c.args.other c.args.nodes.now.items c.deref.result.now c.args.id c.source_node.result.now c.deref.ensures.value c.requires.0 c.requires.1.0 c.source_node.ensures in
+    let is = held_is g.at.source c.args.id c.source_node.result.now c.template_contents-held.result node c.template_contents-held.ensures ∙ c.in-Some.is in
+    (c.in_ok-made.ensures.under_way, (held_known g.at.source c.args.id c.in-Some.contents c.requires.0.good is, tt))
+
+pub returns-in_err-copy_alone-clause-cause : goal.returns-in_err-copy_alone-clause-cause
+returns-in_err-copy_alone-clause-cause g c =
+    let way = c.requires.0 in
+    let node = lent_node g.at c.args.other c.args.nodes.now.items c.deref.result.now c.args.id c.source_node.result.now c.deref.ensures.value way c.requires.1.0 c.source_node.ensures in
+    let is = held_is g.at.source c.args.id c.source_node.result.now c.template_contents-held.result node c.template_contents-held.ensures ∙ c.in-Some.is in
+    let count : vec_len c.args.nodes.now ≡ length (forest_of c.args.nodes.now.items).content = count_is g.at c.args.other c.args.nodes.now.items (vec_len c.args.nodes.now) way (omega arith) in
+    let more : vec_len c.copy_alone.new.nodes ≡ length (forest_of c.args.nodes.now.items).content + 1 = omega (arith, c.in_ok-made.ensures.grown, count) in
+    fault_passed c.from_residual-in_err-copy_alone.result c.in_err-copy_alone.field-0.0 (IsTooLarge (with_copies g.at.source c.args.parent (trees g.at.source (c.args.id ∷ [])) (forest_of c.args.nodes.now.items)))
+    (err_from_is_err_and c.from_residual-in_err-copy_alone.result c.from_residual-in_err-copy_alone.ensures.1)
+    (no_room_held g.at.source c.args.parent c.args.id c.in-Some.contents (vec_len c.copy_alone.new.nodes) (forest_of c.args.nodes.now.items) c.in_err-copy_alone.field-0.0 way.good c.requires.1.0 is more c.in_err-copy_alone.ensures.cause)
+
+pub returns-clause-rows : goal.returns-clause-rows
+returns-clause-rows g c =
+    let way = c.requires.0 in
+    let fewer : length g.at.base.content ≤ vec_len c.args.nodes.now = omega (arith, way.kept.longer, count_is g.at c.args.other c.args.nodes.now.items (vec_len c.args.nodes.now) way (omega arith)) in
+    let one : AreRows g.at (vec_len c.copy_alone.new.nodes) c.copy_alone.new.rows.items = rw c.in_ok-made.ensures.rows (rows_pushed g.at (vec_len c.copy_alone.new.nodes) c.args.rows.now.items (first (children_of g.at.source c.args.id)) (vec_len c.args.nodes.now)
+    (rows_more g.at (vec_len c.args.nodes.now) (vec_len c.copy_alone.new.nodes) c.args.rows.now.items (omega (arith, c.in_ok-made.ensures.grown)) c.requires.1.1.1) (first_inside g.at.source c.args.id way.good) fewer (omega (arith, c.in_ok-made.ensures.grown))) in
+    elim c.match-held.branch [
+      | in-Some+in_ok-copy_alone w ↦ rw (w.nodes-is, w.rows-is, w.in_ok-copy_alone.ensures.rows) (rows_pushed g.at (vec_len w.copy_alone-in-Some.new.nodes) c.copy_alone.new.rows.items (first (children_of g.at.source w.in-Some.contents)) (vec_len c.copy_alone.new.nodes)
+          (rows_more g.at (vec_len c.copy_alone.new.nodes) (vec_len w.copy_alone-in-Some.new.nodes) c.copy_alone.new.rows.items (omega (arith, w.in_ok-copy_alone.ensures.grown)) one) (first_inside g.at.source w.in-Some.contents way.good) (omega (arith, fewer, c.in_ok-made.ensures.grown)) (omega (arith, w.in_ok-copy_alone.ensures.grown)))
+      | in_default w ↦ rw (w.nodes-is, w.rows-is) one
+    ]
+
+pub returns-clause-made : goal.returns-clause-made
+returns-clause-made g c =
+    let way = c.requires.0 in
+    let node = lent_node g.at c.args.other c.args.nodes.now.items c.deref.result.now c.args.id c.source_node.result.now c.deref.ensures.value way c.requires.1.0 c.source_node.ensures in
+    let held = held_is g.at.source c.args.id c.source_node.result.now c.template_contents-held.result node c.template_contents-held.ensures in
+    let count : vec_len c.args.nodes.now ≡ length (forest_of c.args.nodes.now.items).content = count_is g.at c.args.other c.args.nodes.now.items (vec_len c.args.nodes.now) way (omega arith) in
+    let count1 : vec_len c.copy_alone.new.nodes ≡ length (forest_of c.copy_alone.new.nodes.items).content = count_is g.at c.args.other c.copy_alone.new.nodes.items (vec_len c.copy_alone.new.nodes) c.in_ok-made.ensures.under_way (omega arith) in
+    elim c.match-held.branch [
+      | in-Some+in_ok-copy_alone w ↦ rw (w.nodes-is, w.rows-is)
+          (held_made g.at.source c.args.rows.now.items c.copy_alone.new.rows.items w.copy_alone-in-Some.new.rows.items c.args.id w.in-Some.contents (vec_len c.args.nodes.now) (vec_len c.copy_alone.new.nodes) c.args.parent
+          (forest_of c.args.nodes.now.items) (forest_of c.copy_alone.new.nodes.items) (forest_of w.copy_alone-in-Some.new.nodes.items) way.good c.requires.1.0 (held ∙ w.in-Some.is) count count1
+          c.in_ok-made.ensures.rows w.in_ok-copy_alone.ensures.rows c.in_ok-made.ensures.made w.in_ok-copy_alone.ensures.made)
+      | in_default w ↦ rw (w.nodes-is, w.rows-is)
+          (plain_made g.at.source c.args.rows.now.items c.copy_alone.new.rows.items c.args.id (vec_len c.args.nodes.now) c.args.parent (forest_of c.args.nodes.now.items) (forest_of c.copy_alone.new.nodes.items) way.good c.requires.1.0 (held ∙ w.in_default.is) count
+          c.in_ok-made.ensures.rows c.in_ok-made.ensures.made)
+    ]

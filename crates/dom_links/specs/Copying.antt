@@ -1,0 +1,82 @@
+-- Copies that are being made: what is read, and what is still to be copied.
+use Rattle.std.specs.Prelude.{ℕ, ◌≡◌, ◌≢◌, ◌<◌, ◌≤◌, ◌+◌, ◌⊎◌, false, List, [], ◌∷◌, Option, Some, None, length}
+use Rattle.std.specs.List.{AllByRecursion}
+use Rattle.std.specs.Borrow.{Bor}
+use Rattle.dom_nodes.specs.declared.fault.EditFault.{EditFault}
+use Rattle.dom_nodes.specs.declared.fault.EditFault.TheVariants.{TooManyNodes, Memory}
+use Rattle.dom_nodes.specs.declared.node_data.NodeData.{NodeData}
+use Rattle.dom_nodes.specs.declared.node_data.TreeNode.{TreeNode}
+use Rattle.dom_nodes.specs.Kinds.{contents_named}
+use Rattle.dom_links.specs.Copies.{Keeps, with_copies}
+use Rattle.dom_links.specs.Forest.{Forest, IsArenaOf, forest_of}
+use Rattle.dom_links.specs.Sound.{IsForest}
+use Rattle.dom_links.specs.Trees.{trees}
+use Rattle.dom_links.specs.Walk.{row_on}
+use Rattle.dom_links.specs.declared.ops.copies.Row.{Row}
+
+-- the forest that is copied from, and the one that is copied into, both as they were
+pub record Copying : Type 0 where
+  pub source : Forest
+  pub base : Forest
+
+-- the nodes that are read: those of another arena, or those among which the copies are made
+abbrev pub read_nodes : Option (Bor (List TreeNode)) → List TreeNode → List TreeNode
+read_nodes None nodes = nodes
+read_nodes (Some other) nodes = other.now
+
+-- there the source is read
+abbrev pub IsRead : Copying → Option (Bor (List TreeNode)) → Type 0
+IsRead copying None = copying.source ≡ copying.base
+IsRead copying (Some other) = IsArenaOf copying.source other.now
+
+-- copies have been made of nodes of the source, and all that stood there before stays
+pub record IsUnderWay (copying : Copying) (other : Option (Bor (List TreeNode))) (nodes : List TreeNode) : Type 0 where
+  pub good : IsForest copying.source
+  pub linked : IsArenaOf (forest_of nodes) nodes
+  pub numbered : length nodes ≤ 4294967295
+  pub kept : Keeps copying.base (forest_of nodes)
+  pub read : IsRead copying other
+
+-- the row begins at a node of the source, and goes below a copy
+pub record IsRow (copying : Copying) (count : ℕ) (row : Row) : Type 0 where
+  pub known : row.first < length copying.source.content
+  pub new : length copying.base.content ≤ row.parent
+  pub made : row.parent < count
+
+-- there a copy can be put: below another copy, or to stand alone
+abbrev pub IsPlaceFor : Copying → ℕ → Option ℕ → Type 0
+IsPlaceFor copying count None = Unit {0}
+IsPlaceFor copying count (Some p) = (length copying.base.content ≤ p) × (p < count)
+
+abbrev pub AreRows : Copying → ℕ → List Row → Type 0
+AreRows copying count rows = AllByRecursion (IsRow copying count) rows
+
+-- the forest with copies of the nodes of a row
+abbrev pub with_row : Forest → Row → Forest → Forest
+with_row source row forest = with_copies source (Some row.parent) (trees source (row_on source false (Some row.first))) forest
+
+-- the forest with copies of the nodes of some rows, those of the last row first
+abbrev pub with_rows : Forest → List Row → Forest → Forest
+with_rows source [] forest = forest
+with_rows source (row ∷ rows) forest = with_row source row (with_rows source rows forest)
+
+-- the row that begins there, if any
+abbrev pub row_from : Option ℕ → ℕ → List Row
+row_from None parent = []
+row_from (Some first) parent = record { first = first; parent = parent } ∷ []
+
+-- there are no numbers for the copy of this data at that number and its contents, or there was no memory
+abbrev pub LacksRoom : ℕ → NodeData → EditFault → Type 0
+LacksRoom number content TooManyNodes = (4294967295 ≤ number) ⊎ ((4294967295 ≤ number + 1) × (contents_named content ≢ None))
+LacksRoom number content Memory = Unit {0}
+LacksRoom number content _ = ⊥
+
+-- the forest has more nodes than there are numbers, or there was no memory
+abbrev pub IsTooLarge : Forest → EditFault → Type 0
+IsTooLarge forest TooManyNodes = 4294967295 < length forest.content
+IsTooLarge forest Memory = Unit {0}
+IsTooLarge forest _ = ⊥
+
+-- each of the nodes is the forest's
+abbrev pub AreKnown : Forest → List ℕ → Type 0
+AreKnown forest ns = AllByRecursion (λ n. n < length forest.content) ns

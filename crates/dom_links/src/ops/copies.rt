@@ -1,0 +1,371 @@
+//! Copies of nodes, with all that is below them. They are numbered in walk order, the contents of a
+//! node before its children.
+
+ghost use Rattle.std.specs.Prelude.{◌≡◌, ◌<◌, ◌≤◌, ◌+◌, ◌∷◌, ◌++◌, [], None, Some, length, vec_len};
+ghost use Rattle.std.specs.Prelude.{IfErr, IfOk, IfSome, MatchResult, OnErr, OnOk};
+ghost use Rattle.dom_nodes.specs.declared.fault.EditFault.TheVariants.{Memory};
+ghost use Rattle.dom_links.specs.Copies.{CheckCause, Copied, MayCopyOne, OneCause, copied};
+ghost use Rattle.dom_links.specs.Copies.{copied_data, copy_numbers, data_at};
+ghost use Rattle.dom_links.specs.Copies.{MayCopy, with_contents, with_copies, with_node_below};
+ghost use Rattle.dom_links.specs.Copying.{AreRows, Copying, IsPlaceFor, IsRow, IsTooLarge};
+ghost use Rattle.dom_links.specs.Copying.{AreKnown, IsUnderWay, LacksRoom};
+ghost use Rattle.dom_links.specs.Copying.{read_nodes, row_from, with_row, with_rows};
+ghost use Rattle.dom_links.specs.Forest.{IsArenaOf, children_of, forest_of};
+ghost use Rattle.dom_links.specs.Growth.{NoRoom};
+ghost use Rattle.dom_links.specs.Lists.{first};
+ghost use Rattle.dom_links.specs.Sound.{IsSoundArena};
+ghost use Rattle.dom_links.specs.Trees.{trees};
+ghost use Rattle.dom_links.specs.Walk.{IsNodeOf};
+
+use crate::iters::find_node;
+use crate::ops::create::{add_child, push_alone};
+use dom_nodes::fault::EditFault;
+use dom_nodes::node_data::{Element, NodeData, TreeNode};
+use dom_nodes::node_id::NodeId;
+
+/// A node with its later siblings, of which copies are still to be made, below a node.
+#[derive(Clone, Copy)]
+struct Row {
+    first: NodeId,
+    parent: NodeId,
+}
+
+/// Makes copies of nodes of another arena, each a run of its own, and answers their numbers: all or
+/// none.
+pub fn merge(
+    nodes: &mut Vec<TreeNode>,
+    other: &[TreeNode],
+    ids: &[NodeId],
+) -> Result<Vec<NodeId>, EditFault>
+    requires sound { IsSoundArena nodes.old.items }
+    requires other { IsSoundArena other.now }
+    ensures { Copied result (forest_of other.now) nodes.old.items nodes.new.items ids.now }
+{
+    check_copies(other, ids)?;
+    copy_all(nodes, Some(other), ids)
+}
+
+/// Makes copies of nodes of the same arena, each a run of its own, and answers their numbers: all
+/// or none.
+pub fn copy_nodes(nodes: &mut Vec<TreeNode>, ids: &[NodeId]) -> Result<Vec<NodeId>, EditFault>
+    requires { IsSoundArena nodes.old.items }
+    ensures { Copied result (forest_of nodes.old.items) nodes.old.items nodes.new.items ids.now }
+{
+    check_copies(nodes, ids)?;
+    copy_all(nodes, None, ids)
+}
+
+/// Whether nodes may be copied.
+fn check_copies(nodes: &[TreeNode], ids: &[NodeId]) -> Result<(), EditFault>
+    requires { IsSoundArena nodes.now }
+    ensures { MatchResult result (λ _. MayCopy (forest_of nodes.now) ids.now)
+        (λ fault. CheckCause (forest_of nodes.now) ids.now fault) }
+{
+    for id in ids {
+        check_copy(nodes, *id)?;
+    }
+    Ok(())
+}
+
+/// Whether a node may be copied.
+fn check_copy(nodes: &[TreeNode], id: NodeId) -> Result<(), EditFault>
+    requires { IsSoundArena nodes.now }
+    ensures { MatchResult result (λ _. MayCopyOne (forest_of nodes.now) id)
+        (λ fault. OneCause (forest_of nodes.now) id fault) }
+{
+    let Some(node) = find_node(nodes, id) else {
+        return Err(EditFault::UnknownNode);
+    };
+    if node.content.is_top() {
+        return Err(EditFault::RootOrFragment);
+    }
+    Ok(())
+}
+
+/// Makes the copies, or takes those away that were made.
+fn copy_all(
+    nodes: &mut Vec<TreeNode>,
+    other: Option<&[TreeNode]>,
+    ids: &[NodeId],
+) -> Result<Vec<NodeId>, EditFault>
+    ghost at: { Copying }
+    requires sound { IsSoundArena nodes.old.items }
+    requires under_way { IsUnderWay at other nodes.old.items }
+    requires base { at.base ≡ forest_of nodes.old.items }
+    requires known { AreKnown at.source ids.now }
+    ensures made { OnOk result (forest_of nodes.new.items
+        ≡ copied at.source ids.now (forest_of nodes.old.items)) }
+    ensures numbers { IfOk result (λ made. made.items
+        ≡ copy_numbers at.source ids.now (forest_of nodes.old.items)) }
+    ensures err { OnErr result (forest_of nodes.new.items ≡ forest_of nodes.old.items) }
+    ensures cause { IfErr result
+        (λ fault. IsTooLarge (copied at.source ids.now (forest_of nodes.old.items)) fault) }
+    ensures sound { IsSoundArena nodes.new.items }
+{
+    let count = nodes.len();
+    match copy_each(nodes, other, ids) {
+        Ok(made) => Ok(made),
+        Err(fault) => {
+            nodes.truncate(count);
+            Err(fault)
+        }
+    }
+}
+
+/// Makes the copies.
+fn copy_each(
+    nodes: &mut Vec<TreeNode>,
+    other: Option<&[TreeNode]>,
+    ids: &[NodeId],
+) -> Result<Vec<NodeId>, EditFault>
+    ghost at: { Copying }
+    requires under_way { IsUnderWay at other nodes.old.items }
+    requires known { AreKnown at.source ids.now }
+    ensures under_way { IsUnderWay at other.entry nodes.new.items }
+    ensures made { OnOk result (forest_of nodes.new.items
+        ≡ copied at.source ids.now (forest_of nodes.old.items)) }
+    ensures numbers { IfOk result (λ made. made.items
+        ≡ copy_numbers at.source ids.now (forest_of nodes.old.items)) }
+    ensures cause { IfErr result
+        (λ fault. IsTooLarge (copied at.source ids.now (forest_of nodes.old.items)) fault) }
+{
+    let mut numbers = Vec::new(*nodes.allocator());
+    for id in ids {
+        let number = copy_tree(nodes, other, *id)?;
+        push_number(&mut numbers, number)?;
+    }
+    Ok(numbers)
+}
+
+fn push_number(numbers: &mut Vec<NodeId>, number: NodeId) -> Result<(), EditFault>
+    ensures ok { OnOk result (numbers.new.items ≡ numbers.old.items ++ number ∷ []) }
+    ensures cause { IfErr result (λ fault. fault ≡ Memory) }
+{
+    match numbers.push(number) {
+        Ok(()) => Ok(()),
+        Err(_) => Err(EditFault::Memory),
+    }
+}
+
+/// Makes a copy of a node with all that is below it.
+fn copy_tree(
+    nodes: &mut Vec<TreeNode>,
+    other: Option<&[TreeNode]>,
+    id: NodeId,
+) -> Result<NodeId, EditFault>
+    ghost at: { Copying }
+    requires under_way { IsUnderWay at other nodes.old.items }
+    requires known { id < length at.source.content }
+    ensures under_way { IsUnderWay at other.entry nodes.new.items }
+    ensures made { OnOk result (forest_of nodes.new.items
+        ≡ copied at.source (id ∷ []) (forest_of nodes.old.items)) }
+    ensures number { IfOk result (λ made. made ≡ vec_len nodes.old) }
+    ensures cause { IfErr result
+        (λ fault. IsTooLarge (copied at.source (id ∷ []) (forest_of nodes.old.items)) fault) }
+{
+    let mut rows = Vec::new(*nodes.allocator());
+    let made = copy_node(nodes, other, &mut rows, id, None)?;
+    copy_rows(nodes, other, rows)?;
+    Ok(made)
+}
+
+/// Copies all that is left.
+fn copy_rows(
+    nodes: &mut Vec<TreeNode>,
+    other: Option<&[TreeNode]>,
+    mut rows: Vec<Row>,
+) -> Result<(), EditFault>
+    ghost at: { Copying }
+    requires under_way { IsUnderWay at other nodes.old.items }
+    requires rows { AreRows at (vec_len nodes.old) rows.items }
+    ensures under_way { IsUnderWay at other.entry nodes.new.items }
+    ensures made { OnOk result (forest_of nodes.new.items
+        ≡ with_rows at.source rows.items (forest_of nodes.old.items)) }
+    ensures cause { let copied = with_rows at.source rows.items (forest_of nodes.old.items)
+        in IfErr result (λ fault. IsTooLarge copied fault) }
+{
+    while let Some(row) = rows.pop() {
+        copy_row(nodes, other, &mut rows, row)?;
+    }
+    Ok(())
+}
+
+/// Copies the first node of a row, and notes the rest of it.
+fn copy_row(
+    nodes: &mut Vec<TreeNode>,
+    other: Option<&[TreeNode]>,
+    rows: &mut Vec<Row>,
+    row: Row,
+) -> Result<(), EditFault>
+    ghost at: { Copying }
+    requires under_way { IsUnderWay at other nodes.old.items }
+    requires row { IsRow at (vec_len nodes.old) row }
+    requires rows { AreRows at (vec_len nodes.old) rows.old.items }
+    ensures under_way { IsUnderWay at other.entry nodes.new.items }
+    ensures rows { OnOk result (AreRows at (vec_len nodes.new) rows.new.items) }
+    ensures made { let copied = with_row at.source row (forest_of nodes.old.items)
+        in OnOk result (with_rows at.source rows.new.items (forest_of nodes.new.items)
+        ≡ with_rows at.source rows.old.items copied) }
+    ensures grown { OnOk result (vec_len nodes.old < vec_len nodes.new) }
+    ensures cause { IfErr result
+        (λ fault. IsTooLarge (with_row at.source row (forest_of nodes.old.items)) fault) }
+{
+    let next = source_node(other, nodes, row.first).next_sibling;
+    push_row(rows, next, row.parent)?;
+    copy_node(nodes, other, rows, row.first, Some(row.parent))?;
+    Ok(())
+}
+
+/// Copies a node and the fragment that it names as its contents, and notes what stands below them.
+fn copy_node(
+    nodes: &mut Vec<TreeNode>,
+    other: Option<&[TreeNode]>,
+    rows: &mut Vec<Row>,
+    id: NodeId,
+    parent: Option<NodeId>,
+) -> Result<NodeId, EditFault>
+    ghost at: { Copying }
+    requires under_way { IsUnderWay at other nodes.old.items }
+    requires known { id < length at.source.content }
+    requires below { IsPlaceFor at (vec_len nodes.old) parent }
+    requires rows { AreRows at (vec_len nodes.old) rows.old.items }
+    ensures under_way { IsUnderWay at other.entry nodes.new.items }
+    ensures rows { OnOk result (AreRows at (vec_len nodes.new) rows.new.items) }
+    ensures made { let copied = with_copies at.source parent (trees at.source (id ∷ []))
+        (forest_of nodes.old.items)
+        in OnOk result (with_rows at.source rows.new.items (forest_of nodes.new.items)
+        ≡ with_rows at.source rows.old.items copied) }
+    ensures number { IfOk result (λ made. made ≡ vec_len nodes.old) }
+    ensures grown { OnOk result (vec_len nodes.old < vec_len nodes.new) }
+    ensures cause { let copied = with_copies at.source parent (trees at.source (id ∷ []))
+        (forest_of nodes.old.items)
+        in IfErr result (λ fault. IsTooLarge copied fault) }
+{
+    let held = source_node(other, nodes, id).content.template_contents();
+    let made = copy_alone(nodes, other, rows, id, parent)?;
+    if let Some(contents) = held {
+        copy_alone(nodes, other, rows, contents, None)?;
+    }
+    Ok(made)
+}
+
+/// Copies a node, and notes its children.
+fn copy_alone(
+    nodes: &mut Vec<TreeNode>,
+    other: Option<&[TreeNode]>,
+    rows: &mut Vec<Row>,
+    id: NodeId,
+    parent: Option<NodeId>,
+) -> Result<NodeId, EditFault>
+    ghost at: { Copying }
+    requires under_way { IsUnderWay at other nodes.old.items }
+    requires known { id < length at.source.content }
+    requires below { IsPlaceFor at (vec_len nodes.old) parent }
+    ensures under_way { IsUnderWay at other.entry nodes.new.items }
+    ensures made { let number = vec_len nodes.old in OnOk result (forest_of nodes.new.items
+        ≡ with_node_below parent (copied_data number (data_at at.source id))
+        (forest_of nodes.old.items)) }
+    ensures rows { let children = first (children_of at.source id) in
+        OnOk result (rows.new.items ≡ rows.old.items ++ row_from children (vec_len nodes.old)) }
+    ensures number { IfOk result (λ made. made ≡ vec_len nodes.old) }
+    ensures grown { OnOk result (vec_len nodes.new ≡ vec_len nodes.old + 1) }
+    ensures cause { IfErr result
+        (λ fault. LacksRoom (vec_len nodes.old) (data_at at.source id) fault) }
+{
+    let node = source_node(other, nodes, id);
+    let first = node.first_child;
+    let content = copy_data(node, nodes.len())?;
+    let made = add_below(nodes, parent, content)?;
+    push_row(rows, first, made)?;
+    Ok(made)
+}
+
+/// A node of the source.
+fn source_node<'a>(other: Option<&'a [TreeNode]>, nodes: &'a [TreeNode], id: NodeId) -> &'a TreeNode
+    requires { id < length (read_nodes other nodes.now) }
+    ensures { (at : Copying) → IsUnderWay at other.entry nodes.now → id < length at.source.content
+        → IsNodeOf at.source id result.now }
+{
+    match other {
+        Some(read) => &read[id.value()],
+        None => &nodes[id.value()],
+    }
+}
+
+/// The data of a node's copy with that number.
+fn copy_data(node: &TreeNode, number: usize) -> Result<NodeData, EditFault>
+    requires { number ≤ 4294967295 }
+    ensures { MatchResult result (λ made. made ≡ copied_data number node.now.content)
+        (λ fault. LacksRoom number node.now.content fault) }
+{
+    let Some(_) = node.content.template_contents() else {
+        return cloned(&node.content);
+    };
+    let Some(contents) = NodeId::new(number + 1) else {
+        return Err(EditFault::TooManyNodes);
+    };
+    let made = cloned(&node.content)?;
+    Ok(with_contents(made, contents))
+}
+
+/// The same data.
+fn cloned(content: &NodeData) -> Result<NodeData, EditFault>
+    ensures { MatchResult result (λ made. made ≡ content.now) (λ fault. fault ≡ Memory) }
+{
+    match content.try_clone() {
+        Ok(made) => Ok(made),
+        Err(_) => Err(EditFault::Memory),
+    }
+}
+
+/// The same data, where an element has other contents.
+fn with_contents(content: NodeData, contents: NodeId) -> NodeData
+    ensures { result ≡ with_contents (Some contents) content }
+{
+    match content {
+        NodeData::Element(element) => NodeData::Element(Element::new(
+            element.name,
+            element.attrs,
+            Some(contents),
+            element.mathml_annotation_xml_integration_point,
+        )),
+        same => same,
+    }
+}
+
+/// Makes a node as the last child of another, or standing alone.
+fn add_below(
+    nodes: &mut Vec<TreeNode>,
+    parent: Option<NodeId>,
+    content: NodeData,
+) -> Result<NodeId, EditFault>
+    requires linked { IsArenaOf (forest_of nodes.old.items) nodes.old.items }
+    requires parent_known { IfSome parent (λ p. p < vec_len nodes.old) }
+    ensures made { OnOk result (forest_of nodes.new.items
+        ≡ with_node_below parent content (forest_of nodes.old.items)) }
+    ensures linked { IsArenaOf (forest_of nodes.new.items) nodes.new.items }
+    ensures number { IfOk result (λ id. id ≡ vec_len nodes.old) }
+    ensures grown { OnOk result (vec_len nodes.new ≡ vec_len nodes.old + 1) }
+    ensures err { OnErr result (nodes.new.items ≡ nodes.old.items) }
+    ensures cause { IfErr result (λ fault. NoRoom (vec_len nodes.old) fault) }
+{
+    match parent {
+        Some(p) => add_child(nodes, p, content),
+        None => push_alone(nodes, content),
+    }
+}
+
+/// Notes the row that begins at a node, if any.
+fn push_row(rows: &mut Vec<Row>, first: Option<NodeId>, parent: NodeId) -> Result<(), EditFault>
+    ensures ok { OnOk result (rows.new.items ≡ rows.old.items ++ row_from first parent) }
+    ensures err { OnErr result (rows.new.items ≡ rows.old.items) }
+    ensures cause { IfErr result (λ fault. fault ≡ Memory) }
+{
+    let Some(first) = first else {
+        return Ok(());
+    };
+    match rows.push(Row { first, parent }) {
+        Ok(()) => Ok(()),
+        Err(_) => Err(EditFault::Memory),
+    }
+}
