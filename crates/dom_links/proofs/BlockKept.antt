@@ -48,7 +48,7 @@ ways before after moved o owner same is _ _ (then_step m k n way step) = elim (w
   ])
 ]
 
-ways_none : (before after : Forest) (moved : List ℕ) (owner : Option ℕ) → ReparentedList before after moved owner → owner ≡ None → (m n : ℕ) → Reaches after m n → Reaches before m n
+pub ways_none : (before after : Forest) (moved : List ℕ) (owner : Option ℕ) → ReparentedList before after moved owner → owner ≡ None → (m n : ℕ) → Reaches after m n → Reaches before m n
 ways_none before after moved owner same is _ _ (one_step m n step) = elim (step_back before after moved owner same m n step) [
   | inl old ↦ one_step m n old
   | inr new ↦ (let no = new.0 in cc)
@@ -201,7 +201,7 @@ list_moved old new gap moved are arena =
 
 -- cutting out nodes that don't stay where they are keeps a forest
 
-cut_parents : (forest : Forest) (moved : List ℕ) → ReparentedList forest (cut moved forest) moved None
+pub cut_parents : (forest : Forest) (moved : List ℕ) → ReparentedList forest (cut moved forest) moved None
 cut_parents forest moved = record { parents = λ n. parent-cut moved forest n; contents = λ n. refl }
 
 pub forest-cut_list : (forest : Forest) (moved : List ℕ) → IsForest forest → AreNodes forest moved → EachOf moved (λ x. stays forest x ≡ false) → IsForest (cut moved forest)

@@ -8,6 +8,7 @@ mod list_writes;
 pub mod lists;
 pub mod moves;
 pub mod placing;
+mod set_text;
 pub mod siblings;
 mod strip;
 pub mod templates;

@@ -1,0 +1,38 @@
+-- The text of a node is set.
+use Rattle.std.specs.Prelude.{ℕ, ◌≡◌, ◌≤◌, ◌⊎◌, Bool, true, false, List, [], ◌∷◌, length, slice_get, if◌then◌else◌}
+use Rattle.std.specs.Option.{option_map_or}
+use Rattle.dom_nodes.specs.declared.fault.EditFault.{EditFault}
+use Rattle.dom_nodes.specs.declared.fault.EditFault.TheVariants.{TooManyNodes, Memory}
+use Rattle.dom_nodes.specs.declared.node_data.NodeData.{NodeData}
+use Rattle.dom_nodes.specs.declared.node_data.NodeData.TheVariants.{Text}
+use Rattle.dom_nodes.specs.Kinds.{is_text}
+use Rattle.dom_links.specs.Contents.{with_content}
+use Rattle.dom_links.specs.Forest.{Forest, children_of}
+use Rattle.dom_links.specs.Growth.{with_node}
+use Rattle.dom_links.specs.ListMoves.{element_at}
+use Rattle.dom_links.specs.Moves.{cut, end_of, moved_to}
+
+-- a text of other contents; what is no text stays
+abbrev pub retexted : List ℕ → NodeData → NodeData
+retexted text (Text contents) = Text text
+retexted text content = content
+
+abbrev pub is_text_at : Forest → ℕ → Bool
+is_text_at forest n = option_map_or is_text (slice_get forest.content n) false
+
+-- the children of x are cut out, and a node that stands alone becomes its only child
+abbrev pub with_only_child : ℕ → ℕ → Forest → Forest
+with_only_child x child forest = moved_to (child ∷ []) (end_of x) (cut (children_of forest x) forest)
+
+-- an element has a new text in the place of its children, a text has other contents, and any other node stays
+abbrev pub texted : ℕ → List ℕ → Forest → Forest
+texted x text forest =
+    if element_at forest x then with_only_child x (length forest.content) (with_node (Text text) forest)
+    else with_content x (retexted text) forest
+
+-- why no text could be set: no number was left for the text of an element, or no memory was found for that of an element or a
+-- text
+abbrev pub SetTextCause : ℕ → Forest → EditFault → Type 0
+SetTextCause x forest TooManyNodes = (element_at forest x ≡ true) × (4294967295 ≤ length forest.content)
+SetTextCause x forest Memory = (element_at forest x ≡ true) ⊎ (is_text_at forest x ≡ true)
+SetTextCause x forest _ = ⊥

@@ -1,0 +1,113 @@
+//! The text of a node is set.
+
+ghost use Rattle.std.specs.Prelude.{◌≡◌, IfErr, MatchResult, OnErr, OnOk, true};
+ghost use Rattle.dom_nodes.specs.declared.fault.EditFault.TheVariants.{Memory};
+ghost use Rattle.dom_links.specs.Contents.{Changed};
+ghost use Rattle.dom_links.specs.Forest.{forest_of};
+ghost use Rattle.dom_links.specs.ListMoves.{element_at};
+ghost use Rattle.dom_links.specs.Moves.{end_of};
+ghost use Rattle.dom_links.specs.SetTexts.{SetTextCause, is_text_at, retexted, texted};
+ghost use Rattle.dom_links.specs.SetTexts.{with_only_child};
+ghost use Rattle.dom_links.specs.Sound.{Allowed, IsSoundArena};
+
+use crate::iters::find_node;
+use crate::ops::TreeNodeOps;
+use crate::ops::lists::remove_children;
+use dom_nodes::fault::EditFault;
+use dom_nodes::node_data::{NodeData, TreeNode};
+use dom_nodes::node_id::NodeId;
+use dom_nodes::text::Text;
+use std::alloc::Global;
+
+impl TreeNodeOps {
+    /// Puts one text in the place of an element's children, or of a text's contents. Any other node
+    /// stays, and so does all for an unknown number. Refused as `TooManyNodes` of an element, and
+    /// as `Memory` of an element or a text; then nothing changes.
+    pub fn set_text(nodes: &mut Vec<TreeNode>, id: NodeId, text: &str) -> Result<(), EditFault>
+        requires { IsSoundArena nodes.old.items }
+        ensures made { OnOk result
+            (forest_of nodes.new.items ≡ texted id text.now (forest_of nodes.old.items)) }
+        ensures err { OnErr result (nodes.new.items ≡ nodes.old.items) }
+        ensures cause { IfErr result (SetTextCause id (forest_of nodes.old.items)) }
+        ensures sound { IsSoundArena nodes.new.items }
+    {
+        if is_element_at(nodes, id) {
+            return replace_children(nodes, id, text);
+        }
+        if is_text_at(nodes, id) {
+            let contents = owned_text(*nodes.allocator(), text)?;
+            put_text(nodes, id, contents);
+        }
+        Ok(())
+    }
+}
+
+fn is_element_at(nodes: &[TreeNode], id: NodeId) -> bool
+    requires { IsSoundArena nodes.now }
+    ensures { result ≡ element_at (forest_of nodes.now) id }
+{
+    find_node(nodes, id).is_some_and(|node| node.content.is_element())
+}
+
+fn is_text_at(nodes: &[TreeNode], id: NodeId) -> bool
+    requires { IsSoundArena nodes.now }
+    ensures { result ≡ is_text_at (forest_of nodes.now) id }
+{
+    find_node(nodes, id).is_some_and(|node| node.content.is_text())
+}
+
+/// The text. Refused as `Memory`.
+fn owned_text(alloc: Global, text: &str) -> Result<Text, EditFault>
+    ensures { MatchResult result (λ made. made ≡ text.now) (λ fault. fault ≡ Memory) }
+{
+    match Text::new(alloc, text) {
+        Ok(made) => Ok(made),
+        Err(_) => Err(EditFault::Memory),
+    }
+}
+
+/// Puts a new text in the place of an element's children.
+fn replace_children(nodes: &mut Vec<TreeNode>, x: NodeId, text: &str) -> Result<(), EditFault>
+    requires sound { IsSoundArena nodes.old.items }
+    requires element { element_at (forest_of nodes.old.items) x ≡ true }
+    ensures made { OnOk result
+        (forest_of nodes.new.items ≡ texted x text.now (forest_of nodes.old.items)) }
+    ensures err { OnErr result (nodes.new.items ≡ nodes.old.items) }
+    ensures cause { IfErr result (SetTextCause x (forest_of nodes.old.items)) }
+    ensures sound { IsSoundArena nodes.new.items }
+{
+    let contents = owned_text(*nodes.allocator(), text)?;
+    let child = TreeNodeOps::create_node(nodes, NodeData::Text { contents })?;
+    set_only_child(nodes, x, child);
+    Ok(())
+}
+
+/// Cuts the children of a node out, and makes another node its only child.
+fn set_only_child(nodes: &mut [TreeNode], x: NodeId, child: NodeId)
+    requires sound { IsSoundArena nodes.old }
+    requires allowed { Allowed (forest_of nodes.old) (end_of x) child }
+    ensures made { forest_of nodes.new ≡ with_only_child x child (forest_of nodes.old) }
+    ensures sound { IsSoundArena nodes.new }
+{
+    remove_children(nodes, x);
+    TreeNodeOps::append_child_of(nodes, x, child);
+}
+
+/// Gives a text other contents. Any other node stays, and so does all for an unknown number.
+pub(crate) fn put_text(nodes: &mut [TreeNode], x: NodeId, text: Text)
+    requires { IsSoundArena nodes.old }
+    ensures { Changed nodes.old nodes.new x (retexted text) }
+{
+    let at = x.value();
+    if at < nodes.len() {
+        retext(&mut nodes[at], text);
+    }
+}
+
+fn retext(node: &mut TreeNode, text: Text)
+    ensures { node.new ≡ record node.old { content = retexted text node.old.content } }
+{
+    if let NodeData::Text { contents } = &mut node.content {
+        *contents = text;
+    }
+}
