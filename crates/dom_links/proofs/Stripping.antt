@@ -47,11 +47,13 @@ has_parent forest x n s = elim (cases_Option (parent forest n)) [
 -- m stands in no list before it
 only_here : (xs ys : List ℕ) (m : ℕ) → IsDistinct (xs ++ m ∷ ys) → (stands_in m xs ≡ false) × (stands_in m ys ≡ false)
 only_here xs ys m once =
-    let parts = distinct_parts xs (m ∷ ys) once in
-    (elim (cases_Bool (stands_in m xs)) [
-      | inr f ↦ f
-      | inl t ↦ absurd (true≢false (sym (here_stands m ys) ∙ parts.2 m t))
-    ], parts.1.0)
+    let parts = distinct_parts xs (m ∷ ys) once in (
+      elim (cases_Bool (stands_in m xs)) [
+        | inr f ↦ f
+        | inl t ↦ absurd (true≢false (sym (here_stands m ys) ∙ parts.2 m t))
+      ],
+      parts.1.0,
+    )
 
 one_rest : (xs ys other rest : List ℕ) (m : ℕ) → IsDistinct (xs ++ m ∷ ys) → xs ++ m ∷ ys ≡ other ++ m ∷ rest → ys ≡ rest
 one_rest xs ys other rest m once e =
@@ -137,16 +139,18 @@ strip_dissolves old now new x at q names next beyond some steps place named up m
     let on = goes_on (forest_of now) (forest_of new) x h.passed beyond good sound.forest place out in
     let is_one : is_named names (forest_of old) at ≡ true = same_names names (forest_of old) (forest_of now) at (sym (ap (λ (forest : Forest). forest.content) h.is ∙ content_stays (filter (is_named names (forest_of old)) h.done) (forest_of old))) ∙ named in
     let one : filter (is_named names (forest_of old)) (at ∷ []) ≡ at ∷ [] = rw is_one refl in
-    let more : filter (is_named names (forest_of old)) (h.done ++ at ∷ []) ≡ filter (is_named names (forest_of old)) h.done ++ at ∷ [] = filter-append (is_named names (forest_of old)) h.done (at ∷ []) ∙ ap (λ ns. filter (is_named names (forest_of old)) h.done ++ ns) one in
-    (record {
-      sound = sound;
-      done = h.done ++ at ∷ [];
-      passed = h.passed;
-      is = made ∙ ap (dissolved at) h.is ∙ sym (dissolved_last (filter (is_named names (forest_of old)) h.done) at (forest_of old)) ∙ ap (λ ps. all_dissolved ps (forest_of old)) (sym more);
-      whole = h.whole ∙ ap (λ ns. h.done ++ ns) (here ∙ ap (λ ns. at ∷ ns) (sym on.same)) ∙ sym (append_assoc h.done (at ∷ []) (walk_on (forest_of new) x beyond));
-      left = on.left;
-      below = on.below;
-    }, on.same)
+    let more : filter (is_named names (forest_of old)) (h.done ++ at ∷ []) ≡ filter (is_named names (forest_of old)) h.done ++ at ∷ [] = filter-append (is_named names (forest_of old)) h.done (at ∷ []) ∙ ap (λ ns. filter (is_named names (forest_of old)) h.done ++ ns) one in (
+      record {
+        sound = sound;
+        done = h.done ++ at ∷ [];
+        passed = h.passed;
+        is = made ∙ ap (dissolved at) h.is ∙ sym (dissolved_last (filter (is_named names (forest_of old)) h.done) at (forest_of old)) ∙ ap (λ ps. all_dissolved ps (forest_of old)) (sym more);
+        whole = h.whole ∙ ap (λ ns. h.done ++ ns) (here ∙ ap (λ ns. at ∷ ns) (sym on.same)) ∙ sym (append_assoc h.done (at ∷ []) (walk_on (forest_of new) x beyond));
+        left = on.left;
+        below = on.below;
+      },
+      on.same,
+    )
 
 -- the walk that is left gets shorter
 pub strip_shorter : (now new : Forest) (x at : ℕ) (next beyond : Option ℕ) → next ≡ Some at → walk_on now x (Some at) ≡ at ∷ walk_on now x beyond → walk_on new x beyond ≡ walk_on now x beyond → length (walk_on new x beyond) < length (walk_on now x next)
@@ -178,7 +182,7 @@ each_dissolved (p ∷ ps) x forest good once below =
     let up = has_parent forest x p above in
     let out = walk_dissolved forest p up.0 good up.1 x (λ e. not_above_itself forest p x good above (sym e)) in
     let rest = each_dissolved ps x (dissolved p forest) (forest-dissolved forest p up.0 good up.1) once.1
-      (λ m s. ap (stands_in m) out ∙ still_stands p m (walk_below forest x) (other m s) (below m (later_stands p m ps s))) in
+    (λ m s. ap (stands_in m) out ∙ still_stands p m (walk_below forest x) (other m s) (below m (later_stands p m ps s))) in
     record { good = rest.good; left = rest.left ∙ ap (without ps) out ∙ without_two p ps (walk_below forest x) }
   where
     other : (m : ℕ) → stands_in m ps ≡ true → (p == m) ≡ false
@@ -238,10 +242,10 @@ is_stripped names x forest good =
     let nodes = walk_below forest x in
     let after = stripped names x forest in
     let all = each_dissolved (filter test nodes) x forest good (distinct-filter test nodes (walk-once forest x good))
-      (λ p s. and-left (stands_in p nodes) (test p) (sym (stands_in-filter test nodes p) ∙ s)) in
+    (λ p s. and-left (stands_in p nodes) (test p) (sym (stands_in-filter test nodes p) ∙ s)) in
     let left : walk_below after x ≡ filter (λ n. not (test n)) nodes = all.left ∙ without_tested test (filter test nodes) nodes (λ n s. stands_in-filter test nodes n ∙ rw s refl) in
     let none : filter (is_named names after) (walk_below after x) ≡ [] =
-      filter_alike (is_named names after) test (walk_below after x) (λ n. same_names names after forest n (content_stays (filter test nodes) forest)) ∙ ap (filter test) left ∙ none_twice test nodes in
+    filter_alike (is_named names after) test (walk_below after x) (λ n. same_names names after forest n (content_stays (filter test nodes) forest)) ∙ ap (filter test) left ∙ none_twice test nodes in
     record { kept = all.good; left = left; again = ap (λ ps. all_dissolved ps after) none }
   where
     and-left : (a b : Bool) → (a && b) ≡ true → a ≡ true

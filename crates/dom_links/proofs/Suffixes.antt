@@ -74,9 +74,9 @@ ends_at forest start n (q ∷ above) good known are s = elim (cases_Option (pare
             let given = walk_given forest start p good (inside, above_p) in
             let left = p ∷ here.0 in
             let inner : p ∷ (walk_below forest p ++ next) ++ behind forest start p ≡ left ++ (tail ++ behind forest start n) =
-              ap (λ ns. p ∷ (ns ++ next) ++ behind forest start p) here.1
-              ∙ ap (λ ns. p ∷ ns) (append_assoc (here.0 ++ tail) next (behind forest start p) ∙ append_assoc here.0 tail (next ++ behind forest start p))
-              ∙ ap (λ ns. left ++ (tail ++ ns)) (sym after) in
+            ap (λ ns. p ∷ (ns ++ next) ++ behind forest start p) here.1
+            ∙ ap (λ ns. p ∷ ns) (append_assoc (here.0 ++ tail) next (behind forest start p) ∙ append_assoc here.0 tail (next ++ behind forest start p))
+            ∙ ap (λ ns. left ++ (tail ++ ns)) (sym after) in
             record {
               front = over.front ++ left;
               is = over.is ∙ ap (λ ns. over.front ++ ns) (given ∙ inner) ∙ sym (append_assoc over.front left (tail ++ behind forest start n));

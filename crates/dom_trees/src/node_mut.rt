@@ -14,6 +14,7 @@ use dom_nodes::fault::EditFault;
 use dom_nodes::node_id::NodeId;
 
 mod changes;
+mod texts;
 
 /// A node, by its number and its tree, which may be changed.
 #[derive(Drop)]

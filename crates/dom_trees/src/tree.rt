@@ -28,6 +28,7 @@ mod creation;
 mod moves;
 mod reading;
 mod templates;
+mod texts;
 
 /// A tree. A contract sees it as a forest.
 #[derive(Drop)]
