@@ -8,16 +8,17 @@ use Rattle.dom_markup.specs.Names.{Mode, markup, text_of, raw_text_of, mode_in, 
 use Rattle.dom_nodes.specs.declared.fault.MarkupFaultKind.{MarkupFaultKind}
 use Rattle.dom_nodes.specs.declared.fault.MarkupFaultKind.TheVariants as fault_kinds
 use Rattle.dom_markup.specs.References.{decoded}
+use Rattle.dom_markup.specs.Front.{OpensTag}
 use Rattle.dom_markup.specs.Refusals.{BeginsTag, Cause, EndsInSlash, StartCause}
-use Rattle.dom_markup.specs.Token.{BeginsKind, IsTextIn, kind_of}
+use Rattle.dom_markup.specs.Token.{BeginsKind, IsTextIn, contents_in, kind_of, kind_of_text}
 use Rattle.dom_markup.specs.declared.document.tokens.TokenKind.{TokenKind}
 use Rattle.dom_markup.specs.declared.document.tokens.TokenKind.TheVariants as kinds
 use Rattle.dom_markup.specs.ValueTrees.{Attribute}
-use Rattle.dom_markup.specs.Markup.{Item, NamesElement, EndsTag, BeginsStart, BeginsEnd, BeginsQuoted, BeginsWord, BeginsIdentifiers, BeginsDoctype, Begins, BeginsNothing, EndsAtTag, begins_markup, text_front, kept_after, mode_after, LacksEnd}
+use Rattle.dom_markup.specs.Markup.{Item, Closes, IsTagName, NamesElement, EndsTag, BeginsStart, BeginsEnd, BeginsQuoted, BeginsWord, BeginsIdentifiers, BeginsDoctype, Begins, BeginsNothing, EndsAtTag, begins_markup, text_front, kept_after, mode_after, LacksEnd}
 use Rattle.dom_markup.specs.Markup.Item.{start_tag, end_tag, characters, comment, doctype}
-use Rattle.dom_markup.specs.Stretches.{Splits}
+use Rattle.dom_markup.specs.Stretches.{ClosesNothing, PastAttributes, Splits}
 use Rattle.dom_markup.specs.Bytes.{is_letter, is_name_byte, is_whitespace}
-use Rattle.dom_markup.proofs.Reading.{no_letter, behind_first, other_second, comment_behind, EndsTag-suffix}
+use Rattle.dom_markup.proofs.Reading.{no_letter, behind_first, other_second, second_same, comment_behind, EndsTag-suffix, no_slashed_start, no_start, slash_shape, slashed_start, start_shape}
 use Rattle.dom_markup.proofs.Doctypes.{doctype_first}
 use Rattle.dom_markup.proofs.Texts.{no_front, begins_less, some_front}
 
@@ -81,9 +82,13 @@ no_less text m none = let is = begins_less text m in none is.0 is.1
 -- ---- what is found at the front of markup
 
 -- an item that markup follows
-pub found_item : (text : List ℕ) (item : Item) (rest behind : List ℕ) (kind told : TokenKind) (next : Mode) → Begins markup text item rest → behind ≡ rest → told ≡ kind → kind ≡ kind_of markup item → next ≡ markup → mode_after markup item ≡ markup → BeginsKind markup text told behind next
-found_item text item rest behind kind told next begins e f is after goes =
-    record { item = item; begins = subst (λ (r : List ℕ). Begins markup text item r) (sym e) begins; is_kind = f ∙ is; goes_on = after ∙ sym goes }
+pub found_item : (mode : Mode) (text : List ℕ) (item : Item) (rest behind : List ℕ) (kind told : TokenKind) (next : Mode) → Begins mode text item rest → behind ≡ rest → told ≡ kind → kind ≡ kind_of mode item → next ≡ markup → mode_after mode item ≡ markup → BeginsKind mode text told behind next
+found_item mode text item rest behind kind told next begins e f is after goes =
+    record { item = item; begins = subst (λ (r : List ℕ). Begins mode text item r) (sym e) begins; is_kind = f ∙ is; goes_on = after ∙ sym goes }
+
+-- a text, which is read on as it was
+pub found_characters : (mode : Mode) (text c rest : List ℕ) (kind : TokenKind) → Begins mode text (characters c) rest → kind ≡ kind_of_text mode → BeginsKind mode text kind rest mode
+found_characters mode text c rest kind begins is = record { item = characters c; begins = begins; is_kind = is; goes_on = refl }
 
 pub found_start : (text n : List ℕ) (a : List Attribute) (rest : List ℕ) (kind : TokenKind) (next : Mode) → BeginsStart text n a rest → kind ≡ kinds.StartTag → next ≡ mode_in n → BeginsKind markup text kind rest next
 found_start text n a rest kind next begins is goes = record { item = start_tag n a; begins = begins; is_kind = is; goes_on = goes }
@@ -94,31 +99,45 @@ found_start text n a rest kind next begins is goes = record { item = start_tag n
 pub no_slash : (text tag : List ℕ) → text ≡ 60 ∷ 47 ∷ tag → EndsInSlash text → ⊥
 no_slash text tag e h = no_letter 47 h.written h.more tag refl h.names (behind_first 60 text _ _ e h.is)
 
-tag_begins : (text : List ℕ) → begins_markup text ≡ true → ((r : List ℕ) → text ≡ 60 ∷ 33 ∷ r → ⊥) → ((r : List ℕ) → text ≡ 60 ∷ 63 ∷ r → ⊥) → BeginsTag text
-tag_begins [] m mark instruction = absurd (false≢true m)
-tag_begins (a ∷ []) m mark instruction = absurd (false≢true m)
-tag_begins (a ∷ b ∷ bs) m mark instruction = by_byte (a == 60) (is_letter b || b == 47) (b == 33) (b == 63) refl refl refl refl m
-  where
-    by_byte : (x y z w : Bool) → (a == 60) ≡ x → (is_letter b || b == 47) ≡ y → (b == 33) ≡ z → (b == 63) ≡ w → (x && (y || z || w)) ≡ true → BeginsTag (a ∷ b ∷ bs)
-    by_byte false y z w p q r t h = absurd (false≢true h)
-    by_byte true true z w p q r t h = (b, bs, ap (λ n. n ∷ b ∷ bs) (eqb-true a 60 p), q)
-    by_byte true false true w p q r t h = absurd (mark bs (cc (eqb-true a 60 p, eqb-true b 33 r)))
-    by_byte true false false true p q r t h = absurd (instruction bs (cc (eqb-true a 60 p, eqb-true b 63 t)))
-    by_byte true false false false p q r t h = absurd (false≢true h)
+-- where a start tag may begin, markup begins, and nothing else
+pub opens_markup : (text rest : List ℕ) → OpensTag text rest → begins_markup text ≡ true
+opens_markup text rest (is, (b, more, e, letter)) = rw (is, e, letter) refl
 
--- where neither an end tag nor a declaration nor an instruction stands
-pub start_cause : (text : List ℕ) (kind : MarkupFaultKind) → begins_markup text ≡ true → ((r : List ℕ) → text ≡ 60 ∷ 47 ∷ r → ⊥) → ((r : List ℕ) → text ≡ 60 ∷ 33 ∷ r → ⊥) → ((r : List ℕ) → text ≡ 60 ∷ 63 ∷ r → ⊥) → StartCause text kind → BeginsNothing markup text × Cause markup text kind
-start_cause text fault_kinds.BadTag m slash mark instruction h = (no_start_tag text m slash mark h.0, (refl, tag_begins text m mark instruction, h.1))
-start_cause text fault_kinds.SlashOnOpen m slash mark instruction h = (no_start_tag text m slash mark h.0, (refl, h.1))
-start_cause text fault_kinds.Unclosed m slash mark instruction h = absurd h
-start_cause text fault_kinds.MismatchedEnd m slash mark instruction h = absurd h
-start_cause text fault_kinds.StrayEnd m slash mark instruction h = absurd h
-start_cause text fault_kinds.BadComment m slash mark instruction h = absurd h
-start_cause text fault_kinds.BadDeclaration m slash mark instruction h = absurd h
-start_cause text fault_kinds.MisplacedDoctype m slash mark instruction h = absurd h
-start_cause text fault_kinds.Instruction m slash mark instruction h = absurd h
-start_cause text fault_kinds.TooManyNodes m slash mark instruction h = absurd h
-start_cause text fault_kinds.Memory m slash mark instruction h = absurd h
+second_is : (text rest : List ℕ) (x : ℕ) (r : List ℕ) → OpensTag text rest → is_letter x ≡ false → text ≡ 60 ∷ x ∷ r → ⊥
+second_is text rest x r (is, (b, more, e, letter)) other h =
+    let same : b ≡ x = second_same text b x more r (is ∙ ap (λ t. 60 ∷ t) e) h in
+    false≢true (sym other ∙ ap is_letter (sym same) ∙ letter)
+
+-- where markup begins with neither a letter nor a slash nor an exclamation mark, it begins with a question mark
+pub asks : (text : List ℕ) → begins_markup text ≡ true → ((rest : List ℕ) → OpensTag text rest → ⊥) → ((r : List ℕ) → text ≡ 60 ∷ 47 ∷ r → ⊥) → ((r : List ℕ) → text ≡ 60 ∷ 33 ∷ r → ⊥) → (more : List ℕ) × (text ≡ 60 ∷ 63 ∷ more)
+asks [] m start slash mark = absurd (false≢true m)
+asks (a ∷ []) m start slash mark = absurd (false≢true m)
+asks (a ∷ b ∷ bs) m start slash mark = by_byte (a == 60) (is_letter b) (b == 47) (b == 33) (b == 63) refl refl refl refl refl m
+  where
+    by_byte : (x l y z w : Bool) → (a == 60) ≡ x → is_letter b ≡ l → (b == 47) ≡ y → (b == 33) ≡ z → (b == 63) ≡ w → (x && (l || y || z || w)) ≡ true → (more : List ℕ) × (a ∷ b ∷ bs ≡ 60 ∷ 63 ∷ more)
+    by_byte false l y z w p q s r t h = absurd (false≢true h)
+    by_byte true true y z w p q s r t h = absurd (start (b ∷ bs) (ap (λ n. n ∷ b ∷ bs) (eqb-true a 60 p), (b, bs, refl, q)))
+    by_byte true false true z w p q s r t h = absurd (slash bs (cc (eqb-true a 60 p, eqb-true b 47 s)))
+    by_byte true false false true w p q s r t h = absurd (mark bs (cc (eqb-true a 60 p, eqb-true b 33 r)))
+    by_byte true false false false true p q s r t h = (bs, cc (eqb-true a 60 p, eqb-true b 63 t))
+    by_byte true false false false false p q s r t h = absurd (false≢true h)
+
+opens_tag : (text rest : List ℕ) → OpensTag text rest → BeginsTag text
+opens_tag text rest (is, (b, more, e, letter)) = (b, more, is ∙ ap (λ t. 60 ∷ t) e, rw letter refl)
+
+-- why nothing is found where a start tag may begin
+pub start_cause : (text rest : List ℕ) (kind : MarkupFaultKind) → OpensTag text rest → StartCause text kind → BeginsNothing markup text × Cause markup text kind
+start_cause text rest fault_kinds.BadTag opens h = (no_start_tag text (opens_markup text rest opens) (λ r. second_is text rest 47 r opens refl) (λ r. second_is text rest 33 r opens refl) h.0, (refl, opens_tag text rest opens, h.1))
+start_cause text rest fault_kinds.SlashOnOpen opens h = (no_start_tag text (opens_markup text rest opens) (λ r. second_is text rest 47 r opens refl) (λ r. second_is text rest 33 r opens refl) h.0, (refl, h.1))
+start_cause text rest fault_kinds.Unclosed opens h = absurd h
+start_cause text rest fault_kinds.MismatchedEnd opens h = absurd h
+start_cause text rest fault_kinds.StrayEnd opens h = absurd h
+start_cause text rest fault_kinds.BadComment opens h = absurd h
+start_cause text rest fault_kinds.BadDeclaration opens h = absurd h
+start_cause text rest fault_kinds.MisplacedDoctype opens h = absurd h
+start_cause text rest fault_kinds.Instruction opens h = absurd h
+start_cause text rest fault_kinds.TooManyNodes opens h = absurd h
+start_cause text rest fault_kinds.Memory opens h = absurd h
 
 -- ---- the text of an element
 
@@ -142,24 +161,20 @@ unclosed_cause (text_of o) name text m lacks = subst (λ (x : List ℕ). LacksEn
 unclosed_cause (raw_text_of o) name text m lacks = subst (λ (x : List ℕ). LacksEnd x text) (sym m) lacks
 
 -- the end tag stands at the front
-pub found_end : (mode : Mode) (name text rest behind : List ℕ) (told : TokenKind) (next : Mode) → IsTextIn mode name → BeginsEnd text name rest → behind ≡ rest → told ≡ kinds.EndTag → next ≡ markup → BeginsKind mode text told behind next
-found_end markup name text rest behind told next m b e f g = absurd m
-found_end (text_of o) name text rest behind told next m b e f g =
-    record { item = end_tag name; begins = (sym m, subst (λ (x : List ℕ). BeginsEnd text x behind) (sym m) (subst (λ (r : List ℕ). BeginsEnd text name r) (sym e) b)); is_kind = f; goes_on = g }
-found_end (raw_text_of o) name text rest behind told next m b e f g =
-    record { item = end_tag name; begins = (sym m, subst (λ (x : List ℕ). BeginsEnd text x behind) (sym m) (subst (λ (r : List ℕ). BeginsEnd text name r) (sym e) b)); is_kind = f; goes_on = g }
+pub found_end : (mode : Mode) (name text rest : List ℕ) → IsTextIn mode name → BeginsEnd text name rest → Begins mode text (end_tag name) rest
+found_end markup name text rest m b = absurd m
+found_end (text_of o) name text rest m b = (sym m, subst (λ (x : List ℕ). BeginsEnd text x rest) (sym m) b)
+found_end (raw_text_of o) name text rest m b = (sym m, subst (λ (x : List ℕ). BeginsEnd text x rest) (sym m) b)
 
 no_front_end : (name text front rest : List ℕ) → EndsAtTag name text front rest → ((r : List ℕ) → BeginsEnd text name r → ⊥) → front ≢ []
 no_front_end name text [] rest h none = λ e. none h.after (subst (λ (t : List ℕ). BeginsEnd t name h.after) (sym h.is) h.ends)
 no_front_end name text (x ∷ front) rest h none = λ e. cc
 
 -- a text stands before it
-pub found_text : (mode : Mode) (name text front rest : List ℕ) → IsTextIn mode name → EndsAtTag name text front rest → ((r : List ℕ) → BeginsEnd text name r → ⊥) → BeginsKind mode text kinds.RawText rest mode
+pub found_text : (mode : Mode) (name text front rest : List ℕ) → IsTextIn mode name → EndsAtTag name text front rest → ((r : List ℕ) → BeginsEnd text name r → ⊥) → Begins mode text (characters (contents_in mode front)) rest
 found_text markup name text front rest m h none = absurd m
-found_text (text_of o) name text front rest m h none =
-    record { item = characters (decoded front); begins = (front, no_front_end name text front rest h none, subst (λ (x : List ℕ). EndsAtTag x text front rest) (sym m) h, refl); is_kind = refl; goes_on = refl }
-found_text (raw_text_of o) name text front rest m h none =
-    record { item = characters front; begins = (no_front_end name text front rest h none, subst (λ (x : List ℕ). EndsAtTag x text front rest) (sym m) h); is_kind = refl; goes_on = refl }
+found_text (text_of o) name text front rest m h none = (front, no_front_end name text front rest h none, subst (λ (x : List ℕ). EndsAtTag x text front rest) (sym m) h, refl)
+found_text (raw_text_of o) name text front rest m h none = (no_front_end name text front rest h none, subst (λ (x : List ℕ). EndsAtTag x text front rest) (sym m) h)
 
 -- ---- tags
 
@@ -173,6 +188,33 @@ start_made tag name behind rest s names all ends = record {
   ends = ends;
   kept = refl;
 }
+
+-- where its attributes end, the tag ends too, or it is none
+pub start_closes : (tag name behind close rest : List ℕ) (void : Bool) → Splits is_name_byte tag name behind → NamesElement name (folded name) → void ≡ is_among (folded name) void_names → PastAttributes behind close → Closes void close rest →
+    (all : List Attribute) × EndsTag (is_among (folded name) void_names) behind all rest × BeginsStart (60 ∷ tag) (folded name) (kept_after [] all) rest
+start_closes tag name behind close rest void splits names is past closes =
+    let ends = past.same.back (is_among (folded name) void_names) [] rest (subst (λ (b : Bool). Closes b close rest) is closes) in
+    (ends.0, ends.1, start_made tag name behind rest splits names ends.0 ends.1)
+
+pub start_fails : (tag name behind close : List ℕ) (void : Bool) (kind : MarkupFaultKind) → Splits is_name_byte tag name behind → IsTagName name → void ≡ is_among (folded name) void_names → PastAttributes behind close → ClosesNothing void close kind → StartCause (60 ∷ tag) kind
+start_fails tag name behind close void fault_kinds.BadTag splits names is past h =
+    (no_start tag name behind close void splits is past.same past.none h.0, no_slashed_start tag name behind close splits past.same past.none h.1)
+start_fails tag name behind close void fault_kinds.SlashOnOpen splits names is past h =
+    (no_start tag name behind close void splits is past.same past.none h.0, slashed_start tag name behind close h.1 void splits names is past.same h.0 h.2)
+start_fails tag name behind close void fault_kinds.Unclosed splits names is past h = absurd h
+start_fails tag name behind close void fault_kinds.MismatchedEnd splits names is past h = absurd h
+start_fails tag name behind close void fault_kinds.StrayEnd splits names is past h = absurd h
+start_fails tag name behind close void fault_kinds.BadComment splits names is past h = absurd h
+start_fails tag name behind close void fault_kinds.BadDeclaration splits names is past h = absurd h
+start_fails tag name behind close void fault_kinds.MisplacedDoctype splits names is past h = absurd h
+start_fails tag name behind close void fault_kinds.Instruction splits names is past h = absurd h
+start_fails tag name behind close void fault_kinds.TooManyNodes splits names is past h = absurd h
+start_fails tag name behind close void fault_kinds.Memory splits names is past h = absurd h
+
+-- a run of name bytes that names no element begins no start tag
+pub start_unnamed : (tag name behind : List ℕ) → Splits is_name_byte tag name behind → ((element : List ℕ) → NamesElement name element → ⊥) → StartCause (60 ∷ tag) fault_kinds.BadTag
+start_unnamed tag name behind splits none =
+    (λ n attributes rest h. none n (start_shape _ _ _ _ refl splits n attributes rest h).0, λ slashed. none _ ((slash_shape _ _ _ _ refl splits slashed).0, refl))
 
 pub end_made : (tag name inner space behind rest : List ℕ) → Splits is_name_byte tag name inner → Splits is_whitespace inner space behind → NamesElement name (folded name) → behind ≡ 62 ∷ rest → BeginsEnd (60 ∷ 47 ∷ tag) (folded name) rest
 end_made tag name inner space behind rest s w names e = record {

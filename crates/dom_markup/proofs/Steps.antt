@@ -1,7 +1,7 @@
 -- What a reader's steps are on a text.
-use Rattle.std.specs.Prelude.{slice_get}
+use Rattle.std.specs.Prelude.{slice_get, ◌⊎◌}
 use Rattle.std.specs.Option.{option_map_or}
-use Rattle.std.proofs.Common.{Vec, Global, Result, MatchResult, Option, Some, None, ◌≡◌, ◌<◌, ◌≤◌, ◌+◌, ◌-◌, ℕ, List, [], ◌∷◌, ◌++◌, length, map, true, false, refl, sym, ap, ◌∙◌, subst, arith, append_assoc, append-nil, length-append, inl, inr}
+use Rattle.std.proofs.Common.{Vec, Global, Result, MatchResult, Option, Some, None, ◌≡◌, ◌≢◌, ◌<◌, ◌≤◌, ◌+◌, ◌-◌, ℕ, List, [], ◌∷◌, ◌++◌, length, map, true, false, refl, sym, ap, ◌∙◌, subst, arith, cond, append_assoc, append-nil, inl, inr}
 use Rattle.std.proofs.lemmas.Bool.{true≢false, cases_Bool}
 use Rattle.std.proofs.lemmas.List.{map-append}
 use Rattle.dom_nodes.specs.declared.fault.EditFault.{EditFault}
@@ -28,20 +28,16 @@ use Rattle.dom_markup.specs.Markup.{Item, AreInPlace, Begins, BeginsNothing, Beg
 use Rattle.dom_markup.specs.Markup.Item.{start_tag, end_tag, characters, comment, doctype}
 use Rattle.dom_trees.specs.NewNodes.{html_name}
 use Rattle.dom_markup.specs.Numbered.{read_attr, read_element, document_of}
-use Rattle.dom_markup.specs.Refusals.{nodes_begun, Refused, Declines, StopsBefore, BeginsNothingAt, Cause, IsFaultAt, LeavesSomeOpen}
-use Rattle.dom_markup.specs.Token.{IsNext, Unread, contents_in, kind_of}
-use Rattle.dom_markup.specs.Tokens.{IsStopped}
+use Rattle.dom_markup.specs.Refusals.{nodes_begun, Refused, Declines, StopsBefore, BeginsNothingAt, Cause, IsFaultAt, LeavesSomeOpen, StartCause}
+use Rattle.dom_markup.specs.Front.{BeginsLetter}
 use Rattle.dom_markup.specs.Frames.{HasRead, Opened, opened, is_top, opened_size, with_element, children_place}
 use Rattle.dom_markup.specs.Limits.{IsLimit, IsPlainData, LacksNumbers}
-use Rattle.dom_markup.specs.Reader.{AfterItems, Grows, IsStarted, IsToken, IsWhole, ReadsItem, Stands, opened_by, parent_number}
+use Rattle.dom_markup.specs.Reader.{AfterItems, Grows, IsStarted, IsWhole, StopsAt, opened_by, parent_number, plain_element, with_started}
 use Rattle.dom_markup.specs.declared.document.reader.Open.{Open}
 use Rattle.dom_markup.specs.declared.document.reader.Reader.{Reader}
 use Rattle.dom_markup.specs.declared.document.reader.Started.{Started}
-use Rattle.dom_markup.specs.declared.document.tokens.Token.{Token}
-use Rattle.dom_markup.specs.declared.document.tokens.TokenKind.{TokenKind}
-use Rattle.dom_markup.specs.declared.document.tokens.TokenKind.TheVariants as token_kinds
 use Rattle.dom_markup.proofs.Frames.{nodes_begun-append, nodes_read, IsLeaf, void_leaf, void_plain, reads_leaf, reads_start, last_none, last_split, parent_last, parent_none, no_trees_end, no_trees_stray, no_trees_inside, no_trees_open}
-use Rattle.dom_markup.proofs.Fronts.{before_rest}
+use Rattle.dom_markup.proofs.Items.{Begins-shorter, start_cause}
 use Rattle.dom_markup.proofs.OneReading.{SpellsItems}
 use Rattle.dom_markup.proofs.Whole.{mode_past-push, SpellsItems-from_front, SpellsItemsUpTo-push, items_left, first_left, none_left, nothing_left}
 
@@ -128,30 +124,25 @@ parts_same : (name other : QualName) (attrs others : List Attr) (contents : Opti
 parts_same name other attrs others contents e f = ap (λ (n : QualName). of_parts n attrs contents) e ∙ ap (λ (as' : List Attr). of_parts other as' contents) f
 
 -- an element without contents, and one with
-pub plain_made : (old new : Reader) (result : Result ℕ MarkupFaultKind) (started : Started) (element : Element) (name : List ℕ) (all : List Attribute) → is_template (folded started.written.now) ≡ false → element ≡ of_parts started.name started.attrs None → IsStarted started name all →
-    Grows old new result (length old.tree.content) (with_child (parent_number old) (AnElement element) old.tree) → Grows old new result (children_place name old.tree) (with_element (parent_number old) name all old.tree)
-plain_made old new result started element name all plain is told grows =
-    let other : is_template name ≡ false = ap is_template (sym told.written) ∙ plain in
-    let place : length old.tree.content ≡ children_place name old.tree = rw other refl in
-    let same : element ≡ of_parts (html_name name) (map read_attr all) None = is ∙ parts_same _ (html_name name) _ (map read_attr all) None told.html told.attrs in
-    let grown : with_element (parent_number old) name all old.tree ≡ with_child (parent_number old) (read_element name all None) old.tree = rw other refl in
-    let tree : with_child (parent_number old) (AnElement element) old.tree ≡ with_element (parent_number old) name all old.tree =
-    ap (λ (x : Element). with_child (parent_number old) (AnElement x) old.tree) same ∙ sym grown in
-    subst (λ (p : ℕ). Grows old new result p (with_element (parent_number old) name all old.tree)) place
-    (subst (λ (f : Forest). Grows old new result (length old.tree.content) f) tree grows)
+pub plain_made : (old new : Reader) (result : Result ℕ MarkupFaultKind) (started : Started) (element : Element) → is_template (folded started.written.now) ≡ false → element ≡ of_parts started.name started.attrs None →
+    Grows old new result (length old.tree.content) (with_child (parent_number old) (AnElement element) old.tree) → Grows old new result (children_place (folded started.written.now) old.tree) (with_started (parent_number old) started old.tree)
+plain_made old new result started element plain is grows =
+    let made : Grows old new result (length old.tree.content) (with_child (parent_number old) (plain_element started.name started.attrs) old.tree) =
+    subst (λ (x : Element). Grows old new result (length old.tree.content) (with_child (parent_number old) (AnElement x) old.tree)) is grows in
+    rw plain made
 
-pub template_made : (old new : Reader) (result : Result ℕ MarkupFaultKind) (started : Started) (name : List ℕ) (all : List Attribute) → is_template (folded started.written.now) ≡ true → IsStarted started name all →
-    Grows old new result (length old.tree.content + 1) (with_template (parent_number old) (element_with started.name started.attrs (length old.tree.content + 1)) old.tree) → Grows old new result (children_place name old.tree) (with_element (parent_number old) name all old.tree)
-template_made old new result started name all template told grows =
-    let contents = length old.tree.content + 1 in
-    let other : is_template name ≡ true = ap is_template (sym told.written) ∙ template in
-    let place : contents ≡ children_place name old.tree = rw other refl in
-    let same : of_parts started.name started.attrs (Some contents) ≡ of_parts (html_name name) (map read_attr all) (Some contents) = parts_same _ (html_name name) _ (map read_attr all) (Some contents) told.html told.attrs in
-    let grown : with_element (parent_number old) name all old.tree ≡ with_template (parent_number old) (read_element name all (Some contents)) old.tree = rw other refl in
-    let tree : with_template (parent_number old) (element_with started.name started.attrs contents) old.tree ≡ with_element (parent_number old) name all old.tree =
-    ap (λ (x : Element). with_template (parent_number old) (AnElement x) old.tree) same ∙ sym grown in
-    subst (λ (p : ℕ). Grows old new result p (with_element (parent_number old) name all old.tree)) place
-    (subst (λ (f : Forest). Grows old new result contents f) tree grows)
+pub template_made : (old new : Reader) (result : Result ℕ MarkupFaultKind) (started : Started) → is_template (folded started.written.now) ≡ true →
+    Grows old new result (length old.tree.content + 1) (with_template (parent_number old) (element_with started.name started.attrs (length old.tree.content + 1)) old.tree) →
+    Grows old new result (children_place (folded started.written.now) old.tree) (with_started (parent_number old) started old.tree)
+template_made old new result started template grows = rw template grows
+
+-- what is made of a start tag is the element that it begins
+pub started_is : (p : ℕ) (started : Started) (all : List Attribute) (forest : Forest) → IsStarted started (folded started.written.now) all → with_started p started forest ≡ with_element p (folded started.written.now) all forest
+started_is p started all forest told =
+    let name = folded started.written.now in
+    let more = length forest.content + 1 in
+    ap (λ (q : QualName). cond (is_template name) (with_template p (element_with q started.attrs more) forest) (with_child p (plain_element q started.attrs) forest)) told.html
+    ∙ ap (λ (as' : List Attr). cond (is_template name) (with_template p (element_with (html_name name) as' more) forest) (with_child p (plain_element (html_name name) as') forest)) told.attrs
 
 -- a void element has no contents
 pub void_read : (items : List Item) (old new : Reader) (name : List ℕ) (all : List Attribute) (h : AfterItems items old) →
@@ -174,136 +165,32 @@ start_declined items name all kind forest stack h lacks =
           no_number items (start_tag name all) kind forest stack (children_place name forest) h (omega (arith, one)) (omega (arith, one, place)) lacks)
     ]
 
--- ---- the item that a token is
-
--- what is read behind some items
-abbrev Read : {T : Type 0} → List Item → Item → Reader → Result T MarkupFaultKind → Type 0
-Read items item new result = MatchResult result (λ _. AfterItems (items ++ item ∷ []) new) (λ kind. Declines items item kind)
-
-module _ {T : Type 0} (left : List ℕ) (old new : Reader) (result : Result T MarkupFaultKind) where
-  pub reads_start_tag : ((items : List Item) (n : List ℕ) (a : List Attribute) (rest : List ℕ) → AfterItems items old → BeginsStart left n a rest → Read items (start_tag n a) new result) → ReadsItem (Stands token_kinds.StartTag left) old new result
-  reads_start_tag f = record { read = λ items item h s. start_tag_case f items item h s }
-    where
-      start_tag_case : ((items : List Item) (n : List ℕ) (a : List Attribute) (rest : List ℕ) → AfterItems items old → BeginsStart left n a rest → Read items (start_tag n a) new result) → (items : List Item) (item : Item) → AfterItems items old → Stands token_kinds.StartTag left item → Read items item new result
-      start_tag_case f items (start_tag n a) h s = f items n a s.rest h s.begins
-      start_tag_case f items (end_tag n) h s = cc (s.is_kind)
-      start_tag_case f items (characters c) h s = cc (s.is_kind)
-      start_tag_case f items (comment c) h s = cc (s.is_kind)
-      start_tag_case f items (doctype n p t) h s = cc (s.is_kind)
-
-  pub reads_end_tag : ((items : List Item) (n rest : List ℕ) → AfterItems items old → BeginsEnd left n rest → Read items (end_tag n) new result) → ReadsItem (Stands token_kinds.EndTag left) old new result
-  reads_end_tag f = record { read = λ items item h s. end_tag_case f items item h s }
-    where
-      end_tag_case : ((items : List Item) (n rest : List ℕ) → AfterItems items old → BeginsEnd left n rest → Read items (end_tag n) new result) → (items : List Item) (item : Item) → AfterItems items old → Stands token_kinds.EndTag left item → Read items item new result
-      end_tag_case f items (start_tag n a) h s = cc (s.is_kind)
-      end_tag_case f items (end_tag n) h s = f items n s.rest h s.begins
-      end_tag_case f items (characters c) h s = cc (s.is_kind)
-      end_tag_case f items (comment c) h s = cc (s.is_kind)
-      end_tag_case f items (doctype n p t) h s = cc (s.is_kind)
-
-  pub reads_comment : ((items : List Item) (c rest : List ℕ) → AfterItems items old → Begins markup left (comment c) rest → Read items (comment c) new result) → ReadsItem (Stands token_kinds.Comment left) old new result
-  reads_comment f = record { read = λ items item h s. comment_case f items item h s }
-    where
-      comment_case : ((items : List Item) (c rest : List ℕ) → AfterItems items old → Begins markup left (comment c) rest → Read items (comment c) new result) → (items : List Item) (item : Item) → AfterItems items old → Stands token_kinds.Comment left item → Read items item new result
-      comment_case f items (start_tag n a) h s = cc (s.is_kind)
-      comment_case f items (end_tag n) h s = cc (s.is_kind)
-      comment_case f items (characters c) h s = cc (s.is_kind)
-      comment_case f items (comment c) h s = f items c s.rest h s.begins
-      comment_case f items (doctype n p t) h s = cc (s.is_kind)
-
-  pub reads_doctype : ((items : List Item) (n p t rest : List ℕ) → AfterItems items old → BeginsDoctype left n p t rest → Read items (doctype n p t) new result) → ReadsItem (Stands token_kinds.Doctype left) old new result
-  reads_doctype f = record { read = λ items item h s. doctype_case f items item h s }
-    where
-      doctype_case : ((items : List Item) (n p t rest : List ℕ) → AfterItems items old → BeginsDoctype left n p t rest → Read items (doctype n p t) new result) → (items : List Item) (item : Item) → AfterItems items old → Stands token_kinds.Doctype left item → Read items item new result
-      doctype_case f items (start_tag n a) h s = cc (s.is_kind)
-      doctype_case f items (end_tag n) h s = cc (s.is_kind)
-      doctype_case f items (characters c) h s = cc (s.is_kind)
-      doctype_case f items (comment c) h s = cc (s.is_kind)
-      doctype_case f items (doctype n p t) h s = f items n p t s.rest h s.begins
-
-  pub reads_text : (contents : List ℕ) → ((items : List Item) → AfterItems items old → Read items (characters contents) new result) → ReadsItem (λ item. item ≡ characters contents) old new result
-  reads_text contents f = record { read = λ items item h is. subst (λ (i : Item). Read items i new result) (sym is) (f items h) }
-
-  -- what is read of some items is read of fewer
-  pub reads_as : (Is Was : Item → Type 0) → ((item : Item) → Is item → Was item) → ReadsItem Was old new result → ReadsItem Is old new result
-  reads_as Is Was f r = record { read = λ items item h is. r.read items item h (f item is) }
-
--- a token that is neither a tag nor a comment nor a doctype is a text
-abbrev pub IsTextKind : TokenKind → Type 0
-IsTextKind token_kinds.Text = Unit {0}
-IsTextKind token_kinds.RawText = Unit {0}
-IsTextKind _ = ⊥
-
--- what stands before a rest is one text
-pub front_same : (a b rest : List ℕ) → a ++ rest ≡ b ++ rest → a ≡ b
-front_same a b rest e =
-    let x = before_rest (a ++ rest) a rest refl in
-    let y = before_rest (a ++ rest) b rest e in
-    sym x.1 ∙ y.1
-
--- the text of a token is as far as a text goes
-text_is : (mode : Mode) (left text rest : List ℕ) (n : List ℕ) → Begins mode left (characters n) rest → left ≡ text ++ rest → n ≡ contents_in mode text
-text_is markup left text rest n b whole = b.2 ∙ ap decoded (front_same (text_front left) text rest (sym b.1 ∙ whole))
-text_is (text_of m) left text rest n b whole = b.3 ∙ ap decoded (front_same b.0 text rest (sym b.2.is ∙ whole))
-text_is (raw_text_of m) left text rest n b whole = front_same n text rest (sym b.1.is ∙ whole)
-
-pub text_case : (mode : Mode) (kind : TokenKind) (item : Item) (left text rest : List ℕ) → IsTextKind kind → kind ≡ kind_of mode item → Begins mode left item rest → left ≡ text ++ rest → item ≡ characters (contents_in mode text)
-text_case mode kind (start_tag n a) left text rest t k b whole = absurd (subst IsTextKind k t)
-text_case mode kind (end_tag n) left text rest t k b whole = absurd (subst IsTextKind k t)
-text_case mode kind (characters c) left text rest t k b whole = ap characters (text_is mode left text rest c b whole)
-text_case mode kind (comment c) left text rest t k b whole = absurd (subst IsTextKind k t)
-text_case mode kind (doctype n p s) left text rest t k b whole = absurd (subst IsTextKind k t)
-
--- an item that is no text is read alike in each mode
-pub stands : (mode : Mode) (token : Token) (left : List ℕ) (kind : TokenKind) → token.kind ≡ kind → (IsTextKind kind → ⊥) → (item : Item) → IsToken token mode left item → Stands kind left item
-stands mode token left kind e other item is = by_item mode item (sym e ∙ is.is_kind) is.begins
-  where
-    by_item : (mode : Mode) (item : Item) → kind ≡ kind_of mode item → Begins mode left item is.rest → Stands kind left item
-    by_item markup item k b = record { rest = is.rest; is_kind = k; begins = b }
-    by_item (text_of m) (start_tag n a) k b = absurd b
-    by_item (text_of m) (end_tag n) k b = record { rest = is.rest; is_kind = k; begins = subst (λ (o : List ℕ). BeginsEnd left o is.rest) (sym b.0) b.1 }
-    by_item (text_of m) (characters c) k b = absurd (other (subst IsTextKind (sym k) tt))
-    by_item (text_of m) (comment c) k b = absurd b
-    by_item (text_of m) (doctype n p t) k b = absurd b
-    by_item (raw_text_of m) (start_tag n a) k b = absurd b
-    by_item (raw_text_of m) (end_tag n) k b = record { rest = is.rest; is_kind = k; begins = subst (λ (o : List ℕ). BeginsEnd left o is.rest) (sym b.0) b.1 }
-    by_item (raw_text_of m) (characters c) k b = absurd (other (subst IsTextKind (sym k) tt))
-    by_item (raw_text_of m) (comment c) k b = absurd b
-    by_item (raw_text_of m) (doctype n p t) k b = absurd b
+-- why a start tag isn't read, that may begin
+pub tag_stops : (tag : List ℕ) (items : List Item) (kind : MarkupFaultKind) → BeginsLetter tag → (kind ≡ kinds.Memory) ⊎ StartCause (60 ∷ tag) kind → StopsAt markup (60 ∷ tag) items kind
+tag_stops tag items kind letter (inl memory) = inl memory
+tag_stops tag items kind letter (inr cause) = inr (inl (start_cause (60 ∷ tag) tag kind (refl, letter) cause))
 
 -- ---- a text of which a front has been read
 
-pub record Progress (source : List ℕ) (left : Unread) (reader : Reader) : Type 0 where
+pub record Progress (source left : List ℕ) (mode : Mode) (reader : Reader) : Type 0 where
   pub items : List Item
   pub read : AfterItems items reader
-  pub front : SpellsItemsUpTo markup source items left.text
-  pub mode : left.mode ≡ mode_past markup items
-  pub place : left.at + length left.text ≡ length source
-
--- what begins with what is left, as the reader has it
-pub begins_there : (mode m : Mode) (text left : List ℕ) (item : Item) (rest : List ℕ) → left ≡ text → m ≡ mode → Begins mode text item rest → Begins m left item rest
-begins_there mode m text left item rest e f b = subst (λ (k : Mode). Begins k left item rest) (sym f) (subst (λ (t : List ℕ). Begins mode t item rest) (sym e) b)
+  pub front : SpellsItemsUpTo markup source items left
+  pub mode_is : mode ≡ mode_past markup items
+  pub within : length left ≤ length source
 
 -- before anything is read
-pub progress_none : (source : List ℕ) (left : Unread) (reader : Reader) → left ≡ record { text = source; at = 0; mode = markup } → AfterItems [] reader → Progress source left reader
-progress_none source left reader e h = record { items = []; read = h; front = sym (ap (λ (u : Unread). u.text) e); mode = ap (λ (u : Unread). u.mode) e; place = ap (λ (u : Unread). u.at + length u.text) e ∙ (omega arith) }
+pub progress_none : (source : List ℕ) (reader : Reader) → AfterItems [] reader → Progress source source markup reader
+progress_none source reader h = record { items = []; read = h; front = refl; mode_is = refl; within = omega arith }
 
-pub progress_step : (source : List ℕ) (left later : Unread) (old new : Reader) (kind : TokenKind) (text : List ℕ) (start end : ℕ) (p : Progress source left old) (next : IsNext left kind text start end later) →
-    AfterItems (p.items ++ next.item.item ∷ []) new → Progress source later new
-progress_step source left later old new kind text start end p next r =
-    let item = next.item.item in
-    let begins = subst (λ (m : Mode). Begins m left.text item later.text) p.mode next.item.begins in
-    record {
-      items = p.items ++ item ∷ [];
-      read = r;
-      front = SpellsItemsUpTo-push markup source p.items left.text item later.text p.front begins;
-      mode = next.item.goes_on ∙ ap (λ (m : Mode). mode_after m item) p.mode ∙ sym (mode_past-push markup p.items item);
-      place = (let n = next.starts in let m = next.ends in let k = next.follows in let q = p.place in omega (arith, ap length next.covers, length-append text later.text));
-    }
-
--- a token begins within the source
-pub token_place : (source : List ℕ) (left later : Unread) (reader : Reader) (kind : TokenKind) (text : List ℕ) (start end : ℕ) → Progress source left reader → IsNext left kind text start end later → start ≤ length source
-token_place source left later reader kind text start end p next = (let n = next.starts in let q = p.place in omega arith)
+pub progress_step : (source left rest : List ℕ) (mode next : Mode) (old new : Reader) (p : Progress source left mode old) (item : Item) → Begins mode left item rest → next ≡ mode_after mode item → AfterItems (p.items ++ item ∷ []) new → Progress source rest next new
+progress_step source left rest mode next old new p item begins goes r = record {
+  items = p.items ++ item ∷ [];
+  read = r;
+  front = SpellsItemsUpTo-push markup source p.items left item rest p.front (subst (λ (m : Mode). Begins m left item rest) p.mode_is begins);
+  mode_is = goes ∙ ap (λ (m : Mode). mode_after m item) p.mode_is ∙ sym (mode_past-push markup p.items item);
+  within = omega (arith, Begins-shorter mode left item rest begins, p.within);
+}
 
 fault_there : (source left : List ℕ) (at : ℕ) (mode : Mode) (kind : MarkupFaultKind) → Cause mode left kind → BeginsNothingAt source at kind → IsFaultAt source at kind
 fault_there source left at mode kinds.BadTag s h = h
@@ -318,19 +205,6 @@ fault_there source left at mode kinds.MisplacedDoctype s h = absurd s
 fault_there source left at mode kinds.TooManyNodes s h = absurd s
 fault_there source left at mode kinds.Memory s h = tt
 
--- no item begins there
-pub stopped : (source : List ℕ) (left later : Unread) (reader : Reader) (fault : MarkupFault) → Progress source left reader → IsStopped left later fault → IsFaultAt source fault.at fault.kind
-stopped source left later reader fault p s =
-    fault_there source left.text fault.at left.mode fault.kind s.cause record {
-      items = p.items;
-      left = left.text;
-      spelled = p.front;
-      place = (let at = s.place in let place = p.place in omega arith);
-      some = s.some;
-      nothing = subst (λ (m : Mode). BeginsNothing m left.text) p.mode s.nothing;
-      cause = subst (λ (m : Mode). Cause m left.text fault.kind) p.mode s.cause;
-    }
-
 fault_before : (source : List ℕ) (at : ℕ) (kind : MarkupFaultKind) → StopsBefore source at kind → IsFaultAt source at kind
 fault_before source at kinds.MismatchedEnd s = s
 fault_before source at kinds.StrayEnd s = s
@@ -344,14 +218,25 @@ fault_before source at kinds.BadDeclaration s = absurd s.cause
 fault_before source at kinds.MisplacedDoctype s = s
 fault_before source at kinds.Instruction s = absurd s.cause
 
--- the next item isn't read
-pub declined : (source : List ℕ) (left later : Unread) (reader : Reader) (item : Item) (kind : MarkupFaultKind) (at : ℕ) (p : Progress source left reader) → at ≡ left.at → Begins left.mode left.text item later.text → Declines p.items item kind → IsFaultAt source at kind
-declined source left later reader item kind at p is b r =
-    fault_before source at kind record { items = p.items; item = item; left = left.text; rest = later.text; spelled = p.front; place = (let place = p.place in omega (arith, is)); begins = subst (λ (m : Mode). Begins m left.text item later.text) p.mode b; cause = r }
+-- what stands there isn't read
+pub stopped : (source left : List ℕ) (mode : Mode) (reader : Reader) (kind : MarkupFaultKind) (at : ℕ) (p : Progress source left mode reader) → left ≢ [] → at + length left ≡ length source → StopsAt mode left p.items kind → IsFaultAt source at kind
+stopped source left mode reader kind at p some place (inl memory) = subst (IsFaultAt source at) (sym memory) tt
+stopped source left mode reader kind at p some place (inr (inl nothing)) =
+    fault_there source left at mode kind nothing.1 record {
+      items = p.items;
+      left = left;
+      spelled = p.front;
+      place = place;
+      some = some;
+      nothing = subst (λ (m : Mode). BeginsNothing m left) p.mode_is nothing.0;
+      cause = subst (λ (m : Mode). Cause m left kind) p.mode_is nothing.1;
+    }
+stopped source left mode reader kind at p some place (inr (inr declined)) =
+    fault_before source at kind record { items = p.items; item = declined.0; left = left; rest = declined.1; spelled = p.front; place = place; begins = subst (λ (m : Mode). Begins m left declined.0 declined.1) p.mode_is declined.2; cause = declined.3 }
 
 -- an element is open at the end
-pub unclosed : (source : List ℕ) (left : Unread) (reader : Reader) (kind : MarkupFaultKind) (p : Progress source left reader) → left.text ≡ [] → kind ≡ kinds.Unclosed → LeavesSomeOpen p.items → IsFaultAt source (length source) kind
-unclosed source left reader kind p e is some =
+pub unclosed : (source left : List ℕ) (mode : Mode) (reader : Reader) (kind : MarkupFaultKind) (p : Progress source left mode reader) → left ≡ [] → kind ≡ kinds.Unclosed → LeavesSomeOpen p.items → IsFaultAt source (length source) kind
+unclosed source left mode reader kind p e is some =
     subst (IsFaultAt source (length source)) (sym is)
     (inl record { items = p.items; spelled = subst (λ (t : List ℕ). SpellsItemsUpTo markup source p.items t) e p.front; place = refl; not_closed = some })
 
@@ -387,6 +272,6 @@ refused source at kinds.MisplacedDoctype h = refuses source at kinds.MisplacedDo
 refused source at kinds.Instruction h = spells_nothing source at kinds.Instruction h
 
 -- once all is read and nothing is open
-pub whole_text : (source : List ℕ) (left : Unread) (reader : Reader) (forest : Forest) (p : Progress source left reader) → left.text ≡ [] → IsWhole p.items forest → (trees : ValueTrees) × Spells source trees × (forest ≡ document_of trees)
-whole_text source left reader forest p e whole =
-    (whole.0, record { items = subst (SpellsItems markup source) whole.1 (SpellsItems-from_front markup source p.items left.text p.front e); in_place = whole.2 }, whole.3)
+pub whole_text : (source left : List ℕ) (mode : Mode) (reader : Reader) (forest : Forest) (p : Progress source left mode reader) → left ≡ [] → IsWhole p.items forest → (trees : ValueTrees) × Spells source trees × (forest ≡ document_of trees)
+whole_text source left mode reader forest p e whole =
+    (whole.0, record { items = subst (SpellsItems markup source) whole.1 (SpellsItems-from_front markup source p.items left p.front e); in_place = whole.2 }, whole.3)

@@ -9,6 +9,7 @@ pub mod Stretches
 pub mod Attributes
 pub mod Token
 pub mod Tokens
+pub mod Front
 pub mod Numbered
 pub mod Refusals
 pub mod Frames

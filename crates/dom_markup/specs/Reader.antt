@@ -1,23 +1,28 @@
 -- What a reader has read, and what a step of it does.
-use Rattle.std.specs.Prelude.{◌≡◌, ◌-◌, ◌++◌, ◌∷◌, [], ℕ, List, true, Result, length, map, slice_get, MatchResult}
+use Rattle.std.specs.Prelude.{◌≡◌, ◌+◌, ◌-◌, ◌++◌, ◌∷◌, ◌⊎◌, [], ℕ, List, Option, None, true, false, Result, length, map, slice_get, MatchResult, if◌then◌else◌}
 use Rattle.std.specs.Option.{option_map_or}
 use Rattle.dom_links.specs.Forest.{Forest}
+use Rattle.dom_links.specs.Growth.{with_child, with_template}
 use Rattle.dom_nodes.specs.declared.fault.MarkupFaultKind.{MarkupFaultKind}
-use Rattle.dom_trees.specs.NewNodes.{html_name}
+use Rattle.dom_nodes.specs.declared.fault.MarkupFaultKind.TheVariants.{Memory}
+use Rattle.dom_nodes.specs.declared.name.Attr.{Attr}
+use Rattle.dom_nodes.specs.declared.name.QualName.{QualName}
+use Rattle.dom_nodes.specs.declared.node_data.NodeData.{NodeData}
+use Rattle.dom_nodes.specs.declared.node_data.NodeData.TheVariants.{Element}
+use Rattle.dom_trees.specs.NewNodes.{element_with, html_name}
 use Rattle.dom_markup.specs.Bytes.{folded}
 use Rattle.dom_markup.specs.Limits.{LacksNumbers}
-use Rattle.dom_markup.specs.Names.{Mode, markup}
+use Rattle.dom_markup.specs.Names.{Mode, is_template}
 use Rattle.dom_markup.specs.ValueTrees.{Attribute, ValueTrees}
-use Rattle.dom_markup.specs.Markup.{Item, AreInPlace, Begins, items_of}
+use Rattle.dom_markup.specs.Markup.{Item, AreInPlace, Begins, BeginsNothing, BeginsStart, items_of, mode_after}
 use Rattle.dom_markup.specs.Frames.{Opened, HasRead}
 use Rattle.dom_markup.specs.Numbered.{document_of, read_attr}
-use Rattle.dom_markup.specs.Refusals.{Declines}
-use Rattle.dom_markup.specs.Token.{kind_of}
+use Rattle.dom_markup.specs.Refusals.{Cause, Declines}
+use Rattle.dom_markup.specs.Token.{mode_of}
+use Rattle.dom_markup.specs.declared.document.reader.Behind.{Behind}
 use Rattle.dom_markup.specs.declared.document.reader.Open.{Open}
 use Rattle.dom_markup.specs.declared.document.reader.Reader.{Reader}
 use Rattle.dom_markup.specs.declared.document.reader.Started.{Started}
-use Rattle.dom_markup.specs.declared.document.tokens.Token.{Token}
-use Rattle.dom_markup.specs.declared.document.tokens.TokenKind.{TokenKind}
 
 abbrev pub opened_by : Open → Opened
 opened_by element = record { number = element.number; name = folded element.name.now }
@@ -51,20 +56,35 @@ pub record IsStarted (started : Started) (name : List ℕ) (attributes : List At
   pub html : started.name ≡ html_name name
   pub attrs : started.attrs ≡ map read_attr attributes
 
--- an item of this kind stands at the front of the text
-pub record Stands (kind : TokenKind) (left : List ℕ) (item : Item) : Type 0 where
-  pub rest : List ℕ
-  pub is_kind : kind ≡ kind_of markup item
-  pub begins : Begins markup left item rest
+-- an element without contents
+abbrev pub plain_element : QualName → List Attr → NodeData
+plain_element name attrs = Element (record { name = name; attrs = attrs; template_contents = None; mathml_annotation_xml_integration_point = false })
 
--- the token is the item at the front of the text, from its first byte to its last
-pub record IsToken (token : Token) (mode : Mode) (left : List ℕ) (item : Item) : Type 0 where
-  pub rest : List ℕ
-  pub is_kind : token.kind ≡ kind_of mode item
-  pub begins : Begins mode left item rest
-  pub covers : left ≡ token.text.now ++ rest
+-- a start tag that tells this stands at the front of the text, and then rest follows
+abbrev pub StartsSo : List ℕ → Started → List ℕ → Type 0
+StartsSo text started rest =
+    let name = folded started.written.now in (all : List Attribute) × BeginsStart text name all rest × IsStarted started name all
 
--- behind all that was read before, such an item is read too, or the fault tells why it isn't
-pub record ReadsItem {T : Type 0} (IsItem : Item → Type 0) (old new : Reader) (result : Result T MarkupFaultKind) : Type 0 where
-  pub read : (items : List Item) (item : Item) → AfterItems items old → IsItem item →
-      MatchResult result (λ _. AfterItems (items ++ item ∷ []) new) (λ kind. Declines items item kind)
+-- the forest with a new element that a start tag tells of as the last child of p, and a template's contents
+abbrev pub with_started : ℕ → Started → Forest → Forest
+with_started p started forest =
+    if is_template (folded started.written.now) then with_template p (element_with started.name started.attrs (length forest.content + 1)) forest
+    else with_child p (plain_element started.name started.attrs) forest
+
+-- behind all that was read before, the item is read too, or the fault tells why it isn't
+abbrev pub ReadsItem : {T : Type 0} → Item → Reader → Reader → Result T MarkupFaultKind → Type 0
+ReadsItem item old new result =
+    (items : List Item) → AfterItems items old → MatchResult result (λ _. AfterItems (items ++ item ∷ []) new) (λ kind. Declines items item kind)
+
+-- why what stands at the front of a text isn't read behind these items: memory was refused, no item begins there, or it is
+-- declined
+abbrev pub StopsAt : Mode → List ℕ → List Item → MarkupFaultKind → Type 0
+StopsAt mode text items kind =
+    (kind ≡ Memory) ⊎ (BeginsNothing mode text × Cause mode text kind) ⊎ ((item : Item) × (rest : List ℕ) × Begins mode text item rest × Declines items item kind)
+
+-- behind all that was read before, the item at the front of the text is read too, and what follows it is told; or the fault
+-- tells why it isn't
+abbrev pub ReadsFront : Mode → List ℕ → Reader → Reader → Result Behind MarkupFaultKind → Type 0
+ReadsFront mode text old new result = (items : List Item) → AfterItems items old → MatchResult result
+    (λ behind. (item : Item) × Begins mode text item behind.rest.now × (mode_of behind.within ≡ mode_after mode item) × AfterItems (items ++ item ∷ []) new)
+    (StopsAt mode text items)

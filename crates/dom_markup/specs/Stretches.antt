@@ -4,7 +4,9 @@ use Rattle.std.specs.List.{list_all}
 use Rattle.dom_markup.specs.Bytes.{is_whitespace, is_name_byte, folded}
 use Rattle.dom_markup.specs.References.{decoded}
 use Rattle.dom_markup.specs.ValueTrees.{Attribute}
-use Rattle.dom_markup.specs.Markup.{BeginsIdentifiers, BeginsQuoted, Closes, EndsTag, Fails, is_bare_byte}
+use Rattle.dom_nodes.specs.declared.fault.MarkupFaultKind.{MarkupFaultKind}
+use Rattle.dom_nodes.specs.declared.fault.MarkupFaultKind.TheVariants.{BadTag, SlashOnOpen}
+use Rattle.dom_markup.specs.Markup.{BeginsAttribute, BeginsIdentifiers, BeginsQuoted, Closes, EndsTag, Fails, is_bare_byte}
 use Rattle.dom_markup.specs.declared.document.scan.Stretch.{Stretch}
 use Rattle.dom_markup.specs.declared.document.scan.Stretch.TheVariants.{Whitespace, Name, Bare}
 
@@ -27,6 +29,17 @@ pub record Splits (p : ℕ → Bool) (text front behind : List ℕ) : Type 0 whe
 pub record SameEnd (text rest : List ℕ) : Type 0 where
   pub back : (slash : Bool) (all : List Attribute) (r : List ℕ) → EndsTag slash rest all r → (more : List Attribute) × EndsTag slash text more r
   pub forth : (slash : Bool) (all : List Attribute) (r : List ℕ) → EndsTag slash text all r → (more : List Attribute) × EndsTag slash rest more r
+
+-- why no tag ends here: a slash stands before the `>` of an element that isn't void, or no end
+abbrev pub ClosesNothing : Bool → List ℕ → MarkupFaultKind → Type 0
+ClosesNothing void text BadTag = ((rest : List ℕ) → Closes void text rest → ⊥) × ((rest : List ℕ) → Closes true text rest → ⊥)
+ClosesNothing void text SlashOnOpen = ((rest : List ℕ) → Closes void text rest → ⊥) × (rest : List ℕ) × Closes true text rest
+ClosesNothing void text _ = ⊥
+
+-- behind the attributes at the front of the text, all that are there, stands rest
+pub record PastAttributes (text rest : List ℕ) : Type 0 where
+  pub same : SameEnd text rest
+  pub none : (attribute : Attribute) (after : List ℕ) → BeginsAttribute rest attribute after → ⊥
 
 -- text is the identifiers of a doctype, its end, and then rest
 abbrev pub EndsDoctype : List ℕ → List ℕ → List ℕ → List ℕ → Type 0

@@ -20,6 +20,7 @@ ghost use Rattle.dom_trees.specs.SameTree.{SameTree};
 
 mod attributes;
 mod doctypes;
+mod front;
 mod names;
 mod raw;
 mod reader;
@@ -31,6 +32,7 @@ pub mod tokens;
 mod within;
 
 use crate::document::reader::Reader;
+use crate::document::scan::nodes_about;
 pub use crate::document::tokens::{Token, TokenKind, Tokens};
 use crate::document::within::Within;
 use crate::laws::faults::kinds_of_faults;
@@ -118,19 +120,22 @@ impl Document {
                 at: 0,
             });
         };
-        let mut tokens = Tokens::new(source);
+        reader.tree.reserve(nodes_about(source));
         let mut left = source;
         let mut within = Within::Markup;
-        while let Some(found) = tokens.next() {
-            let token = found?;
-            if let Err(kind) = reader.read(alloc, token, left, within) {
-                return Err(MarkupFault {
-                    kind,
-                    at: token.start,
-                });
+        while !left.is_empty() {
+            match reader.read(alloc, left, within) {
+                Ok(behind) => {
+                    left = behind.rest;
+                    within = behind.within;
+                }
+                Err(kind) => {
+                    return Err(MarkupFault {
+                        kind,
+                        at: source.len() - left.len(),
+                    });
+                }
             }
-            left = tokens.left();
-            within = tokens.within();
         }
         match reader.finish() {
             Ok(tree) => Ok(whole(alloc, tree)),

@@ -9,7 +9,7 @@ ghost use Rattle.dom_markup.specs.Markup.{EndsTag, kept_after};
 ghost use Rattle.dom_markup.specs.Numbered.{read_attr};
 ghost use Rattle.dom_markup.specs.References.{decoded};
 ghost use Rattle.dom_markup.specs.ValueTrees.{Attribute};
-ghost use Rattle.dom_markup.specs.Stretches.{attribute_of};
+ghost use Rattle.dom_markup.specs.Stretches.{attribute_of, PastAttributes};
 
 use crate::document::scan::{Written, attribute_at};
 use crate::references::decode;
@@ -119,10 +119,12 @@ impl Kept {
     }
 }
 
-/// The attributes of a start tag, behind its name; of equal names the first is kept.
-pub fn attrs_of(alloc: Global, text: &str) -> Result<Attrs, OutOfMemory>
-    ensures { IfOk result (λ attrs. (slash : Bool) (all : List Attribute) (rest : List ℕ)
-        → EndsTag slash text.now all rest → attrs ≡ map read_attr (kept_after [] all)) }
+/// The attributes of a start tag, behind its name, and what follows them; of equal names the first
+/// is kept.
+pub fn attrs_of(alloc: Global, text: &str) -> Result<(Attrs, &str), OutOfMemory>
+    ensures past { IfOk result (λ found. PastAttributes text.now found.1.now) }
+    ensures attrs { IfOk result (λ found. (slash : Bool) (all : List Attribute) (rest : List ℕ)
+        → EndsTag slash text.now all rest → found.0 ≡ map read_attr (kept_after [] all)) }
 {
     let mut kept = Kept::new(alloc);
     let mut rest = text;
@@ -132,5 +134,5 @@ pub fn attrs_of(alloc: Global, text: &str) -> Result<Attrs, OutOfMemory>
     }
     let mut attrs = kept.attrs;
     attrs.shrink_to_fit();
-    Ok(attrs)
+    Ok((attrs, rest))
 }

@@ -1,48 +1,36 @@
 //! Reading tags and texts into a tree.
 
-ghost use Rattle.std.specs.Prelude.{◌≡◌, ◌<◌, ◌+◌, ◌∷◌, [], List, ℕ, None, length};
+ghost use Rattle.std.specs.Prelude.{◌≡◌, ◌≢◌, ◌<◌, ◌+◌, ◌++◌, ◌⊎◌, [], List, ℕ, None, codes, length};
 ghost use Rattle.std.specs.Prelude.{IfErr, IfOk, MatchResult};
 ghost use Rattle.dom_links.specs.Growth.{with_child, with_template};
 ghost use Rattle.dom_trees.specs.NewNodes.{html_name};
 ghost use Rattle.dom_trees.specs.NewNodes.{element_with};
-ghost use Rattle.dom_markup.specs.Frames.{children_place, with_element};
+ghost use Rattle.dom_markup.specs.Frames.{children_place};
+ghost use Rattle.dom_markup.specs.Front.{BeginsLetter};
 ghost use Rattle.dom_markup.specs.Bytes.{folded};
 ghost use Rattle.dom_markup.specs.Limits.{IsLimit, IsPlainData, limit_kind};
-ghost use Rattle.dom_markup.specs.Markup.{Item, Begins, BeginsDoctype, BeginsEnd, BeginsStart};
+ghost use Rattle.dom_markup.specs.Markup.{Item};
 ghost use Rattle.dom_markup.specs.Names.{markup};
-ghost use Rattle.dom_markup.specs.Reader.{IsStarted};
-ghost use Rattle.dom_markup.specs.Refusals.{LeavesSomeOpen};
+ghost use Rattle.dom_markup.specs.Reader.{StartsSo};
+ghost use Rattle.dom_markup.specs.Refusals.{LeavesSomeOpen, StartCause};
 ghost use Rattle.dom_markup.specs.Token.{contents_in, mode_of};
-ghost use Rattle.dom_markup.specs.ValueTrees.{Attribute};
 
 use crate::document::attributes::{attrs_of, folded_name};
-use crate::document::doctypes::{Doctype, doctype_at};
-use crate::document::names::is_template;
-use crate::document::scan::{
-    Stretch, Written, attribute_at, comment_at, split_front, strip, strip_all,
-};
-use crate::document::tokens::{Token, TokenKind};
-use crate::document::within::Within;
+use crate::document::doctypes::Doctype;
+use crate::document::front::{Front, front_at};
+use crate::document::names::{is_template, names_element};
+use crate::document::scan::{Stretch, split_front};
+use crate::document::tags::close_tag;
+use crate::document::within::{Within, within_named};
 use crate::names::is_void_name;
 use crate::references::decode;
 use dom_nodes::fault::{EditFault, MarkupFaultKind, OutOfMemory};
-use dom_nodes::name::{Attr, LocalName, Namespace, QualName};
+use dom_nodes::name::{LocalName, Namespace, QualName};
 use dom_nodes::node_data::{Attrs, Element, NodeData};
 use dom_nodes::node_id::NodeId;
 use dom_nodes::text::Text;
 use dom_trees::tree::Tree;
 use std::alloc::Global;
-
-/// What stands behind a letter that the text begins with.
-fn behind(text: &str, letter: char) -> &str
-    requires { letter < 128 }
-    ensures { (rest : List ℕ) → text.now ≡ letter ∷ rest → result.now ≡ rest }
-{
-    match strip(text, letter) {
-        Some(rest) => rest,
-        None => text,
-    }
-}
 
 /// The HTML name that is written so.
 fn html_name(alloc: Global, written: &str) -> Result<QualName, OutOfMemory>
@@ -63,63 +51,32 @@ struct Started<'a> {
     attrs: Attrs,
 }
 
-/// What a start tag tells.
-fn start_tag_of(alloc: Global, tag: &str) -> Result<Started<'_>, OutOfMemory>
-    ensures { IfOk result (λ started. (name : List ℕ) (all : List Attribute) (rest : List ℕ)
-        → BeginsStart tag.now name all rest → IsStarted started name all) }
+/// What a start tag tells, which is taken while it is scanned, and what follows it. It stands here
+/// behind its `<`.
+fn start_tag_of(alloc: Global, tag: &str) -> Result<(Started<'_>, &str), MarkupFaultKind>
+    ensures { let text = codes "<" ++ tag.now in MatchResult result
+        (λ found. StartsSo text found.0 found.1.now)
+        (λ kind. (kind ≡ MarkupFaultKind.Memory) ⊎ StartCause text kind) }
 {
-    let inner = behind(tag, '<');
-    let (written, rest) = split_front(Stretch::Name, inner);
-    let attrs = attrs_of(alloc, rest)?;
-    let name = html_name(alloc, written)?;
-    Ok(Started {
-        written,
-        name,
-        attrs,
-    })
-}
-
-/// The name of an end tag, as it is written.
-fn end_tag_of(tag: &str) -> &str
-    ensures { (name rest : List ℕ) → BeginsEnd tag.now name rest → folded result.now ≡ name }
-{
-    let inner = behind(behind(tag, '<'), '/');
-    let (name, _) = split_front(Stretch::Name, inner);
-    name
-}
-
-/// The contents of a comment.
-fn comment_of(left: &str) -> &str
-    ensures { (contents rest : List ℕ) → Begins markup left.now (Item.comment contents) rest
-        → result.now ≡ contents }
-{
-    let Some(comment) = strip_all(left, "<!--") else {
-        return left;
-    };
-    match comment_at(comment) {
-        Some((contents, _)) => contents,
-        None => left,
+    let (written, behind) = split_front(Stretch::Name, tag);
+    if !names_element(written) {
+        return Err(MarkupFaultKind::BadTag);
     }
-}
-
-/// A doctype as it is written.
-fn written_doctype(left: &str) -> Doctype<'_>
-    ensures { (name public system rest : List ℕ) → BeginsDoctype left.now name public system rest
-        → (folded result.name.now ≡ name)
-        × (result.public.now ≡ public) × (result.system.now ≡ system) }
-{
-    let nothing = Doctype {
-        name: left,
-        public: left,
-        system: left,
+    let Ok(name) = html_name(alloc, written) else {
+        return Err(MarkupFaultKind::Memory);
     };
-    let Some(tag) = strip_all(left, "<!") else {
-        return nothing;
+    let Ok((attrs, close)) = attrs_of(alloc, behind) else {
+        return Err(MarkupFaultKind::Memory);
     };
-    match doctype_at(tag) {
-        Some((written, _)) => written,
-        None => nothing,
-    }
+    let rest = close_tag(close, is_void_name(&name.local))?;
+    Ok((
+        Started {
+            written,
+            name,
+            attrs,
+        },
+        rest,
+    ))
 }
 
 /// The node of a doctype.
@@ -169,6 +126,24 @@ struct Open<'a> {
     name: &'a str,
 }
 
+/// What follows an item that was read, and how that is read.
+#[derive(Clone, Copy)]
+pub struct Behind<'a> {
+    pub rest: &'a str,
+    pub within: Within<'a>,
+}
+
+/// Markup that follows an item.
+fn markup_behind(rest: &str) -> Behind<'_>
+    ensures rest { result.rest.now ≡ rest.now }
+    ensures mode { mode_of result.within ≡ markup }
+{
+    Behind {
+        rest,
+        within: Within::Markup,
+    }
+}
+
 /// What has been read of a document.
 #[derive(Drop)]
 pub struct Reader<'a> {
@@ -177,8 +152,8 @@ pub struct Reader<'a> {
 }
 
 impl<'a> Reader<'a> {
-    ghost use Rattle.dom_markup.specs.Reader.{AfterItems, Grows, IsReading, IsToken, IsWhole};
-    ghost use Rattle.dom_markup.specs.Reader.{ReadsItem, Stands, parent_number};
+    ghost use Rattle.dom_markup.specs.Reader.{AfterItems, Grows, IsReading, IsWhole};
+    ghost use Rattle.dom_markup.specs.Reader.{ReadsFront, ReadsItem, parent_number, with_started};
 
     /// A reader that has read nothing.
     pub fn new(alloc: Global) -> Result<Reader<'a>, OutOfMemory>
@@ -205,6 +180,7 @@ impl<'a> Reader<'a> {
     }
 
     /// Makes a node as the last child of the innermost open element.
+    #[inline(always)]
     fn append(&mut self, content: NodeData) -> Result<NodeId, MarkupFaultKind>
         requires reading { IsReading self.old }
         requires plain { IsPlainData content }
@@ -238,9 +214,9 @@ impl<'a> Reader<'a> {
     /// a template, and tells below which number its children stand.
     fn append_element(&mut self, started: Started) -> Result<NodeId, MarkupFaultKind>
         requires { IsReading self.old }
-        ensures { (name : List ℕ) (all : List Attribute) → IsStarted started.entry name all
-            → Grows self.old self.new result (children_place name self.old.tree)
-            (with_element (parent_number self.old) name all self.old.tree) }
+        ensures { Grows self.old self.new result
+            (children_place (folded started.entry.written.now) self.old.tree)
+            (with_started (parent_number self.old) started.entry self.old.tree) }
     {
         if !is_template(started.written) {
             let element = Element::new(started.name, started.attrs, None, false);
@@ -258,7 +234,7 @@ impl<'a> Reader<'a> {
     ) -> Result<(), MarkupFaultKind>
         requires { IsReading self.old }
         ensures { let contents = contents_in (mode_of within.entry) text.now in
-            ReadsItem (λ item. item ≡ Item.characters contents) self.old self.new result }
+            ReadsItem (Item.characters contents) self.old self.new result }
     {
         let Ok(contents) = contents_of(alloc, text, within) else {
             return Err(MarkupFaultKind::Memory);
@@ -267,12 +243,12 @@ impl<'a> Reader<'a> {
         Ok(())
     }
 
-    /// Reads a comment.
-    fn read_comment(&mut self, alloc: Global, left: &str) -> Result<(), MarkupFaultKind>
+    /// Reads a comment of these contents.
+    fn read_comment(&mut self, alloc: Global, written: &str) -> Result<(), MarkupFaultKind>
         requires { IsReading self.old }
-        ensures { ReadsItem (Stands TokenKind.Comment left.now) self.old self.new result }
+        ensures { ReadsItem (Item.comment written.now) self.old self.new result }
     {
-        let Ok(contents) = Text::new(alloc, comment_of(left)) else {
+        let Ok(contents) = Text::new(alloc, written) else {
             return Err(MarkupFaultKind::Memory);
         };
         self.append(NodeData::Comment { contents })?;
@@ -280,73 +256,87 @@ impl<'a> Reader<'a> {
     }
 
     /// Reads a doctype, which stands where no element is open.
-    fn read_doctype(&mut self, alloc: Global, left: &str) -> Result<(), MarkupFaultKind>
+    fn read_doctype(&mut self, alloc: Global, written: Doctype) -> Result<(), MarkupFaultKind>
         requires { IsReading self.old }
-        ensures { ReadsItem (Stands TokenKind.Doctype left.now) self.old self.new result }
+        ensures { let read = written.entry in
+            ReadsItem (Item.doctype (folded read.name.now) read.public.now read.system.now)
+            self.old self.new result }
     {
         if !self.stack.is_empty() {
             return Err(MarkupFaultKind::MisplacedDoctype);
         }
-        let Ok(doctype) = doctype_of(alloc, written_doctype(left)) else {
+        let Ok(doctype) = doctype_of(alloc, written) else {
             return Err(MarkupFaultKind::Memory);
         };
         self.append(doctype)?;
         Ok(())
     }
 
-    /// Reads a start tag.
-    fn read_start(&mut self, alloc: Global, tag: &'a str) -> Result<(), MarkupFaultKind>
-        requires { IsReading self.old }
-        ensures { ReadsItem (Stands TokenKind.StartTag tag.now) self.old self.new result }
-    {
-        let Ok(started) = start_tag_of(alloc, tag) else {
-            return Err(MarkupFaultKind::Memory);
-        };
-        let name = started.written;
-        let void = is_void_name(&started.name.local);
-        let number = self.append_element(started)?;
-        if void {
-            return Ok(());
-        }
-        match self.stack.push(Open { number, name }) {
-            Ok(()) => Ok(()),
-            Err(_) => Err(MarkupFaultKind::Memory),
-        }
-    }
-
-    /// Reads an end tag.
-    fn read_end(&mut self, tag: &str) -> Result<(), MarkupFaultKind>
-        ensures { ReadsItem (Stands TokenKind.EndTag tag.now) self.old self.new result }
+    /// Reads an end tag of this name.
+    fn read_end(&mut self, name: &str) -> Result<(), MarkupFaultKind>
+        ensures { ReadsItem (Item.end_tag (folded name.now)) self.old self.new result }
     {
         let Some(innermost) = self.stack.pop() else {
             return Err(MarkupFaultKind::StrayEnd);
         };
-        if !innermost.name.eq_ignore_ascii_case(end_tag_of(tag)) {
+        if !innermost.name.eq_ignore_ascii_case(name) {
             return Err(MarkupFaultKind::MismatchedEnd);
         }
         Ok(())
     }
 
-    /// Reads a token, with which `left` begins; `Err` for a limit, or where no trees have such
-    /// items.
+    /// Reads a start tag, which stands here behind its `<`.
+    fn read_start(&mut self, alloc: Global, tag: &'a str) -> Result<Behind<'a>, MarkupFaultKind>
+        requires reading { IsReading self.old }
+        requires letter { BeginsLetter tag.now }
+        ensures { ReadsFront markup (codes "<" ++ tag.now) self.old self.new result }
+    {
+        let (started, rest) = start_tag_of(alloc, tag)?;
+        let name = started.written;
+        let void = is_void_name(&started.name.local);
+        let within = within_named(name, &started.name.local);
+        let number = self.append_element(started)?;
+        let behind = Behind { rest, within };
+        if void {
+            return Ok(behind);
+        }
+        match self.stack.push(Open { number, name }) {
+            Ok(()) => Ok(behind),
+            Err(_) => Err(MarkupFaultKind::Memory),
+        }
+    }
+
+    /// Reads the item at the front of what is left, and tells what follows it. `Err` where none
+    /// begins there, for a limit, or where no trees have such items.
     pub fn read(
         &mut self,
         alloc: Global,
-        token: Token<'a>,
         left: &'a str,
         within: Within<'a>,
-    ) -> Result<(), MarkupFaultKind>
-        requires { IsReading self.old }
-        ensures { ReadsItem (IsToken token.entry (mode_of within.entry) left.now)
-            self.old self.new result }
+    ) -> Result<Behind<'a>, MarkupFaultKind>
+        requires reading { IsReading self.old }
+        requires some { left.now ≢ [] }
+        ensures { ReadsFront (mode_of within.entry) left.now self.old self.new result }
     {
-        match token.kind {
-            TokenKind::StartTag => self.read_start(alloc, left),
-            TokenKind::EndTag => self.read_end(left),
-            TokenKind::Text => self.read_text(alloc, token.text, within),
-            TokenKind::RawText => self.read_text(alloc, token.text, within),
-            TokenKind::Comment => self.read_comment(alloc, left),
-            TokenKind::Doctype => self.read_doctype(alloc, left),
+        let (front, rest) = front_at(left, within)?;
+        match front {
+            Front::StartTag => self.read_start(alloc, rest),
+            Front::Text(text) => {
+                self.read_text(alloc, text, within)?;
+                Ok(Behind { rest, within })
+            }
+            Front::EndTag(name) => {
+                self.read_end(name)?;
+                Ok(markup_behind(rest))
+            }
+            Front::Comment(contents) => {
+                self.read_comment(alloc, contents)?;
+                Ok(markup_behind(rest))
+            }
+            Front::Doctype(written) => {
+                self.read_doctype(alloc, written)?;
+                Ok(markup_behind(rest))
+            }
         }
     }
 

@@ -10,7 +10,7 @@ ghost use Rattle.dom_markup.specs.ValueTrees.{Attribute};
 ghost use Rattle.dom_markup.specs.Markup.{BeginsAttribute, BeginsValue, Closes, EndsAtMark};
 ghost use Rattle.dom_markup.specs.Markup.{HasValue, begins_markup, text_front};
 ghost use Rattle.dom_markup.specs.Taking.{Leaves, Takes};
-ghost use Rattle.dom_markup.specs.Stretches.{attribute_of, passes, SameEnd, Splits};
+ghost use Rattle.dom_markup.specs.Stretches.{attribute_of, passes, PastAttributes, Splits};
 
 use crate::document::names::is_letter;
 use memchr::memchr;
@@ -132,6 +132,25 @@ pub fn split_text(text: &str) -> (&str, &str)
     text.split_at(text_len(text.as_bytes()))
 }
 
+/// About how many nodes the text has: one for each `<` that begins no end tag, and one for each
+/// with a text before it. No more is known of it, for nothing but room for nodes hangs on it.
+pub fn nodes_about(text: &str) -> usize {
+    let bytes = text.as_bytes();
+    let mut count: usize = 0;
+    let mut at = 0;
+    while let Some(found) = memchr(b'<', bytes_from(bytes, at)) {
+        let start = at + found;
+        at = start + 1;
+        if start > 0 && bytes[start - 1] != b'>' {
+            count = count.saturating_add(1);
+        }
+        if at < bytes.len() && bytes[at] != b'/' {
+            count = count.saturating_add(1);
+        }
+    }
+    count
+}
+
 // ---- comments
 
 /// The contents of a comment, behind its `<!--`, and what follows its first `-->`.
@@ -233,9 +252,7 @@ pub fn close_at(text: &str, slash: bool) -> Option<&str>
 
 /// What follows the attributes at the front.
 pub fn attributes_end(text: &str) -> &str
-    ensures same { SameEnd text.now result.now }
-    ensures none { (attribute : Attribute) (rest : List ℕ)
-        → BeginsAttribute result.now attribute rest → ⊥ }
+    ensures { PastAttributes text.now result.now }
 {
     let mut rest = text;
     while let Some((_, after)) = attribute_at(rest) {

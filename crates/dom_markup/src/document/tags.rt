@@ -3,12 +3,28 @@
 ghost use Rattle.std.specs.Prelude.{◌++◌, List, ℕ, codes, IfNone, IfSome, MatchResult};
 ghost use Rattle.dom_markup.specs.Bytes.{folded};
 ghost use Rattle.dom_markup.specs.ValueTrees.{Attribute};
-ghost use Rattle.dom_markup.specs.Markup.{BeginsEnd, BeginsStart};
+ghost use Rattle.dom_markup.specs.Markup.{BeginsEnd, BeginsStart, Closes};
 ghost use Rattle.dom_markup.specs.Refusals.{StartCause};
+ghost use Rattle.dom_markup.specs.Stretches.{ClosesNothing};
 
 use crate::document::names::{is_void, names_element};
 use crate::document::scan::{Stretch, attributes_end, close_at, split_front, strip};
 use dom_nodes::fault::MarkupFaultKind;
+
+/// What follows the end of a start tag, behind its attributes; that of a void element may be a
+/// slash and `>`.
+pub fn close_tag(close: &str, void: bool) -> Result<&str, MarkupFaultKind>
+    ensures { MatchResult result (λ rest. Closes void close.now rest.now)
+        (ClosesNothing void close.now) }
+{
+    if let Some(rest) = close_at(close, void) {
+        return Ok(rest);
+    }
+    if let Some(_) = close_at(close, true) {
+        return Err(MarkupFaultKind::SlashOnOpen);
+    }
+    Err(MarkupFaultKind::BadTag)
+}
 
 /// The name of the start tag behind its `<`, as it is written, and what follows the tag.
 pub fn start_tag_end(tag: &str) -> Result<(&str, &str), MarkupFaultKind>
@@ -20,14 +36,8 @@ pub fn start_tag_end(tag: &str) -> Result<(&str, &str), MarkupFaultKind>
     if !names_element(name) {
         return Err(MarkupFaultKind::BadTag);
     }
-    let close = attributes_end(behind);
-    if let Some(rest) = close_at(close, is_void(name)) {
-        return Ok((name, rest));
-    }
-    if let Some(_) = close_at(close, true) {
-        return Err(MarkupFaultKind::SlashOnOpen);
-    }
-    Err(MarkupFaultKind::BadTag)
+    let rest = close_tag(attributes_end(behind), is_void(name))?;
+    Ok((name, rest))
 }
 
 /// The name of the end tag behind its `</`, as it is written, and what follows the tag.

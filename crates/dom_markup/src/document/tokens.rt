@@ -1,17 +1,14 @@
 //! Markup as a row of tags, texts, comments and doctypes.
 
-ghost use Rattle.std.specs.Prelude.{◌≡◌, ◌++◌, ◌≢◌, [], List, ℕ, length, MatchResult};
+ghost use Rattle.std.specs.Prelude.{◌≡◌, ◌++◌, ◌≢◌, [], List, ℕ, codes, length, MatchResult};
 ghost use Rattle.std.specs.Iterator.{at_most};
-ghost use Rattle.dom_markup.specs.Bytes.{folded};
 ghost use Rattle.dom_markup.specs.Names.{markup};
 ghost use Rattle.dom_markup.specs.Refusals.{StartCause};
-ghost use Rattle.dom_markup.specs.Token.{IsTextIn, mode_of};
+ghost use Rattle.dom_markup.specs.Token.{kind_of_text, mode_of};
 ghost use Rattle.dom_markup.specs.Tokens.{IsFound, TakesItem};
 
-use crate::document::doctypes::doctype_at;
-use crate::document::raw::{after_end, split_raw};
-use crate::document::scan::{begins_markup, comment_at, split_text, strip, strip_all};
-use crate::document::tags::{end_tag_end, start_tag_end};
+use crate::document::front::{Front, front_at};
+use crate::document::tags::start_tag_end;
 use crate::document::within::{Within, within_element};
 use dom_nodes::fault::{MarkupFault, MarkupFaultKind};
 use std::marker::Model;
@@ -49,13 +46,22 @@ fn then_markup<'a>(kind: TokenKind, rest: &'a str) -> Found<'a>
     }
 }
 
-/// The start tag at the front.
-fn start_at(text: &str) -> Result<Found<'_>, MarkupFaultKind>
-    ensures { MatchResult result (IsFound markup text.now) (StartCause text.now) }
+/// What the texts that are read so are.
+fn kind_of_text(within: Within) -> TokenKind
+    ensures { result ≡ kind_of_text (mode_of within.entry) }
 {
-    let Some(tag) = strip(text, '<') else {
-        return Err(MarkupFaultKind::BadTag);
-    };
+    match within {
+        Within::Markup => TokenKind::Text,
+        Within::Text(_) => TokenKind::RawText,
+        Within::RawText(_) => TokenKind::RawText,
+    }
+}
+
+/// The start tag behind its `<`.
+fn start_at(tag: &str) -> Result<Found<'_>, MarkupFaultKind>
+    ensures { let text = codes "<" ++ tag.now in
+        MatchResult result (IsFound markup text) (StartCause text) }
+{
     let (name, rest) = start_tag_end(tag)?;
     Ok(Found {
         kind: TokenKind::StartTag,
@@ -64,67 +70,22 @@ fn start_at(text: &str) -> Result<Found<'_>, MarkupFaultKind>
     })
 }
 
-/// The item at the front of markup.
-fn markup_at(text: &str) -> Result<Found<'_>, MarkupFaultKind>
-    requires { text.now ≢ [] }
-    ensures { TakesItem markup text.now result }
-{
-    if !begins_markup(text.as_bytes()) {
-        let (_, rest) = split_text(text);
-        return Ok(then_markup(TokenKind::Text, rest));
-    }
-    if let Some(tag) = strip_all(text, "</") {
-        let Some((_, rest)) = end_tag_end(tag) else {
-            return Err(MarkupFaultKind::BadTag);
-        };
-        return Ok(then_markup(TokenKind::EndTag, rest));
-    }
-    if let Some(comment) = strip_all(text, "<!--") {
-        let Some((_, rest)) = comment_at(comment) else {
-            return Err(MarkupFaultKind::BadComment);
-        };
-        return Ok(then_markup(TokenKind::Comment, rest));
-    }
-    if let Some(tag) = strip_all(text, "<!") {
-        let Some((_, rest)) = doctype_at(tag) else {
-            return Err(MarkupFaultKind::BadDeclaration);
-        };
-        return Ok(then_markup(TokenKind::Doctype, rest));
-    }
-    if let Some(_) = strip_all(text, "<?") {
-        return Err(MarkupFaultKind::Instruction);
-    }
-    start_at(text)
-}
-
-/// The item at the front of the text of an element of this name: the text, or where none is left
-/// the end tag.
-fn text_at<'a>(text: &'a str, name: &str, within: Within<'a>) -> Result<Found<'a>, MarkupFaultKind>
-    requires { IsTextIn (mode_of within) (folded name.now) }
-    ensures { TakesItem (mode_of within.entry) text.now result }
-{
-    if let Some(rest) = after_end(text, name) {
-        return Ok(then_markup(TokenKind::EndTag, rest));
-    }
-    let Some((_, rest)) = split_raw(text, name) else {
-        return Err(MarkupFaultKind::Unclosed);
-    };
-    Ok(Found {
-        kind: TokenKind::RawText,
-        rest,
-        within,
-    })
-}
-
 /// The item at the front.
 fn item_at<'a>(text: &'a str, within: Within<'a>) -> Result<Found<'a>, MarkupFaultKind>
     requires { text.now ≢ [] }
     ensures { TakesItem (mode_of within.entry) text.now result }
 {
-    match within {
-        Within::Markup => markup_at(text),
-        Within::Text(name) => text_at(text, name, within),
-        Within::RawText(name) => text_at(text, name, within),
+    let (front, rest) = front_at(text, within)?;
+    match front {
+        Front::StartTag => start_at(rest),
+        Front::Text(_) => Ok(Found {
+            kind: kind_of_text(within),
+            rest,
+            within,
+        }),
+        Front::EndTag(_) => Ok(then_markup(TokenKind::EndTag, rest)),
+        Front::Comment(_) => Ok(then_markup(TokenKind::Comment, rest)),
+        Front::Doctype(_) => Ok(then_markup(TokenKind::Doctype, rest)),
     }
 }
 
@@ -181,20 +142,6 @@ impl<'a> Tokens<'a> {
             at: 0,
             within: Within::Markup,
         }
-    }
-
-    /// What is left of the text.
-    pub(crate) fn left(&self) -> &'a str
-        ensures { result.now ≡ self.now.text }
-    {
-        self.rest
-    }
-
-    /// How that is read.
-    pub(crate) fn within(&self) -> Within<'a>
-        ensures { mode_of result ≡ self.now.mode }
-    {
-        self.within
     }
 }
 

@@ -6,6 +6,8 @@ ghost use Rattle.dom_markup.specs.Names.{mode_in};
 ghost use Rattle.dom_markup.specs.Token.{mode_of};
 
 use crate::document::names::{holds_text, is_raw};
+use crate::names::is_raw_name;
+use dom_nodes::name::LocalName;
 
 /// What is read next: markup, or the text of an element, whose name stands here as its start tag
 /// has it. The references in a `Text` are read, a `RawText` is read as it is.
@@ -25,6 +27,20 @@ pub fn within_element(name: &str) -> Within<'_>
     }
     if holds_text(name) {
         return Within::Text(name);
+    }
+    Within::Markup
+}
+
+/// The same of an element whose local name is known too.
+pub fn within_named<'a>(written: &'a str, name: &LocalName) -> Within<'a>
+    requires { name.now ≡ folded written.now }
+    ensures { mode_of result ≡ mode_in name.now }
+{
+    if is_raw_name(name) {
+        return Within::RawText(written);
+    }
+    if holds_text(written) {
+        return Within::Text(written);
     }
     Within::Markup
 }

@@ -1,14 +1,15 @@
 use Rattle.std.proofs.Common.{rules}
 use Rattle.dom_markup.proofs.AttrLemmas.{kept_none, kept_one, kept_all}
-use Rattle.dom_markup.proofs.Reading.{length_after}
+use Rattle.dom_markup.proofs.Reading.{SameEnd-refl, SameEnd-step, length_after}
 use Rattle.dom_markup.proofs.document.attributes.attrs_of.Goals as goal
 
 pub loop-written-init : goal.loop-written-init
-loop-written-init c = record { kept = kept_none _ _ c.new-kept.ensures.none; noted = c.new-kept.ensures.noted; utf8 = c.utf8.text }
+loop-written-init c = record { kept = kept_none _ _ c.new-kept.ensures.none; same = SameEnd-refl _; noted = c.new-kept.ensures.noted; utf8 = c.utf8.text }
 
 pub loop-written-preserved : goal.loop-written-preserved
 loop-written-preserved c = record {
   kept = kept_one _ _ _ _ _ _ c.in-Some.ensures.some c.loop-written.invariant.kept c.in_ok-add.ensures.added;
+  same = SameEnd-step _ _ _ _ c.loop-written.invariant.same c.in-Some.ensures.some;
   noted = c.in_ok-add.ensures.noted;
   utf8 = search rules;
 }
@@ -16,5 +17,8 @@ loop-written-preserved c = record {
 pub loop-written-smaller : goal.loop-written-smaller
 loop-written-smaller c = length_after _ _ _ c.in-Some.ensures.some
 
-pub returns : goal.returns
-returns c = rw c.shrink_to_fit.ensures (kept_all _ _ _ c.loop-written.invariant.kept c.in_default.ensures.none)
+pub returns-clause-past : goal.returns-clause-past
+returns-clause-past c = record { same = c.loop-written.invariant.same; none = c.in_default.ensures.none }
+
+pub returns-clause-attrs : goal.returns-clause-attrs
+returns-clause-attrs c = rw c.shrink_to_fit.ensures (kept_all _ _ _ c.loop-written.invariant.kept c.in_default.ensures.none)

@@ -1,18 +1,26 @@
-use Rattle.std.proofs.Common.{◌≡◌, ℕ, List, ◌∷◌, sym, ◌∙◌, ap, map}
+use Rattle.std.proofs.Common.{◌≡◌, ◌∷◌, [], ℕ, List, Bool, sym, ◌∙◌, ap, map, refl, inl, inr, rules}
+use Rattle.std.proofs.lemmas.Result.{err_from_is_err_and}
+use Rattle.dom_nodes.specs.declared.name.QualName.{QualName}
 use Rattle.dom_nodes.specs.Words.{is_among}
-use Rattle.dom_trees.specs.NewNodes.{html_name}
+use Rattle.dom_markup.specs.Bytes.{folded}
 use Rattle.dom_markup.specs.Names.{void_names}
-use Rattle.dom_markup.specs.ValueTrees.{Attribute}
-use Rattle.dom_markup.specs.Numbered.{read_attr}
-use Rattle.dom_markup.proofs.Reading.{start_shape}
+use Rattle.dom_markup.specs.Markup.{NamesElement, kept_after}
+use Rattle.dom_markup.proofs.Items.{start_closes, start_fails, start_unnamed}
 use Rattle.dom_markup.proofs.document.reader.start_tag_of.Goals as goal
 
+pub returns-then-not-names_element : goal.returns-then-not-names_element
+returns-then-not-names_element c = inr (start_unnamed _ _ _ c.split_front.ensures c.if-not-names_element.ensures)
+
+pub returns-in_err-rest : goal.returns-in_err-rest
+returns-in_err-rest c =
+    let p = err_from_is_err_and c.from_residual.result c.from_residual.ensures.1 in
+    let names : NamesElement c.split_front.result.0.now (folded c.split_front.result.0.now) = search rules in
+    let void = c.is_void_name.ensures ∙ ap (λ (n : QualName). is_among n.local void_names) c.in-Ok.ensures in
+    rw (p.1, p.2) (inr (start_fails _ _ _ _ _ _ c.split_front.ensures names.0 void c.in-Ok-attrs_of.ensures.past c.in_err-rest.ensures))
+
 pub returns : goal.returns
-returns c = λ name all rest h.
-    let is : c.args.tag.now ≡ 60 ∷ c.behind-inner.result.now = h.is ∙ ap (λ (t : List ℕ). 60 ∷ t) (sym (c.behind-inner.ensures _ h.is)) in
-    let parts = start_shape _ _ _ _ is c.split_front.ensures name all rest h in
-    record {
-      written = sym parts.0.1;
-      html = c.in_ok-name.ensures ∙ ap html_name (sym parts.0.1);
-      attrs = c.in_ok-attrs.ensures (is_among name void_names) parts.1 rest parts.2 ∙ ap (λ (as' : List Attribute). map read_attr as') (sym parts.3);
-    }
+returns c =
+    let names : NamesElement c.split_front.result.0.now (folded c.split_front.result.0.now) = search rules in
+    let void = c.is_void_name.ensures ∙ ap (λ (n : QualName). is_among n.local void_names) c.in-Ok.ensures in
+    let closed = start_closes _ _ _ _ _ _ c.split_front.ensures names void c.in-Ok-attrs_of.ensures.past c.in_ok-rest.ensures in
+    (kept_after [] closed.0, closed.2, record { written = refl; html = c.in-Ok.ensures; attrs = c.in-Ok-attrs_of.ensures.attrs _ closed.0 _ closed.1 })

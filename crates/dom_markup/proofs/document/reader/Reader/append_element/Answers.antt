@@ -7,9 +7,9 @@ use Rattle.dom_markup.proofs.document.reader.Reader.append_element.Goals as goal
 pub returns-then-not-is_template : goal.returns-then-not-is_template
 returns-then-not-is_template c =
     let plain : is_template (folded c.args.started.written.now) ≡ false = search in
-    λ name all told. plain_made _ _ c.append.result c.args.started _ name all plain c.new-element.ensures told c.append.ensures
+    plain_made _ _ c.append.result c.args.started _ plain c.new-element.ensures c.append.ensures
 
 pub returns : goal.returns
 returns c =
     let template : is_template (folded c.args.started.written.now) ≡ true = search in
-    λ name all told. template_made _ _ c.append_template.result c.args.started name all template told c.append_template.ensures
+    template_made _ _ c.append_template.result c.args.started template c.append_template.ensures

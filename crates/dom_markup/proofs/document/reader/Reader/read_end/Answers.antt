@@ -7,30 +7,28 @@ use Rattle.dom_markup.specs.declared.document.reader.Open.{Open}
 use Rattle.dom_markup.specs.Frames.{HasRead, Opened}
 use Rattle.dom_markup.specs.Reader.{opened_by}
 use Rattle.dom_markup.proofs.Frames.{reads_end, ends_another, ends_nothing}
-use Rattle.dom_markup.proofs.Steps.{reads_end_tag}
 use Rattle.dom_markup.proofs.document.reader.Reader.read_end.Goals as goal
 
 pub returns-in_default : goal.returns-in_default
-returns-in_default c = reads_end_tag _ _ _ _ (λ items name rest h begins.
+returns-in_default c = λ items h.
     let after : c.pop.new.self.items ≡ [] = c.in_default.ensures.rest ∙ ap (λ (n : ℕ). take (n - 1) c.args.self.now.stack.items) c.in_default.ensures.cases.0 in
     let nil : c.args.self.now.stack.items ≡ [] = c.in_default.ensures.items ∙ ap (λ (os : List Open). os ++ []) after in
-    let none = subst (λ (os : List Open). HasRead items (c.args.self.now.tree) (map opened_by os)) nil h in
-    ends_nothing items _ name none)
+    ends_nothing items _ (folded c.args.name.now) (subst (λ (os : List Open). HasRead items (c.args.self.now.tree) (map opened_by os)) nil h)
 
 pub returns-then-not-eq_ignore_ascii_case : goal.returns-then-not-eq_ignore_ascii_case
-returns-then-not-eq_ignore_ascii_case c = reads_end_tag _ _ _ _ (λ items name rest h begins.
+returns-then-not-eq_ignore_ascii_case c = λ items h.
     let stack = map opened_by c.pop.new.self.items in
     let shown : map opened_by c.args.self.now.stack.items ≡ stack ++ opened_by c.in-Some.innermost ∷ [] =
     ap (map opened_by) c.in-Some.ensures.items ∙ map-append opened_by c.pop.new.self.items _ in
     let before = subst (λ (os : List Opened). HasRead items (c.args.self.now.tree) os) shown h in
-    ends_another items _ stack (opened_by c.in-Some.innermost) name before
-    (λ e. false≢true (c.if-not-eq_ignore_ascii_case.ensures.test.1 (e ∙ sym (c.end_tag_of.ensures name rest begins)))))
+    ends_another items _ stack (opened_by c.in-Some.innermost) (folded c.args.name.now) before
+    (λ e. false≢true (c.if-not-eq_ignore_ascii_case.ensures.test.1 e))
 
 pub returns : goal.returns
-returns c = reads_end_tag _ _ _ _ (λ items name rest h begins.
+returns c = λ items h.
     let stack = map opened_by c.pop.new.self.items in
     let shown : map opened_by c.args.self.now.stack.items ≡ stack ++ opened_by c.in-Some.innermost ∷ [] =
     ap (map opened_by) c.in-Some.ensures.items ∙ map-append opened_by c.pop.new.self.items _ in
     let before = subst (λ (os : List Opened). HasRead items (c.args.self.now.tree) os) shown h in
-    let same : folded c.in-Some.innermost.name.now ≡ name = c.if-not-eq_ignore_ascii_case.ensures.test.0 refl ∙ c.end_tag_of.ensures name rest begins in
-    subst (λ (n : List ℕ). HasRead (items ++ end_tag n ∷ []) (c.args.self.now.tree) stack) same (reads_end items _ stack (opened_by c.in-Some.innermost) before))
+    let same : folded c.in-Some.innermost.name.now ≡ folded c.args.name.now = c.if-not-eq_ignore_ascii_case.ensures.test.0 refl in
+    subst (λ (n : List ℕ). HasRead (items ++ end_tag n ∷ []) (c.args.self.now.tree) stack) same (reads_end items _ stack (opened_by c.in-Some.innermost) before)

@@ -1,28 +1,49 @@
-use Rattle.std.proofs.Common.{sym, ◌∙◌, ap}
+use Rattle.std.proofs.Common.{refl, sym, ◌∙◌, ap, inr}
 use Rattle.std.proofs.lemmas.Result.{err_from_is_err_and}
 use Rattle.dom_nodes.specs.declared.name.QualName.{QualName}
 use Rattle.dom_nodes.specs.Words.{is_among}
-use Rattle.dom_markup.specs.Names.{void_names}
+use Rattle.dom_markup.specs.Bytes.{folded}
+use Rattle.dom_markup.specs.Names.{mode_in, void_names}
+use Rattle.dom_markup.specs.Markup.Item.{start_tag}
+use Rattle.dom_markup.specs.Reader.{parent_number}
 use Rattle.dom_markup.specs.declared.document.reader.Open.{Open}
-use Rattle.dom_markup.proofs.Steps.{reads_start_tag, start_declined, start_read, void_read}
+use Rattle.dom_markup.proofs.Steps.{start_declined, start_read, started_is, tag_stops, void_read}
 use Rattle.dom_markup.proofs.document.reader.Reader.read_start.Goals as goal
+
+pub returns-in_err-started : goal.returns-in_err-started
+returns-in_err-started c =
+    let p = err_from_is_err_and c.from_residual.result c.from_residual.ensures.1 in
+    rw (p.1, p.2) (λ items h. tag_stops c.args.tag.now items _ c.requires.letter c.in_err-started.ensures)
 
 pub returns-in_err-number : goal.returns-in_err-number
 returns-in_err-number c =
-    let p = err_from_is_err_and c.from_residual.result c.from_residual.ensures.1 in
-    rw (p.1, p.2) (reads_start_tag _ _ _ _ (λ items name all rest h begins. start_declined items name all _ _ _ h (c.in_err-number.ensures name all (c.in-Ok.ensures name all rest begins)).grown))
+    let p = err_from_is_err_and c.from_residual-in_err-number.result c.from_residual-in_err-number.ensures.1 in
+    let name = folded c.in_ok-started.started.written.now in
+    let tag = c.in_ok-started.ensures in
+    rw (p.1, p.2) (λ items h. inr (inr (start_tag name tag.0, _, tag.1, start_declined items name tag.0 _ _ _ h c.in_err-number.ensures.grown)))
 
 pub returns-then-void : goal.returns-then-void
-returns-then-void c = reads_start_tag _ _ _ _ (λ items name all rest h begins.
-    let tag = c.in-Ok.ensures name all rest begins in
-    let grows = c.in_ok-number.ensures name all tag in
-    let void = ap (λ (n : QualName). is_among n.local void_names) (sym tag.html) ∙ (sym c.is_void_name-void.ensures ∙ c.if-void.true) in
-    void_read items _ _ name all h grows.grown.1 grows.stack void)
+returns-then-void c =
+    let started = c.in_ok-started.started in
+    let name = folded started.written.now in
+    let tag = c.in_ok-started.ensures in
+    let grows = c.in_ok-number.ensures in
+    let made = grows.grown.1 ∙ started_is (parent_number c.args.self.now) started tag.0 c.args.self.now.tree tag.2 in
+    let void = ap (λ (n : QualName). is_among n.local void_names) (sym tag.2.html) ∙ (sym c.is_void_name-void.ensures ∙ c.if-void.true) in
+    λ items h. (start_tag name tag.0, tag.1, c.within_named-within.ensures ∙ ap (λ (n : QualName). mode_in n.local) tag.2.html, void_read items _ _ name tag.0 h made grows.stack void)
 
-pub returns-in-Ok-push : goal.returns-in-Ok-push
-returns-in-Ok-push c = reads_start_tag _ _ _ _ (λ items name all rest h begins.
-    let tag = c.in-Ok.ensures name all rest begins in
-    let grows = c.in_ok-number.ensures name all tag in
-    let one : Open = record { number = c.in_ok-number.number; name = c.in-Ok.started.written } in
-    let open_one = ap (λ (n : QualName). is_among n.local void_names) (sym tag.html) ∙ (sym c.is_void_name-void.ensures ∙ c.if-void.false) in
-    start_read items _ _ _ _ one name all h grows.grown.1 grows.stack c.in-Ok-push.ensures.items grows.grown.0 tag.written open_one)
+pub returns-in-Ok : goal.returns-in-Ok
+returns-in-Ok c =
+    let started = c.in_ok-started.started in
+    let name = folded started.written.now in
+    let tag = c.in_ok-started.ensures in
+    let grows = c.in_ok-number.ensures in
+    let made = grows.grown.1 ∙ started_is (parent_number c.args.self.now) started tag.0 c.args.self.now.tree tag.2 in
+    let one : Open = record { number = c.in_ok-number.number; name = started.written } in
+    let open_one = ap (λ (n : QualName). is_among n.local void_names) (sym tag.2.html) ∙ (sym c.is_void_name-void.ensures ∙ c.if-void.false) in
+    λ items h. (
+      start_tag name tag.0,
+      tag.1,
+      c.within_named-within.ensures ∙ ap (λ (n : QualName). mode_in n.local) tag.2.html,
+      start_read items _ _ _ _ one name tag.0 h made grows.stack c.in-Ok.ensures.items grows.grown.0 refl open_one,
+    )

@@ -5,16 +5,15 @@ use Rattle.dom_markup.specs.Markup.Item.{characters}
 use Rattle.dom_nodes.specs.declared.node_data.NodeData.TheVariants.{Text}
 use Rattle.dom_markup.specs.Frames.{is_top}
 use Rattle.dom_markup.proofs.Frames.{text_leaf}
-use Rattle.dom_markup.proofs.Steps.{no_number, leaf_read, reads_text}
+use Rattle.dom_markup.proofs.Steps.{no_number, leaf_read}
 use Rattle.dom_markup.proofs.document.reader.Reader.read_text.Goals as goal
 
 pub returns-in_err-append : goal.returns-in_err-append
 returns-in_err-append c =
     let p = err_from_is_err_and c.from_residual.result c.from_residual.ensures.1 in
-    rw (p.1, p.2) (reads_text c.args.text.now _ _ _ _ (λ items h. no_number items (characters (contents_in (mode_of c.args.within) c.args.text.now)) _ _ _ _ h (omega arith) (omega arith) c.in_err-append.ensures.grown))
+    rw (p.1, p.2) (λ items h. no_number items (characters (contents_in (mode_of c.args.within) c.args.text.now)) _ _ _ _ h (omega arith) (omega arith) c.in_err-append.ensures.grown)
 
 pub returns : goal.returns
 returns c =
     let contents = contents_in (mode_of c.args.within) c.args.text.now in
-    reads_text c.args.text.now _ _ _ contents (λ items h.
-    leaf_read items _ _ (characters contents) _ (Text contents) h (text_leaf (is_top h.frames) contents) c.in_ok-append.ensures.grown.1 (ap Text c.in-Ok.ensures) c.in_ok-append.ensures.stack)
+    λ items h. leaf_read items _ _ (characters contents) _ (Text contents) h (text_leaf (is_top h.frames) contents) c.in_ok-append.ensures.grown.1 (ap Text c.in-Ok.ensures) c.in_ok-append.ensures.stack

@@ -1,0 +1,32 @@
+-- The item at the front of a text, as it is written.
+use Rattle.std.specs.Prelude.{◌≡◌, ℕ, List, ◌∷◌, true, Result, MatchResult}
+use Rattle.std.specs.Borrow.{Bor}
+use Rattle.dom_nodes.specs.Ascii.{less_than}
+use Rattle.dom_nodes.specs.declared.fault.MarkupFaultKind.{MarkupFaultKind}
+use Rattle.dom_markup.specs.Bytes.{folded, is_letter}
+use Rattle.dom_markup.specs.Markup.{Begins, BeginsNothing}
+use Rattle.dom_markup.specs.Markup.Item.{end_tag, characters, comment, doctype}
+use Rattle.dom_markup.specs.Names.{Mode, markup}
+use Rattle.dom_markup.specs.Refusals.{Cause}
+use Rattle.dom_markup.specs.Token.{contents_in}
+use Rattle.dom_markup.specs.declared.document.front.Front.{Front}
+use Rattle.dom_markup.specs.declared.document.front.Front.TheVariants.{StartTag, Text, EndTag, Comment, Doctype}
+
+abbrev pub BeginsLetter : List ℕ → Type 0
+BeginsLetter tag = (b : ℕ) × (more : List ℕ) × (tag ≡ b ∷ more) × (is_letter b ≡ true)
+
+-- a start tag may begin: the text is `<` and then rest, which begins with a letter
+abbrev pub OpensTag : List ℕ → List ℕ → Type 0
+OpensTag text rest = (text ≡ less_than ∷ rest) × BeginsLetter rest
+
+-- the item is so written at the front of the text, and then rest follows
+abbrev pub IsFront : Mode → List ℕ → Front → List ℕ → Type 0
+IsFront mode text StartTag rest = (mode ≡ markup) × OpensTag text rest
+IsFront mode text (Text written) rest = Begins mode text (characters (contents_in mode written.now)) rest
+IsFront mode text (EndTag name) rest = Begins mode text (end_tag (folded name.now)) rest
+IsFront mode text (Comment contents) rest = Begins mode text (comment contents.now) rest
+IsFront mode text (Doctype read) rest = Begins mode text (doctype (folded read.name.now) read.public.now read.system.now) rest
+
+-- the item at the front and what follows it, or why none begins there
+abbrev pub TakesFront : Mode → List ℕ → Result (Front × Bor (List ℕ)) MarkupFaultKind → Type 0
+TakesFront mode text result = MatchResult result (λ found. IsFront mode text found.0 found.1.now) (λ kind. BeginsNothing mode text × Cause mode text kind)

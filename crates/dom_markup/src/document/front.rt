@@ -1,0 +1,111 @@
+//! The item at the front of a text, as it is written.
+
+ghost use Rattle.std.specs.Prelude.{◌≢◌, ◌++◌, [], codes};
+ghost use Rattle.dom_markup.specs.Bytes.{folded};
+ghost use Rattle.dom_markup.specs.Front.{OpensTag, TakesFront};
+ghost use Rattle.dom_markup.specs.Names.{markup};
+ghost use Rattle.dom_markup.specs.Taking.{Leaves};
+ghost use Rattle.dom_markup.specs.Token.{IsTextIn, mode_of};
+
+use crate::document::doctypes::{Doctype, doctype_at};
+use crate::document::names::is_letter;
+use crate::document::raw::{after_end, split_raw};
+use crate::document::scan::{begins_markup, comment_at, split_text, strip, strip_all};
+use crate::document::tags::end_tag_end;
+use crate::document::within::Within;
+use dom_nodes::fault::MarkupFaultKind;
+
+/// An item as it is written: a text, the name of an end tag, the contents of a comment, a doctype.
+/// Of a start tag only its `<` is taken, for what a reader needs of it is taken while it is scanned.
+#[derive(Clone, Copy)]
+pub enum Front<'a> {
+    StartTag,
+    Text(&'a str),
+    EndTag(&'a str),
+    Comment(&'a str),
+    Doctype(Doctype<'a>),
+}
+
+/// What follows the `<` of a start tag that may begin here: a letter stands behind it.
+#[inline(always)]
+fn opened_tag(text: &str) -> Option<&str>
+    ensures { Leaves (OpensTag text.now) result }
+{
+    let tag = strip(text, '<')?;
+    let [first, ..] = tag.as_bytes() else {
+        return None;
+    };
+    if !is_letter(*first) {
+        return None;
+    }
+    Some(tag)
+}
+
+/// The item at the front of markup, and what follows it.
+#[inline(always)]
+fn markup_front(text: &str) -> Result<(Front<'_>, &str), MarkupFaultKind>
+    requires { text.now ≢ [] }
+    ensures { TakesFront markup text.now result }
+{
+    if let Some(tag) = opened_tag(text) {
+        return Ok((Front::StartTag, tag));
+    }
+    if !begins_markup(text.as_bytes()) {
+        let (contents, rest) = split_text(text);
+        return Ok((Front::Text(contents), rest));
+    }
+    if let Some(tag) = strip_all(text, "</") {
+        let Some((name, rest)) = end_tag_end(tag) else {
+            return Err(MarkupFaultKind::BadTag);
+        };
+        return Ok((Front::EndTag(name), rest));
+    }
+    if let Some(comment) = strip_all(text, "<!--") {
+        let Some((contents, rest)) = comment_at(comment) else {
+            return Err(MarkupFaultKind::BadComment);
+        };
+        return Ok((Front::Comment(contents), rest));
+    }
+    if let Some(tag) = strip_all(text, "<!") {
+        let Some((written, rest)) = doctype_at(tag) else {
+            return Err(MarkupFaultKind::BadDeclaration);
+        };
+        return Ok((Front::Doctype(written), rest));
+    }
+    Err(MarkupFaultKind::Instruction)
+}
+
+/// The item at the front of the text of an element of this name: the text, or where none is left
+/// the end tag.
+fn front_in_text<'a>(
+    text: &'a str,
+    name: &'a str,
+    within: Within<'a>,
+) -> Result<(Front<'a>, &'a str), MarkupFaultKind>
+    requires { IsTextIn (mode_of within) (folded name.now) }
+    ensures { TakesFront (mode_of within.entry) text.now result }
+{
+    if let Some(rest) = after_end(text, name) {
+        return Ok((Front::EndTag(name), rest));
+    }
+    let Some((contents, rest)) = split_raw(text, name) else {
+        return Err(MarkupFaultKind::Unclosed);
+    };
+    Ok((Front::Text(contents), rest))
+}
+
+/// The item at the front, and what follows it.
+#[inline(always)]
+pub fn front_at<'a>(
+    text: &'a str,
+    within: Within<'a>,
+) -> Result<(Front<'a>, &'a str), MarkupFaultKind>
+    requires { text.now ≢ [] }
+    ensures { TakesFront (mode_of within.entry) text.now result }
+{
+    match within {
+        Within::Markup => markup_front(text),
+        Within::Text(name) => front_in_text(text, name, within),
+        Within::RawText(name) => front_in_text(text, name, within),
+    }
+}
