@@ -160,19 +160,27 @@ line_place chunk at is = elim (cases_Bool (begins_block chunk || is_underline ch
   ]
 ]
 
-resolved-place : (chunk : List ℕ) (at : ℕ) → IsPlace chunk at → resolved (with_marks_at (Some at) chunk) ≡ chunk
-resolved-place chunk at place =
+resolved-place : (chunk : List ℕ) (at : ℕ) (more : List ℕ) → IsPlace chunk at → resolved (with_marks_at (Some at) chunk ++ more) ≡ chunk ++ resolved more
+resolved-place chunk at more place =
     let b = get_or chunk at 0 in
     let rest = drop (at + 1) chunk in
-    let marks : resolved_on false (with_marks rest) ≡ rest = ap (resolved_on false) (sym (append-nil (with_marks rest))) ∙ (resolved-marks rest [] ∙ append-nil rest) in
-    let behind : resolved_on true (with_marks (drop at chunk)) ≡ b ∷ rest = at_drop_more (λ t. resolved_on true (with_marks t)) chunk at 0 place.within ∙ rw (place.plain.unmarked rest, place.plain.punctuation) (ap (λ t. b ∷ t) marks) in
+    let behind : resolved_on true (with_marks (drop at chunk) ++ more) ≡ (b ∷ rest) ++ resolved more =
+    at_drop_more (λ t. resolved_on true (with_marks t ++ more)) chunk at 0 place.within ∙ rw (place.plain.unmarked rest, place.plain.punctuation) (ap (λ t. b ∷ t) (resolved-marks rest more)) in
     let whole : b ∷ rest ≡ drop at chunk = sym (at_drop_more (λ t. t) chunk at 0 place.within) in
-    resolved-marks (take at chunk) (backslash ∷ with_marks (drop at chunk)) ∙ (ap (λ t. take at chunk ++ t) (behind ∙ whole) ∙ take-append-drop at chunk)
+    ap resolved (append_assoc (with_marks (take at chunk)) (backslash ∷ with_marks (drop at chunk)) more)
+    ∙ resolved-marks (take at chunk) (backslash ∷ (with_marks (drop at chunk) ++ more))
+    ∙ ap (λ t. take at chunk ++ t) (behind ∙ ap (λ t. t ++ resolved more) whole)
+    ∙ sym (append_assoc (take at chunk) (drop at chunk) (resolved more))
+    ∙ ap (λ t. t ++ resolved more) (take-append-drop at chunk)
+
+-- what a chunk with backslashes resolves to, whatever stands behind it
+pub resolved-chunk : (line_start : Bool) (chunk more : List ℕ) → resolved (escaped line_start chunk ++ more) ≡ chunk ++ resolved more
+resolved-chunk false chunk more = resolved-marks chunk more
+resolved-chunk true chunk more = by_place (line_mark chunk) refl
+  where
+    by_place : (o : Option ℕ) → line_mark chunk ≡ o → resolved (with_marks_at (line_mark chunk) chunk ++ more) ≡ chunk ++ resolved more
+    by_place None is = rw is (resolved-marks chunk more)
+    by_place (Some at) is = rw is (resolved-place chunk at more (line_place chunk at is))
 
 pub resolved-escaped : (line_start : Bool) (chunk : List ℕ) → resolved (escaped line_start chunk) ≡ chunk
-resolved-escaped false chunk = ap (resolved_on false) (sym (append-nil (with_marks chunk))) ∙ (resolved-marks chunk [] ∙ append-nil chunk)
-resolved-escaped true chunk = by_place (line_mark chunk) refl
-  where
-    by_place : (o : Option ℕ) → line_mark chunk ≡ o → resolved (with_marks_at (line_mark chunk) chunk) ≡ chunk
-    by_place None is = rw is (ap (resolved_on false) (sym (append-nil (with_marks chunk))) ∙ (resolved-marks chunk [] ∙ append-nil chunk))
-    by_place (Some at) is = rw is (resolved-place chunk at (line_place chunk at is))
+resolved-escaped line_start chunk = ap resolved (sym (append-nil (escaped line_start chunk))) ∙ (resolved-chunk line_start chunk [] ∙ append-nil chunk)

@@ -9,3 +9,4 @@ pub mod Options
 pub mod Resolved
 pub mod Scopes
 pub mod Solid
+pub mod Words

@@ -24,3 +24,9 @@ pub record Resolves (old new chunk : List ℕ) : Type 0 where
   pub added : List ℕ
   pub is : new ≡ old ++ added
   pub resolves : resolved added ≡ chunk
+
+-- what was added to the old text resolves to these words, whatever stands behind it
+pub record Reads (old new words : List ℕ) : Type 0 where
+  pub added : List ℕ
+  pub is : new ≡ old ++ added
+  pub resolves : (more : List ℕ) → resolved (added ++ more) ≡ words ++ resolved more

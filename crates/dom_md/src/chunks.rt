@@ -7,7 +7,7 @@ ghost use Rattle.std.specs.Prelude.{IfOk, MatchOption, OnErr, OnOk, if◌then◌
 ghost use Rattle.dom_md.specs.Chunks.{escaped, begins_block, is_list_marker, is_mark, is_marked};
 ghost use Rattle.dom_md.specs.Chunks.{is_stop, is_underline, line_mark, with_marks};
 ghost use Rattle.dom_md.specs.Marks.{Cuts, IsFirstMark};
-ghost use Rattle.dom_md.specs.Resolved.{Resolves};
+ghost use Rattle.dom_md.specs.Resolved.{Reads, Resolves};
 
 use dom_nodes::fault::OutOfMemory;
 use std::alloc::{AllocError, Global};
@@ -24,6 +24,8 @@ pub fn push_escaped_chunk(
         ≡ string_bytes text.old ++ (if escape then escaped line_start chunk.now else chunk.now)) }
     ensures resolves { OnOk result (escape ≡ true
         → Resolves (string_bytes text.old) (string_bytes text.new) chunk.now) }
+    ensures reads { OnOk result (escape ≡ true
+        → Reads (string_bytes text.old) (string_bytes text.new) chunk.now) }
     ensures err { OnErr result (string_bytes text.new ≡ string_bytes text.old) }
 {
     if !escape {

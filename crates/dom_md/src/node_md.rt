@@ -12,6 +12,7 @@ pub trait NodeMd {
     ghost use Rattle.dom_links.specs.Forest.{Forest};
     ghost use Rattle.dom_md.specs.Formatted.{formatted_below};
     ghost use Rattle.dom_md.specs.Solid.{KeepsWords};
+    ghost use Rattle.dom_md.specs.Words.{ReadsAsWords};
 
     // The forest of the node's tree.
     ghost forest: { Self → Forest };
@@ -29,8 +30,11 @@ pub trait NodeMd {
             (string_bytes text)) };
 
     /// The Markdown of what is below the node; empty for an unknown number. Elements of the names
-    /// in `skip_tags` are left out: `script`, `style`, `meta` and `head` where none are given.
-    fn md(&self, skip_tags: Option<&[&str]>) -> Result<String, OutOfMemory>;
+    /// in `skip_tags` are left out: `script`, `style`, `meta` and `head` where none are given. That
+    /// of a node that holds texts alone resolves to the words of its text, joined by one space.
+    fn md(&self, skip_tags: Option<&[&str]>) -> Result<String, OutOfMemory>
+        ensures { IfOk result (λ md. ReadsAsWords (forest self.now) (number self.now)
+            (string_bytes md)) };
 }
 
 impl<'a> NodeMd for NodeRef<'a> {
@@ -53,6 +57,7 @@ pub trait DocumentMd {
     ghost use Rattle.dom_links.specs.Forest.{Forest};
     ghost use Rattle.dom_md.specs.Formatted.{formatted_below};
     ghost use Rattle.dom_md.specs.Solid.{KeepsWords};
+    ghost use Rattle.dom_md.specs.Words.{ReadsAsWords};
 
     // The forest of the document.
     ghost forest: { Self → Forest };
@@ -64,8 +69,10 @@ pub trait DocumentMd {
             ≡ formatted_below (forest self.now) 0) }
         ensures words { IfOk result (λ text. KeepsWords (forest self.now) 0 (string_bytes text)) };
 
-    /// The Markdown of what is below the root.
-    fn md(&self, skip_tags: Option<&[&str]>) -> Result<String, OutOfMemory>;
+    /// The Markdown of what is below the root. That of texts alone resolves to their words, joined
+    /// by one space.
+    fn md(&self, skip_tags: Option<&[&str]>) -> Result<String, OutOfMemory>
+        ensures { IfOk result (λ md. ReadsAsWords (forest self.now) 0 (string_bytes md)) };
 }
 
 impl DocumentMd for Document {

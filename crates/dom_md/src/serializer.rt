@@ -1,5 +1,9 @@
 //! Markdown of a tree, by a stack of what is still to be written, so without recursion.
 
+ghost use Rattle.std.specs.Prelude.{◌≡◌, IfOk, OnOk, [], false, string_bytes, true};
+ghost use Rattle.dom_md.specs.Resolved.{resolved};
+ghost use Rattle.dom_md.specs.Words.{ReadsAsWords, holds_texts, joined_words_of};
+
 mod blocks;
 mod code;
 mod emphasis;
@@ -17,9 +21,10 @@ mod urls;
 
 use crate::context::FormatOpts;
 use crate::serializer::names::is_default_skipped;
+use crate::serializer::nodes::holds_texts;
 use crate::serializer::tables::Table;
 use crate::serializer::tasks::{Item, Task};
-use crate::serializer::texts::trim_space;
+use crate::serializer::texts::{push_words, trim_space};
 use dom_nodes::fault::OutOfMemory;
 use dom_nodes::node_id::NodeId;
 use dom_trees::node_ref::NodeRef;
@@ -27,12 +32,15 @@ use dom_trees::tree::Tree;
 
 /// The Markdown of what is below the node, or of the node, too; nothing for an unknown number.
 /// Elements of the names in `skip_tags` are left out: `script`, `style`, `meta` and `head` where
-/// none are given.
+/// none are given. What is below a node that holds texts alone resolves to the words of its text.
 pub fn serialize_md(
     node: &NodeRef<'_>,
     include_node: bool,
     skip_tags: Option<&[&str]>,
-) -> Result<String, OutOfMemory> {
+) -> Result<String, OutOfMemory>
+    ensures { include_node ≡ false → IfOk result (λ md.
+        ReadsAsWords node.now.tree.now node.now.id (string_bytes md)) }
+{
     MDSerializer::new(node, skip_tags).serialize(include_node)
 }
 
@@ -46,15 +54,21 @@ pub struct MDSerializer<'a> {
 impl<'a> MDSerializer<'a> {
     /// Of that node, without elements of those names; without `script`, `style`, `meta` and `head`
     /// where none are given.
-    pub fn new(node: &NodeRef<'a>, skip_tags: Option<&'a [&'a str]>) -> MDSerializer<'a> {
+    pub fn new(node: &NodeRef<'a>, skip_tags: Option<&'a [&'a str]>) -> MDSerializer<'a>
+        ensures { result.node ≡ node.now }
+    {
         MDSerializer {
             node: NodeRef::new(node.id, node.tree),
             skip_tags,
         }
     }
 
-    /// The Markdown of what is below the node, or of the node, too.
-    pub fn serialize(&self, include_node: bool) -> Result<String, OutOfMemory> {
+    /// The Markdown of what is below the node, or of the node, too. What is below a node that holds
+    /// texts alone resolves to the words of its text.
+    pub fn serialize(&self, include_node: bool) -> Result<String, OutOfMemory>
+        ensures { include_node ≡ false → IfOk result (λ md.
+            ReadsAsWords self.now.node.tree.now self.now.node.id (string_bytes md)) }
+    {
         let mut writer = Writer::new(self.node.tree, self.skip_tags);
         writer.begin(self.node.id, include_node)?;
         writer.write_all()?;
@@ -80,7 +94,11 @@ struct Writer<'a> {
 }
 
 impl<'a> Writer<'a> {
-    fn new(tree: &'a Tree, skip_tags: Option<&'a [&'a str]>) -> Writer<'a> {
+    fn new(tree: &'a Tree, skip_tags: Option<&'a [&'a str]>) -> Writer<'a>
+        ensures tree { result.tree ≡ tree.entry }
+        ensures tasks { result.tasks.items ≡ [] }
+        ensures text { string_bytes result.text ≡ [] }
+    {
         let alloc = tree.allocator();
         Writer {
             tree,
@@ -93,19 +111,36 @@ impl<'a> Writer<'a> {
         }
     }
 
-    fn begin(&mut self, id: NodeId, include_node: bool) -> Result<(), OutOfMemory> {
+    /// Begins with the node or with what is below it; texts alone are written at once, as one text.
+    fn begin(&mut self, id: NodeId, include_node: bool) -> Result<(), OutOfMemory>
+        requires text { string_bytes self.now.text ≡ [] }
+        ensures tasks { include_node ≡ false → holds_texts self.old.tree.now id ≡ true →
+            self.old.tasks.items ≡ [] → self.new.tasks.items ≡ [] }
+        ensures text { include_node ≡ false → holds_texts self.old.tree.now id ≡ true →
+            OnOk result (resolved (string_bytes self.new.text)
+            ≡ joined_words_of self.old.tree.now id) }
+    {
         if include_node {
             return self.push(Task::Node {
                 id,
                 opts: FormatOpts::new().include_node(),
             });
         }
-        self.push_below(id, FormatOpts::new())
+        let node = NodeRef::new(id, self.tree);
+        if !holds_texts(&node) {
+            return self.push_below(id, FormatOpts::new());
+        }
+        let text = node.text()?;
+        push_words(&mut self.text, text.as_str(), FormatOpts::new(), false)?;
+        Ok(())
     }
 
     /// Writes all that is on the stack, in fewer steps than the number that no machine counts up
     /// to.
-    fn write_all(&mut self) -> Result<(), OutOfMemory> {
+    fn write_all(&mut self) -> Result<(), OutOfMemory>
+        ensures { self.old.tasks.items ≡ [] → OnOk result (
+            string_bytes self.new.text ≡ string_bytes self.old.text) }
+    {
         for _ in 0..u64::MAX {
             let Some(task) = self.tasks.pop() else {
                 return Ok(());
@@ -126,7 +161,7 @@ impl<'a> Writer<'a> {
             Task::EndEmphasis { marker, merged } => self.end_emphasis(marker, merged),
             Task::EndLink { id } => self.end_link(id),
             Task::EndCode { id } => self.end_code(id),
-            Task::EndQuote => self.end_quote(),
+            Task::EndQuote { depth } => self.end_quote(depth),
             Task::NextItem { id, context } => self.next_item(id, context),
             Task::EndList => self.end_list(),
             Task::NextBlock { id } => self.next_block(id),

@@ -1,5 +1,8 @@
 //! What is asked of nodes.
 
+ghost use Rattle.std.specs.Prelude.{◌≡◌};
+ghost use Rattle.dom_md.specs.Words.{holds_texts};
+
 use crate::serializer::lists::parse_list_number;
 use crate::serializer::names::{Tag, tag_of};
 use dom_nodes::node_data::NodeData;
@@ -19,6 +22,21 @@ pub(super) fn contents<'a>(node: &NodeRef<'a>) -> Option<&'a str> {
         NodeData::Text { contents } => Some(contents.as_str()),
         _ => None,
     }
+}
+
+/// Whether the node may have children, and they are texts alone.
+pub(super) fn holds_texts(node: &NodeRef<'_>) -> bool
+    ensures { result ≡ holds_texts node.now.tree.now node.now.id }
+{
+    if !node.may_have_children() {
+        return false;
+    }
+    for child in node.tree.child_ids_of_it(&node.id, false) {
+        if !NodeRef::new(child, node.tree).is_text() {
+            return false;
+        }
+    }
+    true
 }
 
 /// Whether the node is a text without words.

@@ -22,8 +22,8 @@ pub(super) enum Task {
     EndLink { id: NodeId },
     /// The text of a code span ends.
     EndCode { id: NodeId },
-    /// The text of a quote ends.
-    EndQuote,
+    /// The text of a quote ends, which stands in so many quotes.
+    EndQuote { depth: usize },
     /// A child of a list, and its later siblings.
     NextItem { id: NodeId, context: ListContext },
     /// A list ends.

@@ -1,5 +1,12 @@
 //! Steps on the text so far.
 
+ghost use Rattle.std.specs.Prelude.{◌≡◌, ◌∷◌, ◌||◌, OnOk, codes, false, string_bytes, true};
+ghost use Rattle.std.specs.Str.{bytes_eq};
+ghost use Rattle.dom_nodes.specs.Ascii.{space};
+ghost use Rattle.dom_nodes.specs.Words.{words_of};
+ghost use Rattle.dom_md.specs.Resolved.{Reads};
+ghost use Rattle.dom_md.specs.Words.{spaced};
+
 use crate::chunks::{is_list_marker, push_escaped_chunk};
 use crate::context::FormatOpts;
 use dom_nodes::fault::OutOfMemory;
@@ -109,45 +116,77 @@ pub(super) fn push_text(
         }
         return Ok(());
     }
-    push_words(text, added, opts, fresh || text.as_str().is_empty())?;
+    let parted = (opts.inline || !(fresh || text.as_str().is_empty()))
+        && added.trim_ascii_start().len() < added.len();
+    push_words(text, added, opts, parted)?;
     if ends_in_whitespace(added) && !ends_in_whitespace(text.as_str()) {
         text.push(' ')?;
     }
     Ok(())
 }
 
-fn push_words(
+/// Adds the words of a text, one space between any two, and one before them if they are `parted`.
+pub(super) fn push_words(
     text: &mut String,
     added: &str,
     opts: FormatOpts,
-    fresh: bool,
-) -> Result<(), OutOfMemory> {
+    parted: bool,
+) -> Result<(), OutOfMemory>
+    ensures { OnOk result (opts.skip_escape ≡ false → Reads (string_bytes text.old)
+        (string_bytes text.new) (spaced parted (words_of added.now))) }
+{
     let escape = !opts.skip_escape;
-    let line_start = begins_line(text.as_str()) || opts.list_item;
-    let parted = (opts.inline || !fresh) && added.trim_ascii_start().len() < added.len();
-    let mut is_first = true;
+    let mut line_start = begins_line(text.as_str()) || opts.list_item;
+    let mut is_parted = parted;
     for word in added.split_ascii_whitespace() {
-        if is_first {
-            push_gap(text, word, parted, escape)?;
-        } else {
-            text.push(' ')?;
+        if is_parted {
+            push_parted_word(text, word, escape, line_start)?;
+            line_start = false;
+            continue;
         }
-        push_escaped_chunk(text, word, escape, is_first && line_start)?;
-        is_first = false;
+        push_first_word(text, word, escape, line_start)?;
+        is_parted = true;
+        line_start = false;
     }
     Ok(())
 }
 
-/// Adds what stands before the first word of a text: a space, or a backslash where the word would
-/// make a list's mark of the digits before it.
-fn push_gap(text: &mut String, word: &str, parted: bool, escape: bool) -> Result<(), OutOfMemory> {
-    if parted {
-        return Ok(text.push(' ')?);
-    }
-    if escape && (word == "." || word == ")") && ends_in_marker_digits(text.as_str()) {
-        text.push('\\')?;
-    }
+/// Adds a word behind a space.
+fn push_parted_word(
+    text: &mut String,
+    word: &str,
+    escape: bool,
+    line_start: bool,
+) -> Result<(), OutOfMemory>
+    ensures { OnOk result (escape ≡ true → Reads (string_bytes text.old) (string_bytes text.new)
+        (space ∷ word.now)) }
+{
+    text.push(' ')?;
+    push_escaped_chunk(text, word, escape, line_start)?;
     Ok(())
+}
+
+/// Adds a word; a backslash stands before one that would make a list's mark of the digits before it.
+fn push_first_word(
+    text: &mut String,
+    word: &str,
+    escape: bool,
+    line_start: bool,
+) -> Result<(), OutOfMemory>
+    ensures { OnOk result (escape ≡ true → Reads (string_bytes text.old) (string_bytes text.new)
+        word.now) }
+{
+    if escape && is_stop_word(word) && ends_in_marker_digits(text.as_str()) {
+        text.push('\\')?;
+        return Ok(text.push_str(word)?);
+    }
+    push_escaped_chunk(text, word, escape, line_start)
+}
+
+fn is_stop_word(word: &str) -> bool
+    ensures { result ≡ (bytes_eq word.now (codes ".") || bytes_eq word.now (codes ")")) }
+{
+    word == "." || word == ")"
 }
 
 /// Whether the text ends in digits that begin a line, or an item of a list.

@@ -1,6 +1,7 @@
 use Rattle.std.proofs.Common.{◌++◌, ◌∙◌, ap, string_bytes}
 use Rattle.dom_md.specs.Chunks.{escaped}
 use Rattle.dom_md.proofs.ChunkLemmas.{resolved-escaped}
+use Rattle.dom_md.proofs.ReadLemmas.{reads-chunk}
 use Rattle.dom_md.proofs.chunks.push_escaped_chunk.Goals as goal
 
 pub returns-clause-resolves : goal.returns-clause-resolves
@@ -9,3 +10,7 @@ returns-clause-resolves c = λ on. record {
   is = c.in_ok-push_str-2.ensures.bytes ∙ ap (λ t. string_bytes c.args.text.now ++ t) (c.as_str.ensures.value ∙ c.in_ok-escaped.ensures);
   resolves = resolved-escaped c.args.line_start c.args.chunk.now;
 }
+
+pub returns-clause-reads : goal.returns-clause-reads
+returns-clause-reads c = λ on. reads-chunk (string_bytes c.args.text.now) (string_bytes c.push_str-2.new.self) c.args.chunk.now c.args.line_start
+    (c.in_ok-push_str-2.ensures.bytes ∙ ap (λ t. string_bytes c.args.text.now ++ t) (c.as_str.ensures.value ∙ c.in_ok-escaped.ensures))
