@@ -3,8 +3,8 @@ use Rattle.std.proofs.Common.{◌≡◌, ◌+◌, ℕ, zero, suc, List, [], ◌�
 use Rattle.std.specs.Prelude.{◌==◌}
 use Rattle.std.proofs.lemmas.Bool.{eq-eqb}
 use Rattle.std.specs.Str.{chars}
-use Rattle.dom_select.specs.Syntax.{SelectorList}
-use Rattle.dom_select.specs.Grammar.{StandsFor}
+use Rattle.dom_selectors.specs.Syntax.{SelectorList}
+use Rattle.dom_selectors.specs.Grammar.{StandsFor}
 use Rattle.dom_query.specs.declared.script.Command.{Command}
 use Rattle.dom_query.specs.declared.script.Command.TheVariants.{Nothing, Select, Count, Text, Formatted, Html, Document}
 use Rattle.dom_query.specs.Script.{AreCommands, FirstBad, HasArgument, IsBad, IsCommand, IsNoScript, IsScript, lines_of}
