@@ -2,8 +2,8 @@
 use Rattle.std.proofs.Common.{◌≡◌, ◌+◌, ℕ, zero, suc, List, [], ◌∷◌, ◌++◌, inl, inr, refl, sym, ◌∙◌, ap, codes, length, arith, subst}
 use Rattle.std.specs.Prelude.{◌==◌, if◌then◌else◌}
 use Rattle.std.specs.Str.{bytes_eq, chars}
-use Rattle.dom_select.specs.Syntax.{SelectorList}
-use Rattle.dom_select.specs.Grammar.{StandsFor}
+use Rattle.dom_selectors.specs.Syntax.{SelectorList}
+use Rattle.dom_selectors.specs.Grammar.{StandsFor}
 use Rattle.dom_query.specs.declared.script.Command.{Command}
 use Rattle.dom_query.specs.declared.script.Command.TheVariants.{Nothing, Select, Count, Text, Formatted, Html, Document}
 use Rattle.dom_query.specs.Script.{AreCommands, FirstBad, HasArgument, IsBad, IsCommand, IsNoScript, IsScript, lines_of}

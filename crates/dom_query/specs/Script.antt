@@ -2,8 +2,8 @@
 use Rattle.std.specs.Prelude.{◌≡◌, ◌⊎◌, ◌+◌, ◌==◌, ℕ, zero, suc, List, [], ◌∷◌, ◌++◌, codes, length}
 use Rattle.std.specs.List.{slice_split}
 use Rattle.std.specs.Str.{IsUtf8, chars}
-use Rattle.dom_select.specs.Grammar.{StandsFor}
-use Rattle.dom_select.specs.Syntax.{SelectorList}
+use Rattle.dom_selectors.specs.Grammar.{StandsFor}
+use Rattle.dom_selectors.specs.Syntax.{SelectorList}
 use Rattle.dom_query.specs.declared.script.Command.{Command}
 use Rattle.dom_query.specs.declared.script.Command.TheVariants.{Nothing, Select, Count, Text, Formatted, Html, Document}
 

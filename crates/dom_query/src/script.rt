@@ -5,11 +5,11 @@ ghost use Rattle.std.specs.Prelude.{IfErr, IfOk, OnOk, MatchBool, MatchOption};
 ghost use Rattle.dom_query.specs.Faults.{ScriptRefused};
 ghost use Rattle.dom_query.specs.Script.{HasArgument, HasNoArgument, StandsForNothing};
 ghost use Rattle.dom_query.specs.Script.{IsBad, IsCommand, IsScript};
-ghost use Rattle.dom_select.specs.Grammar.{StandsFor};
+ghost use Rattle.dom_selectors.specs.Grammar.{StandsFor};
 
 use dom_nodes::fault::OutOfMemory;
-use dom_select::fault::SelectorFault;
 use dom_select::matcher::Matcher;
+use dom_selectors::fault::SelectorFault;
 use std::alloc::Global;
 
 /// What a line asks for.

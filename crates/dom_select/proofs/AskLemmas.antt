@@ -2,12 +2,12 @@
 use Rattle.std.proofs.Common.{◌≡◌, ℕ, List, Bool, true, false, Result, Ok, Err, IfOk, MatchBool, refl, subst, true≢false}
 use Rattle.dom_nodes.specs.declared.fault.OutOfMemory.{OutOfMemory}
 use Rattle.dom_links.specs.Forest.{Forest}
-use Rattle.dom_select.specs.declared.fault.SelectorFault.{SelectorFault}
-use Rattle.dom_select.specs.declared.fault.SelectorFault.TheVariants.{Syntax, UnknownPseudoClass, Number, NestedHas, TooDeep, Memory}
-use Rattle.dom_select.specs.Grammar.{Refused, StandsFor}
+use Rattle.dom_selectors.specs.declared.fault.SelectorFault.{SelectorFault}
+use Rattle.dom_selectors.specs.declared.fault.SelectorFault.TheVariants.{Syntax, UnknownPseudoClass, Number, NestedHas, TooDeep, Memory}
+use Rattle.dom_selectors.specs.Grammar.{Refused, StandsFor}
 use Rattle.dom_select.specs.Descendants.{IsMatch}
-use Rattle.dom_select.specs.Syntax.{SelectorList}
-use Rattle.dom_select.proofs.SelectorLemmas.{stands_once}
+use Rattle.dom_selectors.specs.Syntax.{SelectorList}
+use Rattle.dom_selectors.proofs.SelectorLemmas.{stands_once}
 
 module _ (text : List ℕ) (forest : Forest) (n : ℕ) where
   -- some reading of the text means the node, or none does

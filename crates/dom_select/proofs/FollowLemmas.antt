@@ -8,16 +8,16 @@ use Rattle.dom_links.specs.Forest.{Forest}
 use Rattle.dom_links.specs.Laws.{AreLines}
 use Rattle.dom_links.specs.Lists.{stands_in}
 use Rattle.dom_links.specs.Trees.{ancestors}
-use Rattle.dom_select.specs.declared.matcher.syntax.Combinator.{Combinator}
-use Rattle.dom_select.specs.declared.matcher.syntax.Combinator.TheVariants.{Descendant, Child, NextSibling, LaterSibling}
-use Rattle.dom_select.specs.ListsAsTrees.{steps_of}
+use Rattle.dom_selectors.specs.declared.syntax.Combinator.{Combinator}
+use Rattle.dom_selectors.specs.declared.syntax.Combinator.TheVariants.{Descendant, Child, Adjacent, Sibling}
+use Rattle.dom_selectors.specs.ListsAsTrees.{steps_of}
 use Rattle.dom_links.specs.ListMoves.{element_at}
 use Rattle.dom_select.specs.Leftward.{earlier, ends_at, left_of, line}
 use Rattle.dom_select.specs.Meaning.{Holds, Leads, MayBeside, Reaches, Stands}
-use Rattle.dom_select.specs.Syntax.{CompoundSelector}
+use Rattle.dom_selectors.specs.Syntax.{CompoundSelector}
 use Rattle.dom_select.specs.Chains.{AreTighter, EndHolds, EndsLoosely, Followed, FollowedFrom, IsOrPrecedes, Precedes, ReachesSome, looseness}
 use Rattle.dom_select.proofs.ReachLemmas.{IsMeant, SomeOnLine, from_far, from_line, left_here, line_some, reaches_by_last, to_line}
-use Rattle.dom_select.proofs.Weights.{steps_weight}
+use Rattle.dom_selectors.proofs.Weights.{steps_weight}
 use Rattle.dom_select.proofs.RowLemmas.{among_elements, comes_first, drop_swap, drop_twice, element_among, elements_before, first_element, first_stands, on_above, on_earlier, on_elements, parent_first, same_above, stands_farther}
 
 abbrev Chain : Type 0
@@ -54,8 +54,8 @@ module _ (forest : Forest) (lines : AreLines forest) where
   unfolding Stands
   stands_precedes Descendant w n s = let far = on_above forest lines n w s in inl (shorter (ancestors forest n) (ancestors forest w) w far.0 s far.1)
   stands_precedes Child w n s = inl (let longer = ap length (lines.up n w s) in omega arith)
-  stands_precedes NextSibling w n s = earlier_precedes w n (first_stands forest (earlier forest n) w s)
-  stands_precedes LaterSibling w n s = earlier_precedes w n s
+  stands_precedes Adjacent w n s = earlier_precedes w n (first_stands forest (earlier forest n) w s)
+  stands_precedes Sibling w n s = earlier_precedes w n s
 
 -- how many of the steps go up
 abbrev up : Combinator → ℕ
@@ -77,8 +77,8 @@ tighter_join a (s ∷ ss) ts x y = (x.0, tighter_join a ss ts x.1 y)
 level_up : (k : Combinator) → looseness k < 3 → up k ≡ 0
 level_up Descendant less = absurd (omega arith)
 level_up Child less = absurd (omega arith)
-level_up NextSibling less = refl
-level_up LaterSibling less = refl
+level_up Adjacent less = refl
+level_up Sibling less = refl
 
 no_ups : (ss : Chain) → AreTighter 3 ss → ups ss ≡ 0
 no_ups [] t = refl
@@ -99,16 +99,16 @@ module _ (forest : Forest) (spared : ℕ) (lines : AreLines forest) where
   unfolding Stands
   step_above Descendant w v s less = absurd (omega arith)
   step_above Child w v s less = sym (ap (drop 1) (lines.up v w s))
-  step_above NextSibling w v s less = same_above forest lines v w (first_stands forest (earlier forest v) w s)
-  step_above LaterSibling w v s less = same_above forest lines v w s
+  step_above Adjacent w v s less = same_above forest lines v w (first_stands forest (earlier forest v) w s)
+  step_above Sibling w v s less = same_above forest lines v w s
 
   step_back : (k : Combinator) (w v : ℕ) → Stands forest k w v → Precedes forest w spared → MayBeside forest spared k w → looseness k < 2 →
       elements_before forest lines w ≡ drop 1 (elements_before forest lines v)
   unfolding Stands
   step_back Descendant w v s p b less = absurd (omega arith)
   step_back Child w v s p b less = absurd (omega arith)
-  step_back NextSibling w v s p b less = let found = comes_first forest (earlier forest v) w s (beside_element w p b) in first_element forest lines v w found.0 found.1
-  step_back LaterSibling w v s p b less = absurd (omega arith)
+  step_back Adjacent w v s p b less = let found = comes_first forest (earlier forest v) w s (beside_element w p b) in first_element forest lines v w found.0 found.1
+  step_back Sibling w v s p b less = absurd (omega arith)
 
   led_by : (ss : Chain) (w n : ℕ) → IsOrPrecedes forest n spared → Leads (steps_of ss) forest spared w n → Led ss w n
   led_by [] w n at e = record {
@@ -136,9 +136,9 @@ module _ (forest : Forest) (spared : ℕ) (lines : AreLines forest) where
   unfolding Stands
   stands_row Descendant t u w x low above back at b s = subst (λ ns. stands_in u ns ≡ true) above s
   stands_row Child t u w x low above back at b s = parent_first forest lines w u (ancestors forest u) (sym above ∙ lines.up x u s)
-  stands_row NextSibling t u w x low above back at b s = absurd (omega arith)
-  stands_row LaterSibling t u w x low above back at b s =
-      let e = beside_element u (precedes_from forest u x spared (stands_precedes forest lines LaterSibling u x s) at) b in
+  stands_row Adjacent t u w x low above back at b s = absurd (omega arith)
+  stands_row Sibling t u w x low above back at b s =
+      let e = beside_element u (precedes_from forest u x spared (stands_precedes forest lines Sibling u x s) at) b in
       among_elements forest (earlier forest w) u (stands_farther t (elements_before forest lines w) u
       (subst (λ ns. stands_in u ns ≡ true) back (element_among forest (earlier forest x) u s e)))
 
@@ -147,8 +147,8 @@ module _ (forest : Forest) (spared : ℕ) (lines : AreLines forest) where
   unfolding Stands
   stands_up Descendant t u w x low above s = stands_farther t (ancestors forest w) u (subst (λ ns. stands_in u ns ≡ true) above s)
   stands_up Child t u w x low above s = absurd (omega arith)
-  stands_up NextSibling t u w x low above s = absurd (omega arith)
-  stands_up LaterSibling t u w x low above s = absurd (omega arith)
+  stands_up Adjacent t u w x low above s = absurd (omega arith)
+  stands_up Sibling t u w x low above s = absurd (omega arith)
 
 -- the ends of a chain
 
@@ -256,19 +256,19 @@ module _ (forest : Forest) (spared : ℕ) (first : ℕ → Type 0) (lines : AreL
   Meant ss k = IsMeant forest spared first (steps_of ss) k
 
   farther : (k : Combinator) (ss left : Chain) (v w : ℕ) → IsOrPrecedes forest v spared → Followed forest spared first (looseness k) ss left v w
-      → (y : ℕ) → stands_in y (line forest k v) ≡ true → Meant ss k y → (k ≡ LaterSibling) ⊎ (k ≡ Descendant) → Reaches first (steps_of left) forest spared w
+      → (y : ℕ) → stands_in y (line forest k v) ≡ true → Meant ss k y → (k ≡ Sibling) ⊎ (k ≡ Descendant) → Reaches first (steps_of left) forest spared w
   unfolding Stands
   farther Descendant ss left v w at followed y s q which =
       let cut = reaches_cut forest spared first ss left followed.passed y followed.split q.1 in
       up_better forest spared first lines left followed.passed v w at followed.held followed.led y cut.0 followed.tighter followed.loose s cut.2 cut.1
-  farther LaterSibling ss left v w at followed y s q which =
+  farther Sibling ss left v w at followed y s q which =
       let cut = reaches_cut forest spared first ss left followed.passed y followed.split q.1 in
       let e = beside_element forest spared lines y (precedes_from forest y v spared (earlier_precedes forest lines y v s) at) q.0 in
       row_better forest spared first lines left followed.passed v w at followed.held followed.led y cut.0 followed.tighter followed.loose s e cut.2 cut.1
   farther Child ss left v w at followed y s q (inl e) = cc
   farther Child ss left v w at followed y s q (inr e) = cc
-  farther NextSibling ss left v w at followed y s q (inl e) = cc
-  farther NextSibling ss left v w at followed y s q (inr e) = cc
+  farther Adjacent ss left v w at followed y s q (inl e) = cc
+  farther Adjacent ss left v w at followed y s q (inr e) = cc
 
   -- some node on the way from the nearest on is meant
   pub nearest_will_do : (k : Combinator) (ss left : Chain) (v w : ℕ) → Precedes forest v spared → MayBeside forest spared k v → Followed forest spared first (looseness k) ss left v w
@@ -276,10 +276,10 @@ module _ (forest : Forest) (spared : ℕ) (first : ℕ → Type 0) (lines : AreL
   nearest_will_do k ss left v w at b followed (inl q) = followed.whole q.1
   nearest_will_do Descendant ss left v w at b followed (inr h) =
       let far = from_far (Meant ss Descendant) (ancestors forest v) h.1 in farther Descendant ss left v w (inr at) followed far.0 far.1 far.2 (inr refl)
-  nearest_will_do LaterSibling ss left v w at b followed (inr h) =
-      let far = from_far (Meant ss LaterSibling) (earlier forest v) h.1 in farther LaterSibling ss left v w (inr at) followed far.0 far.1 far.2 (inl refl)
+  nearest_will_do Sibling ss left v w at b followed (inr h) =
+      let far = from_far (Meant ss Sibling) (earlier forest v) h.1 in farther Sibling ss left v w (inr at) followed far.0 far.1 far.2 (inl refl)
   nearest_will_do Child ss left v w at b followed (inr h) = absurd (h.0 refl)
-  nearest_will_do NextSibling ss left v w at b followed (inr h) = absurd (h.0 (beside_element forest spared lines v at b))
+  nearest_will_do Adjacent ss left v w at b followed (inr h) = absurd (h.0 (beside_element forest spared lines v at b))
 
 -- a chain that is being followed
 pub record Following (forest : Forest) (spared : ℕ) (first : ℕ → Type 0) (tight loose : ℕ) (steps left : Chain) (n w : ℕ) : Type 0 where
@@ -306,8 +306,8 @@ module _ (forest : Forest) (spared : ℕ) (first : ℕ → Type 0) where
       binds : (k : Combinator) → level ≤ looseness k
       binds Descendant = omega arith
       binds Child = omega arith
-      binds NextSibling = omega arith
-      binds LaterSibling = omega arith
+      binds Adjacent = omega arith
+      binds Sibling = omega arith
 
   pub following_first : (level : ℕ) (ss left : Chain) (n w : ℕ) → 1 < level → Followed forest spared first (level - 1) ss left n w → Following forest spared first level (level - 1) ss left n w
   following_first level ss left n w high f = record {
@@ -372,8 +372,8 @@ module _ (forest : Forest) (spared : ℕ) (first : ℕ → Type 0) where
       too_loose : (k : Combinator) → 5 ≤ looseness k → ⊥
       too_loose Descendant le = omega arith
       too_loose Child le = omega arith
-      too_loose NextSibling le = omega arith
-      too_loose LaterSibling le = omega arith
+      too_loose Adjacent le = omega arith
+      too_loose Sibling le = omega arith
 
       go : (left ≡ []) ⊎ ((front : Chain) × (last : Combinator × CompoundSelector) × (left ≡ front ++ last ∷ [])) → Reaches first (steps_of ss) forest spared n
       go (inl e) = subst (λ z. Reaches first (steps_of z) forest spared n) (sym (f.split ∙ ap (λ z. z ++ f.passed) e)) (w, f.held.alone e, f.led)

@@ -4,25 +4,25 @@ use Rattle.std.proofs.Common.{◌≡◌, ◌⊎◌, ◌↔◌, ℕ, suc, List, [
 use Rattle.std.specs.Prelude.{◌==◌, if◌then◌else◌}
 use Rattle.std.proofs.lemmas.List.{drop_more}
 use Rattle.std.proofs.lemmas.Bool.{eqb-true, eq-eqb, or_left, or_right, or_cases}
-use Rattle.dom_select.specs.declared.matcher.syntax.Selector.{Selector, out-Selector}
-use Rattle.dom_select.specs.declared.matcher.syntax.Step.{Step}
-use Rattle.dom_select.specs.ListsAsTrees.{steps_of}
-use Rattle.dom_select.specs.ValuesAsTrees.{read_compound, read_list, read_step}
-use Rattle.dom_select.proofs.Layers.{read_selector_is}
-use Rattle.dom_select.proofs.Weights.{selectors_weight}
+use Rattle.dom_selectors.specs.declared.syntax.Selector.{Selector, out-Selector}
+use Rattle.dom_selectors.specs.declared.syntax.Step.{Step}
+use Rattle.dom_selectors.specs.ListsAsTrees.{steps_of}
+use Rattle.dom_selectors.specs.ValuesAsTrees.{read_compound, read_list, read_step}
+use Rattle.dom_selectors.proofs.Layers.{read_selector_is}
+use Rattle.dom_selectors.proofs.Weights.{selectors_weight}
 use Rattle.dom_links.specs.Forest.{Forest, siblings}
 use Rattle.dom_links.specs.Laws.{AreLines}
 use Rattle.dom_links.specs.Lists.{stands_in, after}
 use Rattle.dom_links.specs.Trees.{ancestors, walk_below}
 use Rattle.dom_links.specs.Walk.{later, row_on}
-use Rattle.dom_select.specs.declared.matcher.syntax.Combinator.{Combinator}
-use Rattle.dom_select.specs.declared.matcher.syntax.Combinator.TheVariants.{Descendant, Child, NextSibling, LaterSibling}
+use Rattle.dom_selectors.specs.declared.syntax.Combinator.{Combinator}
+use Rattle.dom_selectors.specs.declared.syntax.Combinator.TheVariants.{Descendant, Child, Adjacent, Sibling}
 use Rattle.dom_select.specs.declared.matcher.has.Start.{Start}
 use Rattle.dom_select.specs.declared.matcher.has.Start.TheVariants.{Anywhere, From}
 use Rattle.dom_links.specs.ListMoves.{element_at}
 use Rattle.dom_select.specs.Leftward.{earlier, ends_at, left_of, line}
 use Rattle.dom_select.specs.Meaning.{IsJoined, Leads, LeadsOn, LeadsToSome, MayBeside, Reaches, Stands}
-use Rattle.dom_select.specs.Syntax.{CompoundSelector, Steps, no_steps, step, alternative}
+use Rattle.dom_selectors.specs.Syntax.{CompoundSelector, Steps, no_steps, step, alternative}
 use Rattle.dom_select.specs.Chains.{Precedes}
 use Rattle.dom_select.specs.Has.{Begins, IsReached, ReachesWithin, is_sideways, may_end, tops, tops_on}
 use Rattle.dom_select.proofs.FollowLemmas.{apart, precedes_then, stands_precedes, stands_on_line}
@@ -34,18 +34,18 @@ use Rattle.dom_select.proofs.RowLemmas.{first_stands, on_above, on_earlier, same
 over : (forest : Forest) (k : Combinator) (x y v : ℕ) → Precedes forest x v → MayBeside forest x k v → MayBeside forest y k v
 over forest Descendant x y v far b = tt
 over forest Child x y v far b = tt
-over forest NextSibling x y v far (inl e) = absurd (apart forest x v far (sym e))
-over forest NextSibling x y v far (inr e) = inr e
-over forest LaterSibling x y v far (inl e) = absurd (apart forest x v far (sym e))
-over forest LaterSibling x y v far (inr e) = inr e
+over forest Adjacent x y v far (inl e) = absurd (apart forest x v far (sym e))
+over forest Adjacent x y v far (inr e) = inr e
+over forest Sibling x y v far (inl e) = absurd (apart forest x v far (sym e))
+over forest Sibling x y v far (inr e) = inr e
 
 under : (forest : Forest) (k : Combinator) (x y v : ℕ) → element_at forest y ≡ true → MayBeside forest y k v → MayBeside forest x k v
 under forest Descendant x y v el b = tt
 under forest Child x y v el b = tt
-under forest NextSibling x y v el (inl e) = inr (ap (element_at forest) e ∙ el)
-under forest NextSibling x y v el (inr e) = inr e
-under forest LaterSibling x y v el (inl e) = inr (ap (element_at forest) e ∙ el)
-under forest LaterSibling x y v el (inr e) = inr e
+under forest Adjacent x y v el (inl e) = inr (ap (element_at forest) e ∙ el)
+under forest Adjacent x y v el (inr e) = inr e
+under forest Sibling x y v el (inl e) = inr (ap (element_at forest) e ∙ el)
+under forest Sibling x y v el (inr e) = inr e
 
 module _ (forest : Forest) (lines : AreLines forest) where
   -- to the right of x, where x is never met, the last node may be spared in its place
@@ -67,8 +67,8 @@ module _ (forest : Forest) (lines : AreLines forest) where
   unfolding Stands
   goes_below Descendant x w v s a = let far = on_above forest lines v w s in stands_farther (suc far.0) (ancestors forest v) x (ap (stands_in x) (sym far.1) ∙ a)
   goes_below Child x w v s a = ap (stands_in x) (lines.up v w s) ∙ or_right (w == x) (stands_in x (ancestors forest w)) a
-  goes_below NextSibling x w v s a = ap (stands_in x) (sym (same_above forest lines v w (first_stands forest (earlier forest v) w s))) ∙ a
-  goes_below LaterSibling x w v s a = ap (stands_in x) (sym (same_above forest lines v w s)) ∙ a
+  goes_below Adjacent x w v s a = ap (stands_in x) (sym (same_above forest lines v w (first_stands forest (earlier forest v) w s))) ∙ a
+  goes_below Sibling x w v s a = ap (stands_in x) (sym (same_above forest lines v w s)) ∙ a
 
   led_below : (steps : Steps) (spared x w y : ℕ) → Leads steps forest spared w y → stands_in x (ancestors forest w) ≡ true → stands_in x (ancestors forest y) ≡ true
   led_below no_steps spared x w y e a = ap (λ m. stands_in x (ancestors forest m)) (sym e) ∙ a
@@ -88,12 +88,12 @@ module _ (forest : Forest) (lines : AreLines forest) where
   unfolding Stands
   goes_beyond Descendant x w v s (t, there, inl e) = (t, there, inr (ap (λ m. stands_in m (ancestors forest v)) (sym e) ∙ s))
   goes_beyond Child x w v s (t, there, inl e) = (t, there, inr (ap (stands_in t) (lines.up v w s) ∙ or_left (w == t) (stands_in t (ancestors forest w)) (eq-eqb w t e)))
-  goes_beyond NextSibling x w v s (t, there, inl e) = (v, along x t w v there e (first_stands forest (earlier forest v) w s), inl refl)
-  goes_beyond LaterSibling x w v s (t, there, inl e) = (v, along x t w v there e s, inl refl)
+  goes_beyond Adjacent x w v s (t, there, inl e) = (v, along x t w v there e (first_stands forest (earlier forest v) w s), inl refl)
+  goes_beyond Sibling x w v s (t, there, inl e) = (v, along x t w v there e s, inl refl)
   goes_beyond Descendant x w v s (t, there, inr a) = (t, there, inr (goes_below Descendant t w v s a))
   goes_beyond Child x w v s (t, there, inr a) = (t, there, inr (goes_below Child t w v s a))
-  goes_beyond NextSibling x w v s (t, there, inr a) = (t, there, inr (goes_below NextSibling t w v s a))
-  goes_beyond LaterSibling x w v s (t, there, inr a) = (t, there, inr (goes_below LaterSibling t w v s a))
+  goes_beyond Adjacent x w v s (t, there, inr a) = (t, there, inr (goes_below Adjacent t w v s a))
+  goes_beyond Sibling x w v s (t, there, inr a) = (t, there, inr (goes_below Sibling t w v s a))
 
   led_beyond : (steps : Steps) (spared x w y : ℕ) → Leads steps forest spared w y → Beyond x w → Beyond x y
   led_beyond no_steps spared x w y e b = subst (Beyond x) e b
@@ -117,8 +117,8 @@ module _ (forest : Forest) (lines : AreLines forest) where
   unfolding Stands
   at_top Descendant steps x w y s l = (x, itself_in x, inr (below_top x y (led_below steps x x w y l s)))
   at_top Child steps x w y s l = (x, itself_in x, inr (below_top x y (led_below steps x x w y l (ap (stands_in x) (lines.up w x s) ∙ or_left (x == x) _ (eq-eqb x x refl)))))
-  at_top NextSibling steps x w y s l = beyond_top x y (led_beyond steps x x w y l (w, lines.after_before x w ∙ first_stands forest (earlier forest w) x s, inl refl))
-  at_top LaterSibling steps x w y s l = beyond_top x y (led_beyond steps x x w y l (w, lines.after_before x w ∙ s, inl refl))
+  at_top Adjacent steps x w y s l = beyond_top x y (led_beyond steps x x w y l (w, lines.after_before x w ∙ first_stands forest (earlier forest w) x s, inl refl))
+  at_top Sibling steps x w y s l = beyond_top x y (led_beyond steps x x w y l (w, lines.after_before x w ∙ s, inl refl))
 
   module _ (lead : Combinator) (first : CompoundSelector) (steps : Steps) (x : ℕ) where
     -- what is reached is led to
@@ -163,8 +163,8 @@ stands_on all rest at t e s other = elim (or_cases (at == t) (stands_in t rest) 
 pub beside_itself : (forest : Forest) (k : Combinator) (x : ℕ) → MayBeside forest x k x
 beside_itself forest Descendant x = tt
 beside_itself forest Child x = tt
-beside_itself forest NextSibling x = inl refl
-beside_itself forest LaterSibling x = inl refl
+beside_itself forest Adjacent x = inl refl
+beside_itself forest Sibling x = inl refl
 
 pub joined_if : (forest : Forest) (k : Combinator) (x w : ℕ) (b : Bool) → MayBeside forest x k w → (IsTrue b ↔ Stands forest k x w) → IsTrue b ↔ IsJoined forest x k x w
 joined_if forest k x w b may told = ((λ t. (told.0 t, beside_itself forest k x, may)), λ j. told.1 j.0)

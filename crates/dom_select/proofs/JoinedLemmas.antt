@@ -12,7 +12,7 @@ use Rattle.dom_links.specs.Trees.{walk_below}
 use Rattle.dom_nodes.specs.declared.node_data.NodeData.{NodeData}
 use Rattle.dom_nodes.specs.declared.node_data.NodeData.TheVariants.{Text}
 use Rattle.std.specs.Option.{option_map_or}
-use Rattle.dom_select.specs.Comparisons.{begins_with, has_within, same_byte}
+use Rattle.dom_selectors.specs.Comparisons.{begins_with, has_within, same_byte}
 use Rattle.dom_select.specs.Texts.{begins_among, contains_at, has_text_at, joined_contains_at, text_contains}
 
 and_assoc : (a b c : Bool) → (a && (b && c)) ≡ ((a && b) && c)

@@ -4,7 +4,7 @@ use Rattle.std.specs.Option.{option_map_or}
 use Rattle.std.proofs.lemmas.Option.{slice_get_within}
 use Rattle.dom_nodes.specs.declared.node_data.NodeData.{NodeData}
 use Rattle.dom_links.specs.Forest.{Forest}
-use Rattle.dom_select.specs.declared.matcher.syntax.Part.{Part}
+use Rattle.dom_selectors.specs.declared.syntax.Part.{Part}
 use Rattle.dom_select.specs.Meaning.{PartsHold}
 use Rattle.dom_select.specs.Parts.{EachHolds, PartHolds, node_passes, passes_at}
 

@@ -2,12 +2,12 @@
 use Rattle.std.proofs.Common.{◌≡◌, ℕ, List, Bool, true, false, sym, ap, ◌∙◌, MatchBool}
 use Rattle.std.proofs.lemmas.Bool.{true≢false}
 use Rattle.dom_links.specs.Forest.{Forest}
-use Rattle.dom_select.specs.MiniGrammar.{SpellsMini}
+use Rattle.dom_selectors.specs.MiniGrammar.{SpellsMini}
 use Rattle.dom_select.specs.MiniPaths.{IsMet}
-use Rattle.dom_select.specs.MiniSyntax.{Mini}
-use Rattle.dom_select.specs.MiniTruth.{mini_holds}
-use Rattle.dom_select.specs.Spelling.{SpellsNone}
-use Rattle.dom_select.proofs.MiniLemmas.{mini_once}
+use Rattle.dom_selectors.specs.MiniSyntax.{Mini}
+use Rattle.dom_select.specs.MiniNodes.{mini_holds}
+use Rattle.dom_selectors.specs.Spelling.{SpellsNone}
+use Rattle.dom_selectors.proofs.MiniLemmas.{mini_once}
 
 pub met_or_not : (b : Bool) (text rest : List ℕ) (forest : Forest) (n : ℕ) (mini : Mini) → SpellsMini mini text rest → b ≡ mini_holds mini forest n → MatchBool b (IsMet text forest n) (IsMet text forest n → ⊥)
 met_or_not true text rest forest n mini h e = record { mini = mini; rest = rest; spelled = h; holds = sym e }

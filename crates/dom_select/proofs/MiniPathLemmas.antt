@@ -7,10 +7,10 @@ use Rattle.dom_links.specs.Forest.{Forest, children_of, siblings}
 use Rattle.dom_links.specs.Laws.{AreLines}
 use Rattle.dom_links.specs.Lists.{after, first}
 use Rattle.dom_links.specs.Walk.{row_on}
-use Rattle.dom_select.specs.declared.matcher.syntax.Combinator.TheVariants.{Child, LaterSibling}
-use Rattle.dom_select.specs.MiniPaths.{named, path_from, step_by, step_from, step_from_each}
-use Rattle.dom_select.specs.MiniSyntax.{Mini, combinator_of, is_some_of, texts_of}
-use Rattle.dom_select.specs.MiniTruth.{mini_holds}
+use Rattle.dom_selectors.specs.declared.syntax.Combinator.TheVariants.{Child, Sibling}
+use Rattle.dom_select.specs.MiniPaths.{path_from, step_by, step_from, step_from_each}
+use Rattle.dom_selectors.specs.MiniSyntax.{Mini, combinator_of, is_some_of, texts_of, named}
+use Rattle.dom_select.specs.MiniNodes.{mini_holds}
 
 -- a node that passes was added, and none else
 pub added : (p : ℕ → Bool) (found new ahead rest : List ℕ) (n : ℕ) (b : Bool) → new ≡ found ++ (if b then n ∷ [] else []) → b ≡ p n → ahead ≡ n ∷ rest → new ++ filter p rest ≡ found ++ filter p ahead
@@ -37,7 +37,7 @@ pub child_step : (forest : Forest) (is_last : Bool) (mini : Mini) (n : ℕ) (fro
 child_step forest is_last mini n from lines e h =
     ap (λ o. filter (mini_holds mini forest) (row_on forest false o)) e ∙ ap (filter (mini_holds mini forest)) (sym (lines.below false n)) ∙ ap (λ k. step_by k forest is_last (mini_holds mini forest) n) h
 
-pub later_step : (forest : Forest) (is_last : Bool) (mini : Mini) (n : ℕ) (from : Option ℕ) → AreLines forest → from ≡ after (siblings forest n) n → LaterSibling ≡ combinator_of mini →
+pub later_step : (forest : Forest) (is_last : Bool) (mini : Mini) (n : ℕ) (from : Option ℕ) → AreLines forest → from ≡ after (siblings forest n) n → Sibling ≡ combinator_of mini →
     filter (mini_holds mini forest) (row_on forest false from) ≡ step_from forest is_last mini n
 later_step forest is_last mini n from lines e h =
     ap (λ o. filter (mini_holds mini forest) (row_on forest false o)) e ∙ ap (filter (mini_holds mini forest)) (sym (lines.beside false n)) ∙ ap (λ k. step_by k forest is_last (mini_holds mini forest) n) h

@@ -7,12 +7,12 @@ use Rattle.dom_links.specs.Laws.{AreLines}
 use Rattle.dom_links.specs.Lists.{stands_in, before}
 use Rattle.dom_links.specs.Trees.{ancestors}
 use Rattle.dom_links.specs.Walk.{row_on}
-use Rattle.dom_select.specs.declared.matcher.syntax.Combinator.{Combinator}
-use Rattle.dom_select.specs.declared.matcher.syntax.Combinator.TheVariants.{Descendant, Child, NextSibling, LaterSibling}
-use Rattle.dom_select.specs.ListsAsTrees.{steps_of}
+use Rattle.dom_selectors.specs.declared.syntax.Combinator.{Combinator}
+use Rattle.dom_selectors.specs.declared.syntax.Combinator.TheVariants.{Descendant, Child, Adjacent, Sibling}
+use Rattle.dom_selectors.specs.ListsAsTrees.{steps_of}
 use Rattle.dom_links.specs.ListMoves.{element_at}
 use Rattle.dom_select.specs.Leftward.{earlier, left_of, line, ends_at}
-use Rattle.dom_select.specs.Syntax.{CompoundSelector, Steps}
+use Rattle.dom_selectors.specs.Syntax.{CompoundSelector, Steps}
 use Rattle.dom_select.specs.Meaning.{ComesFirst, Stands, MayBeside, IsJoined, Holds, Leads, Reaches}
 
 -- Q holds of a node of the list, with none before it at which the way ends
@@ -30,14 +30,14 @@ earlier_none forest n h e = h.beside true n ∙ ap (row_on forest true) e
 pub line_some : (forest : Forest) (k : Combinator) (n v : ℕ) → AreLines forest → left_of forest k n ≡ Some v → line forest k n ≡ v ∷ line forest k v
 line_some forest Descendant n v h e = h.up n v e
 line_some forest Child n v h e = h.up n v e
-line_some forest NextSibling n v h e = earlier_some forest n v h e
-line_some forest LaterSibling n v h e = earlier_some forest n v h e
+line_some forest Adjacent n v h e = earlier_some forest n v h e
+line_some forest Sibling n v h e = earlier_some forest n v h e
 
 pub line_none : (forest : Forest) (k : Combinator) (n : ℕ) → AreLines forest → left_of forest k n ≡ None → line forest k n ≡ []
 line_none forest Descendant n h e = h.top n e
 line_none forest Child n h e = h.top n e
-line_none forest NextSibling n h e = earlier_none forest n h e
-line_none forest LaterSibling n h e = earlier_none forest n h e
+line_none forest Adjacent n h e = earlier_none forest n h e
+line_none forest Sibling n h e = earlier_none forest n h e
 
 module _ (Q : ℕ → Type 0) where
   -- where the way never ends early, any node on it will do
@@ -80,16 +80,16 @@ module _ (Q : ℕ → Type 0) where
   unfolding Stands
   from_line forest Descendant x h s = from_far (ancestors forest x) s
   from_line forest Child x h s = from_child forest x (parent forest x) h refl s
-  from_line forest NextSibling x h s = from_next forest (earlier forest x) s
-  from_line forest LaterSibling x h s = from_far (earlier forest x) s
+  from_line forest Adjacent x h s = from_next forest (earlier forest x) s
+  from_line forest Sibling x h s = from_far (earlier forest x) s
 
   pub to_line : (forest : Forest) (k : Combinator) (x v : ℕ) → AreLines forest →
       Stands forest k v x → Q v → SomeOnLine (ends_at forest k) Q (line forest k x)
   unfolding Stands
   to_line forest Descendant x v h s q = to_far (ancestors forest x) v s q
   to_line forest Child x v h s q = subst (SomeOnLine (λ v. true) Q) (sym (h.up x v s)) (inl q)
-  to_line forest NextSibling x v h s q = to_next forest (earlier forest x) v s q
-  to_line forest LaterSibling x v h s q = to_far (earlier forest x) v s q
+  to_line forest Adjacent x v h s q = to_next forest (earlier forest x) v s q
+  to_line forest Sibling x v h s q = to_far (earlier forest x) v s q
 
 module _ (forest : Forest) (spared : ℕ) where
   -- the last step of some, on the right

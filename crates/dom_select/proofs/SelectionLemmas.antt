@@ -7,7 +7,7 @@ use Rattle.std.proofs.lemmas.Bool.{eqb-true, eq-eqb, or_from, or_right, or_cases
 use Rattle.dom_links.specs.Forest.{Forest}
 use Rattle.dom_links.specs.Lists.{stands_in, IsDistinct}
 use Rattle.dom_links.specs.Trees.{walk_below}
-use Rattle.dom_select.specs.Syntax.{SelectorList}
+use Rattle.dom_selectors.specs.Syntax.{SelectorList}
 use Rattle.dom_select.specs.Meaning.{Means}
 use Rattle.dom_select.specs.Selected.{Selected, Picks, first_occurrences, walks_below}
 use Rattle.dom_links.specs.ListMoves.{element_at}

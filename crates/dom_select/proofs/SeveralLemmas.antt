@@ -13,7 +13,7 @@ use Rattle.dom_links.specs.Walk.{Walk}
 use Rattle.dom_select.specs.Descendants.{IsMatch}
 use Rattle.dom_select.specs.Marks.{first_unmarked, has_mark, left_in}
 use Rattle.dom_select.specs.Selected.{Picks, Selected, first_occurrences, walks_below}
-use Rattle.dom_select.specs.Syntax.{SelectorList}
+use Rattle.dom_selectors.specs.Syntax.{SelectorList}
 
 -- what a walk still gives, and then the walks below the roots that are left
 abbrev pub still : Option Walk → Bor Forest → List ℕ → List ℕ

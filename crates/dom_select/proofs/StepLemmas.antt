@@ -1,15 +1,15 @@
 -- The steps of a selector, cut before the last.
 use Rattle.std.proofs.Common.{◌≡◌, ℕ, ◌+◌, List, [], ◌∷◌, ◌++◌, map, ap, ◌∙◌, arith, ◌↔◌}
-use Rattle.dom_select.specs.declared.matcher.syntax.Combinator.{Combinator}
-use Rattle.dom_select.specs.declared.matcher.syntax.Step.{Step}
-use Rattle.dom_select.specs.Syntax.{CompoundSelector}
-use Rattle.dom_select.specs.ListsAsTrees.{steps_of}
-use Rattle.dom_select.specs.ValuesAsTrees.{read_step, read_compound}
-use Rattle.dom_select.proofs.Layers.{read_step_is}
+use Rattle.dom_selectors.specs.declared.syntax.Combinator.{Combinator}
+use Rattle.dom_selectors.specs.declared.syntax.Step.{Step}
+use Rattle.dom_selectors.specs.Syntax.{CompoundSelector}
+use Rattle.dom_selectors.specs.ListsAsTrees.{steps_of}
+use Rattle.dom_selectors.specs.ValuesAsTrees.{read_step, read_compound}
+use Rattle.dom_selectors.proofs.Layers.{read_step_is}
 use Rattle.dom_links.specs.Forest.{Forest}
 use Rattle.dom_select.specs.Meaning.{Reaches}
 use Rattle.dom_select.proofs.ReachLemmas.{LastStep, reaches_by_last}
-use Rattle.dom_select.proofs.Weights.{compound_weight, steps_weight}
+use Rattle.dom_selectors.proofs.Weights.{compound_weight, steps_weight}
 
 read_last : (front : List Step) (last : Step) → map read_step (front ++ last ∷ []) ≡ map read_step front ++ (last.combinator, read_compound last.compound) ∷ []
 read_last [] last = ap (λ s. s ∷ []) (read_step_is last)

@@ -2,17 +2,17 @@
 use Rattle.std.specs.Prelude.{◌≡◌, ◌<◌, ◌≤◌, ◌⊎◌, ℕ, List, [], ◌∷◌, ◌++◌, length}
 use Rattle.dom_links.specs.Forest.{Forest}
 use Rattle.dom_links.specs.Trees.{ancestors}
-use Rattle.dom_select.specs.declared.matcher.syntax.Combinator.{Combinator}
-use Rattle.dom_select.specs.declared.matcher.syntax.Combinator.TheVariants.{Descendant, Child, NextSibling, LaterSibling}
-use Rattle.dom_select.specs.ListsAsTrees.{steps_of}
+use Rattle.dom_selectors.specs.declared.syntax.Combinator.{Combinator}
+use Rattle.dom_selectors.specs.declared.syntax.Combinator.TheVariants.{Descendant, Child, Adjacent, Sibling}
+use Rattle.dom_selectors.specs.ListsAsTrees.{steps_of}
 use Rattle.dom_select.specs.Leftward.{earlier}
 use Rattle.dom_select.specs.Meaning.{Holds, Leads, MayBeside, Reaches, Stands}
-use Rattle.dom_select.specs.Syntax.{CompoundSelector}
+use Rattle.dom_selectors.specs.Syntax.{CompoundSelector}
 
 -- how loosely a combinator binds
 abbrev pub looseness : Combinator → ℕ
-looseness NextSibling = 1
-looseness LaterSibling = 2
+looseness Adjacent = 1
+looseness Sibling = 2
 looseness Child = 3
 looseness Descendant = 4
 

@@ -3,7 +3,7 @@ use Rattle.std.specs.Prelude.{ℕ, ◌≡◌, true, List, [], ◌∷◌, ◌++�
 use Rattle.std.specs.Borrow.{Bor}
 use Rattle.dom_links.specs.Forest.{Forest}
 use Rattle.dom_trees.specs.declared.node_ref.NodeRef.{NodeRef}
-use Rattle.dom_select.specs.Syntax.{SelectorList}
+use Rattle.dom_selectors.specs.Syntax.{SelectorList}
 use Rattle.dom_select.specs.Meaning.{Means}
 use Rattle.dom_links.specs.ListMoves.{element_at}
 use Rattle.dom_select.specs.Selected.{Picks}

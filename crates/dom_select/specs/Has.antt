@@ -6,11 +6,11 @@ use Rattle.dom_links.specs.Trees.{walk_below}
 use Rattle.dom_links.specs.Walk.{later}
 use Rattle.dom_select.specs.declared.matcher.has.Start.{Start}
 use Rattle.dom_select.specs.declared.matcher.has.Start.TheVariants.{Anywhere, From}
-use Rattle.dom_select.specs.declared.matcher.syntax.Combinator.{Combinator}
-use Rattle.dom_select.specs.declared.matcher.syntax.Combinator.TheVariants.{Descendant, Child, NextSibling, LaterSibling}
+use Rattle.dom_selectors.specs.declared.syntax.Combinator.{Combinator}
+use Rattle.dom_selectors.specs.declared.syntax.Combinator.TheVariants.{Descendant, Child, Adjacent, Sibling}
 use Rattle.dom_links.specs.ListMoves.{element_at}
 use Rattle.dom_select.specs.Meaning.{Holds, IsJoined, Reaches}
-use Rattle.dom_select.specs.Syntax.{CompoundSelector, Steps}
+use Rattle.dom_selectors.specs.Syntax.{CompoundSelector, Steps}
 
 -- a first node holds its compound, and where a start is asked it stands to the right of that as the combinator says
 abbrev pub Begins : Start → CompoundSelector → Forest → ℕ → Type 0
@@ -31,8 +31,8 @@ IsReached (From k x) first steps forest n = (element_at forest n ≡ true) × Re
 abbrev pub is_sideways : Combinator → Bool
 is_sideways Descendant = false
 is_sideways Child = false
-is_sideways NextSibling = true
-is_sideways LaterSibling = true
+is_sideways Adjacent = true
+is_sideways Sibling = true
 
 -- The nodes at and below which lies all that a selector with that lead can lead to: the node itself, or its later siblings
 abbrev pub tops : Forest → Combinator → ℕ → List ℕ

@@ -5,8 +5,8 @@ use Rattle.dom_links.specs.Forest.{Forest, parent, siblings}
 use Rattle.dom_links.specs.Lists.{before}
 use Rattle.dom_links.specs.Trees.{ancestors}
 use Rattle.dom_links.specs.Walk.{later}
-use Rattle.dom_select.specs.declared.matcher.syntax.Combinator.{Combinator}
-use Rattle.dom_select.specs.declared.matcher.syntax.Combinator.TheVariants.{Descendant, Child, NextSibling, LaterSibling}
+use Rattle.dom_selectors.specs.declared.syntax.Combinator.{Combinator}
+use Rattle.dom_selectors.specs.declared.syntax.Combinator.TheVariants.{Descendant, Child, Adjacent, Sibling}
 
 -- the siblings before a node, the nearest first
 abbrev pub earlier : Forest → ℕ → List ℕ
@@ -16,19 +16,19 @@ earlier forest n = later forest true n
 abbrev pub left_of : Forest → Combinator → ℕ → Option ℕ
 left_of forest Descendant n = parent forest n
 left_of forest Child n = parent forest n
-left_of forest NextSibling n = before (siblings forest n) n
-left_of forest LaterSibling n = before (siblings forest n) n
+left_of forest Adjacent n = before (siblings forest n) n
+left_of forest Sibling n = before (siblings forest n) n
 
 -- the nodes on the way, the nearest first
 abbrev pub line : Forest → Combinator → ℕ → List ℕ
 line forest Descendant n = ancestors forest n
 line forest Child n = ancestors forest n
-line forest NextSibling n = earlier forest n
-line forest LaterSibling n = earlier forest n
+line forest Adjacent n = earlier forest n
+line forest Sibling n = earlier forest n
 
 -- no node farther on the way stands to the right as the combinator says
 abbrev pub ends_at : Forest → Combinator → ℕ → Bool
 ends_at forest Descendant n = false
 ends_at forest Child n = true
-ends_at forest NextSibling n = element_at forest n
-ends_at forest LaterSibling n = false
+ends_at forest Adjacent n = element_at forest n
+ends_at forest Sibling n = false

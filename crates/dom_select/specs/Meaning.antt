@@ -3,13 +3,13 @@ use Rattle.std.specs.Prelude.{◌≡◌, ◌<◌, length, ℕ, List, [], ◌∷�
 use Rattle.dom_links.specs.Forest.{Forest, parent}
 use Rattle.dom_links.specs.Lists.{stands_in}
 use Rattle.dom_links.specs.Trees.{ancestors}
-use Rattle.dom_select.specs.declared.matcher.syntax.Combinator.{Combinator}
-use Rattle.dom_select.specs.declared.matcher.syntax.Combinator.TheVariants.{Descendant, Child, NextSibling, LaterSibling}
-use Rattle.dom_select.specs.declared.matcher.syntax.Part.{Part}
+use Rattle.dom_selectors.specs.declared.syntax.Combinator.{Combinator}
+use Rattle.dom_selectors.specs.declared.syntax.Combinator.TheVariants.{Descendant, Child, Adjacent, Sibling}
+use Rattle.dom_selectors.specs.declared.syntax.Part.{Part}
 use Rattle.dom_links.specs.ListMoves.{element_at}
 use Rattle.dom_select.specs.Leftward.{earlier}
 use Rattle.dom_select.specs.Parts.{EachHolds}
-use Rattle.dom_select.specs.Syntax.{CompoundSelector, compound, NestedLists, no_lists, nested, NestedList, some_means, none_means, leads_on, SelectorList, no_selectors, alternative, Steps, no_steps, step}
+use Rattle.dom_selectors.specs.Syntax.{CompoundSelector, compound, NestedLists, no_lists, nested, NestedList, some_means, none_means, leads_on, SelectorList, no_selectors, alternative, Steps, no_steps, step}
 
 -- n is a node of the forest of which each part holds
 unfoldable pub PartsHold : List Part → Forest → ℕ → Type 0
@@ -25,15 +25,15 @@ ComesFirst forest w (v ∷ vs) = (w ≡ v) ⊎ ((element_at forest v ≡ true �
 unfoldable pub Stands : Forest → Combinator → ℕ → ℕ → Type 0
 Stands forest Descendant w n = stands_in w (ancestors forest n) ≡ true
 Stands forest Child w n = parent forest n ≡ Some w
-Stands forest NextSibling w n = ComesFirst forest w (earlier forest n)
-Stands forest LaterSibling w n = stands_in w (earlier forest n) ≡ true
+Stands forest Adjacent w n = ComesFirst forest w (earlier forest n)
+Stands forest Sibling w n = stands_in w (earlier forest n) ≡ true
 
 -- a node beside `+` or `~` is an element, unless it is the one that is spared
 abbrev pub MayBeside : Forest → ℕ → Combinator → ℕ → Type 0
 MayBeside forest spared Descendant n = Unit {0}
 MayBeside forest spared Child n = Unit {0}
-MayBeside forest spared NextSibling n = (n ≡ spared) ⊎ (element_at forest n ≡ true)
-MayBeside forest spared LaterSibling n = (n ≡ spared) ⊎ (element_at forest n ≡ true)
+MayBeside forest spared Adjacent n = (n ≡ spared) ⊎ (element_at forest n ≡ true)
+MayBeside forest spared Sibling n = (n ≡ spared) ⊎ (element_at forest n ≡ true)
 
 abbrev pub IsJoined : Forest → ℕ → Combinator → ℕ → ℕ → Type 0
 IsJoined forest spared k w n = Stands forest k w n × MayBeside forest spared k w × MayBeside forest spared k n

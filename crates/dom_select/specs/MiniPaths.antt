@@ -8,11 +8,11 @@ use Rattle.dom_links.specs.Trees.{Trees, NoTrees, Tree, trees}
 use Rattle.dom_links.specs.Walk.{later}
 use Rattle.dom_trees.specs.declared.node_ref.NodeRef.{NodeRef}
 use Rattle.dom_trees.specs.Views.{refs_to}
-use Rattle.dom_select.specs.declared.matcher.syntax.Combinator.{Combinator}
-use Rattle.dom_select.specs.declared.matcher.syntax.Combinator.TheVariants.{Descendant, Child, NextSibling, LaterSibling}
-use Rattle.dom_select.specs.MiniGrammar.{SpellsMini, SpellsPath}
-use Rattle.dom_select.specs.MiniSyntax.{Mini, combinator_of, is_some_of}
-use Rattle.dom_select.specs.MiniTruth.{mini_holds}
+use Rattle.dom_selectors.specs.declared.syntax.Combinator.{Combinator}
+use Rattle.dom_selectors.specs.declared.syntax.Combinator.TheVariants.{Descendant, Child, Adjacent, Sibling}
+use Rattle.dom_selectors.specs.MiniGrammar.{SpellsMini, SpellsPath}
+use Rattle.dom_selectors.specs.MiniSyntax.{Mini, combinator_of, is_some_of, named}
+use Rattle.dom_select.specs.MiniNodes.{mini_holds}
 
 -- the nodes of some trees, each before what is below it; what is below a node that stops the walk isn't entered
 abbrev pub walk_until : (ℕ → Bool) → Trees → List ℕ
@@ -31,8 +31,8 @@ one_or_none (Some n) = n ∷ []
 abbrev pub step_by : Combinator → Forest → Bool → (ℕ → Bool) → ℕ → List ℕ
 step_by Descendant forest is_last passes n = below_step forest is_last passes n
 step_by Child forest is_last passes n = filter passes (children_of forest n)
-step_by NextSibling forest is_last passes n = filter passes (one_or_none (find (element_at forest) (later forest false n)))
-step_by LaterSibling forest is_last passes n = filter passes (later forest false n)
+step_by Adjacent forest is_last passes n = filter passes (one_or_none (find (element_at forest) (later forest false n)))
+step_by Sibling forest is_last passes n = filter passes (later forest false n)
 
 abbrev pub step_from : Forest → Bool → Mini → ℕ → List ℕ
 step_from forest is_last mini n = step_by (combinator_of mini) forest is_last (mini_holds mini forest) n
@@ -53,10 +53,6 @@ known forest n = if nat_lt n (length forest.content) then n ∷ [] else []
 -- what a path finds from a node
 abbrev pub found_from : Forest → List Mini → ℕ → List ℕ
 found_from forest minis n = path_from forest minis (known forest n)
-
--- a mini selector of a name alone
-abbrev pub named : List ℕ → Mini
-named name = record { lead = None; name = Some name; id = None; classes = []; attrs = [] }
 
 -- what names, each below the one before, find from a node
 abbrev pub found_by_names : Forest → List (List ℕ) → ℕ → List ℕ

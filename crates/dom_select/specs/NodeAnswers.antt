@@ -8,11 +8,11 @@ use Rattle.dom_nodes.specs.declared.name.Attr.{Attr}
 use Rattle.dom_nodes.specs.declared.name.Namespace.{Namespace}
 use Rattle.dom_links.specs.Forest.{Forest}
 use Rattle.dom_trees.specs.Views.{node_attrs, node_qual_name}
-use Rattle.dom_select.specs.Comparisons.{same_text}
+use Rattle.dom_selectors.specs.Comparisons.{same_text}
 use Rattle.dom_nodes.specs.declared.case_sensitivity.CaseSensitivity.{CaseSensitivity}
-use Rattle.dom_select.specs.declared.matcher.syntax.Part.TheVariants.{Link as a_link}
-use Rattle.dom_select.specs.declared.pseudo_class.NonTSPseudoClass.{NonTSPseudoClass}
-use Rattle.dom_select.specs.declared.pseudo_class.NonTSPseudoClass.TheVariants.{AnyLink, Link, OnlyText, HasText, Contains}
+use Rattle.dom_selectors.specs.declared.syntax.Part.TheVariants.{Link as a_link}
+use Rattle.dom_selectors.specs.declared.pseudo_class.NonTSPseudoClass.{NonTSPseudoClass}
+use Rattle.dom_selectors.specs.declared.pseudo_class.NonTSPseudoClass.TheVariants.{AnyLink, Link, OnlyText, HasText, Contains}
 use Rattle.dom_select.specs.Parts.{data_passes}
 use Rattle.dom_select.specs.Texts.{has_text_at, joined_contains_at, only_text_at}
 

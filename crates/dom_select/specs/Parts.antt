@@ -13,12 +13,12 @@ use Rattle.dom_nodes.specs.declared.node_data.NodeData.TheVariants.{Element as A
 use Rattle.dom_nodes.specs.Words.{class_words, is_among}
 use Rattle.dom_links.specs.Forest.{Forest}
 use Rattle.dom_links.specs.Indexes.{IsNth, index_at}
-use Rattle.dom_select.specs.Comparisons.{passes}
+use Rattle.dom_selectors.specs.Comparisons.{passes}
 use Rattle.dom_select.specs.Texts.{empty_at, has_text_at, joined_contains_at, only_text_at}
-use Rattle.dom_select.specs.declared.matcher.syntax.Attribute as attributes
-use Rattle.dom_select.specs.declared.matcher.syntax.Comparison.{Comparison}
-use Rattle.dom_select.specs.declared.matcher.syntax.Part.{Part}
-use Rattle.dom_select.specs.declared.matcher.syntax.Part.TheVariants.{Universal, Id, Class, Attribute, Root, Link, Never, Position, Empty, OnlyText, HasText, Contains}
+use Rattle.dom_selectors.specs.declared.syntax.Attribute as attributes
+use Rattle.dom_selectors.specs.declared.syntax.Comparison.{Comparison}
+use Rattle.dom_selectors.specs.declared.syntax.Part.{Part}
+use Rattle.dom_selectors.specs.declared.syntax.Part.TheVariants.{Universal, Id, Class, Attribute, Root, Link, Never, Position, Empty, OnlyText, HasText, Contains}
 
 -- a name of a selector as the elements of a namespace bear it: with A to Z folded in HTML, as written in others
 abbrev pub name_within : Namespace → List ℕ → List ℕ

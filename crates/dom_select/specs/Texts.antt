@@ -8,7 +8,7 @@ use Rattle.dom_links.specs.Forest.{Forest, children_of}
 use Rattle.dom_links.specs.Texts.{text_of}
 use Rattle.dom_links.specs.Trees.{walk_below}
 use Rattle.dom_trees.specs.Views.{is_filled_text}
-use Rattle.dom_select.specs.Comparisons.{begins_with, has_within}
+use Rattle.dom_selectors.specs.Comparisons.{begins_with, has_within}
 use Rattle.dom_nodes.specs.declared.case_sensitivity.CaseSensitivity.TheVariants.{CaseSensitive}
 use Rattle.dom_links.specs.ListMoves.{element_at}
 

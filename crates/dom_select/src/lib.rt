@@ -1,13 +1,12 @@
-//! Selectors: what their text stands for, and which nodes they mean.
+//! Which nodes selectors mean.
 #![tactic(auto)]
 
-pub mod css;
-pub mod fault;
+pub use dom_selectors::{css, fault, pseudo_class};
+
 pub mod laws;
 pub mod matcher;
 pub mod mini_selector;
 pub mod node_select;
-pub mod pseudo_class;
 #[cfg(test)]
 mod tests;
 pub mod traversal;

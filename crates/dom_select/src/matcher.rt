@@ -1,36 +1,28 @@
 //! A list of selectors that nodes are asked for.
 
-use crate::fault::SelectorFault;
 use crate::matcher::caches::SelectorCaches;
-use crate::matcher::copies::copy_selectors;
 use crate::matcher::matches::{is_meant, means};
-use crate::matcher::parser::{letters, parse};
-pub use crate::matcher::syntax::Selector as InnerSelector;
-use crate::matcher::syntax::Selector;
 use dom_nodes::fault::OutOfMemory;
+use dom_selectors::copies::copy_selectors;
+use dom_selectors::fault::SelectorFault;
+use dom_selectors::parser::parse_selectors;
+pub use dom_selectors::syntax;
+pub use dom_selectors::syntax::Selector as InnerSelector;
+use dom_selectors::syntax::Selector;
 use dom_trees::node_ref::NodeRef;
 use std::alloc::Global;
 use std::marker::Model;
 
-pub(crate) mod attributes;
 pub mod caches;
 pub(crate) mod chains;
-pub(crate) mod comparisons;
-pub(crate) mod copies;
 pub mod descendants;
 pub(crate) mod has;
 pub(crate) mod joined;
 pub mod matcher_iter;
 pub(crate) mod matches;
-pub(crate) mod names;
-pub(crate) mod nth;
-pub(crate) mod parser;
 pub(crate) mod parts;
 pub(crate) mod positions;
-pub(crate) mod pseudos;
 pub mod several;
-pub(crate) mod strings;
-pub mod syntax;
 pub(crate) mod texts;
 
 /// What a selector's text stands for. A contract sees it as the list of its selectors.
@@ -42,24 +34,24 @@ pub struct Matcher {
 impl Model for Matcher {
     ghost use Rattle.std.specs.Prelude.{List};
     ghost use Rattle.std.specs.Coded.{code_by, codes};
-    ghost use Rattle.dom_select.specs.Syntax.{SelectorList};
-    ghost use Rattle.dom_select.specs.Tokens.{Token, list_of, read_back, tokens_of};
+    ghost use Rattle.dom_selectors.specs.Syntax.{SelectorList};
+    ghost use Rattle.dom_selectors.specs.Tokens.{Token, list_of, read_back, tokens_of};
 
     ghost Value = { SelectorList };
 
     ghost coded = { code_by (List Token) (Prim.hlevel codes) tokens_of list_of read_back };
 
-    ghost use Rattle.dom_select.specs.ValuesAsTrees.{read_list};
+    ghost use Rattle.dom_selectors.specs.ValuesAsTrees.{read_list};
 
     ghost view = { λ matcher. read_list matcher.selectors.items };
 }
 
 impl Matcher {
     ghost use Rattle.std.specs.Prelude.{◌≡◌, chars, IfErr, IfOk};
-    ghost use Rattle.dom_select.specs.Grammar.{Refused, StandsFor};
+    ghost use Rattle.dom_selectors.specs.Grammar.{Refused, StandsFor};
     ghost use Rattle.dom_select.specs.Meaning.{Means};
-    ghost use Rattle.dom_select.specs.Spelling.{Decides};
-    ghost use Rattle.dom_select.specs.ValuesAsTrees.{read_list};
+    ghost use Rattle.dom_selectors.specs.Spelling.{Decides};
+    ghost use Rattle.dom_selectors.specs.ValuesAsTrees.{read_list};
 
     /// Reads a selector's text. `UnknownPseudoClass` comes only where the text stands for nothing
     /// and has a `:`, `TooDeep` only where it stands for nothing and has 65 `(`, `Memory` where
@@ -68,8 +60,7 @@ impl Matcher {
         ensures ok { IfOk result (λ matcher. StandsFor (chars text.now) matcher) }
         ensures refused { IfErr result (λ fault. Refused (chars text.now) fault) }
     {
-        let letters = letters(alloc, text)?;
-        let selectors = parse(alloc, &letters)?;
+        let selectors = parse_selectors(alloc, text)?;
         Ok(Matcher { selectors })
     }
 
@@ -112,14 +103,20 @@ impl Matcher {
     }
 }
 
-impl InnerSelector {
+/// What can be asked whether it is true of a node.
+pub trait MatchNode {
+    /// Whether it is true of the node; false for an unknown number. It takes no memory.
+    fn match_node(&self, node: &NodeRef<'_>) -> bool;
+}
+
+impl MatchNode for InnerSelector {
     ghost use Rattle.std.specs.Prelude.{◌∷◌, []};
     ghost use Rattle.dom_select.specs.Meaning.{Means};
-    ghost use Rattle.dom_select.specs.Spelling.{Decides};
-    ghost use Rattle.dom_select.specs.ValuesAsTrees.{read_list};
+    ghost use Rattle.dom_selectors.specs.Spelling.{Decides};
+    ghost use Rattle.dom_selectors.specs.ValuesAsTrees.{read_list};
 
-    /// Whether this selector alone means the node; false for an unknown number. It takes no memory.
-    pub fn match_node(&self, node: &NodeRef<'_>) -> bool
+    /// Whether this selector alone means the node.
+    fn match_node(&self, node: &NodeRef<'_>) -> bool
         ensures { Decides result (Means (read_list (self.now ∷ [])) node.now.tree.now node.now.id) }
     {
         let mut caches = SelectorCaches::none(node.tree);

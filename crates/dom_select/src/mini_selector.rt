@@ -1,11 +1,6 @@
-//! Mini selectors: selectors of one step, which are asked of a node without memory, and paths of
-//! them.
+//! Mini selectors, asked of nodes, and paths of them.
 
-mod attributes;
+pub use dom_selectors::mini_selector::{fault, parser, selector};
+
 pub mod extension;
-pub mod fault;
-pub mod parser;
-mod scan;
-pub mod selector;
 pub(crate) mod steps;
-mod truth;

@@ -5,7 +5,7 @@ ghost use Rattle.std.specs.Fn.{FnReturnsAt};
 ghost use Rattle.dom_links.specs.Forest.{forest_of};
 ghost use Rattle.dom_links.specs.Sound.{IsSoundArena};
 ghost use Rattle.dom_select.specs.MiniPaths.{found_by_names};
-ghost use Rattle.dom_select.specs.MiniSyntax.{texts_of};
+ghost use Rattle.dom_selectors.specs.MiniSyntax.{texts_of};
 ghost use Rattle.dom_select.specs.Traversals.{FindsChild, IsFailing, IsPassing, child_by_names};
 ghost use Rattle.dom_trees.specs.Views.{child_named, has_local_name};
 

@@ -7,10 +7,10 @@ ghost use Rattle.dom_select.specs.Meaning.{MayBeside, Stands};
 ghost use Rattle.dom_select.specs.Chains.{looseness};
 
 use crate::matcher::parts::is_element;
-use crate::matcher::syntax::Combinator;
 use dom_links::iters::{next_sibling_id, parent_id, prev_sibling_id};
 use dom_links::laws::lines_of_a_forest;
 use dom_nodes::node_id::NodeId;
+use dom_selectors::syntax::Combinator;
 use dom_trees::tree::Tree;
 
 /// Whether the node may stand beside `+` or `~`.
@@ -19,7 +19,7 @@ pub(crate) fn may_beside(tree: &Tree, spared: NodeId, combinator: Combinator, id
 {
     match combinator {
         Combinator::Descendant | Combinator::Child => true,
-        Combinator::NextSibling | Combinator::LaterSibling => {
+        Combinator::Adjacent | Combinator::Sibling => {
             id.value() == spared.value() || is_element(tree, &id)
         }
     }
@@ -42,7 +42,7 @@ pub(crate) fn on_the_left(tree: &Tree, combinator: Combinator, id: NodeId) -> Op
     lines_of_a_forest();
     match combinator {
         Combinator::Descendant | Combinator::Child => parent_id(nodes, &id),
-        Combinator::NextSibling | Combinator::LaterSibling => prev_sibling_id(nodes, &id),
+        Combinator::Adjacent | Combinator::Sibling => prev_sibling_id(nodes, &id),
     }
 }
 
@@ -51,9 +51,9 @@ pub(crate) fn ends_at(tree: &Tree, combinator: Combinator, id: NodeId) -> bool
     ensures { result ≡ ends_at tree.now combinator id }
 {
     match combinator {
-        Combinator::Descendant | Combinator::LaterSibling => false,
+        Combinator::Descendant | Combinator::Sibling => false,
         Combinator::Child => true,
-        Combinator::NextSibling => is_element(tree, &id),
+        Combinator::Adjacent => is_element(tree, &id),
     }
 }
 
@@ -62,8 +62,8 @@ pub(crate) fn looseness(combinator: Combinator) -> usize
     ensures { result ≡ looseness combinator }
 {
     match combinator {
-        Combinator::NextSibling => 1,
-        Combinator::LaterSibling => 2,
+        Combinator::Adjacent => 1,
+        Combinator::Sibling => 2,
         Combinator::Child => 3,
         Combinator::Descendant => 4,
     }

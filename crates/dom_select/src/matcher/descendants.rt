@@ -5,7 +5,7 @@ ghost use Rattle.std.specs.Iterator.{at_most};
 ghost use Rattle.dom_links.specs.Trees.{walk_below};
 ghost use Rattle.dom_select.specs.Descendants.{GivesMatch, IsMatch, ToCome};
 ghost use Rattle.dom_select.specs.Selected.{Selected};
-ghost use Rattle.dom_select.specs.Spelling.{Decides};
+ghost use Rattle.dom_selectors.specs.Spelling.{Decides};
 
 use crate::matcher::Matcher;
 use crate::matcher::parts::is_element;
@@ -28,7 +28,7 @@ impl<'a, 'b> Model for DescendantMatches<'a, 'b> {
     ghost use Rattle.std.specs.Prelude.{List};
     ghost use Rattle.std.specs.Coded.{code_by, codes};
     ghost use Rattle.dom_select.specs.Descendants.{Matches};
-    ghost use Rattle.dom_select.specs.Tokens.{Token, list_of, read_back, tokens_of};
+    ghost use Rattle.dom_selectors.specs.Tokens.{Token, list_of, read_back, tokens_of};
 
     ghost Value = { Matches };
 

@@ -6,9 +6,9 @@ ghost use Rattle.dom_select.specs.Has.{is_sideways, may_end, tops, tops_on};
 
 use crate::matcher::chains::{know_lines, may_beside, stands};
 use crate::matcher::parts::is_element;
-use crate::matcher::syntax::Combinator;
 use dom_links::iters::next_sibling_id;
 use dom_nodes::node_id::NodeId;
+use dom_selectors::syntax::Combinator;
 use dom_trees::tree::Tree;
 
 /// What a first node is asked besides its compound: nothing, or to stand to the right of a node as
@@ -45,7 +45,7 @@ pub(crate) fn is_sideways(combinator: Combinator) -> bool
 {
     match combinator {
         Combinator::Descendant | Combinator::Child => false,
-        Combinator::NextSibling | Combinator::LaterSibling => true,
+        Combinator::Adjacent | Combinator::Sibling => true,
     }
 }
 

@@ -5,14 +5,14 @@ ghost use Rattle.std.specs.Prelude.{◌≡◌, ◌++◌, drop, false, length, ta
 ghost use Rattle.std.specs.List.{flat_map};
 ghost use Rattle.dom_links.specs.Texts.{text_at, text_in};
 ghost use Rattle.dom_nodes.specs.declared.case_sensitivity.CaseSensitivity.TheVariants.{CaseSensitive as with_case};
-ghost use Rattle.dom_select.specs.Comparisons.{begins_with};
+ghost use Rattle.dom_selectors.specs.Comparisons.{begins_with};
 ghost use Rattle.dom_select.specs.Texts.{begins_among, joined_contains_at};
 
-use crate::matcher::comparisons::begins_with;
 use dom_links::iters::DescendantNodes;
 use dom_nodes::case_sensitivity::CaseSensitivity;
 use dom_nodes::node_data::NodeData;
 use dom_nodes::node_id::NodeId;
+use dom_selectors::comparisons::begins_with;
 use dom_trees::tree::Tree;
 
 /// What the node itself holds as a text.

@@ -5,12 +5,12 @@
 
 ghost use Rattle.std.specs.Prelude.{◌≡◌, ◌↔◌, ◌∷◌, [], map, IfSome, Some, IsTrue, MatchBool};
 ghost use Rattle.std.specs.Prelude.{MatchOption};
-ghost use Rattle.dom_select.specs.ListsAsTrees.{lists_of, steps_of};
+ghost use Rattle.dom_selectors.specs.ListsAsTrees.{lists_of, steps_of};
 ghost use Rattle.dom_select.specs.Leftward.{ends_at};
 ghost use Rattle.dom_select.specs.Meaning.{Holds, LeadsOn, LeadsToSome, ListsHold, ListHolds};
 ghost use Rattle.dom_select.specs.Meaning.{Means, PartsHold, Reaches};
-ghost use Rattle.dom_select.specs.ValuesAsTrees.{read_compound, read_list, read_nested, read_step};
-ghost use Rattle.dom_select.specs.Syntax.{no_lists, compound as the_compound};
+ghost use Rattle.dom_selectors.specs.ValuesAsTrees.{read_compound, read_list, read_nested, read_step};
+ghost use Rattle.dom_selectors.specs.Syntax.{no_lists, compound as the_compound};
 ghost use Rattle.dom_select.specs.Chains.{EndHolds, Followed, FollowedFrom, IsOrPrecedes};
 ghost use Rattle.dom_select.specs.Chains.{ReachesSome, looseness};
 ghost use Rattle.dom_select.specs.Has.{Begins, IsReached, ReachesWithin, may_end};
@@ -19,9 +19,9 @@ use crate::matcher::caches::SelectorCaches;
 use crate::matcher::chains::{ends_at, know_lines, looseness, may_beside, on_the_left};
 use crate::matcher::has::{Start, first_top, is_led, may_end, next_top};
 use crate::matcher::parts::{is_named_node, parts_hold};
-use crate::matcher::syntax::{Combinator, Compound, Nested, Part, Selector, Step};
 use dom_nodes::node_id::NodeId;
 use dom_nodes::text::Text;
+use dom_selectors::syntax::{Combinator, Compound, Nested, Part, Selector, Step};
 use dom_trees::tree::Tree;
 
 /// Looser than every combinator.

@@ -8,17 +8,17 @@ ghost use Rattle.dom_select.specs.Meaning.{PartsHold};
 ghost use Rattle.dom_select.specs.Parts.{EachHolds, PartHolds, attr_passes, element_passes};
 ghost use Rattle.dom_select.specs.Parts.{is_attr, is_without, name_within, node_passes};
 ghost use Rattle.dom_select.specs.Parts.{asked_passes, data_passes};
-ghost use Rattle.dom_select.specs.Spelling.{Decides};
+ghost use Rattle.dom_selectors.specs.Spelling.{Decides};
 
 use crate::matcher::caches::SelectorCaches;
-use crate::matcher::comparisons::passes;
 use crate::matcher::joined::contains_joined;
 use crate::matcher::positions::has_position;
-use crate::matcher::syntax::{Attribute, Comparison, Part};
 use crate::matcher::texts::{has_text, is_empty, is_only_text};
 use dom_nodes::name::{Attr, Namespace};
 use dom_nodes::node_data::{Element, NodeData};
 use dom_nodes::node_id::NodeId;
+use dom_selectors::comparisons::passes;
+use dom_selectors::syntax::{Attribute, Comparison, Part};
 use dom_trees::tree::Tree;
 
 /// Whether the number is a node's of which each part holds.

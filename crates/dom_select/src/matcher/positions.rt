@@ -1,13 +1,13 @@
 //! Whether a node has an index among its siblings.
 
 ghost use Rattle.std.specs.Prelude.{◌≡◌};
-ghost use Rattle.dom_select.specs.Spelling.{Decides};
+ghost use Rattle.dom_selectors.specs.Spelling.{Decides};
 ghost use Rattle.dom_links.specs.Indexes.{IsNth, index_at};
 
 use crate::matcher::caches::SelectorCaches;
-use crate::matcher::syntax::Position;
 use dom_links::indexes::is_nth;
 use dom_nodes::node_id::NodeId;
+use dom_selectors::syntax::Position;
 
 /// Whether the node has one of the indexes.
 pub(crate) fn has_position(position: Position, caches: &mut SelectorCaches<'_>, id: &NodeId) -> bool

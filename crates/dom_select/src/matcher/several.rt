@@ -131,7 +131,7 @@ impl<'a, 'b, 'r> Model for Matches<'a, 'b, 'r> {
     ghost use Rattle.std.specs.Prelude.{List};
     ghost use Rattle.std.specs.Coded.{code_by, codes};
     ghost use Rattle.dom_select.specs.Descendants.{Matches};
-    ghost use Rattle.dom_select.specs.Tokens.{Token, list_of, read_back, tokens_of};
+    ghost use Rattle.dom_selectors.specs.Tokens.{Token, list_of, read_back, tokens_of};
 
     ghost Value = { Matches };
 

@@ -5,11 +5,11 @@ ghost use Rattle.dom_links.specs.ListMoves.{element_at};
 ghost use Rattle.dom_select.specs.Texts.{contains_at, empty_at, filled_at, has_text_at};
 ghost use Rattle.dom_select.specs.Texts.{only_text_at, text_contains};
 
-use crate::matcher::comparisons::has_within;
 use crate::matcher::parts::is_element;
 use dom_nodes::case_sensitivity::CaseSensitivity;
 use dom_nodes::node_data::NodeData;
 use dom_nodes::node_id::NodeId;
+use dom_selectors::comparisons::has_within;
 use dom_trees::node_ref::NodeRef;
 use dom_trees::tree::Tree;
 

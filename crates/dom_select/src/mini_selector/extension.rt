@@ -2,17 +2,18 @@
 
 ghost use Rattle.std.specs.Prelude.{◌≡◌, ◌⊎◌, [], IfOk, MatchBool, MatchResult};
 ghost use Rattle.dom_trees.specs.Views.{refs_to};
-ghost use Rattle.dom_select.specs.MiniGrammar.{IsBadPath, RefusesPath};
+ghost use Rattle.dom_selectors.specs.MiniGrammar.{IsBadPath, RefusesPath};
 ghost use Rattle.dom_select.specs.MiniPaths.{AreRefsFound, IsMet, found_by_names};
-ghost use Rattle.dom_select.specs.MiniSyntax.{texts_of};
-ghost use Rattle.dom_select.specs.MiniTruth.{mini_holds};
+ghost use Rattle.dom_selectors.specs.MiniSyntax.{texts_of};
+ghost use Rattle.dom_select.specs.MiniNodes.{mini_holds};
 
-use crate::mini_selector::fault::MiniFault;
-use crate::mini_selector::parser::parse_selector_list;
-use crate::mini_selector::selector::MiniSelector;
+use crate::matcher::MatchNode;
 use crate::mini_selector::steps::{follow_names, follow_path};
 use dom_nodes::fault::OutOfMemory;
 use dom_nodes::node_id::NodeId;
+use dom_selectors::mini_selector::fault::MiniFault;
+use dom_selectors::mini_selector::parser::parse_selector_list;
+use dom_selectors::mini_selector::selector::MiniSelector;
 use dom_trees::node_ref::NodeRef;
 use dom_trees::tree::Tree;
 
@@ -44,6 +45,17 @@ fn refs<'a>(tree: &'a Tree, ids: &[NodeId]) -> Result<Vec<NodeRef<'a>>, OutOfMem
 {
     let refs = ids.iter().map(|id| NodeRef::new(*id, tree));
     Ok(refs.collect(tree.allocator())?)
+}
+
+impl MatchNode for MiniSelector<'_> {
+    fn match_node(&self, node: &NodeRef<'_>) -> bool
+        ensures { result ≡ mini_holds self.now node.now.tree.now node.now.id }
+    {
+        match node.tree.get(&node.id) {
+            Some(found) => self.match_data(&found.content),
+            None => false,
+        }
+    }
 }
 
 impl<'a> MiniSelect<'a> for NodeRef<'a> {

@@ -6,19 +6,19 @@ ghost use Rattle.dom_links.specs.Forest.{forest_of};
 ghost use Rattle.dom_links.specs.ListMoves.{element_at};
 ghost use Rattle.dom_links.specs.Sound.{IsSoundArena};
 ghost use Rattle.dom_links.specs.Walk.{later, row_on};
-ghost use Rattle.dom_select.specs.MiniPaths.{below_step, found_by_names, found_from, known, named};
+ghost use Rattle.dom_select.specs.MiniPaths.{below_step, found_by_names, found_from, known};
 ghost use Rattle.dom_select.specs.MiniPaths.{one_or_none, step_from, step_from_each};
-ghost use Rattle.dom_select.specs.MiniSyntax.{texts_of};
-ghost use Rattle.dom_select.specs.MiniTruth.{mini_holds};
+ghost use Rattle.dom_selectors.specs.MiniSyntax.{texts_of};
+ghost use Rattle.dom_select.specs.MiniNodes.{mini_holds};
 
-use crate::matcher::syntax::Combinator;
-use crate::mini_selector::selector::MiniSelector;
 use crate::traversal::walk::{first_place, next_place};
 use dom_links::iters::{find_node, first_child_id, next_sibling_id};
 use dom_links::laws::lines_of_a_forest;
 use dom_nodes::fault::OutOfMemory;
 use dom_nodes::node_data::TreeNode;
 use dom_nodes::node_id::NodeId;
+use dom_selectors::mini_selector::selector::MiniSelector;
+use dom_selectors::syntax::Combinator;
 use std::alloc::Global;
 
 /// Whether the number is that of a node of which the mini selector is true.
@@ -147,8 +147,8 @@ fn collect_step(
     match mini.combinator() {
         Combinator::Descendant => collect_below(nodes, id, is_last, mini, found),
         Combinator::Child => collect_row(nodes, first_child_id(nodes, &id), mini, found),
-        Combinator::NextSibling => collect_next(nodes, id, mini, found),
-        Combinator::LaterSibling => collect_row(nodes, next_sibling_id(nodes, &id), mini, found),
+        Combinator::Adjacent => collect_next(nodes, id, mini, found),
+        Combinator::Sibling => collect_row(nodes, next_sibling_id(nodes, &id), mini, found),
     }
 }
 
@@ -199,19 +199,6 @@ pub(crate) fn follow_path(
     Ok(found)
 }
 
-/// A mini selector of a name alone. It takes no memory.
-fn named<'a>(alloc: Global, name: &'a str) -> MiniSelector<'a>
-    ensures { result ≡ named name.now }
-{
-    MiniSelector {
-        lead: None,
-        name: Some(name),
-        id: None,
-        classes: Vec::new(alloc),
-        attrs: Vec::new(alloc),
-    }
-}
-
 /// What names, each below the one before, find from a node.
 pub(crate) fn follow_names(
     alloc: Global,
@@ -225,7 +212,7 @@ pub(crate) fn follow_names(
 {
     let mut found = known(alloc, nodes, id)?;
     for (n, name) in path.iter().enumerate() {
-        let mini = named(alloc, name);
+        let mini = MiniSelector::named(alloc, name);
         found = step_from_each(alloc, nodes, &found, n + 1 == path.len(), &mini)?;
     }
     Ok(found)

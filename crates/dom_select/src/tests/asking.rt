@@ -1,18 +1,18 @@
 //! What nodes answer in small trees, and selections below several of them.
 
-use crate::css::{CssLocalName, CssString, ToCss};
 use crate::matcher::Matcher;
 use crate::matcher::caches::SelectorCaches;
 use crate::matcher::matcher_iter::MatcherIter;
 use crate::matcher::several::{Matches, select_below_all};
 use crate::node_select::NodeSelect;
-use crate::pseudo_class::{NonTSPseudoClass, PseudoElement};
 use dom_links::indexes::IndexKind;
 use dom_nodes::case_sensitivity::CaseSensitivity;
 use dom_nodes::name::{Attr, LocalName, Namespace, QualName};
 use dom_nodes::node_data::{Attrs, Element, NodeData};
 use dom_nodes::node_id::NodeId;
 use dom_nodes::text::Text;
+use dom_selectors::css::{CssLocalName, CssString, ToCss};
+use dom_selectors::pseudo_class::{NonTSPseudoClass, PseudoElement};
 use dom_trees::node_ref::NodeRef;
 use dom_trees::tree::Tree;
 use std::alloc::Global;

@@ -1,13 +1,13 @@
 //! Copies, selectors for themselves, caches asked in turn, and lists that nest.
 
-use crate::css::{CssLocalName, CssString};
-use crate::matcher::Matcher;
 use crate::matcher::caches::SelectorCaches;
 use crate::matcher::descendants::select_below;
+use crate::matcher::{MatchNode, Matcher};
 use crate::tests::selecting::{Row, append, tree_of};
 use crate::traversal::Traversal;
 use dom_nodes::node_data::TreeNode;
 use dom_nodes::node_id::NodeId;
+use dom_selectors::css::{CssLocalName, CssString};
 use dom_trees::node_ref::NodeRef;
 use dom_trees::tree::Tree;
 use std::alloc::Global;

@@ -1,5 +1,5 @@
 use Rattle.std.proofs.Common.{rules, codes, List, ℕ, chars, subst}
-use Rattle.dom_select.specs.Grammar.{StandsFor}
+use Rattle.dom_selectors.specs.Grammar.{StandsFor}
 use Rattle.dom_query.specs.Script.{StandsForNothing}
 use Rattle.dom_query.proofs.Lines.{IsNoWord, argument-once, bad-line}
 use Rattle.dom_query.proofs.script.command_of.Goals as goal

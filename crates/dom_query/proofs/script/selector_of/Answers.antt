@@ -1,7 +1,7 @@
 use Rattle.std.proofs.Common.{◌≢◌, List, ℕ, refl, chars}
-use Rattle.dom_select.specs.declared.fault.SelectorFault.{SelectorFault}
-use Rattle.dom_select.specs.declared.fault.SelectorFault.TheVariants.{Syntax, UnknownPseudoClass, Number, NestedHas, TooDeep, Memory}
-use Rattle.dom_select.specs.Grammar.{Refused}
+use Rattle.dom_selectors.specs.declared.fault.SelectorFault.{SelectorFault}
+use Rattle.dom_selectors.specs.declared.fault.SelectorFault.TheVariants.{Syntax, UnknownPseudoClass, Number, NestedHas, TooDeep, Memory}
+use Rattle.dom_selectors.specs.Grammar.{Refused}
 use Rattle.dom_query.specs.Script.{StandsForNothing}
 use Rattle.dom_query.proofs.script.selector_of.Goals as goal
 

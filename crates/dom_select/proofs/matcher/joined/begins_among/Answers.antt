@@ -1,7 +1,7 @@
 use Rattle.std.proofs.Common.{arith, ap, sym, ◌∙◌, ◌++◌}
 use Rattle.std.proofs.lemmas.List.{take_rest}
 use Rattle.dom_nodes.specs.declared.case_sensitivity.CaseSensitivity.TheVariants.{CaseSensitive}
-use Rattle.dom_select.specs.Comparisons.{begins_with}
+use Rattle.dom_selectors.specs.Comparisons.{begins_with}
 use Rattle.std.specs.List.{flat_map}
 use Rattle.dom_links.specs.Texts.{text_at}
 use Rattle.dom_select.proofs.JoinedLemmas.{among_here, among_later}

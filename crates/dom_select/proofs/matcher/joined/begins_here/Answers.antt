@@ -2,7 +2,7 @@ use Rattle.std.proofs.Common.{ap, sym, ◌∙◌}
 use Rattle.std.specs.List.{flat_map}
 use Rattle.dom_links.specs.Texts.{text_at}
 use Rattle.dom_nodes.specs.declared.case_sensitivity.CaseSensitivity.TheVariants.{CaseSensitive}
-use Rattle.dom_select.specs.Comparisons.{begins_with}
+use Rattle.dom_selectors.specs.Comparisons.{begins_with}
 use Rattle.dom_select.proofs.FollowLemmas.{is_nil}
 use Rattle.dom_select.proofs.JoinedLemmas.{begins_empty, begins_not, begins_on}
 use Rattle.dom_select.proofs.matcher.joined.begins_here.Goals as goal

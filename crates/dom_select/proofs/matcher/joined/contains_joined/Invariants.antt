@@ -2,7 +2,7 @@ use Rattle.std.proofs.Common.{◌≡◌, length}
 use Rattle.std.specs.List.{flat_map}
 use Rattle.dom_links.specs.Texts.{text_at, text_of}
 use Rattle.dom_nodes.specs.declared.case_sensitivity.CaseSensitivity.TheVariants.{CaseSensitive}
-use Rattle.dom_select.specs.Comparisons.{has_within}
+use Rattle.dom_selectors.specs.Comparisons.{has_within}
 use Rattle.dom_select.proofs.matcher.joined.contains_joined.Given as goal
 
 -- the texts that are left decide

@@ -2,7 +2,7 @@ use Rattle.std.proofs.Common.{◌≡◌}
 use Rattle.std.specs.List.{flat_map}
 use Rattle.dom_links.specs.Texts.{text_at}
 use Rattle.dom_nodes.specs.declared.case_sensitivity.CaseSensitivity.TheVariants.{CaseSensitive}
-use Rattle.dom_select.specs.Comparisons.{begins_with}
+use Rattle.dom_selectors.specs.Comparisons.{begins_with}
 use Rattle.dom_select.proofs.matcher.joined.goes_on.Given as goal
 
 -- the texts that are left decide

@@ -1,7 +1,7 @@
 use Rattle.std.proofs.Common.{◌≡◌, false, true≢false, refl, ◌<◌, ◌≤◌, ℕ, inr, length, ap, map, sym, ◌∙◌, arith}
 use Rattle.dom_links.specs.Lists.{stands_in}
-use Rattle.dom_select.specs.ListsAsTrees.{steps_of}
-use Rattle.dom_select.specs.ValuesAsTrees.{read_compound, read_step}
+use Rattle.dom_selectors.specs.ListsAsTrees.{steps_of}
+use Rattle.dom_selectors.specs.ValuesAsTrees.{read_compound, read_step}
 use Rattle.dom_select.specs.Chains.{looseness}
 use Rattle.dom_select.specs.Has.{Begins, tops_on}
 use Rattle.dom_select.proofs.ReachLemmas.{IsMeant, left_ends, left_farther, left_nowhere, line_some, not_so, to_line}

@@ -2,11 +2,11 @@ use Rattle.std.proofs.Common.{ℕ, true, ◌⊎◌, ◌≡◌, ◌+◌, ◌-◌,
 use Rattle.dom_links.specs.Lists.{stands_in}
 use Rattle.dom_links.specs.Trees.{walk_below}
 use Rattle.dom_select.specs.declared.matcher.has.Start.TheVariants.{From}
-use Rattle.dom_select.specs.ListsAsTrees.{lists_of, steps_of}
+use Rattle.dom_selectors.specs.ListsAsTrees.{lists_of, steps_of}
 use Rattle.dom_select.specs.Leftward.{line, ends_at}
 use Rattle.dom_select.specs.Meaning.{LeadsOn, ListsHold, Means}
-use Rattle.dom_select.specs.ValuesAsTrees.{read_compound, read_list, read_nested, read_step}
-use Rattle.dom_select.proofs.Weights.{compound_weight, lists_weight, list_weight, selectors_weight, steps_weight}
+use Rattle.dom_selectors.specs.ValuesAsTrees.{read_compound, read_list, read_nested, read_step}
+use Rattle.dom_selectors.proofs.Weights.{compound_weight, lists_weight, list_weight, selectors_weight, steps_weight}
 use Rattle.dom_select.proofs.ReachLemmas.{IsMeant, SomeOnLine}
 use Rattle.dom_select.specs.Chains.{looseness}
 use Rattle.dom_select.specs.Has.{Begins, IsReached, ReachesWithin, tops, tops_on}

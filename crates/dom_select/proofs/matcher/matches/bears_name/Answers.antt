@@ -1,4 +1,4 @@
-use Rattle.dom_select.specs.declared.matcher.syntax.Part.{Part}
+use Rattle.dom_selectors.specs.declared.syntax.Part.{Part}
 use Rattle.dom_select.proofs.MeaningLemmas.{one_part, parts_known, parts_unknown, passes_known}
 use Rattle.dom_select.proofs.matcher.matches.bears_name.Goals as goal
 

@@ -2,7 +2,7 @@ use Rattle.std.proofs.Common.{◌≡◌, ◌++◌, length, ◌&&◌}
 use Rattle.std.specs.Prelude.{filter, not}
 use Rattle.dom_links.specs.Forest.{forest_of}
 use Rattle.dom_select.specs.MiniPaths.{below_step}
-use Rattle.dom_select.specs.MiniTruth.{mini_holds}
+use Rattle.dom_select.specs.MiniNodes.{mini_holds}
 use Rattle.dom_select.specs.MiniWalks.{IsPlace, ahead}
 use Rattle.dom_select.proofs.mini_selector.steps.collect_below.Given as goal
 

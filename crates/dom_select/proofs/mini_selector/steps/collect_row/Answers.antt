@@ -1,7 +1,7 @@
 use Rattle.std.proofs.Common.{◌∙◌, ap, false}
 use Rattle.dom_links.specs.Forest.{forest_of}
 use Rattle.dom_links.specs.Walk.{row_on}
-use Rattle.dom_select.specs.MiniTruth.{mini_holds}
+use Rattle.dom_select.specs.MiniNodes.{mini_holds}
 use Rattle.dom_select.proofs.MiniPathLemmas.{added, row_step, shorter}
 use Rattle.dom_select.proofs.mini_selector.steps.collect_row.Goals as goal
 

@@ -2,7 +2,7 @@ use Rattle.std.proofs.Common.{◌≡◌, ◌++◌, length, false}
 use Rattle.std.specs.Prelude.{filter}
 use Rattle.dom_links.specs.Forest.{forest_of}
 use Rattle.dom_links.specs.Walk.{row_on}
-use Rattle.dom_select.specs.MiniTruth.{mini_holds}
+use Rattle.dom_select.specs.MiniNodes.{mini_holds}
 use Rattle.dom_select.proofs.mini_selector.steps.collect_row.Given as goal
 
 abbrev pub invariant-loop-next : goal.invariant-loop-next

@@ -9,7 +9,7 @@ returns-in-Child c =
     let P : List ℕ → Type 0 = λ more. OnOk c.collect_row.result (c.collect_row.new.found.items ≡ c.args.found.now.items ++ more) in
     subst P (child_step (forest_of c.args.nodes.now) c.args.is_last c.args.mini.now c.args.id c.first_child_id.result (c.lines_of_a_forest.ensures _ c.requires.forest) c.first_child_id.ensures c.in-Child.ensures) c.collect_row.ensures
 
-pub returns-in-LaterSibling : goal.returns-in-LaterSibling
-returns-in-LaterSibling c =
-    let P : List ℕ → Type 0 = λ more. OnOk c.collect_row-in-LaterSibling.result (c.collect_row-in-LaterSibling.new.found.items ≡ c.args.found.now.items ++ more) in
-    subst P (later_step (forest_of c.args.nodes.now) c.args.is_last c.args.mini.now c.args.id c.next_sibling_id.result (c.lines_of_a_forest.ensures _ c.requires.forest) c.next_sibling_id.ensures c.in-LaterSibling.ensures) c.collect_row-in-LaterSibling.ensures
+pub returns-in-Sibling : goal.returns-in-Sibling
+returns-in-Sibling c =
+    let P : List ℕ → Type 0 = λ more. OnOk c.collect_row-in-Sibling.result (c.collect_row-in-Sibling.new.found.items ≡ c.args.found.now.items ++ more) in
+    subst P (later_step (forest_of c.args.nodes.now) c.args.is_last c.args.mini.now c.args.id c.next_sibling_id.result (c.lines_of_a_forest.ensures _ c.requires.forest) c.next_sibling_id.ensures c.in-Sibling.ensures) c.collect_row-in-Sibling.ensures

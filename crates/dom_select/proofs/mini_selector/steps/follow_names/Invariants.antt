@@ -1,7 +1,7 @@
 use Rattle.std.proofs.Common.{◌≡◌, drop, map}
 use Rattle.dom_links.specs.Forest.{forest_of}
-use Rattle.dom_select.specs.MiniPaths.{found_by_names, named, path_from}
-use Rattle.dom_select.specs.MiniSyntax.{texts_of}
+use Rattle.dom_select.specs.MiniPaths.{found_by_names, path_from}
+use Rattle.dom_selectors.specs.MiniSyntax.{named, texts_of}
 use Rattle.dom_select.proofs.mini_selector.steps.follow_names.Given as goal
 
 abbrev pub invariant-loop-n : goal.invariant-loop-n

@@ -1,6 +1,6 @@
 use Rattle.std.proofs.Common.{◌≡◌, drop}
 use Rattle.dom_links.specs.Forest.{forest_of}
-use Rattle.dom_select.specs.MiniSyntax.{texts_of}
+use Rattle.dom_selectors.specs.MiniSyntax.{texts_of}
 use Rattle.dom_select.specs.Traversals.{child_by_names}
 use Rattle.dom_select.proofs.traversal.Traversal.find_descendant_element.Given as goal
 

@@ -1,7 +1,0 @@
-use Rattle.std.proofs.Common.{◌≡◌, ◌+◌, drop}
-use Rattle.std.specs.List.{prefix_len}
-use Rattle.dom_select.specs.MiniLetters.{isnt}
-use Rattle.dom_select.proofs.mini_selector.scan.len_before.Given as goal
-
-abbrev pub invariant-loop-index : goal.invariant-loop-index
-invariant-loop-index l = prefix_len (isnt l.stop) l.bytes ≡ l.index + prefix_len (isnt l.stop) (drop l.index l.bytes)

@@ -1,0 +1,30 @@
+-- What a value of the program reads as, by its parts.
+use Rattle.std.proofs.Common.{◌≡◌, map, sym, ap, ◌∙◌, Vec, Global}
+use Rattle.dom_selectors.specs.declared.syntax.Compound.{Compound, fold_out-Compound}
+use Rattle.dom_selectors.specs.declared.syntax.Nested.{Is, Not, Has}
+use Rattle.dom_selectors.specs.declared.syntax.Nested.TheOpen.{Nested-F}
+use Rattle.dom_selectors.specs.declared.syntax.Nested.TheVariants.{rolls-Is, rolls-Not, rolls-Has}
+use Rattle.dom_selectors.specs.declared.syntax.Nested.TheFolds.{fold-roll-Nested}
+use Rattle.dom_selectors.specs.declared.syntax.Selector.{Selector, out-Selector, fold_out-Selector}
+use Rattle.dom_selectors.specs.declared.syntax.Step.{Step, fold_out-Step}
+use Rattle.dom_selectors.specs.Syntax.{compound, some_means, none_means, leads_on}
+use Rattle.dom_selectors.specs.ListsAsTrees.{lists_of, steps_of, selector_list}
+use Rattle.dom_selectors.specs.ValuesAsTrees.{read_nested, read_compound, read_selector, read_step, nested_layer, compound_layer, selector_layer, step_layer}
+
+pub read_compound_is : (c : Compound) → read_compound c ≡ compound c.parts.items (lists_of (map read_nested c.nested.items))
+read_compound_is = fold_out-Compound _ _ _ _ nested_layer compound_layer selector_layer step_layer
+
+pub read_step_is : (s : Step) → read_step s ≡ (s.combinator, read_compound s.compound)
+read_step_is = fold_out-Step _ _ _ _ nested_layer compound_layer selector_layer step_layer
+
+pub read_selector_is : (s : Selector) → read_selector s ≡ ((out-Selector s).lead, read_compound (out-Selector s).first, steps_of (map read_step (out-Selector s).rest.items))
+read_selector_is = fold_out-Selector _ _ _ _ nested_layer compound_layer selector_layer step_layer
+
+pub read_is : (v : Vec Selector Global) → read_nested (Is v) ≡ some_means (selector_list (map read_selector v.items))
+read_is v = ap read_nested (sym (rolls-Is v)) ∙ fold-roll-Nested _ _ _ _ nested_layer compound_layer selector_layer step_layer (Nested-F.Is v)
+
+pub read_not : (v : Vec Selector Global) → read_nested (Not v) ≡ none_means (selector_list (map read_selector v.items))
+read_not v = ap read_nested (sym (rolls-Not v)) ∙ fold-roll-Nested _ _ _ _ nested_layer compound_layer selector_layer step_layer (Nested-F.Not v)
+
+pub read_has : (v : Vec Selector Global) → read_nested (Has v) ≡ leads_on (selector_list (map read_selector v.items))
+read_has v = ap read_nested (sym (rolls-Has v)) ∙ fold-roll-Nested _ _ _ _ nested_layer compound_layer selector_layer step_layer (Nested-F.Has v)

@@ -1,0 +1,30 @@
+-- How a text is written as a string in quotes.
+use Rattle.std.specs.Prelude.{ℕ, ◌/◌, ◌%◌, List, [], ◌∷◌, ◌++◌, Bool, ◌||◌, nat_eq, nat_lt, cond, chars, encode_utf8_all}
+use Rattle.std.specs.Char.{digit_char}
+use Rattle.std.specs.List.{flat_map}
+use Rattle.dom_selectors.specs.Characters.{replacement_character}
+use Rattle.dom_nodes.specs.Ascii.{backslash, delete, double_quote, space}
+
+-- U+0001 to U+001F and U+007F
+abbrev pub is_control : ℕ → Bool
+is_control c = nat_lt c space || nat_eq c delete
+
+-- the number of a control character in lower-case hexadecimal
+abbrev pub hex_of : ℕ → List ℕ
+hex_of c = cond (nat_lt c 16) (digit_char c ∷ []) (digit_char (c / 16) ∷ digit_char (c % 16) ∷ [])
+
+-- U+FFFD stands for U+0000
+abbrev pub shown : ℕ → ℕ
+shown c = cond (nat_eq c 0) replacement_character c
+
+-- a character of the string: U+FFFD for U+0000, a control character by its number, `"` and `\` behind a `\`
+abbrev pub css_char : ℕ → List ℕ
+css_char c = cond (nat_eq c 0) (replacement_character ∷ []) (cond (is_control c) (backslash ∷ hex_of c ++ space ∷ []) (cond (nat_eq c double_quote || nat_eq c backslash) (backslash ∷ c ∷ []) (c ∷ [])))
+
+-- the characters of the string in its quotes
+abbrev pub css_string : List ℕ → List ℕ
+css_string text = double_quote ∷ flat_map css_char text ++ double_quote ∷ []
+
+-- the string of a text in UTF-8, in UTF-8
+abbrev pub css_text : List ℕ → List ℕ
+css_text text = encode_utf8_all (css_string (chars text))

@@ -1,0 +1,216 @@
+-- The grammar of selectors: which text stands for which list of them. Texts are lists of characters. The room tells where in a
+-- selector's text something stands. `Inner` is what stands for a list between parentheses, that of `:has` or another; it is the same
+-- grammar with one depth less, so each layer is said once, of any inner relation, and the depth of 64 is a number that falls.
+use Rattle.std.specs.Prelude.{◌≡◌, ◌<◌, ◌≤◌, ◌+◌, ◌-◌, ℕ, zero, suc, List, [], ◌∷◌, ◌++◌, Bool, true, false, ◌&&◌, ◌||◌, nat_eq, cond, drop, Option, Some, None, MatchBool, MatchOption, Result}
+use Rattle.std.specs.Borrow.{Bor}
+use Rattle.std.specs.Char.{is_ascii_whitespace}
+use Rattle.std.specs.List.{list_all}
+use Rattle.dom_nodes.specs.Ascii.{asterisk, colon, comma, dot, greater_than, left_bracket, left_parenthesis, number_sign, plus_sign, right_parenthesis, tilde}
+use Rattle.dom_links.specs.declared.indexes.Nth as indexes
+use Rattle.dom_selectors.specs.declared.fault.SelectorFault.{SelectorFault}
+use Rattle.dom_selectors.specs.declared.fault.SelectorFault.TheVariants.{Syntax, UnknownPseudoClass, Number, NestedHas, TooDeep, Memory}
+use Rattle.dom_selectors.specs.declared.syntax.Bare.{Bare}
+use Rattle.dom_selectors.specs.declared.syntax.Quantifier.{Quantifier}
+use Rattle.dom_selectors.specs.declared.syntax.Room.{Room}
+use Rattle.dom_selectors.specs.declared.syntax.Attribute as attributes
+use Rattle.dom_selectors.specs.declared.syntax.Combinator.{Combinator}
+use Rattle.dom_selectors.specs.declared.syntax.Combinator.TheVariants.{Descendant, Child, Adjacent, Sibling}
+use Rattle.dom_selectors.specs.declared.syntax.Part.{Part}
+use Rattle.dom_selectors.specs.declared.syntax.Part.TheVariants.{Universal, Id, Class, Attribute, Position}
+use Rattle.dom_selectors.specs.declared.syntax.Pseudo.{Pseudo}
+use Rattle.dom_selectors.specs.Pseudos.{bare_item, is_relative, pseudo_of, quantified, text_part}
+use Rattle.dom_selectors.specs.Spelling.{Run, Refuses, Takes}
+use Rattle.dom_selectors.specs.Characters.{after_white, begins, how_many, how_many_large}
+use Rattle.dom_selectors.specs.Names.{SpellsName, starts_name}
+use Rattle.dom_selectors.specs.Attributes.{SpellsAttribute}
+use Rattle.dom_selectors.specs.Nth.{SpellsNth}
+use Rattle.dom_selectors.specs.Strings.{SpellsString}
+use Rattle.dom_selectors.specs.Syntax.{CompoundSelector, compound, SelectorList, Steps}
+use Rattle.dom_selectors.specs.ListsAsTrees.{Item, simple, listed, parts_among, lists_among, steps_of, selector_list}
+
+abbrev pub is_star : ℕ → Bool
+is_star c = nat_eq c asterisk
+
+-- `*`, or a name, or neither
+abbrev pub SpellsType : List Part → List ℕ → List ℕ → Type 0
+SpellsType v text rest = MatchBool (begins is_star text) ((v ≡ Universal ∷ []) × (rest ≡ drop 1 text))
+    (MatchBool (starts_name text) ((name : List ℕ) × SpellsName name text rest × (v ≡ Part.«Type» name ∷ [])) ((v ≡ []) × (rest ≡ text)))
+
+abbrev pub begins_item : List ℕ → Bool
+begins_item text = begins (λ c. nat_eq c number_sign || nat_eq c dot || nat_eq c left_bracket || nat_eq c colon) text
+
+abbrev pub begins_compound : List ℕ → Bool
+begins_compound text = begins is_star text || starts_name text || begins_item text
+
+abbrev pub combinator_of : ℕ → Option Combinator
+combinator_of c = cond (nat_eq c greater_than) (Some Child) (cond (nat_eq c plus_sign) (Some Adjacent) (cond (nat_eq c tilde) (Some Sibling) None))
+
+abbrev pub is_combinator : ℕ → Bool
+is_combinator c = nat_eq c greater_than || nat_eq c plus_sign || nat_eq c tilde
+
+-- a combinator with a sign, or the whitespace before a compound
+abbrev pub SpellsCombinator : Combinator → List ℕ → List ℕ → Type 0
+SpellsCombinator v [] rest = ⊥
+SpellsCombinator v (c ∷ more) rest = MatchBool (is_combinator c) ((combinator_of c ≡ Some v) × (rest ≡ after_white more)) ((v ≡ Descendant) × (rest ≡ c ∷ more))
+
+-- whether a combinator and a compound follow
+abbrev pub begins_step : List ℕ → Bool
+begins_step text = begins is_combinator (after_white text) || (begins is_ascii_whitespace text && begins_compound (after_white text))
+
+abbrev pub begins_comma : List ℕ → Bool
+begins_comma text = begins (λ c. nat_eq c comma) (after_white text)
+
+abbrev pub begins_open : List ℕ → Bool
+begins_open text = begins (λ c. nat_eq c left_parenthesis) text
+
+-- a pseudo-class without parentheses
+abbrev pub SpellsPlain : Bare → Item → List ℕ → List ℕ → Type 0
+SpellsPlain bare v text rest = (begins_open text ≡ false) × (v ≡ bare_item bare) × (rest ≡ text)
+
+-- a parenthesis that may open here, and whitespace
+pub record Opens (depth : ℕ) (text rest : List ℕ) : Type 0 where
+  pub deep : 0 < depth
+  pub inside : List ℕ
+  pub opens : text ≡ left_parenthesis ∷ inside
+  pub skipped : rest ≡ after_white inside
+
+-- what is spelled in parentheses, with whitespace round it
+pub record SpellsEnclosed (depth : ℕ) {A : Type 0} (Spells : A → List ℕ → List ℕ → Type 0) (v : A) (text rest : List ℕ) : Type 0 where
+  pub inside : List ℕ
+  pub opens : Opens depth text inside
+  pub after : List ℕ
+  pub value : Spells v inside after
+  pub closes : after_white after ≡ right_parenthesis ∷ rest
+
+-- where a selector may begin with a combinator, one that has a sign and whitespace, or nothing
+abbrev pub SpellsLead : Bool → Combinator → List ℕ → List ℕ → Type 0
+SpellsLead false v text rest = (v ≡ Descendant) × (rest ≡ text)
+SpellsLead true v [] rest = (v ≡ Descendant) × (rest ≡ [])
+SpellsLead true v (c ∷ more) rest = MatchOption (combinator_of c) ((v ≡ Descendant) × (rest ≡ c ∷ more)) (λ k. (v ≡ k) × (rest ≡ after_white more))
+
+module _ (room : Room) (Inner : Bool → SelectorList → List ℕ → List ℕ → Type 0) where
+  -- a list in parentheses; that of `:has` stands in no other
+  abbrev pub SpellsListed : Quantifier → Item → List ℕ → List ℕ → Type 0
+  SpellsListed quantifier v text rest =
+      (is_relative quantifier && room.in_has ≡ false) × (list : SelectorList) × SpellsEnclosed room.depth (Inner (is_relative quantifier)) list text rest × (v ≡ listed (quantified quantifier list))
+
+  -- what follows the name of a pseudo-class
+  abbrev pub SpellsForm : Pseudo → Item → List ℕ → List ℕ → Type 0
+  SpellsForm (Pseudo.Plain bare) v text rest = SpellsPlain bare v text rest
+  SpellsForm (Pseudo.Listed quantifier) v text rest = SpellsListed quantifier v text rest
+  SpellsForm (Pseudo.Nth kind) v text rest =
+      (nth : indexes.Nth) × SpellsEnclosed room.depth SpellsNth nth text rest × (v ≡ simple (Position (record { kind = kind; nth = nth })))
+  SpellsForm (Pseudo.Text test) v text rest =
+      (string : List ℕ) × SpellsEnclosed room.depth SpellsString string text rest × (v ≡ simple (text_part test string))
+
+  -- a name, and what belongs to it
+  pub record SpellsPseudo (v : Item) (text rest : List ℕ) : Type 0 where
+    pub name : List ℕ
+    pub after : List ℕ
+    pub named : SpellsName name text after
+    pub pseudo : Pseudo
+    pub known : pseudo_of name ≡ Some pseudo
+    pub form : SpellsForm pseudo v after rest
+
+  abbrev pub SpellsItem : Item → List ℕ → List ℕ → Type 0
+  SpellsItem v [] rest = ⊥
+  SpellsItem v (c ∷ more) rest =
+      MatchBool (nat_eq c number_sign) ((name : List ℕ) × SpellsName name more rest × (v ≡ simple (Id name)))
+      (MatchBool (nat_eq c dot) ((name : List ℕ) × SpellsName name more rest × (v ≡ simple (Class name)))
+      (MatchBool (nat_eq c left_bracket) ((part : attributes.Attribute) × SpellsAttribute part more rest × (v ≡ simple (Attribute part)))
+      ((c ≡ 58) × SpellsPseudo v more rest)))
+
+  -- a type and items, not nothing
+  pub record SpellsCompound (v : CompoundSelector) (text rest : List ℕ) : Type 0 where
+    pub some : begins_compound text ≡ true
+    pub front : List Part
+    pub after : List ℕ
+    pub first : SpellsType front text after
+    pub items : List Item
+    pub run : Run SpellsItem begins_item items after rest
+    pub is : v ≡ compound (front ++ parts_among items) (lists_among items)
+
+  pub record SpellsStep (v : Combinator × CompoundSelector) (text rest : List ℕ) : Type 0 where
+    pub on : begins_step text ≡ true
+    pub mid : List ℕ
+    pub combinator : SpellsCombinator v.0 (after_white text) mid
+    pub compound : SpellsCompound v.1 mid rest
+
+  -- compounds with a combinator between each two
+  pub record SpellsSelector (v : Combinator × CompoundSelector × Steps) (text rest : List ℕ) : Type 0 where
+    pub begin : List ℕ
+    pub lead : SpellsLead room.is_relative v.0 text begin
+    pub after : List ℕ
+    pub first : SpellsCompound v.1 begin after
+    pub steps : List (Combinator × CompoundSelector)
+    pub run : Run SpellsStep begins_step steps after rest
+    pub is : v.2 ≡ steps_of steps
+
+  -- a comma with whitespace round it, and a selector
+  pub record SpellsLater (v : Combinator × CompoundSelector × Steps) (text rest : List ℕ) : Type 0 where
+    pub comma : begins_comma text ≡ true
+    pub selector : SpellsSelector v (after_white (drop 1 (after_white text))) rest
+
+  -- a selector, and others behind commas
+  pub record SpellsList (v : SelectorList) (text rest : List ℕ) : Type 0 where
+    pub one : Combinator × CompoundSelector × Steps
+    pub after : List ℕ
+    pub first : SpellsSelector one text after
+    pub more : List (Combinator × CompoundSelector × Steps)
+    pub run : Run SpellsLater begins_comma more after rest
+    pub is : v ≡ selector_list (one ∷ more)
+
+-- inside the parentheses that open there
+abbrev pub inner_room : Room → Bool → Room
+inner_room room relative = record { depth = room.depth - 1; in_has = room.in_has || relative; is_relative = relative }
+
+-- the lists in parentheses, of which so many may open, in `:has` or not; the list of `:has` or another
+unfoldable pub SpellsWithin : ℕ → Bool → Bool → SelectorList → List ℕ → List ℕ → Type 0
+SpellsWithin zero in_has relative v text rest = ⊥
+SpellsWithin (suc depth) in_has relative v text rest =
+    SpellsList (record { depth = depth; in_has = in_has || relative; is_relative = relative }) (SpellsWithin depth (in_has || relative)) v text rest
+
+abbrev pub SpellsInner : Room → Bool → SelectorList → List ℕ → List ℕ → Type 0
+SpellsInner room = SpellsWithin room.depth room.in_has
+
+-- a selector's text as a whole: 64 parentheses may nest
+abbrev pub whole : Room
+whole = record { depth = 64; in_has = false; is_relative = false }
+
+-- the text stands for the list, with whitespace round it, and has no U+0000
+pub record StandsFor (text : List ℕ) (list : SelectorList) : Type 0 where
+  pub after : List ℕ
+  pub spelled : SpellsList whole (SpellsInner whole) list (after_white text) after
+  pub ends : after_white after ≡ []
+  pub no_zero : list_all (λ c. cond (nat_eq c 0) false true) text ≡ true
+
+-- What stands in the text where a fault is told of it: a colon before an unknown pseudo-class, a number past the limit, the colons
+-- of a `:has` and of that round it, and more parentheses than may open
+abbrev pub stands_for : Room → List ℕ → SelectorFault → Type 0
+stands_for room text UnknownPseudoClass = 1 ≤ how_many colon text
+stands_for room text Number = 1 ≤ how_many_large text
+stands_for room text NestedHas = cond room.in_has 1 2 ≤ how_many colon text
+stands_for room text TooDeep = room.depth + 1 ≤ how_many left_parenthesis text
+stands_for room text Syntax = Unit {0}
+stands_for room text Memory = Unit {0}
+
+-- the same of what follows a pseudo-class's colon
+abbrev pub stands_behind : Room → List ℕ → SelectorFault → Type 0
+stands_behind room text UnknownPseudoClass = Unit {0}
+stands_behind room text Number = 1 ≤ how_many_large text
+stands_behind room text NestedHas = cond room.in_has 0 1 ≤ how_many colon text
+stands_behind room text TooDeep = room.depth + 1 ≤ how_many left_parenthesis text
+stands_behind room text Syntax = Unit {0}
+stands_behind room text Memory = Unit {0}
+
+-- What a call gives that reads something in a room, or what follows a pseudo-class's colon there
+abbrev pub TakesIn : {T A : Type 0} → Room → Result (T × Bor (List ℕ)) SelectorFault → (T → A) → (A → List ℕ → List ℕ → Type 0) → List ℕ → Type 0
+TakesIn room result read Spells text = Takes result read Spells (stands_for room text) text
+
+abbrev pub TakesBehind : {T A : Type 0} → Room → Result (T × Bor (List ℕ)) SelectorFault → (T → A) → (A → List ℕ → List ℕ → Type 0) → List ℕ → Type 0
+TakesBehind room result read Spells text = Takes result read Spells (stands_behind room text) text
+
+-- What a fault tells of the text: that it stands for nothing; an unknown pseudo-class that a colon stands in it, a number that one
+-- past 2147483647 does, a nested `:has` that two colons do, too deep that 65 opening parentheses do
+abbrev pub Refused : List ℕ → SelectorFault → Type 0
+Refused text fault = Refuses (stands_for whole text) fault ((list : SelectorList) → StandsFor text list → ⊥)

@@ -1,0 +1,30 @@
+-- The characters that mini selectors tell apart, and the fronts of a text that they make up.
+use Rattle.std.specs.Prelude.{ℕ, List, Bool, ◌||◌, not, nat_eq, drop}
+use Rattle.std.specs.Char.{is_ascii_alphanumeric}
+use Rattle.std.specs.List.{prefix_len}
+use Rattle.dom_nodes.specs.Ascii.{space, tab, line_feed, carriage_return, hyphen}
+use Rattle.dom_selectors.specs.declared.mini_selector.scan.Stretch.{Stretch}
+use Rattle.dom_selectors.specs.declared.mini_selector.scan.Stretch.TheVariants.{Blank, Word}
+
+abbrev pub is_blank : ℕ → Bool
+is_blank c = nat_eq c space || nat_eq c tab || nat_eq c line_feed || nat_eq c carriage_return
+
+-- an ASCII letter, a digit or `-`
+abbrev pub is_word : ℕ → Bool
+is_word c = is_ascii_alphanumeric c || nat_eq c hyphen
+
+-- the character of a stretch
+abbrev pub passes : Stretch → ℕ → Bool
+passes Blank c = is_blank c
+passes Word c = is_word c
+
+-- another character than this one
+abbrev pub isnt : ℕ → ℕ → Bool
+isnt stop c = not (nat_eq c stop)
+
+-- what follows the characters at the front that pass the test
+abbrev pub after_while : (ℕ → Bool) → List ℕ → List ℕ
+after_while test text = drop (prefix_len test text) text
+
+abbrev pub after_blanks : List ℕ → List ℕ
+after_blanks text = after_while is_blank text

@@ -1,0 +1,46 @@
+-- Of what a mini selector is true.
+use Rattle.std.specs.Prelude.{ℕ, List, Bool, true, false, ◌&&◌, not, Option, Some, None, codes, is_some}
+use Rattle.std.specs.List.{list_all, list_any}
+use Rattle.std.specs.Option.{option_map_or}
+use Rattle.std.specs.Str.{bytes_eq}
+use Rattle.dom_nodes.specs.Attrs.{attr_of, element_of}
+use Rattle.dom_nodes.specs.declared.case_sensitivity.CaseSensitivity.TheVariants.{CaseSensitive}
+use Rattle.dom_nodes.specs.declared.name.Attr.{Attr}
+use Rattle.dom_nodes.specs.declared.node_data.Element.{Element}
+use Rattle.dom_nodes.specs.declared.node_data.NodeData.{NodeData}
+use Rattle.dom_nodes.specs.Words.{class_words, is_among}
+use Rattle.dom_selectors.specs.declared.syntax.AttrOperator.{AttrOperator}
+use Rattle.dom_selectors.specs.Comparisons.{compares, is_empty}
+use Rattle.dom_selectors.specs.MiniSyntax.{Mini}
+
+-- an element of that local name, where one is asked for
+abbrev pub name_holds : Option (List ℕ) → Element → Bool
+name_holds None element = true
+name_holds (Some name) element = bytes_eq element.name.local name
+
+-- the first attribute `id` has that value, where one is asked for
+abbrev pub id_holds : Option (List ℕ) → Element → Bool
+id_holds None element = true
+id_holds (Some id) element = option_map_or (λ value. bytes_eq value id) (attr_of element.attrs (codes "id")) false
+
+-- a value that isn't empty is as the operator says
+abbrev pub test_passes : AttrOperator × List ℕ → List ℕ → Bool
+test_passes test value = not (is_empty value) && compares test.0 CaseSensitive value test.1
+
+abbrev pub attr_passes : List ℕ → AttrOperator × List ℕ → Attr → Bool
+attr_passes key test attr = bytes_eq attr.name.local key && test_passes test attr.value
+
+-- there is an attribute of that local name, or one of them passes the test
+abbrev pub asked_holds : Element → List ℕ → Option (AttrOperator × List ℕ) → Bool
+asked_holds element key None = is_some (attr_of element.attrs key)
+asked_holds element key (Some test) = list_any (attr_passes key test) element.attrs
+
+-- the element is all that is asked for; the classes are words of its first attribute `class`
+abbrev pub element_passes : Mini → Element → Bool
+element_passes mini element = name_holds mini.name element && id_holds mini.id element
+    && list_all (λ class. is_among class (class_words element.attrs)) mini.classes
+    && list_all (λ asked. asked_holds element asked.key asked.test) mini.attrs
+
+-- it is true of elements alone
+abbrev pub node_passes : Mini → NodeData → Bool
+node_passes mini node = option_map_or (element_passes mini) (element_of node) false

@@ -1,0 +1,56 @@
+-- What every part of the grammar is: a relation `Spells value text rest`, which says that the text is a spelling of the value and
+-- then the rest. What goes as long as it can says so itself, so a text has one reading at most, whatever follows.
+use Rattle.std.specs.Prelude.{◌≡◌, ◌≤◌, ℕ, List, [], ◌∷◌, Bool, false, Option, Result, MatchBool, MatchOption, MatchResult}
+use Rattle.std.specs.Borrow.{Bor}
+use Rattle.dom_selectors.specs.declared.fault.SelectorFault.{SelectorFault}
+use Rattle.dom_selectors.specs.declared.fault.SelectorFault.TheVariants.{Syntax, UnknownPseudoClass, Number, NestedHas, TooDeep, Memory}
+use Rattle.dom_selectors.specs.Characters.{how_many_large}
+
+-- one after the other
+abbrev pub Many : {A : Type 0} → (A → List ℕ → List ℕ → Type 0) → List A → List ℕ → List ℕ → Type 0
+Many Spells [] text rest = rest ≡ text
+Many Spells (v ∷ vs) text rest = (mid : List ℕ) × Spells v text mid × Many Spells vs mid rest
+
+-- one after the other, as long as the text goes on
+pub record Run {A : Type 0} (Spells : A → List ℕ → List ℕ → Type 0) (goes_on : List ℕ → Bool) (values : List A) (text rest : List ℕ) : Type 0 where
+  pub each : Many Spells values text rest
+  pub ends : goes_on rest ≡ false
+
+-- the text begins with no spelling
+abbrev pub SpellsNone : {A : Type 0} → (A → List ℕ → List ℕ → Type 0) → List ℕ → Type 0
+SpellsNone {A} Spells text = (v : A) (rest : List ℕ) → Spells v text rest → ⊥
+
+-- What a fault tells where a text may be outside the grammar: that it is, and what else is so where this fault is told. Memory may
+-- be refused whatever the text is
+abbrev pub Refuses : (SelectorFault → Type 0) → SelectorFault → Type 0 → Type 0
+Refuses cause Syntax outside = outside
+Refuses cause UnknownPseudoClass outside = cause UnknownPseudoClass × outside
+Refuses cause Number outside = cause Number × outside
+Refuses cause NestedHas outside = cause NestedHas × outside
+Refuses cause TooDeep outside = cause TooDeep × outside
+Refuses cause Memory outside = Unit {0}
+
+-- where there is no pseudo-class, no fault but `Syntax` and `Memory` comes
+abbrev pub no_other : SelectorFault → Type 0
+no_other fault = ⊥
+
+-- and in `an+b` a number past the limit
+abbrev pub large_stands : List ℕ → SelectorFault → Type 0
+large_stands text Number = 1 ≤ how_many_large text
+large_stands text _ = ⊥
+
+-- the answer tells whether it is so
+abbrev pub Decides : Bool → Type 0 → Type 0
+Decides answer P = MatchBool answer P (P → ⊥)
+
+abbrev pub same : {A : Type 0} → A → A
+same v = v
+
+-- What a call that reads gives: what is spelled at the front of the text and what follows it, or a fault where nothing is spelled
+abbrev pub Takes : {T A : Type 0} → Result (T × Bor (List ℕ)) SelectorFault → (T → A) → (A → List ℕ → List ℕ → Type 0) → (SelectorFault → Type 0) → List ℕ → Type 0
+Takes result read Spells cause text =
+    MatchResult result (λ p. Spells (read p.0) text p.1.now) (λ fault. Refuses cause fault (SpellsNone Spells text))
+
+-- the same where no fault is told
+abbrev pub TakesSome : {T : Type 0} → Option (T × Bor (List ℕ)) → (T → List ℕ → List ℕ → Type 0) → List ℕ → Type 0
+TakesSome result Spells text = MatchOption result (SpellsNone Spells text) (λ p. Spells p.0 text p.1.now)

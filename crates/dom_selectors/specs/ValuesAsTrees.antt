@@ -1,0 +1,58 @@
+-- The selector that a value of the program is.
+use Rattle.std.specs.Prelude.{◌≡◌, List, [], ◌∷◌, ◌++◌, map}
+use Rattle.dom_selectors.specs.declared.syntax.Combinator.{Combinator}
+use Rattle.dom_selectors.specs.declared.syntax.Part.{Part}
+use Rattle.dom_selectors.specs.declared.syntax.Item as items
+use Rattle.dom_selectors.specs.declared.syntax.Item.TheVariants.{Simple, Two, Listed}
+use Rattle.dom_selectors.specs.declared.syntax.Compound.{Compound, Compound-F, fold-Compound}
+use Rattle.dom_selectors.specs.declared.syntax.Nested.{Nested, Nested-F, fold-Nested}
+use Rattle.dom_selectors.specs.declared.syntax.Selector.{Selector, Selector-F, fold-Selector}
+use Rattle.dom_selectors.specs.declared.syntax.Step.{Step, Step-F, fold-Step}
+use Rattle.dom_selectors.specs.Syntax.{CompoundSelector, compound, NestedLists, no_lists, nested, NestedList, some_means, none_means, leads_on, SelectorList, Steps}
+use Rattle.dom_selectors.specs.ListsAsTrees.{Item, simple, two_parts, listed, lists_of, steps_of, selector_list}
+
+-- one layer of a value, with what its children stand for in their place
+abbrev pub nested_layer : Nested-F NestedList CompoundSelector (Combinator × CompoundSelector × Steps) (Combinator × CompoundSelector) → NestedList
+nested_layer (Nested-F.Is list) = some_means (selector_list list.items)
+nested_layer (Nested-F.Not list) = none_means (selector_list list.items)
+nested_layer (Nested-F.Has list) = leads_on (selector_list list.items)
+
+abbrev pub compound_layer : Compound-F NestedList CompoundSelector (Combinator × CompoundSelector × Steps) (Combinator × CompoundSelector) → CompoundSelector
+compound_layer c = compound c.parts.items (lists_of c.nested.items)
+
+abbrev pub selector_layer : Selector-F NestedList CompoundSelector (Combinator × CompoundSelector × Steps) (Combinator × CompoundSelector) → Combinator × CompoundSelector × Steps
+selector_layer s = (s.lead, s.first, steps_of s.rest.items)
+
+abbrev pub step_layer : Step-F NestedList CompoundSelector (Combinator × CompoundSelector × Steps) (Combinator × CompoundSelector) → Combinator × CompoundSelector
+step_layer s = (s.combinator, s.compound)
+
+abbrev pub read_nested : Nested → NestedList
+read_nested = fold-Nested _ _ _ _ nested_layer compound_layer selector_layer step_layer
+
+abbrev pub read_compound : Compound → CompoundSelector
+read_compound = fold-Compound _ _ _ _ nested_layer compound_layer selector_layer step_layer
+
+abbrev pub read_selector : Selector → Combinator × CompoundSelector × Steps
+read_selector = fold-Selector _ _ _ _ nested_layer compound_layer selector_layer step_layer
+
+abbrev pub read_step : Step → Combinator × CompoundSelector
+read_step = fold-Step _ _ _ _ nested_layer compound_layer selector_layer step_layer
+
+abbrev pub read_list : List Selector → SelectorList
+read_list selectors = selector_list (map read_selector selectors)
+
+abbrev pub read_item : items.Item → Item
+read_item (Simple part) = simple part
+read_item (Two part other) = two_parts part other
+read_item (Listed list) = listed (read_nested list)
+
+-- the lists with one more at their end
+abbrev pub lists_then : NestedLists → NestedList → NestedLists
+lists_then no_lists list = nested list no_lists
+lists_then (nested l more) list = nested l (lists_then more list)
+
+-- a part goes to the parts, a list to the lists
+abbrev pub PushesItem : Item → List Part → NestedLists → List Part → NestedLists → Type 0
+PushesItem (simple part) parts lists new_parts made_lists = (new_parts ≡ parts ++ part ∷ []) × (made_lists ≡ lists)
+PushesItem (two_parts part other) parts lists new_parts made_lists = (new_parts ≡ parts ++ part ∷ other ∷ []) × (made_lists ≡ lists)
+PushesItem (listed list) parts lists new_parts made_lists = (new_parts ≡ parts) × (made_lists ≡ lists_then lists list)

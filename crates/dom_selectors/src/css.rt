@@ -1,0 +1,142 @@
+//! Texts and names as CSS writes them.
+
+ghost use Rattle.std.specs.Prelude.{◌≡◌, ◌++◌, ◌∷◌, ◌<◌, [], ℕ, List, chars, encode_utf8_all, IfOk};
+ghost use Rattle.std.specs.Prelude.{OnErr, OnOk, string_bytes};
+ghost use Rattle.std.specs.Char.{digit_char};
+ghost use Rattle.dom_nodes.specs.Ascii.{backslash, space};
+ghost use Rattle.dom_selectors.specs.Css.{css_char, css_text, hex_of, is_control};
+
+use dom_nodes::fault::OutOfMemory;
+use dom_nodes::name::LocalName;
+use dom_nodes::text::Text;
+use std::alloc::{AllocError, Global};
+
+/// What can be written in CSS.
+pub trait ToCss {
+    // What is written, in UTF-8.
+    ghost css: { Self → List ℕ };
+
+    /// Writes it behind the text. Where memory is refused the text stays as it was.
+    fn to_css(&self, out: &mut String) -> Result<(), OutOfMemory>
+        ensures ok { OnOk result (string_bytes out.new ≡ string_bytes out.old ++ css self.now) }
+        ensures err { OnErr result (string_bytes out.new ≡ string_bytes out.old) };
+}
+
+/// A text that is written as a string: in `"`, with `"` and `\` behind a `\`, U+0001 to U+001F and
+/// U+007F as `\`, their number in lower-case hexadecimal and a space, and U+0000 as U+FFFD.
+#[derive(Drop)]
+pub struct CssString(pub Text);
+
+impl CssString {
+    /// The string of that text.
+    pub fn new(alloc: Global, text: &str) -> Result<CssString, OutOfMemory>
+        ensures { IfOk result (λ made. made.0 ≡ text.now) }
+    {
+        Ok(CssString(Text::new(alloc, text)?))
+    }
+
+    /// The same string in memory of its own.
+    pub fn try_clone(&self) -> Result<CssString, OutOfMemory>
+        ensures { IfOk result (λ made. made ≡ self.now) }
+    {
+        Ok(CssString(self.0.try_clone()?))
+    }
+}
+
+impl ToCss for CssString {
+    ghost css = { λ text. css_text text.0 };
+
+    fn to_css(&self, out: &mut String) -> Result<(), OutOfMemory> {
+        let written = in_quotes(*out.allocator(), self.0.as_str())?;
+        out.push_str(written.as_str())?;
+        Ok(())
+    }
+}
+
+/// A local name, which is written as it is.
+#[derive(Drop)]
+pub struct CssLocalName(pub LocalName);
+
+impl CssLocalName {
+    /// That name. Asks for memory only where it isn't known.
+    pub fn new(alloc: Global, name: &str) -> Result<CssLocalName, OutOfMemory>
+        ensures { IfOk result (λ made. made.0 ≡ name.now) }
+    {
+        Ok(CssLocalName(LocalName::new(alloc, name)?))
+    }
+
+    /// The same name.
+    pub fn try_clone(&self) -> Result<CssLocalName, OutOfMemory>
+        ensures { IfOk result (λ made. made ≡ self.now) }
+    {
+        Ok(CssLocalName(self.0.try_clone()?))
+    }
+}
+
+impl ToCss for CssLocalName {
+    ghost css = { λ name. name.0 };
+
+    fn to_css(&self, out: &mut String) -> Result<(), OutOfMemory> {
+        out.push_str(self.0.as_str())?;
+        Ok(())
+    }
+}
+
+/// The text as a string.
+fn in_quotes(alloc: Global, text: &str) -> Result<String, AllocError>
+    ensures { IfOk result (λ written. string_bytes written ≡ css_text text.now) }
+{
+    let mut written = String::new(alloc);
+    written.push('"')?;
+    for c in text.chars() {
+        push_css(&mut written, c)?;
+    }
+    written.push('"')?;
+    Ok(written)
+}
+
+fn is_control(c: char) -> bool
+    ensures { result ≡ is_control c }
+{
+    c < ' ' || c == '\u{7f}'
+}
+
+/// Adds a character of a string.
+fn push_css(out: &mut String, c: char) -> Result<(), AllocError>
+    ensures { OnOk result
+        (string_bytes out.new ≡ string_bytes out.old ++ encode_utf8_all (css_char c)) }
+{
+    if c == '\0' {
+        return out.push('\u{fffd}');
+    }
+    if is_control(c) {
+        return push_number(out, c);
+    }
+    if c == '"' || c == '\\' {
+        out.push('\\')?;
+    }
+    out.push(c)
+}
+
+/// Adds a `\`, the number of a control character, and a space.
+fn push_number(out: &mut String, c: char) -> Result<(), AllocError>
+    requires { c < 256 }
+    ensures { OnOk result (string_bytes out.new
+        ≡ string_bytes out.old ++ encode_utf8_all (backslash ∷ hex_of c ++ space ∷ [])) }
+{
+    let number = c as u32;
+    out.push('\\')?;
+    if number >= 16 {
+        out.push(hex_digit(number / 16))?;
+    }
+    out.push(hex_digit(number % 16))?;
+    out.push(' ')
+}
+
+/// The character of a hexadecimal digit.
+fn hex_digit(digit: u32) -> char
+    requires { digit < 16 }
+    ensures { result ≡ digit_char digit }
+{
+    char::from_digit(digit, 16).unwrap_or('0')
+}

@@ -1,0 +1,19 @@
+//! What a selector's text stands for: selectors of CSS and mini selectors, their texts and copies.
+#![tactic(auto)]
+
+pub(crate) mod attributes;
+pub mod comparisons;
+pub mod copies;
+pub mod css;
+pub mod fault;
+pub mod laws;
+pub mod mini_selector;
+pub(crate) mod names;
+pub(crate) mod nth;
+pub mod parser;
+pub mod pseudo_class;
+pub(crate) mod pseudos;
+pub(crate) mod strings;
+pub mod syntax;
+#[cfg(test)]
+mod tests;

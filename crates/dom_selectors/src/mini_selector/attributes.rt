@@ -1,0 +1,141 @@
+//! Reads the attributes of a mini selector.
+
+ghost use Rattle.std.specs.Prelude.{◌≡◌, map, nat_eq, MatchOption, MatchResult};
+ghost use Rattle.dom_nodes.specs.Ascii.{right_bracket};
+ghost use Rattle.dom_selectors.specs.Characters.{begins};
+ghost use Rattle.dom_selectors.specs.MiniGrammar.{IsBadAttr, IsBadTest, IsPlainlyNone, Maybe};
+ghost use Rattle.dom_selectors.specs.MiniGrammar.{MeetsBad, SpellsAttr, SpellsAttrs, SpellsBare};
+ghost use Rattle.dom_selectors.specs.MiniGrammar.{SpellsQuoted, SpellsTest, TellsBad};
+ghost use Rattle.dom_selectors.specs.MiniSyntax.{asked_of, shown_test};
+ghost use Rattle.dom_selectors.specs.Spelling.{SpellsNone};
+ghost use Rattle.dom_selectors.specs.Strings.{is_quote};
+
+use crate::mini_selector::fault::MiniFault;
+use crate::mini_selector::scan::{
+    after_blanks, split_ascii, split_before, strip, take_operator, take_word,
+};
+use crate::mini_selector::selector::MiniAttr;
+use crate::syntax::AttrOperator;
+use std::alloc::Global;
+
+fn is_quote(byte: u8) -> bool
+    ensures { result ≡ is_quote byte }
+{
+    byte == b'"' || byte == b'\''
+}
+
+fn begins_quote(text: &str) -> bool
+    ensures { result ≡ begins is_quote text.now }
+{
+    match text.as_bytes() {
+        [] => false,
+        [first, ..] => is_quote(*first),
+    }
+}
+
+fn begins_bracket(text: &str) -> bool
+    ensures { result ≡ begins (λ c. nat_eq c right_bracket) text.now }
+{
+    matches!(text.as_bytes(), [b']', ..])
+}
+
+/// The value in quotes at the front, without them, and what follows it.
+fn take_quoted(text: &str) -> Option<(&str, &str)>
+    ensures { MatchOption result (SpellsNone SpellsQuoted text.now)
+        (λ p. SpellsQuoted p.0.now text.now p.1.now) }
+{
+    let Some((quote, inside)) = split_ascii(text) else {
+        return None;
+    };
+    if !is_quote(quote) {
+        return None;
+    }
+    let (value, closing) = split_before(inside, quote);
+    if value.is_empty() {
+        return None;
+    }
+    let Some(rest) = strip(closing, char::from(quote)) else {
+        return None;
+    };
+    Some((value, rest))
+}
+
+/// The bare value at the front, and what follows it.
+fn take_bare(text: &str) -> Option<(&str, &str)>
+    ensures { MatchOption result (SpellsNone SpellsBare text.now)
+        (λ p. SpellsBare p.0.now text.now p.1.now) }
+{
+    let (value, rest) = split_before(text, b']');
+    if value.is_empty() {
+        return None;
+    }
+    Some((value, rest))
+}
+
+/// How an attribute's value is compared with which text.
+type Test<'a> = (AttrOperator, &'a str);
+
+/// The test at the front, if there is one, and what follows it.
+fn take_test(text: &str) -> Result<Option<(Test<'_>, &str)>, MiniFault>
+    ensures { MatchResult result
+        (λ found. MatchOption found (IsPlainlyNone SpellsTest IsBadTest text.now)
+        (λ p. SpellsTest (shown_test p.0) text.now p.1.now))
+        (λ fault. TellsBad fault (IsBadTest text.now)) }
+{
+    let Some((operator, after)) = take_operator(after_blanks(text)) else {
+        return Ok(None);
+    };
+    let written = after_blanks(after);
+    if begins_quote(written) {
+        let Some((value, rest)) = take_quoted(written) else {
+            return Err(MiniFault::BadQuotedValue);
+        };
+        return Ok(Some(((operator, value), rest)));
+    }
+    let Some((value, rest)) = take_bare(written) else {
+        return Ok(None);
+    };
+    Ok(Some(((operator, value), rest)))
+}
+
+/// The attribute at the front, if there is one, and what follows it.
+fn take_attr(text: &str) -> Result<Option<(MiniAttr<'_>, &str)>, MiniFault>
+    ensures { MatchResult result
+        (λ found. MatchOption found (IsPlainlyNone SpellsAttr IsBadAttr text.now)
+        (λ p. SpellsAttr (asked_of p.0) text.now p.1.now))
+        (λ fault. TellsBad fault (IsBadAttr text.now)) }
+{
+    let Some(inside) = strip(text, '[') else {
+        return Ok(None);
+    };
+    let Some((key, after_key)) = take_word(inside) else {
+        return Ok(None);
+    };
+    let (test, after_test) = match take_test(after_key)? {
+        Some((test, after)) => (Some(test), after),
+        None => (None, after_key),
+    };
+    let Some(rest) = strip(after_test, ']') else {
+        return Ok(None);
+    };
+    if begins_bracket(rest) {
+        return Ok(None);
+    }
+    Ok(Some((MiniAttr { key, test }, rest)))
+}
+
+/// The attributes at the front, and what follows them.
+pub(crate) fn take_attrs(alloc: Global, text: &str) -> Result<(Vec<MiniAttr<'_>>, &str), MiniFault>
+    ensures { MatchResult result (λ p. SpellsAttrs (map asked_of p.0.items) text.now p.1.now)
+        (λ fault. TellsBad fault (MeetsBad SpellsAttr IsBadAttr text.now)) }
+{
+    let mut attrs = Vec::new(alloc);
+    let mut rest = text;
+    loop {
+        let Some((attr, after)) = take_attr(rest)? else {
+            return Ok((attrs, rest));
+        };
+        attrs.push(attr)?;
+        rest = after;
+    }
+}

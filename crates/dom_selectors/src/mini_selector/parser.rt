@@ -1,0 +1,119 @@
+//! Reads mini selectors, and lists of them.
+
+ghost use Rattle.std.specs.Prelude.{◌≡◌, map, IfOk, MatchOption, MatchResult};
+ghost use Rattle.std.specs.Option.{option_copied};
+ghost use Rattle.dom_selectors.specs.MiniGrammar.{IsBadStep, IsPlainlyNone, Maybe, RefusesMini};
+ghost use Rattle.dom_selectors.specs.MiniGrammar.{RefusesPath, SpellsClasses, SpellsId, SpellsLead};
+ghost use Rattle.dom_selectors.specs.MiniGrammar.{SpellsMini, SpellsPath, SpellsStep, SpellsWord};
+ghost use Rattle.dom_selectors.specs.MiniGrammar.{TellsBad};
+ghost use Rattle.dom_selectors.specs.MiniSyntax.{texts_of};
+
+use crate::mini_selector::attributes::take_attrs;
+use crate::mini_selector::fault::MiniFault;
+use crate::mini_selector::scan::{after_blanks, take_lead, take_marked, take_word};
+use crate::mini_selector::selector::MiniSelector;
+use crate::syntax::Combinator;
+use std::alloc::{AllocFailed, Global};
+
+/// The combinator at the front, if there is one, and what follows it.
+fn maybe_lead(text: &str) -> (Option<Combinator>, &str)
+    ensures { Maybe SpellsLead result.0 text.now result.1.now }
+{
+    match take_lead(text) {
+        Some((combinator, rest)) => (Some(combinator), rest),
+        None => (None, text),
+    }
+}
+
+/// The name at the front, if there is one, and what follows it.
+fn maybe_name(text: &str) -> (Option<&str>, &str)
+    ensures { Maybe SpellsWord (option_copied result.0) text.now result.1.now }
+{
+    match take_word(text) {
+        Some((word, rest)) => (Some(word), rest),
+        None => (None, text),
+    }
+}
+
+/// The id at the front, if there is one, and what follows it.
+fn maybe_id(text: &str) -> (Option<&str>, &str)
+    ensures { Maybe SpellsId (option_copied result.0) text.now result.1.now }
+{
+    match take_marked(text, '#') {
+        Some((word, rest)) => (Some(word), rest),
+        None => (None, text),
+    }
+}
+
+/// The classes at the front, and what follows them.
+fn take_classes(alloc: Global, text: &str) -> Result<(Vec<&str>, &str), MiniFault>
+    ensures { MatchResult result (λ p. SpellsClasses (texts_of p.0.items) text.now p.1.now)
+        (λ fault. TellsBad fault ⊥) }
+{
+    let mut classes = Vec::new(alloc);
+    let mut rest = text;
+    while let Some((class, after)) = take_marked(rest, '.') {
+        classes.push(class)?;
+        rest = after;
+    }
+    Ok((classes, rest))
+}
+
+/// The mini selector at the front, and what is left behind it: `NoSelector` where none can be read,
+/// and `BadQuotedValue` where one of its attributes has a value that begins with a quote and is
+/// empty or not closed by that quote.
+pub fn parse_mini_selector(alloc: Global, text: &str) -> Result<(&str, MiniSelector<'_>), MiniFault>
+    ensures { MatchResult result (λ p. SpellsMini p.1 text.now p.0.now)
+        (λ fault. RefusesMini fault text.now) }
+{
+    let (lead, after_lead) = maybe_lead(text);
+    let (name, after_name) = maybe_name(after_lead);
+    let (id, after_id) = maybe_id(after_name);
+    let (classes, after_classes) = take_classes(alloc, after_id)?;
+    let (attrs, rest) = take_attrs(alloc, after_classes)?;
+    let mini = MiniSelector {
+        lead,
+        name,
+        id,
+        classes,
+        attrs,
+    };
+    if !mini.has_part() {
+        return Err(MiniFault::NoSelector);
+    }
+    Ok((rest, mini))
+}
+
+/// The mini selector at the front with the blanks round it, if there is one, and what follows it.
+fn take_step(alloc: Global, text: &str) -> Result<Option<(MiniSelector<'_>, &str)>, MiniFault>
+    ensures { MatchResult result
+        (λ found. MatchOption found (IsPlainlyNone SpellsStep IsBadStep text.now)
+        (λ p. SpellsStep p.0 text.now p.1.now))
+        (λ fault. TellsBad fault (IsBadStep text.now)) }
+{
+    match parse_mini_selector(alloc, after_blanks(text)) {
+        Ok((rest, mini)) => Ok(Some((mini, after_blanks(rest)))),
+        Err(MiniFault::NoSelector) => Ok(None),
+        Err(fault) => Err(fault),
+    }
+}
+
+/// As many mini selectors as can be read, maybe none, and what is left behind them; blanks may
+/// stand round each. Only a `BadQuotedValue` refuses the list.
+pub fn parse_selector_list(
+    alloc: Global,
+    text: &str,
+) -> Result<(&str, Vec<MiniSelector<'_>>), MiniFault>
+    ensures { MatchResult result (λ p. SpellsPath p.1.items text.now p.0.now)
+        (λ fault. RefusesPath fault text.now) }
+{
+    let mut minis = Vec::new(alloc);
+    let mut rest = text;
+    loop {
+        let Some((mini, after)) = take_step(alloc, rest)? else {
+            return Ok((rest, minis));
+        };
+        minis.push(mini)?;
+        rest = after;
+    }
+}

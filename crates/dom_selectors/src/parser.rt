@@ -1,0 +1,502 @@
+//! Reads selectors, over their characters.
+
+ghost use Rattle.std.specs.Prelude.{◌≡◌, ◌<◌, ◌++◌, ◌∷◌, [], ℕ, List, chars, map, Bool, true};
+ghost use Rattle.std.specs.Prelude.{false, cond, nat_eq, IfOk, MatchResult, OnOk};
+ghost use Rattle.std.specs.Char.{is_ascii_whitespace};
+ghost use Rattle.std.specs.List.{list_all};
+ghost use Rattle.dom_nodes.specs.Ascii.{right_parenthesis};
+ghost use Rattle.dom_selectors.specs.Characters.{after_white, begins};
+ghost use Rattle.dom_selectors.specs.Grammar.{Opens, Refused, StandsFor, TakesBehind, TakesIn};
+ghost use Rattle.dom_selectors.specs.Grammar.{SpellsCombinator, SpellsCompound, SpellsEnclosed};
+ghost use Rattle.dom_selectors.specs.Grammar.{SpellsForm, SpellsInner, SpellsItem, SpellsLater};
+ghost use Rattle.dom_selectors.specs.Grammar.{SpellsLead, SpellsList, SpellsListed, SpellsPlain};
+ghost use Rattle.dom_selectors.specs.Grammar.{SpellsPseudo, SpellsSelector, SpellsStep, SpellsType};
+ghost use Rattle.dom_selectors.specs.Grammar.{begins_comma, begins_compound, begins_item, begins_open};
+ghost use Rattle.dom_selectors.specs.Grammar.{begins_step, combinator_of, inner_room, is_combinator};
+ghost use Rattle.dom_selectors.specs.Grammar.{is_star, stands_behind, stands_for, whole};
+ghost use Rattle.dom_selectors.specs.ListsAsTrees.{Item, lists_of};
+ghost use Rattle.dom_selectors.specs.Nth.{SpellsNth};
+ghost use Rattle.dom_selectors.specs.Strings.{SpellsString};
+ghost use Rattle.dom_selectors.specs.Spelling.{Refuses, TakesSome, Takes, no_other, same};
+ghost use Rattle.dom_selectors.specs.ValuesAsTrees.{PushesItem, lists_then, read_compound, read_item};
+ghost use Rattle.dom_selectors.specs.ValuesAsTrees.{read_list, read_nested, read_selector, read_step};
+
+use crate::attributes::{after_char, take_attribute};
+use crate::fault::SelectorFault;
+use crate::names::{after_white, starts_name, take_name};
+use crate::nth::take_nth;
+use crate::pseudos::{bare_item, is_relative, pseudo_of, quantified, text_part};
+use crate::strings::take_string;
+use crate::syntax::{
+    Bare, Combinator, Compound, Item, Nested, Part, Position, Pseudo, Quantifier, Room, Selector,
+    Step, TextTest,
+};
+use dom_links::indexes::Nth;
+use dom_nodes::text::Text;
+use std::alloc::{AllocError, Global};
+
+fn begins_item(text: &[char]) -> bool
+    ensures { result ≡ begins_item text.now }
+{
+    matches!(text, ['#' | '.' | '[' | ':', ..])
+}
+
+fn begins_star(text: &[char]) -> bool
+    ensures { result ≡ begins is_star text.now }
+{
+    matches!(text, ['*', ..])
+}
+
+fn begins_compound(text: &[char]) -> bool
+    ensures { result ≡ begins_compound text.now }
+{
+    begins_star(text) || starts_name(text) || begins_item(text)
+}
+
+fn begins_open(text: &[char]) -> bool
+    ensures { result ≡ begins_open text.now }
+{
+    matches!(text, ['(', ..])
+}
+
+/// What follows the parenthesis at the front and whitespace.
+fn take_opening(room: Room, text: &[char]) -> Result<&[char], SelectorFault>
+    ensures { MatchResult result (λ rest. Opens room.depth text.now rest.now)
+        (λ fault. Refuses (stands_behind room text.now) fault
+        ((rest : List ℕ) → Opens room.depth text.now rest → ⊥)) }
+{
+    let Some(inside) = after_char(text, '(') else {
+        return Err(SelectorFault::UnknownPseudoClass);
+    };
+    if room.depth == 0 {
+        return Err(SelectorFault::TooDeep);
+    }
+    Ok(after_white(inside))
+}
+
+/// What follows whitespace and the parenthesis that closes.
+fn take_closing(text: &[char]) -> Result<&[char], SelectorFault>
+    ensures { MatchResult result (λ rest. after_white text.now ≡ right_parenthesis ∷ rest.now)
+        (λ fault. Refuses no_other fault
+        ((rest : List ℕ) → after_white text.now ≡ right_parenthesis ∷ rest → ⊥)) }
+{
+    match after_char(after_white(text), ')') {
+        Some(rest) => Ok(rest),
+        None => Err(SelectorFault::Syntax),
+    }
+}
+
+/// The part of a pseudo-class without parentheses, and what follows it.
+fn take_plain(room: Room, bare: Bare, text: &[char]) -> Result<(Item, &[char]), SelectorFault>
+    ensures { TakesBehind room result read_item (SpellsPlain bare) text.now }
+{
+    if begins_open(text) {
+        return Err(SelectorFault::UnknownPseudoClass);
+    }
+    Ok((bare_item(bare), text))
+}
+
+/// The `an+b` in parentheses, and what follows it.
+fn take_enclosed_nth(room: Room, text: &[char]) -> Result<(Nth, &[char]), SelectorFault>
+    ensures { TakesBehind room result same (SpellsEnclosed room.depth SpellsNth) text.now }
+{
+    let inside = take_opening(room, text)?;
+    let (nth, after) = take_nth(inside)?;
+    let rest = take_closing(after)?;
+    Ok((nth, rest))
+}
+
+/// The string in parentheses, and what follows it.
+fn take_enclosed_string(
+    alloc: Global,
+    room: Room,
+    text: &[char],
+) -> Result<(Text, &[char]), SelectorFault>
+    ensures { TakesBehind room result same (SpellsEnclosed room.depth SpellsString) text.now }
+{
+    let inside = take_opening(room, text)?;
+    let (string, after) = take_string(alloc, inside)?;
+    let rest = take_closing(after)?;
+    Ok((string, rest))
+}
+
+/// The room between parentheses that open here.
+fn inner_room(room: Room, relative: bool) -> Room
+    requires { 0 < room.depth }
+    ensures { result ≡ inner_room room relative }
+{
+    Room {
+        depth: room.depth - 1,
+        in_has: room.in_has || relative,
+        is_relative: relative,
+    }
+}
+
+/// The list in parentheses at the front, and what follows it.
+#[cycle(lists)]
+fn take_enclosed(
+    alloc: Global,
+    room: Room,
+    relative: bool,
+    text: &[char],
+) -> Result<(Vec<Selector>, &[char]), SelectorFault>
+    ensures { TakesBehind room result (λ list. read_list list.items)
+        (SpellsEnclosed room.depth (SpellsInner room relative)) text.now }
+{
+    let inside = take_opening(room, text)?;
+    let (list, after) = take_list(alloc, inner_room(room, relative), inside)?;
+    let rest = take_closing(after)?;
+    Ok((list, rest))
+}
+
+/// The list of a pseudo-class, and what follows it.
+#[cycle(lists)]
+fn take_listed(
+    alloc: Global,
+    room: Room,
+    quantifier: Quantifier,
+    text: &[char],
+) -> Result<(Item, &[char]), SelectorFault>
+    ensures { TakesBehind room result read_item
+        (SpellsListed room (SpellsInner room) quantifier) text.now }
+{
+    let relative = is_relative(quantifier);
+    if relative && room.in_has {
+        return Err(SelectorFault::NestedHas);
+    }
+    let (list, rest) = take_enclosed(alloc, room, relative, text)?;
+    Ok((Item::Listed(quantified(quantifier, list)), rest))
+}
+
+/// What belongs to the name of a pseudo-class, and what follows it.
+#[cycle(lists)]
+fn take_form(
+    alloc: Global,
+    room: Room,
+    pseudo: Pseudo,
+    text: &[char],
+) -> Result<(Item, &[char]), SelectorFault>
+    ensures { TakesBehind room result read_item
+        (SpellsForm room (SpellsInner room) pseudo) text.now }
+{
+    match pseudo {
+        Pseudo::Plain(bare) => take_plain(room, bare, text),
+        Pseudo::Listed(quantifier) => take_listed(alloc, room, quantifier, text),
+        Pseudo::Nth(kind) => {
+            let (nth, rest) = take_enclosed_nth(room, text)?;
+            Ok((Item::Simple(Part::Position(Position { kind, nth })), rest))
+        }
+        Pseudo::Text(test) => {
+            let (string, rest) = take_enclosed_string(alloc, room, text)?;
+            Ok((Item::Simple(text_part(test, string)), rest))
+        }
+    }
+}
+
+/// The pseudo-class behind its colon, and what follows it.
+#[cycle(lists)]
+fn take_pseudo(alloc: Global, room: Room, text: &[char]) -> Result<(Item, &[char]), SelectorFault>
+    ensures { TakesBehind room result read_item (SpellsPseudo room (SpellsInner room)) text.now }
+{
+    let (name, after) = take_name(alloc, text)?;
+    let Some(pseudo) = pseudo_of(name.as_str()) else {
+        return Err(SelectorFault::UnknownPseudoClass);
+    };
+    take_form(alloc, room, pseudo, after)
+}
+
+/// The part or list at the front, and what follows it.
+#[cycle(lists)]
+fn take_item(alloc: Global, room: Room, text: &[char]) -> Result<(Item, &[char]), SelectorFault>
+    ensures { TakesIn room result read_item (SpellsItem room (SpellsInner room)) text.now }
+{
+    let Some((sign, more)) = text.split_first() else {
+        return Err(SelectorFault::Syntax);
+    };
+    if *sign == '#' {
+        let (name, rest) = take_name(alloc, more)?;
+        return Ok((Item::Simple(Part::Id(name)), rest));
+    }
+    if *sign == '.' {
+        let (name, rest) = take_name(alloc, more)?;
+        return Ok((Item::Simple(Part::Class(name)), rest));
+    }
+    if *sign == '[' {
+        let (attribute, rest) = take_attribute(alloc, more)?;
+        return Ok((Item::Simple(Part::Attribute(attribute)), rest));
+    }
+    if *sign != ':' {
+        return Err(SelectorFault::Syntax);
+    }
+    take_pseudo(alloc, room, more)
+}
+
+/// The type at the front if there is one, and what follows it.
+fn take_type(alloc: Global, text: &[char]) -> Result<(Vec<Part>, &[char]), SelectorFault>
+    ensures { Takes result (λ v. v.items) SpellsType no_other text.now }
+{
+    let mut parts = Vec::new(alloc);
+    if begins_star(text) {
+        parts.push(Part::Universal)?;
+        return Ok((parts, &text[1..]));
+    }
+    if !starts_name(text) {
+        return Ok((parts, text));
+    }
+    let (name, rest) = take_name(alloc, text)?;
+    parts.push(Part::Type(name))?;
+    Ok((parts, rest))
+}
+
+fn push_part(parts: &mut Vec<Part>, part: Part) -> Result<(), AllocError>
+    ensures { OnOk result (parts.new.items ≡ parts.old.items ++ part ∷ []) }
+{
+    parts.push(part)?;
+    Ok(())
+}
+
+fn push_list(nested: &mut Vec<Nested>, list: Nested) -> Result<(), AllocError>
+    ensures { OnOk result (lists_of (map read_nested nested.new.items)
+        ≡ lists_then (lists_of (map read_nested nested.old.items)) (read_nested list)) }
+{
+    nested.push(list)?;
+    Ok(())
+}
+
+/// Adds a part to the parts, or a list to the lists.
+fn push_item(parts: &mut Vec<Part>, nested: &mut Vec<Nested>, item: Item) -> Result<(), AllocError>
+    ensures { OnOk result (PushesItem (read_item item)
+        parts.old.items (lists_of (map read_nested nested.old.items))
+        parts.new.items (lists_of (map read_nested nested.new.items))) }
+{
+    match item {
+        Item::Simple(part) => push_part(parts, part),
+        Item::Two(part, other) => {
+            push_part(parts, part)?;
+            push_part(parts, other)
+        }
+        Item::Listed(list) => push_list(nested, list),
+    }
+}
+
+/// The compound at the front, and what follows it.
+#[cycle(lists)]
+fn take_compound(
+    alloc: Global,
+    room: Room,
+    text: &[char],
+) -> Result<(Compound, &[char]), SelectorFault>
+    ensures { TakesIn room result read_compound (SpellsCompound room (SpellsInner room)) text.now }
+{
+    if !begins_compound(text) {
+        return Err(SelectorFault::Syntax);
+    }
+    let (front, after) = take_type(alloc, text)?;
+    let mut parts = front;
+    let mut nested = Vec::new(alloc);
+    let mut rest = after;
+    while begins_item(rest) {
+        let (item, more) = take_item(alloc, room, rest)?;
+        push_item(&mut parts, &mut nested, item)?;
+        rest = more;
+    }
+    Ok((Compound { parts, nested }, rest))
+}
+
+fn combinator_of(c: char) -> Option<Combinator>
+    ensures { result ≡ combinator_of c }
+{
+    match c {
+        '>' => Some(Combinator::Child),
+        '+' => Some(Combinator::Adjacent),
+        '~' => Some(Combinator::Sibling),
+        _ => None,
+    }
+}
+
+/// The combinator at the front, behind whitespace, and what follows it.
+fn take_combinator(text: &[char]) -> Option<(Combinator, &[char])>
+    ensures { TakesSome result SpellsCombinator text.now }
+{
+    let Some((c, more)) = text.split_first() else {
+        return None;
+    };
+    let Some(combinator) = combinator_of(*c) else {
+        return Some((Combinator::Descendant, text));
+    };
+    Some((combinator, after_white(more)))
+}
+
+fn begins_sign(text: &[char]) -> bool
+    ensures { result ≡ begins is_combinator text.now }
+{
+    matches!(text, ['>' | '+' | '~', ..])
+}
+
+fn begins_white(text: &[char]) -> bool
+    ensures { result ≡ begins is_ascii_whitespace text.now }
+{
+    match text {
+        [] => false,
+        [c, ..] => c.is_ascii_whitespace(),
+    }
+}
+
+fn begins_step(text: &[char]) -> bool
+    ensures { result ≡ begins_step text.now }
+{
+    let rest = after_white(text);
+    begins_sign(rest) || (begins_white(text) && begins_compound(rest))
+}
+
+/// The combinator and compound at the front, and what follows them.
+#[cycle(lists)]
+fn take_step(alloc: Global, room: Room, text: &[char]) -> Result<(Step, &[char]), SelectorFault>
+    ensures { TakesIn room result read_step (SpellsStep room (SpellsInner room)) text.now }
+{
+    if !begins_step(text) {
+        return Err(SelectorFault::Syntax);
+    }
+    let Some((combinator, mid)) = take_combinator(after_white(text)) else {
+        return Err(SelectorFault::Syntax);
+    };
+    let (compound, rest) = take_compound(alloc, room, mid)?;
+    Ok((
+        Step {
+            combinator,
+            compound,
+        },
+        rest,
+    ))
+}
+
+/// The combinator that a selector begins with, where it may, and what follows it.
+fn take_lead(relative: bool, text: &[char]) -> (Combinator, &[char])
+    ensures { SpellsLead relative result.0 text.now result.1.now }
+{
+    if !relative {
+        return (Combinator::Descendant, text);
+    }
+    let Some((c, more)) = text.split_first() else {
+        return (Combinator::Descendant, text);
+    };
+    let Some(combinator) = combinator_of(*c) else {
+        return (Combinator::Descendant, text);
+    };
+    (combinator, after_white(more))
+}
+
+/// The selector at the front, and what follows it.
+#[cycle(lists)]
+fn take_selector(
+    alloc: Global,
+    room: Room,
+    text: &[char],
+) -> Result<(Selector, &[char]), SelectorFault>
+    ensures { TakesIn room result read_selector (SpellsSelector room (SpellsInner room)) text.now }
+{
+    let (lead, begin) = take_lead(room.is_relative, text);
+    let (first, after) = take_compound(alloc, room, begin)?;
+    let mut steps = Vec::new(alloc);
+    let mut rest = after;
+    while begins_step(rest) {
+        let (step, more) = take_step(alloc, room, rest)?;
+        steps.push(step)?;
+        rest = more;
+    }
+    Ok((
+        Selector {
+            lead,
+            first,
+            rest: steps,
+        },
+        rest,
+    ))
+}
+
+fn begins_comma(text: &[char]) -> bool
+    ensures { result ≡ begins_comma text.now }
+{
+    matches!(after_white(text), [',', ..])
+}
+
+/// The comma and selector at the front, and what follows them.
+#[cycle(lists)]
+fn take_later(
+    alloc: Global,
+    room: Room,
+    text: &[char],
+) -> Result<(Selector, &[char]), SelectorFault>
+    ensures { TakesIn room result read_selector (SpellsLater room (SpellsInner room)) text.now }
+{
+    let Some(rest) = after_char(after_white(text), ',') else {
+        return Err(SelectorFault::Syntax);
+    };
+    take_selector(alloc, room, after_white(rest))
+}
+
+/// The list at the front, and what follows it.
+#[cycle(lists)]
+fn take_list(
+    alloc: Global,
+    room: Room,
+    text: &[char],
+) -> Result<(Vec<Selector>, &[char]), SelectorFault>
+    ensures { TakesIn room result (λ list. read_list list.items)
+        (SpellsList room (SpellsInner room)) text.now }
+{
+    let (first, after) = take_selector(alloc, room, text)?;
+    let mut list = Vec::new(alloc);
+    list.push(first)?;
+    let mut rest = after;
+    while begins_comma(rest) {
+        let (selector, more) = take_later(alloc, room, rest)?;
+        list.push(selector)?;
+        rest = more;
+    }
+    Ok((list, rest))
+}
+
+fn has_no_zero(text: &[char]) -> bool
+    ensures { result ≡ list_all (λ c. cond (nat_eq c 0) false true) text.now }
+{
+    text.iter().all(|c| *c != '\0')
+}
+
+/// The characters of a text.
+fn letters(alloc: Global, text: &str) -> Result<Vec<char>, AllocError>
+    ensures { IfOk result (λ letters. letters.items ≡ chars text.now) }
+{
+    text.chars().collect(alloc)
+}
+
+/// The selectors that the characters stand for.
+fn parse(alloc: Global, text: &[char]) -> Result<Vec<Selector>, SelectorFault>
+    ensures { MatchResult result (λ list. StandsFor text.now (read_list list.items))
+        (λ fault. Refused text.now fault) }
+{
+    if !has_no_zero(text) {
+        return Err(SelectorFault::Syntax);
+    }
+    let whole = Room {
+        depth: 64,
+        in_has: false,
+        is_relative: false,
+    };
+    let (list, after) = take_list(alloc, whole, after_white(text))?;
+    if !after_white(after).is_empty() {
+        return Err(SelectorFault::Syntax);
+    }
+    Ok(list)
+}
+
+/// The selectors that a text stands for. `UnknownPseudoClass` comes only where the text stands for
+/// nothing and has a `:`, `TooDeep` only where it stands for nothing and has 65 `(`, `Memory` where
+/// memory is refused, and `Syntax` where it stands for nothing.
+pub fn parse_selectors(alloc: Global, text: &str) -> Result<Vec<Selector>, SelectorFault>
+    ensures { MatchResult result (λ list. StandsFor (chars text.now) (read_list list.items))
+        (λ fault. Refused (chars text.now) fault) }
+{
+    let letters = letters(alloc, text)?;
+    parse(alloc, &letters)
+}

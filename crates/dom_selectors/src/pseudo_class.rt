@@ -1,0 +1,97 @@
+//! Pseudo-classes that nodes are asked for, and pseudo-elements, of which there are none.
+
+ghost use Rattle.std.specs.Prelude.{◌≡◌, ◌++◌, IfOk, OnOk, string_bytes};
+ghost use Rattle.dom_selectors.specs.PseudoTexts.{pseudo_css, pseudo_name, pseudo_rest};
+
+use crate::css::{CssString, ToCss};
+use dom_nodes::fault::OutOfMemory;
+use std::alloc::Global;
+
+/// A pseudo-class that looks at more than where an element stands.
+#[derive(Drop)]
+pub enum NonTSPseudoClass {
+    AnyLink,
+    Link,
+    Visited,
+    Active,
+    Focus,
+    Hover,
+    Enabled,
+    Disabled,
+    Checked,
+    Indeterminate,
+    /// `:only-text`: exactly one child, a text that isn't blank.
+    OnlyText,
+    /// `:has-text(..)`: a text at or below the node contains this one.
+    HasText(CssString),
+    /// `:contains(..)`: the texts at and below the node, joined, contain this one.
+    Contains(CssString),
+}
+
+impl ToCss for NonTSPseudoClass {
+    ghost css = { pseudo_css };
+
+    fn to_css(&self, out: &mut String) -> Result<(), OutOfMemory> {
+        let written = written(*out.allocator(), self)?;
+        out.push_str(written.as_str())?;
+        Ok(())
+    }
+}
+
+/// The pseudo-class as a selector has it.
+fn written(alloc: Global, pseudo: &NonTSPseudoClass) -> Result<String, OutOfMemory>
+    ensures { IfOk result (λ text. string_bytes text ≡ pseudo_css pseudo.now) }
+{
+    let mut written = String::from_str(alloc, name_of(pseudo))?;
+    push_rest(&mut written, pseudo)?;
+    Ok(written)
+}
+
+/// Adds the text that the pseudo-class asks for, and `)`.
+fn push_rest(out: &mut String, pseudo: &NonTSPseudoClass) -> Result<(), OutOfMemory>
+    ensures { OnOk result (string_bytes out.new ≡ string_bytes out.old ++ pseudo_rest pseudo.now) }
+{
+    match pseudo {
+        NonTSPseudoClass::HasText(text) | NonTSPseudoClass::Contains(text) => {
+            text.to_css(out)?;
+            out.push_str(")")?;
+            Ok(())
+        }
+        _ => Ok(()),
+    }
+}
+
+/// What stands before the text that it asks for.
+fn name_of(pseudo: &NonTSPseudoClass) -> &'static str
+    ensures { result.now ≡ pseudo_name pseudo.now }
+{
+    match pseudo {
+        NonTSPseudoClass::AnyLink => ":any-link",
+        NonTSPseudoClass::Link => ":link",
+        NonTSPseudoClass::Visited => ":visited",
+        NonTSPseudoClass::Active => ":active",
+        NonTSPseudoClass::Focus => ":focus",
+        NonTSPseudoClass::Hover => ":hover",
+        NonTSPseudoClass::Enabled => ":enabled",
+        NonTSPseudoClass::Disabled => ":disabled",
+        NonTSPseudoClass::Checked => ":checked",
+        NonTSPseudoClass::Indeterminate => ":indeterminate",
+        NonTSPseudoClass::OnlyText => ":only-text",
+        NonTSPseudoClass::HasText(_) => ":has-text(",
+        NonTSPseudoClass::Contains(_) => ":contains(",
+    }
+}
+
+/// A pseudo-element. There is none to select, and it is written as nothing.
+#[derive(Clone, Copy, PartialEq, Eq, Debug, Drop)]
+pub struct PseudoElement;
+
+impl ToCss for PseudoElement {
+    ghost use Rattle.std.specs.Prelude.{[]};
+
+    ghost css = { λ _. [] };
+
+    fn to_css(&self, _out: &mut String) -> Result<(), OutOfMemory> {
+        Ok(())
+    }
+}
