@@ -1,8 +1,7 @@
 -- A script has one reading at most.
-use Rattle.std.proofs.Common.{◌≡◌, ◌+◌, ℕ, zero, suc, List, [], ◌∷◌, ◌++◌, false, true≢false, inl, inr, refl, sym, ◌∙◌, ap, codes, length, arith, subst}
-use Rattle.std.specs.Prelude.{◌==◌}
-use Rattle.std.proofs.lemmas.Bool.{eq-eqb}
-use Rattle.std.specs.Str.{chars}
+use Rattle.std.proofs.Common.{◌≡◌, ◌+◌, ℕ, zero, suc, List, [], ◌∷◌, ◌++◌, inl, inr, refl, sym, ◌∙◌, ap, codes, length, arith, subst}
+use Rattle.std.specs.Prelude.{◌==◌, if◌then◌else◌}
+use Rattle.std.specs.Str.{bytes_eq, chars}
 use Rattle.dom_selectors.specs.Syntax.{SelectorList}
 use Rattle.dom_selectors.specs.Grammar.{StandsFor}
 use Rattle.dom_query.specs.declared.script.Command.{Command}
@@ -14,91 +13,72 @@ use Rattle.dom_query.proofs.Lines.{argument-once}
 abbrev pub OneSelector : Type 0
 OneSelector = (text : List ℕ) (a b : SelectorList) → StandsFor text a → StandsFor text b → a ≡ b
 
--- the letter that a line begins with, and the one of the word of a command
-abbrev letter : List ℕ → ℕ
-letter [] = 0
-letter (x ∷ xs) = x
+-- the word of a line: what stands before its first space
+abbrev word_in : List ℕ → List ℕ
+word_in [] = []
+word_in (b ∷ line) = if b == 32 then [] else b ∷ word_in line
 
-abbrev initial : Command → ℕ
-initial Nothing = 0
-initial (Select selector) = 115
-initial Count = 99
-initial Text = 116
-initial Formatted = 102
-initial Html = 104
-initial Document = 100
+-- what a word asks for: a command alone, or one with the selector behind the word
+data Reading : Type 0 where
+  nothing : Reading
+  alone : Command → Reading
+  selecting : (List ℕ) → (SelectorList → Command) → Reading
 
--- how a line with `select` begins
-selects : (line argument : List ℕ) → HasArgument line (codes "select") argument → letter line ≡ 115
-selects line argument (inl is) = ap letter is
-selects line argument (inr p) = ap letter p.0
+-- the table of words
+abbrev reading : List ℕ → Reading
+reading word =
+    if bytes_eq word [] then alone Nothing
+    else if bytes_eq word (codes "select") then selecting (codes "select") Select
+    else if bytes_eq word (codes "count") then alone Count
+    else if bytes_eq word (codes "text") then alone Text
+    else if bytes_eq word (codes "formatted") then alone Formatted
+    else if bytes_eq word (codes "html") then alone Html
+    else if bytes_eq word (codes "document") then alone Document
+    else nothing
 
-begins : (line : List ℕ) (command : Command) → IsCommand line command → letter line ≡ initial command
-begins line Nothing p = ap letter p
-begins line (Select selector) p = selects line p.0 p.1
-begins line Count p = ap letter p
-begins line Text p = ap letter p
-begins line Formatted p = ap letter p
-begins line Html p = ap letter p
-begins line Document p = ap letter p
+-- a selector stands behind the word, and the command is made of it
+record IsMadeOf (line word : List ℕ) (make : SelectorList → Command) (command : Command) : Type 0 where
+  selector : SelectorList
+  argument : List ℕ
+  behind : HasArgument line word argument
+  stands : StandsFor (chars argument) selector
+  is : command ≡ make selector
 
--- words that begin otherwise are others
-other : (line : List ℕ) (a b : Command) → IsCommand line a → IsCommand line b → (initial a == initial b) ≡ false → ⊥
-other line a b p q apart = true≢false (sym (eq-eqb (initial a) (initial b) (sym (begins line a p) ∙ begins line b q)) ∙ apart)
+abbrev IsReadAs : Reading → List ℕ → Command → Type 0
+IsReadAs nothing line command = ⊥
+IsReadAs (alone known) line command = command ≡ known
+IsReadAs (selecting word make) line command = IsMadeOf line word make command
+
+-- a line that is the word and what the table has for it
+at_word : (line word : List ℕ) (command : Command) → line ≡ word → IsReadAs (reading (word_in word)) word command → IsReadAs (reading (word_in line)) line command
+at_word line word command is known = subst (λ (l : List ℕ). IsReadAs (reading (word_in l)) l command) (sym is) known
+
+selected : (line : List ℕ) (selector : SelectorList) → IsCommand line (Select selector) → IsReadAs (reading (word_in line)) line (Select selector)
+selected line selector (argument, inl is, stands) = at_word line (codes "select" ++ 32 ∷ argument) (Select selector) is
+    (record { selector = selector; argument = argument; behind = inl refl; stands = stands; is = refl })
+selected line selector (argument, inr p, stands) = at_word line (codes "select") (Select selector) p.0
+    (record { selector = selector; argument = argument; behind = inr (refl, p.1); stands = stands; is = refl })
+
+-- each command is what the table has for its word
+is_read : (line : List ℕ) (command : Command) → IsCommand line command → IsReadAs (reading (word_in line)) line command
+is_read line Nothing p = at_word line [] Nothing p refl
+is_read line (Select selector) p = selected line selector p
+is_read line Count p = at_word line (codes "count") Count p refl
+is_read line Text p = at_word line (codes "text") Text p refl
+is_read line Formatted p = at_word line (codes "formatted") Formatted p refl
+is_read line Html p = at_word line (codes "html") Html p refl
+is_read line Document p = at_word line (codes "document") Document p refl
+
+reading-once : OneSelector → (r : Reading) (line : List ℕ) (a b : Command) → IsReadAs r line a → IsReadAs r line b → a ≡ b
+reading-once one nothing line a b p q = absurd p
+reading-once one (alone known) line a b p q = p ∙ sym q
+reading-once one (selecting word make) line a b p q =
+    let same = argument-once line word p.argument q.argument p.behind q.behind in
+    p.is ∙ ap make (one (chars q.argument) p.selector q.selector (subst (λ text. StandsFor (chars text) p.selector) same p.stands) q.stands) ∙ sym q.is
 
 -- a line asks for one command at most
 pub command-once : OneSelector → (line : List ℕ) (a b : Command) → IsCommand line a → IsCommand line b → a ≡ b
-command-once one line Nothing Nothing p q = refl
-command-once one line Nothing (Select t) p q = absurd (other line Nothing (Select t) p q refl)
-command-once one line Nothing Count p q = absurd (other line Nothing Count p q refl)
-command-once one line Nothing Text p q = absurd (other line Nothing Text p q refl)
-command-once one line Nothing Formatted p q = absurd (other line Nothing Formatted p q refl)
-command-once one line Nothing Html p q = absurd (other line Nothing Html p q refl)
-command-once one line Nothing Document p q = absurd (other line Nothing Document p q refl)
-command-once one line (Select s) Nothing p q = absurd (other line (Select s) Nothing p q refl)
-command-once one line (Select s) (Select t) p q =
-    let same = argument-once line (codes "select") p.0 q.0 p.1 q.1 in
-    ap Select (one (chars q.0) s t (subst (λ text. StandsFor (chars text) s) same p.2) q.2)
-command-once one line (Select s) Count p q = absurd (other line (Select s) Count p q refl)
-command-once one line (Select s) Text p q = absurd (other line (Select s) Text p q refl)
-command-once one line (Select s) Formatted p q = absurd (other line (Select s) Formatted p q refl)
-command-once one line (Select s) Html p q = absurd (other line (Select s) Html p q refl)
-command-once one line (Select s) Document p q = absurd (other line (Select s) Document p q refl)
-command-once one line Count Nothing p q = absurd (other line Count Nothing p q refl)
-command-once one line Count (Select t) p q = absurd (other line Count (Select t) p q refl)
-command-once one line Count Count p q = refl
-command-once one line Count Text p q = absurd (other line Count Text p q refl)
-command-once one line Count Formatted p q = absurd (other line Count Formatted p q refl)
-command-once one line Count Html p q = absurd (other line Count Html p q refl)
-command-once one line Count Document p q = absurd (other line Count Document p q refl)
-command-once one line Text Nothing p q = absurd (other line Text Nothing p q refl)
-command-once one line Text (Select t) p q = absurd (other line Text (Select t) p q refl)
-command-once one line Text Count p q = absurd (other line Text Count p q refl)
-command-once one line Text Text p q = refl
-command-once one line Text Formatted p q = absurd (other line Text Formatted p q refl)
-command-once one line Text Html p q = absurd (other line Text Html p q refl)
-command-once one line Text Document p q = absurd (other line Text Document p q refl)
-command-once one line Formatted Nothing p q = absurd (other line Formatted Nothing p q refl)
-command-once one line Formatted (Select t) p q = absurd (other line Formatted (Select t) p q refl)
-command-once one line Formatted Count p q = absurd (other line Formatted Count p q refl)
-command-once one line Formatted Text p q = absurd (other line Formatted Text p q refl)
-command-once one line Formatted Formatted p q = refl
-command-once one line Formatted Html p q = absurd (other line Formatted Html p q refl)
-command-once one line Formatted Document p q = absurd (other line Formatted Document p q refl)
-command-once one line Html Nothing p q = absurd (other line Html Nothing p q refl)
-command-once one line Html (Select t) p q = absurd (other line Html (Select t) p q refl)
-command-once one line Html Count p q = absurd (other line Html Count p q refl)
-command-once one line Html Text p q = absurd (other line Html Text p q refl)
-command-once one line Html Formatted p q = absurd (other line Html Formatted p q refl)
-command-once one line Html Html p q = refl
-command-once one line Html Document p q = absurd (other line Html Document p q refl)
-command-once one line Document Nothing p q = absurd (other line Document Nothing p q refl)
-command-once one line Document (Select t) p q = absurd (other line Document (Select t) p q refl)
-command-once one line Document Count p q = absurd (other line Document Count p q refl)
-command-once one line Document Text p q = absurd (other line Document Text p q refl)
-command-once one line Document Formatted p q = absurd (other line Document Formatted p q refl)
-command-once one line Document Html p q = absurd (other line Document Html p q refl)
-command-once one line Document Document p q = refl
+command-once one line a b p q = reading-once one (reading (word_in line)) line a b (is_read line a p) (is_read line b q)
 
 pub commands-once : OneSelector → (lines : List (List ℕ)) (a b : List Command) → AreCommands lines a → AreCommands lines b → a ≡ b
 commands-once one [] [] [] p q = refl
