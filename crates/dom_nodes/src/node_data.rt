@@ -61,11 +61,17 @@ impl Attrs {
         self.items.shrink_to_fit();
     }
 
-    /// Adds an attribute at the end.
+    /// Adds an attribute at the end. The room doubles from that for one, since most elements have
+    /// one attribute or two.
     pub fn push(&mut self, attr: Attr) -> Result<(), OutOfMemory>
         ensures ok { OnOk result (self.new ≡ self.old ++ attr ∷ []) }
         ensures err { OnErr result (self.new ≡ self.old) }
     {
+        let count = self.items.len();
+        if count == self.items.capacity() {
+            self.items
+                .reserve_exact(if count == 0 { 1 } else { count })?;
+        }
         self.items.push(attr)?;
         Ok(())
     }

@@ -4,7 +4,7 @@ ghost use Rattle.std.specs.Prelude.{◌≡◌, ◌≤◌, ◌<◌, ◌==◌, ◌
 ghost use Rattle.std.specs.Prelude.{IfNone, IfSome, codes, drop, length};
 ghost use Rattle.std.specs.List.{list_all, prefix_len};
 ghost use Rattle.dom_nodes.specs.Ascii.{exclamation_mark, question_mark, slash};
-ghost use Rattle.dom_markup.specs.Bytes.{is_letter, is_whitespace};
+ghost use Rattle.dom_markup.specs.Bytes.{is_letter, is_name_byte, is_whitespace};
 ghost use Rattle.dom_markup.specs.References.{decoded};
 ghost use Rattle.dom_markup.specs.ValueTrees.{Attribute};
 ghost use Rattle.dom_markup.specs.Markup.{BeginsAttribute, BeginsValue, Closes, EndsAtMark};
@@ -13,7 +13,7 @@ ghost use Rattle.dom_markup.specs.Taking.{Leaves, Takes};
 ghost use Rattle.dom_markup.specs.Stretches.{attribute_of, passes, PastAttributes, Splits};
 
 use crate::document::names::is_letter;
-use memchr::memchr;
+use memchr::{memchr, memchr_iter};
 
 /// What a stretch of markup is made of.
 #[derive(Clone, Copy)]
@@ -30,23 +30,33 @@ fn is_whitespace(byte: u8) -> bool
     matches!(byte, b'\t' | b'\n' | 0x0c | b'\r' | b' ')
 }
 
+/// Whether a byte may stand in a name. Letters are told first: all above `>` may.
+#[inline(always)]
+fn is_name_byte(byte: u8) -> bool
+    ensures { result ≡ is_name_byte byte }
+{
+    if byte > b'>' {
+        return true;
+    }
+    !(is_whitespace(byte) || matches!(byte, b'/' | b'>' | b'<' | b'=' | b'"' | b'\'' | 0))
+}
+
 impl Stretch {
     /// Whether a byte is of this kind.
+    #[inline(always)]
     fn pass(self, byte: u8) -> bool
         ensures { result ≡ passes self byte }
     {
         match self {
             Stretch::Whitespace => is_whitespace(byte),
-            Stretch::Name => {
-                !(is_whitespace(byte)
-                    || matches!(byte, b'/' | b'>' | b'<' | b'=' | b'"' | b'\'' | 0))
-            }
+            Stretch::Name => is_name_byte(byte),
             Stretch::Bare => !(is_whitespace(byte) || byte == b'>'),
         }
     }
 }
 
 /// How many bytes of this kind stand at the front.
+#[inline(always)]
 fn front_len(stretch: Stretch, bytes: &[u8]) -> usize
     ensures { result ≡ prefix_len (passes stretch) bytes.now }
 {
@@ -59,6 +69,7 @@ fn front_len(stretch: Stretch, bytes: &[u8]) -> usize
 }
 
 /// The front that is of this kind, as far as it goes, and what follows it.
+#[inline(always)]
 pub fn split_front(stretch: Stretch, text: &str) -> (&str, &str)
     ensures { Splits (passes stretch) text.now result.0.now result.1.now }
 {
@@ -132,23 +143,10 @@ pub fn split_text(text: &str) -> (&str, &str)
     text.split_at(text_len(text.as_bytes()))
 }
 
-/// About how many nodes the text has: one for each `<` that begins no end tag, and one for each
-/// with a text before it. No more is known of it, for nothing but room for nodes hangs on it.
+/// About how many nodes the text has: as many as it has `<`, for an element with a text has two of
+/// both. Nothing but room for nodes hangs on it.
 pub fn nodes_about(text: &str) -> usize {
-    let bytes = text.as_bytes();
-    let mut count: usize = 0;
-    let mut at = 0;
-    while let Some(found) = memchr(b'<', bytes_from(bytes, at)) {
-        let start = at + found;
-        at = start + 1;
-        if start > 0 && bytes[start - 1] != b'>' {
-            count = count.saturating_add(1);
-        }
-        if at < bytes.len() && bytes[at] != b'/' {
-            count = count.saturating_add(1);
-        }
-    }
-    count
+    memchr_iter(b'<', text.as_bytes()).count()
 }
 
 // ---- comments
