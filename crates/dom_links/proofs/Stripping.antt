@@ -191,7 +191,7 @@ each_dissolved (p ∷ ps) x forest good once below =
       | inl t ↦ absurd (true≢false (sym (ap (λ k. stands_in k ps) (eqb-true p m t) ∙ s) ∙ once.0))
     ]
 
-stands_in-filter : (test : ℕ → Bool) (ns : List ℕ) (n : ℕ) → stands_in n (filter test ns) ≡ (stands_in n ns && test n)
+pub stands_in-filter : (test : ℕ → Bool) (ns : List ℕ) (n : ℕ) → stands_in n (filter test ns) ≡ (stands_in n ns && test n)
 stands_in-filter test [] n = refl
 stands_in-filter test (m ∷ ns) n = elim (cases_Bool (m == n)) [
   | inl t ↦ elim (cases_Bool (test n)) [

@@ -7,6 +7,7 @@ pub mod create;
 mod list_writes;
 pub mod lists;
 pub mod moves;
+mod normalize;
 pub mod placing;
 mod set_text;
 pub mod siblings;

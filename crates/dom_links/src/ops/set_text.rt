@@ -49,7 +49,7 @@ fn is_element_at(nodes: &[TreeNode], id: NodeId) -> bool
     find_node(nodes, id).is_some_and(|node| node.content.is_element())
 }
 
-fn is_text_at(nodes: &[TreeNode], id: NodeId) -> bool
+pub(crate) fn is_text_at(nodes: &[TreeNode], id: NodeId) -> bool
     requires { IsSoundArena nodes.now }
     ensures { result ≡ is_text_at (forest_of nodes.now) id }
 {

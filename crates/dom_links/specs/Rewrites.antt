@@ -1,0 +1,37 @@
+-- What a normalisation writes.
+use Rattle.std.specs.Prelude.{ℕ, ◌||◌, ◌&&◌, not, Bool, false, List, [], ◌∷◌, Option, Some, None, filter, map, if◌then◌else◌}
+use Rattle.std.specs.Option.{option_map_or}
+use Rattle.dom_links.specs.Contents.{with_content}
+use Rattle.dom_links.specs.Forest.{Forest, siblings}
+use Rattle.dom_links.specs.Lists.{after}
+use Rattle.dom_links.specs.Moves.{cut}
+use Rattle.dom_links.specs.Normalized.{joined, leads}
+use Rattle.dom_links.specs.SetTexts.{is_text_at, retexted}
+use Rattle.dom_links.specs.declared.ops.normalize.Rewrite.{Rewrite}
+
+-- the next node in the list is a text
+abbrev pub is_text_after : Forest → ℕ → Bool
+is_text_after forest n = option_map_or (is_text_at forest) (after (siblings forest n) n) false
+
+-- a text that doesn't lead its row, or does and has others after it
+abbrev pub is_rewritten : Forest → ℕ → Bool
+is_rewritten forest n = is_text_at forest n && (not (leads forest n) || is_text_after forest n)
+
+abbrev pub rewrite : Forest → ℕ → Rewrite
+rewrite forest n = record { id = n; text = joined forest n; stays = leads forest n }
+
+abbrev pub rewrite_at : Forest → ℕ → Option Rewrite
+rewrite_at forest n = if is_rewritten forest n then Some (rewrite forest n) else None
+
+abbrev pub listed : Option Rewrite → List Rewrite
+listed None = []
+listed (Some w) = w ∷ []
+
+abbrev pub rewrites : Forest → List ℕ → List Rewrite
+rewrites forest ns = map (rewrite forest) (filter (is_rewritten forest) ns)
+
+-- the text holds that, and is cut out unless it stays
+abbrev pub rewritten : Rewrite → Forest → Forest
+rewritten w forest =
+    if w.stays then with_content w.id (retexted w.text) forest
+    else cut (w.id ∷ []) (with_content w.id (retexted w.text) forest)

@@ -1,0 +1,206 @@
+//! Texts that stand side by side are joined.
+
+ghost use Rattle.std.specs.Prelude.{◌≡◌, ◌<◌, ◌++◌, ◌∷◌, [], IfOk, OnErr, OnOk, false, length};
+ghost use Rattle.std.specs.Prelude.{string_bytes};
+ghost use Rattle.dom_links.specs.Forest.{forest_of};
+ghost use Rattle.dom_links.specs.Normalized.{front_texts, is_empty_text, leads, nearest_before};
+ghost use Rattle.dom_links.specs.Normalized.{normalized};
+ghost use Rattle.dom_links.specs.Rewrites.{is_text_after, listed, rewrite_at, rewrites};
+ghost use Rattle.dom_links.specs.Rewrites.{rewritten};
+ghost use Rattle.dom_links.specs.Sound.{IsSoundArena};
+ghost use Rattle.dom_links.specs.Texts.{text_at};
+ghost use Rattle.dom_links.specs.Trees.{walk_below};
+ghost use Rattle.dom_links.specs.Walk.{later};
+
+use crate::iters::{DescendantNodes, next_sibling_id, node_at, prev_sibling_id};
+use crate::ops::TreeNodeOps;
+use crate::ops::set_text::{is_text_at, put_text};
+use crate::ops::texts::text_at;
+use dom_nodes::fault::OutOfMemory;
+use dom_nodes::node_data::TreeNode;
+use dom_nodes::node_id::NodeId;
+use dom_nodes::text::Text;
+use std::alloc::Global;
+
+impl TreeNodeOps {
+    /// Joins each row of texts below the node: the first that is not empty holds them all, and the
+    /// others are cut out and hold nothing. Linear in what is below. Where memory is refused,
+    /// nothing changes.
+    pub fn normalize(
+        alloc: Global,
+        nodes: &mut [TreeNode],
+        id: NodeId,
+    ) -> Result<(), OutOfMemory>
+        requires { IsSoundArena nodes.old }
+        ensures made { OnOk result (forest_of nodes.new ≡ normalized id (forest_of nodes.old)) }
+        ensures err { OnErr result (nodes.new ≡ nodes.old) }
+        ensures sound { IsSoundArena nodes.new }
+    {
+        let mut found = rewrites_below(alloc, nodes, &id)?;
+        while let Some(rewrite) = found.pop() {
+            apply(nodes, rewrite);
+        }
+        Ok(())
+    }
+}
+
+/// What a text is to hold, and whether it stays in its list.
+#[derive(Drop)]
+struct Rewrite {
+    id: NodeId,
+    text: Text,
+    stays: bool,
+}
+
+/// Does what is to be done with a text.
+fn apply(nodes: &mut [TreeNode], rewrite: Rewrite)
+    requires sound { IsSoundArena nodes.old }
+    requires known { rewrite.id < length nodes.old }
+    ensures made { forest_of nodes.new ≡ rewritten rewrite (forest_of nodes.old) }
+    ensures sound { IsSoundArena nodes.new }
+{
+    let Rewrite { id, text, stays } = rewrite;
+    put_text(nodes, id, text);
+    if !stays {
+        TreeNodeOps::remove_from_parent(nodes, id);
+    }
+}
+
+/// What is to be done with the texts below a node, in the order of the walk.
+fn rewrites_below(
+    alloc: Global,
+    nodes: &[TreeNode],
+    id: &NodeId,
+) -> Result<Vec<Rewrite>, OutOfMemory>
+    requires { IsSoundArena nodes.now }
+    ensures { IfOk result (λ found. found.items
+        ≡ rewrites (forest_of nodes.now) (walk_below (forest_of nodes.now) id.now)) }
+{
+    let mut found = Vec::new(alloc);
+    for below in DescendantNodes::new(nodes, id) {
+        let rewrite = rewrite_of(alloc, nodes, below)?;
+        add_found(&mut found, rewrite)?;
+    }
+    Ok(found)
+}
+
+fn add_found(found: &mut Vec<Rewrite>, rewrite: Option<Rewrite>) -> Result<(), OutOfMemory>
+    ensures { OnOk result (found.new.items ≡ found.old.items ++ listed rewrite) }
+{
+    if let Some(rewrite) = rewrite {
+        found.push(rewrite)?;
+    }
+    Ok(())
+}
+
+/// What is to be done with a node, if anything.
+fn rewrite_of(
+    alloc: Global,
+    nodes: &[TreeNode],
+    id: NodeId,
+) -> Result<Option<Rewrite>, OutOfMemory>
+    requires { IsSoundArena nodes.now }
+    ensures { IfOk result (λ found. found ≡ rewrite_at (forest_of nodes.now) id) }
+{
+    if !is_text_at(nodes, id) {
+        return Ok(None);
+    }
+    if !leads(nodes, id) {
+        let text = Text::from(String::new(alloc));
+        return Ok(Some(Rewrite {
+            id,
+            text,
+            stays: false,
+        }));
+    }
+    if !is_text_after(nodes, id) {
+        return Ok(None);
+    }
+    let text = joined_text(alloc, nodes, id)?;
+    Ok(Some(Rewrite {
+        id,
+        text,
+        stays: true,
+    }))
+}
+
+/// What a text and those right after it hold, joined.
+fn joined_text(alloc: Global, nodes: &[TreeNode], id: NodeId) -> Result<Text, OutOfMemory>
+    requires { IsSoundArena nodes.now }
+    ensures { IfOk result (λ text. text ≡ text_at (forest_of nodes.now) id
+        ++ front_texts (forest_of nodes.now) (later (forest_of nodes.now) false id)) }
+{
+    let mut joined = String::new(alloc);
+    joined.push_str(text_at(nodes, id))?;
+    join_after(&mut joined, nodes, id)?;
+    Ok(Text::from(joined))
+}
+
+/// Adds what the texts right after a node hold.
+fn join_after(joined: &mut String, nodes: &[TreeNode], id: NodeId) -> Result<(), OutOfMemory>
+    requires { IsSoundArena nodes.now }
+    ensures { OnOk result (string_bytes joined.new ≡ string_bytes joined.old
+        ++ front_texts (forest_of nodes.now) (later (forest_of nodes.now) false id)) }
+{
+    let mut next = next_sibling_id(nodes, &id);
+    while let Some(at) = next {
+        if !is_text_at(nodes, at) {
+            return Ok(());
+        }
+        joined.push_str(text_at(nodes, at))?;
+        next = node_at(nodes, at).next_sibling;
+    }
+    Ok(())
+}
+
+fn is_text_after(nodes: &[TreeNode], id: NodeId) -> bool
+    requires { IsSoundArena nodes.now }
+    ensures { result ≡ is_text_after (forest_of nodes.now) id }
+{
+    match next_sibling_id(nodes, &id) {
+        Some(next) => is_text_at(nodes, next),
+        None => false,
+    }
+}
+
+/// Whether the node is the first of its row of texts that holds something.
+fn leads(nodes: &[TreeNode], id: NodeId) -> bool
+    requires { IsSoundArena nodes.now }
+    ensures { result ≡ leads (forest_of nodes.now) id }
+{
+    if !is_text_at(nodes, id) {
+        return false;
+    }
+    if is_empty_text(nodes, id) {
+        return false;
+    }
+    match nearest_before(nodes, id) {
+        Some(before) => !is_text_at(nodes, before),
+        None => true,
+    }
+}
+
+/// The nearest node before that is no empty text.
+fn nearest_before(nodes: &[TreeNode], id: NodeId) -> Option<NodeId>
+    requires { IsSoundArena nodes.now }
+    ensures { result ≡ nearest_before (forest_of nodes.now) id }
+{
+    let mut next = prev_sibling_id(nodes, &id);
+    while let Some(at) = next {
+        if !is_empty_text(nodes, at) {
+            return Some(at);
+        }
+        next = node_at(nodes, at).prev_sibling;
+    }
+    None
+}
+
+fn is_empty_text(nodes: &[TreeNode], id: NodeId) -> bool
+    requires { IsSoundArena nodes.now }
+    ensures { result ≡ is_empty_text (forest_of nodes.now) id }
+{
+    if !is_text_at(nodes, id) {
+        return false;
+    }
+    text_at(nodes, id).is_empty()
+}
