@@ -43,7 +43,7 @@ bears-copied k (Text a) = refl
 bears-copied k (Comment a) = refl
 bears-copied k (ProcessingInstruction a b) = refl
 
-names-copied : (k : ℕ) (content : NodeData) → contents_named (copied_data k content) ≡ option_map (λ _. k + 1) (contents_named content)
+pub names-copied : (k : ℕ) (content : NodeData) → contents_named (copied_data k content) ≡ option_map (λ _. k + 1) (contents_named content)
 names-copied k Document = refl
 names-copied k Fragment = refl
 names-copied k (Element e) = refl
@@ -82,7 +82,7 @@ test_at test source n known = same source.content n known
 
 -- ---- what stays
 
-content-below : (p : Option ℕ) (content : NodeData) (forest : Forest) → (with_node_below p content forest).content ≡ forest.content ++ content ∷ []
+pub content-below : (p : Option ℕ) (content : NodeData) (forest : Forest) → (with_node_below p content forest).content ≡ forest.content ++ content ∷ []
 content-below None content forest = refl
 content-below (Some p) content forest = refl
 
@@ -165,17 +165,17 @@ held_kept source (Some q) n c ns forest good may some =
     (record { target_known = may.0; open_here = (may.1 n (here_stands n ns)).0; no_top = no_top (copied_data (length forest.content) (data_at source n)) (length forest.content + 1) named; named = named })
 
 -- what trees are made of
-record Parts (source : Forest) (ns : List ℕ) (n : ℕ) (contents children later : Trees) : Type 0 where
-  rest : List ℕ
-  all : ns ≡ n ∷ rest
-  contents_is : trees source (contents_list source n) ≡ contents
-  children_is : trees source (children_of source n) ≡ children
-  later_is : trees source rest ≡ later
+pub record Parts (source : Forest) (ns : List ℕ) (n : ℕ) (contents children later : Trees) : Type 0 where
+  pub rest : List ℕ
+  pub all : ns ≡ n ∷ rest
+  pub contents_is : trees source (contents_list source n) ≡ contents
+  pub children_is : trees source (children_of source n) ≡ children
+  pub later_is : trees source rest ≡ later
 
 abbrev pub AreInside : Forest → List ℕ → Type 0
 AreInside source ns = (m : ℕ) → stands_in m ns ≡ true → m < length source.content
 
-parts : (source : Forest) (ns : List ℕ) (n : ℕ) (contents children later : Trees) → IsForest source → AreInside source ns → trees source ns ≡ Tree n contents children later → Parts source ns n contents children later
+pub parts : (source : Forest) (ns : List ℕ) (n : ℕ) (contents children later : Trees) → IsForest source → AreInside source ns → trees source ns ≡ Tree n contents children later → Parts source ns n contents children later
 parts source [] n contents children later good known e = (let none = sym (trees-none source) ∙ e in cc)
 parts source (m ∷ ms) n contents children later good known e =
     let both : Tree m (trees source (contents_list source m)) (trees source (children_of source m)) (trees source ms) ≡ Tree n contents children later = sym (trees-some source m ms good known) ∙ e in
@@ -194,10 +194,10 @@ parts source (m ∷ ms) n contents children later good known e =
 children_inside : (source : Forest) (n : ℕ) → IsForest source → AreInside source (children_of source n)
 children_inside source n good m s = (good.once.in_children n m s).0
 
-one_inside : (source : Forest) (c : ℕ) → c < length source.content → AreInside source (c ∷ [])
+pub one_inside : (source : Forest) (c : ℕ) → c < length source.content → AreInside source (c ∷ [])
 one_inside source c known m s = subst (λ (k : ℕ). k < length source.content) (eqb-true c m (sym (one-stands c m) ∙ s)) known
 
-no_held : (source : Forest) (n : ℕ) → IsForest source → trees source (contents_list source n) ≡ NoTrees → contents_at source n ≡ None
+pub no_held : (source : Forest) (n : ℕ) → IsForest source → trees source (contents_list source n) ≡ NoTrees → contents_at source n ≡ None
 no_held source n good e = elim (cases_Option (contents_at source n)) [
   | inl none ↦ none
   | inr (c, is) ↦
@@ -208,15 +208,15 @@ no_held source n good e = elim (cases_Option (contents_at source n)) [
 ]
 
 -- contents are one fragment without contents
-record Contents (source : Forest) (n c : ℕ) (contents children later : Trees) : Type 0 where
-  is : contents_at source n ≡ Some c
-  known : c < length source.content
-  fragment : data_at source c ≡ Fragment
-  none : contents ≡ NoTrees
-  last_one : later ≡ NoTrees
-  below : trees source (children_of source c) ≡ children
+pub record Contents (source : Forest) (n c : ℕ) (contents children later : Trees) : Type 0 where
+  pub is : contents_at source n ≡ Some c
+  pub known : c < length source.content
+  pub fragment : data_at source c ≡ Fragment
+  pub none : contents ≡ NoTrees
+  pub last_one : later ≡ NoTrees
+  pub below : trees source (children_of source c) ≡ children
 
-contents_are : (source : Forest) (n c : ℕ) (contents children later : Trees) → IsForest source → trees source (contents_list source n) ≡ Tree c contents children later → Contents source n c contents children later
+pub contents_are : (source : Forest) (n c : ℕ) (contents children later : Trees) → IsForest source → trees source (contents_list source n) ≡ Tree c contents children later → Contents source n c contents children later
 contents_are source n c contents children later good e = elim (cases_Option (contents_at source n)) [
   | inl none ↦
       (let empty : contents_list source n ≡ [] = rw none refl in
