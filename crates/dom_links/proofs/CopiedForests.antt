@@ -6,13 +6,13 @@ use Rattle.std.proofs.lemmas.Bool.{cases_Bool, eqb-true, eq-eqb, or_right}
 use Rattle.std.proofs.lemmas.List.{length_push}
 use Rattle.dom_nodes.specs.declared.node_data.NodeData.{NodeData}
 use Rattle.dom_nodes.specs.declared.node_data.NodeData.TheVariants.{Document, Fragment, Doctype, Text, Comment, Element, ProcessingInstruction}
-use Rattle.dom_nodes.specs.Kinds.{contents_named, is_fragment, is_top, may_bear}
+use Rattle.dom_nodes.specs.Kinds.{contents_named, is_element, is_fragment, is_top, may_bear}
 use Rattle.dom_nodes.specs.declared.node_data.TreeNode.{TreeNode}
 use Rattle.dom_links.specs.Copying.{AreKnown}
-use Rattle.dom_links.specs.Copies.{Keeps, MayCopy, copied_data, data_at, with_copies, with_node_below}
+use Rattle.dom_links.specs.Copies.{Keeps, MayCopy, fragment_of, copied_data, data_at, with_copies, with_node_below}
 use Rattle.dom_links.specs.Lists.{stands_in}
 use Rattle.dom_links.specs.Forest.{Forest, IsArenaOf, children_of, forest_of}
-use Rattle.dom_links.specs.Growth.{with_node}
+use Rattle.dom_links.specs.Growth.{lone, with_child, with_node}
 use Rattle.dom_links.specs.Sound.{IsForest, IsSoundArena, bears, contents_at, stays}
 use Rattle.dom_links.specs.Trees.{NoTrees, Tree, Trees, contents_list, trees}
 use Rattle.dom_links.proofs.Places.{cases_Option}
@@ -324,3 +324,26 @@ stands_here (m ∷ ns) (suc i) n h e = later_stands m n ns (stands_here ns i n (
 pub all_may : (source : Forest) (ns : List ℕ) → MayCopy source ns → AreKnown source ns
 all_may source [] may = tt
 all_may source (n ∷ ns) may = (may.0.known, all_may source ns may.1)
+
+-- ---- fragments
+
+element_bears : (content : NodeData) → is_element content ≡ true → may_bear content ≡ true
+element_bears Document e = cc
+element_bears Fragment e = cc
+element_bears (Element a) e = refl
+element_bears (Doctype a b d) e = cc
+element_bears (Text a) e = cc
+element_bears (Comment a) e = cc
+element_bears (ProcessingInstruction a b) e = cc
+
+may_be_child : (source : Forest) (ns : List ℕ) (m : ℕ) → MayCopy source ns → stands_in m ns ≡ true → is_top (data_at source m) ≡ false
+may_be_child source [] m may s = cc
+may_be_child source (n ∷ ns) m may s = elim (cases_Bool (n == m)) [
+  | inl t ↦ subst (λ (k : ℕ). is_top (data_at source k) ≡ false) (eqb-true n m t) (sym (test_at is_top source n may.0.known) ∙ may.0.no_top)
+  | inr f ↦ may_be_child source ns m may.1 (rw f at s)
+]
+
+pub fragment_kept : (source : Forest) (ns : List ℕ) (html : NodeData) → IsForest source → MayCopy source ns → is_element html ≡ true → IsForest (with_child 0 html (lone Fragment)) → IsForest (fragment_of html source ns)
+fragment_kept source ns html good may element fine =
+    copies_kept source (trees source ns) (Some 1) ns (with_child 0 html (lone Fragment)) good (inside_all source ns (all_may source ns may)) refl fine
+    (omega arith, λ m s. (element_bears html element, may_be_child source ns m may s))
