@@ -12,7 +12,7 @@ use Rattle.dom_nodes.specs.declared.node_data.NodeData.{NodeData}
 use Rattle.dom_nodes.specs.declared.node_data.NodeData.TheVariants.{Document, Fragment, Doctype, Text, Comment, Element, ProcessingInstruction}
 use Rattle.dom_nodes.specs.declared.node_data.TreeNode.{TreeNode}
 use Rattle.dom_nodes.specs.Kinds.{contents_named, is_fragment}
-use Rattle.dom_links.specs.Copies.{Keeps, copied, copied_data, copy_numbers, data_at, root_numbers, size, with_copies, with_node_below}
+use Rattle.dom_links.specs.Copies.{Keeps, copied_below, copied_data, copy_numbers, data_at, root_numbers, size, with_copies, with_node_below}
 use Rattle.dom_links.specs.Copying.{AreKnown, AreRows, Copying, IsPlaceFor, IsRow, IsTooLarge, IsUnderWay, LacksRoom, read_nodes, row_from, with_row, with_rows}
 use Rattle.dom_links.specs.declared.ops.copies.Row.{Row}
 use Rattle.dom_links.specs.Lists.{stands_in, first, after, before}
@@ -461,22 +461,22 @@ all_known source (n ∷ ns) known m s = elim (cases_eq n m) [
   | inr ne ↦ all_known source ns known.1 m (rw (ne_eqb n m ne) at s)
 ]
 
-pub first_copied : (source : Forest) (n : ℕ) (ns : List ℕ) (forest : Forest) → IsForest source → AreKnown source (n ∷ ns) → copied source (n ∷ ns) forest ≡ copied source ns (copied source (n ∷ []) forest)
-first_copied source n ns forest good known =
-    ap (λ ts. with_copies source None ts forest) (trees-some source n ns good (all_known source (n ∷ ns) known))
-    ∙ ap (with_copies source None (trees source ns)) (sym (one_tree source None n forest good known.0))
+pub first_copied : (source : Forest) (p : Option ℕ) (n : ℕ) (ns : List ℕ) (forest : Forest) → IsForest source → AreKnown source (n ∷ ns) → copied_below source p (n ∷ ns) forest ≡ copied_below source p ns (copied_below source p (n ∷ []) forest)
+first_copied source p n ns forest good known =
+    ap (λ ts. with_copies source p ts forest) (trees-some source n ns good (all_known source (n ∷ ns) known))
+    ∙ ap (with_copies source p (trees source ns)) (sym (one_tree source p n forest good known.0))
 
-pub first_number : (source : Forest) (n : ℕ) (ns : List ℕ) (forest : Forest) → IsForest source → AreKnown source (n ∷ ns) → copy_numbers source (n ∷ ns) forest ≡ length forest.content ∷ copy_numbers source ns (copied source (n ∷ []) forest)
-first_number source n ns forest good known =
+pub first_number : (source : Forest) (p : Option ℕ) (n : ℕ) (ns : List ℕ) (forest : Forest) → IsForest source → AreKnown source (n ∷ ns) → copy_numbers source (n ∷ ns) forest ≡ length forest.content ∷ copy_numbers source ns (copied_below source p (n ∷ []) forest)
+first_number source p n ns forest good known =
     let k = length forest.content in
     let contents = trees source (contents_list source n) in
     let children = trees source (children_of source n) in
     let one : trees source (n ∷ []) ≡ Tree n contents children NoTrees = trees-some source n [] good (one_known source n known.0) ∙ ap (Tree n contents children) (trees-none source) in
     ap (root_numbers k) (trees-some source n ns good (all_known source (n ∷ ns) known))
-    ∙ ap (λ j. k ∷ root_numbers j (trees source ns)) (ap (λ ts. k + size ts) (sym one) ∙ sym (size-copies source None (trees source (n ∷ [])) forest))
+    ∙ ap (λ j. k ∷ root_numbers j (trees source ns)) (ap (λ ts. k + size ts) (sym one) ∙ sym (size-copies source p (trees source (n ∷ [])) forest))
 
-pub none_copied : (source forest : Forest) → copied source [] forest ≡ forest
-none_copied source forest = ap (λ ts. with_copies source None ts forest) (trees-none source)
+pub none_copied : (source : Forest) (p : Option ℕ) (forest : Forest) → copied_below source p [] forest ≡ forest
+none_copied source p forest = ap (λ ts. with_copies source p ts forest) (trees-none source)
 
 pub no_numbers : (source forest : Forest) → copy_numbers source [] forest ≡ []
 no_numbers source forest = ap (root_numbers (length forest.content)) (trees-none source)
@@ -504,27 +504,34 @@ pub here_first : (ns : List ℕ) (i n : ℕ) → i < length ns → n ≡ get_or 
 here_first ns i n here is = drop_more ns i n here ∙ ap (λ k. k ∷ drop (i + 1) ns) (sym is)
 
 -- one more of some nodes was copied
-pub next_copied : (source : Forest) (ns : List ℕ) (i n : ℕ) (forest whole goal : Forest) → IsForest source → AreKnown source ns → i < length ns → n ≡ get_or ns i n →
-    whole ≡ copied source (n ∷ []) forest → copied source (drop i ns) forest ≡ goal → copied source (drop (i + 1) ns) whole ≡ goal
-next_copied source ns i n forest whole goal good known here is made left =
+pub next_copied : (source : Forest) (p : Option ℕ) (ns : List ℕ) (i n : ℕ) (forest whole goal : Forest) → IsForest source → AreKnown source ns → i < length ns → n ≡ get_or ns i n →
+    whole ≡ copied_below source p (n ∷ []) forest → copied_below source p (drop i ns) forest ≡ goal → copied_below source p (drop (i + 1) ns) whole ≡ goal
+next_copied source p ns i n forest whole goal good known here is made left =
     let split = here_first ns i n here is in
-    ap (copied source (drop (i + 1) ns)) made ∙ sym (first_copied source n (drop (i + 1) ns) forest good (subst (AreKnown source) split (known_on source ns i known))) ∙ ap (λ ks. copied source ks forest) (sym split) ∙ left
+    ap (copied_below source p (drop (i + 1) ns)) made ∙ sym (first_copied source p n (drop (i + 1) ns) forest good (subst (AreKnown source) split (known_on source ns i known))) ∙ ap (λ ks. copied_below source p ks forest) (sym split) ∙ left
 
-pub next_numbered : (source : Forest) (ns : List ℕ) (i n k : ℕ) (told : List ℕ) (forest whole : Forest) (goal : List ℕ) → IsForest source → AreKnown source ns → i < length ns → n ≡ get_or ns i n → k ≡ length forest.content →
-    whole ≡ copied source (n ∷ []) forest → told ++ copy_numbers source (drop i ns) forest ≡ goal → (told ++ k ∷ []) ++ copy_numbers source (drop (i + 1) ns) whole ≡ goal
-next_numbered source ns i n k told forest whole goal good known here is number made left =
+pub next_numbered : (source : Forest) (p : Option ℕ) (ns : List ℕ) (i n k : ℕ) (told : List ℕ) (forest whole : Forest) (goal : List ℕ) → IsForest source → AreKnown source ns → i < length ns → n ≡ get_or ns i n → k ≡ length forest.content →
+    whole ≡ copied_below source p (n ∷ []) forest → told ++ copy_numbers source (drop i ns) forest ≡ goal → (told ++ k ∷ []) ++ copy_numbers source (drop (i + 1) ns) whole ≡ goal
+next_numbered source p ns i n k told forest whole goal good known here is number made left =
     let split = here_first ns i n here is in
     append_assoc told (k ∷ []) (copy_numbers source (drop (i + 1) ns) whole)
     ∙ ap (λ ks. told ++ ks) (ap (λ j. j ∷ copy_numbers source (drop (i + 1) ns) whole) number ∙ ap (λ (f : Forest). length forest.content ∷ copy_numbers source (drop (i + 1) ns) f) made
-    ∙ sym (first_number source n (drop (i + 1) ns) forest good (subst (AreKnown source) split (known_on source ns i known))) ∙ ap (λ ks. copy_numbers source ks forest) (sym split))
+    ∙ sym (first_number source p n (drop (i + 1) ns) forest good (subst (AreKnown source) split (known_on source ns i known))) ∙ ap (λ ks. copy_numbers source ks forest) (sym split))
     ∙ left
 
-pub next_refused : (source : Forest) (ns : List ℕ) (i n : ℕ) (forest goal : Forest) (fault : EditFault) → IsForest source → AreKnown source ns → i < length ns → n ≡ get_or ns i n →
-    copied source (drop i ns) forest ≡ goal → IsTooLarge (copied source (n ∷ []) forest) fault → IsTooLarge goal fault
-next_refused source ns i n forest goal fault good known here is left h =
-    let one = copied source (n ∷ []) forest in
-    let rest = next_copied source ns i n forest one goal good known here is refl left in
-    larger one goal fault (omega (arith, size-copies source None (trees source (drop (i + 1) ns)) one, ap (λ (f : Forest). length f.content) rest)) h
+pub next_refused : (source : Forest) (p : Option ℕ) (ns : List ℕ) (i n : ℕ) (forest goal : Forest) (fault : EditFault) → IsForest source → AreKnown source ns → i < length ns → n ≡ get_or ns i n →
+    copied_below source p (drop i ns) forest ≡ goal → IsTooLarge (copied_below source p (n ∷ []) forest) fault → IsTooLarge goal fault
+next_refused source p ns i n forest goal fault good known here is left h =
+    let one = copied_below source p (n ∷ []) forest in
+    let rest = next_copied source p ns i n forest one goal good known here is refl left in
+    larger one goal fault (omega (arith, size-copies source p (trees source (drop (i + 1) ns)) one, ap (λ (f : Forest). length f.content) rest)) h
 
 pub here_known : (source : Forest) (ns : List ℕ) (i n : ℕ) → AreKnown source ns → i < length ns → n ≡ get_or ns i n → n < length source.content
 here_known source ns i n known here is = (subst (AreKnown source) (here_first ns i n here is) (known_on source ns i known)).0
+
+pub place_more : (at : Copying) (count more : ℕ) (p : Option ℕ) → IsPlaceFor at count p → count ≤ more → IsPlaceFor at more p
+place_more at count more None place few = tt
+place_more at count more (Some p) place few = (place.0, omega (arith, place.1))
+
+pub more_copied : (source : Forest) (p : Option ℕ) (ns : List ℕ) (forest whole : Forest) → whole ≡ copied_below source p ns forest → length forest.content ≤ length whole.content
+more_copied source p ns forest whole made = omega (arith, ap (λ (f : Forest). length f.content) made, size-copies source p (trees source ns) forest)

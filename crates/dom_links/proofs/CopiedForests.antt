@@ -6,13 +6,13 @@ use Rattle.std.proofs.lemmas.Bool.{cases_Bool, eqb-true, eq-eqb, or_right}
 use Rattle.std.proofs.lemmas.List.{length_push}
 use Rattle.dom_nodes.specs.declared.node_data.NodeData.{NodeData}
 use Rattle.dom_nodes.specs.declared.node_data.NodeData.TheVariants.{Document, Fragment, Doctype, Text, Comment, Element, ProcessingInstruction}
-use Rattle.dom_nodes.specs.Kinds.{contents_named, is_fragment, is_top, may_bear}
+use Rattle.dom_nodes.specs.Kinds.{contents_named, is_element, is_fragment, is_top, may_bear}
 use Rattle.dom_nodes.specs.declared.node_data.TreeNode.{TreeNode}
 use Rattle.dom_links.specs.Copying.{AreKnown}
-use Rattle.dom_links.specs.Copies.{Keeps, MayCopy, copied_data, data_at, with_copies, with_node_below}
+use Rattle.dom_links.specs.Copies.{Keeps, MayCopy, fragment_of, copied_data, data_at, with_copies, with_node_below}
 use Rattle.dom_links.specs.Lists.{stands_in}
 use Rattle.dom_links.specs.Forest.{Forest, IsArenaOf, children_of, forest_of}
-use Rattle.dom_links.specs.Growth.{with_node}
+use Rattle.dom_links.specs.Growth.{lone, with_child, with_node}
 use Rattle.dom_links.specs.Sound.{IsForest, IsSoundArena, bears, contents_at, stays}
 use Rattle.dom_links.specs.Trees.{NoTrees, Tree, Trees, contents_list, trees}
 use Rattle.dom_links.proofs.Places.{cases_Option}
@@ -43,7 +43,7 @@ bears-copied k (Text a) = refl
 bears-copied k (Comment a) = refl
 bears-copied k (ProcessingInstruction a b) = refl
 
-names-copied : (k : ℕ) (content : NodeData) → contents_named (copied_data k content) ≡ option_map (λ _. k + 1) (contents_named content)
+pub names-copied : (k : ℕ) (content : NodeData) → contents_named (copied_data k content) ≡ option_map (λ _. k + 1) (contents_named content)
 names-copied k Document = refl
 names-copied k Fragment = refl
 names-copied k (Element e) = refl
@@ -82,7 +82,7 @@ test_at test source n known = same source.content n known
 
 -- ---- what stays
 
-content-below : (p : Option ℕ) (content : NodeData) (forest : Forest) → (with_node_below p content forest).content ≡ forest.content ++ content ∷ []
+pub content-below : (p : Option ℕ) (content : NodeData) (forest : Forest) → (with_node_below p content forest).content ≡ forest.content ++ content ∷ []
 content-below None content forest = refl
 content-below (Some p) content forest = refl
 
@@ -165,17 +165,17 @@ held_kept source (Some q) n c ns forest good may some =
     (record { target_known = may.0; open_here = (may.1 n (here_stands n ns)).0; no_top = no_top (copied_data (length forest.content) (data_at source n)) (length forest.content + 1) named; named = named })
 
 -- what trees are made of
-record Parts (source : Forest) (ns : List ℕ) (n : ℕ) (contents children later : Trees) : Type 0 where
-  rest : List ℕ
-  all : ns ≡ n ∷ rest
-  contents_is : trees source (contents_list source n) ≡ contents
-  children_is : trees source (children_of source n) ≡ children
-  later_is : trees source rest ≡ later
+pub record Parts (source : Forest) (ns : List ℕ) (n : ℕ) (contents children later : Trees) : Type 0 where
+  pub rest : List ℕ
+  pub all : ns ≡ n ∷ rest
+  pub contents_is : trees source (contents_list source n) ≡ contents
+  pub children_is : trees source (children_of source n) ≡ children
+  pub later_is : trees source rest ≡ later
 
 abbrev pub AreInside : Forest → List ℕ → Type 0
 AreInside source ns = (m : ℕ) → stands_in m ns ≡ true → m < length source.content
 
-parts : (source : Forest) (ns : List ℕ) (n : ℕ) (contents children later : Trees) → IsForest source → AreInside source ns → trees source ns ≡ Tree n contents children later → Parts source ns n contents children later
+pub parts : (source : Forest) (ns : List ℕ) (n : ℕ) (contents children later : Trees) → IsForest source → AreInside source ns → trees source ns ≡ Tree n contents children later → Parts source ns n contents children later
 parts source [] n contents children later good known e = (let none = sym (trees-none source) ∙ e in cc)
 parts source (m ∷ ms) n contents children later good known e =
     let both : Tree m (trees source (contents_list source m)) (trees source (children_of source m)) (trees source ms) ≡ Tree n contents children later = sym (trees-some source m ms good known) ∙ e in
@@ -194,10 +194,10 @@ parts source (m ∷ ms) n contents children later good known e =
 children_inside : (source : Forest) (n : ℕ) → IsForest source → AreInside source (children_of source n)
 children_inside source n good m s = (good.once.in_children n m s).0
 
-one_inside : (source : Forest) (c : ℕ) → c < length source.content → AreInside source (c ∷ [])
+pub one_inside : (source : Forest) (c : ℕ) → c < length source.content → AreInside source (c ∷ [])
 one_inside source c known m s = subst (λ (k : ℕ). k < length source.content) (eqb-true c m (sym (one-stands c m) ∙ s)) known
 
-no_held : (source : Forest) (n : ℕ) → IsForest source → trees source (contents_list source n) ≡ NoTrees → contents_at source n ≡ None
+pub no_held : (source : Forest) (n : ℕ) → IsForest source → trees source (contents_list source n) ≡ NoTrees → contents_at source n ≡ None
 no_held source n good e = elim (cases_Option (contents_at source n)) [
   | inl none ↦ none
   | inr (c, is) ↦
@@ -208,15 +208,15 @@ no_held source n good e = elim (cases_Option (contents_at source n)) [
 ]
 
 -- contents are one fragment without contents
-record Contents (source : Forest) (n c : ℕ) (contents children later : Trees) : Type 0 where
-  is : contents_at source n ≡ Some c
-  known : c < length source.content
-  fragment : data_at source c ≡ Fragment
-  none : contents ≡ NoTrees
-  last_one : later ≡ NoTrees
-  below : trees source (children_of source c) ≡ children
+pub record Contents (source : Forest) (n c : ℕ) (contents children later : Trees) : Type 0 where
+  pub is : contents_at source n ≡ Some c
+  pub known : c < length source.content
+  pub fragment : data_at source c ≡ Fragment
+  pub none : contents ≡ NoTrees
+  pub last_one : later ≡ NoTrees
+  pub below : trees source (children_of source c) ≡ children
 
-contents_are : (source : Forest) (n c : ℕ) (contents children later : Trees) → IsForest source → trees source (contents_list source n) ≡ Tree c contents children later → Contents source n c contents children later
+pub contents_are : (source : Forest) (n c : ℕ) (contents children later : Trees) → IsForest source → trees source (contents_list source n) ≡ Tree c contents children later → Contents source n c contents children later
 contents_are source n c contents children later good e = elim (cases_Option (contents_at source n)) [
   | inl none ↦
       (let empty : contents_list source n ≡ [] = rw none refl in
@@ -324,3 +324,26 @@ stands_here (m ∷ ns) (suc i) n h e = later_stands m n ns (stands_here ns i n (
 pub all_may : (source : Forest) (ns : List ℕ) → MayCopy source ns → AreKnown source ns
 all_may source [] may = tt
 all_may source (n ∷ ns) may = (may.0.known, all_may source ns may.1)
+
+-- ---- fragments
+
+element_bears : (content : NodeData) → is_element content ≡ true → may_bear content ≡ true
+element_bears Document e = cc
+element_bears Fragment e = cc
+element_bears (Element a) e = refl
+element_bears (Doctype a b d) e = cc
+element_bears (Text a) e = cc
+element_bears (Comment a) e = cc
+element_bears (ProcessingInstruction a b) e = cc
+
+may_be_child : (source : Forest) (ns : List ℕ) (m : ℕ) → MayCopy source ns → stands_in m ns ≡ true → is_top (data_at source m) ≡ false
+may_be_child source [] m may s = cc
+may_be_child source (n ∷ ns) m may s = elim (cases_Bool (n == m)) [
+  | inl t ↦ subst (λ (k : ℕ). is_top (data_at source k) ≡ false) (eqb-true n m t) (sym (test_at is_top source n may.0.known) ∙ may.0.no_top)
+  | inr f ↦ may_be_child source ns m may.1 (rw f at s)
+]
+
+pub fragment_kept : (source : Forest) (ns : List ℕ) (html : NodeData) → IsForest source → MayCopy source ns → is_element html ≡ true → IsForest (with_child 0 html (lone Fragment)) → IsForest (fragment_of html source ns)
+fragment_kept source ns html good may element fine =
+    copies_kept source (trees source ns) (Some 1) ns (with_child 0 html (lone Fragment)) good (inside_all source ns (all_may source ns may)) refl fine
+    (omega arith, λ m s. (element_bears html element, may_be_child source ns m may s))

@@ -8,9 +8,9 @@ use Rattle.dom_nodes.specs.declared.fault.EditFault.TheVariants.{UnknownNode, Ro
 use Rattle.dom_nodes.specs.declared.node_data.NodeData.{NodeData}
 use Rattle.dom_nodes.specs.declared.node_data.NodeData.TheVariants.{Element, Fragment}
 use Rattle.dom_nodes.specs.declared.node_data.TreeNode.{TreeNode}
-use Rattle.dom_nodes.specs.Kinds.{contents_named, is_top}
+use Rattle.dom_nodes.specs.Kinds.{contents_named, is_element, is_top}
 use Rattle.dom_links.specs.Forest.{Forest, children_of, forest_of, run_of}
-use Rattle.dom_links.specs.Growth.{with_child, with_node}
+use Rattle.dom_links.specs.Growth.{lone, with_child, with_node}
 use Rattle.dom_links.specs.ListMoves.{SomeOf}
 use Rattle.dom_links.specs.Sound.{IsSoundArena}
 use Rattle.dom_links.specs.Trees.{NoTrees, Tree, Trees, trees}
@@ -42,9 +42,14 @@ with_copies source p (Tree n contents children later) forest =
     (with_copies source None contents
     (with_node_below p (copied_data (length forest.content) (data_at source n)) forest)))
 
--- the forest with copies of some nodes of a source, each a run of its own, with all that is below them
+-- the forest with copies of some nodes of a source, with all that is below them, as the last children of p, or each standing
+-- alone
+abbrev pub copied_below : Forest → Option ℕ → List ℕ → Forest → Forest
+copied_below source p ns forest = with_copies source p (trees source ns) forest
+
+-- the same, each a run of its own
 abbrev pub copied : Forest → List ℕ → Forest → Forest
-copied source ns forest = with_copies source None (trees source ns) forest
+copied source ns forest = copied_below source None ns forest
 
 -- how many nodes trees have, their contents too
 abbrev pub size : Trees → ℕ
@@ -99,3 +104,18 @@ pub record Copied (result : Result (Vec ℕ) EditFault) (source : Forest) (old n
   pub err : OnErr result (forest_of new ≡ forest_of old)
   pub cause : IfErr result (CopyCause source ns (forest_of old))
   pub sound : IsSoundArena new
+
+-- a fragment: its root, the element below that, and copies of some nodes of a source below the element
+abbrev pub fragment_of : NodeData → Forest → List ℕ → Forest
+fragment_of html source ns = copied_below source (Some 1) ns (with_child 0 html (lone Fragment))
+
+-- why there is none
+abbrev pub FragmentCause : NodeData → Forest → List ℕ → EditFault → Type 0
+FragmentCause html source ns TooManyNodes = 4294967295 < length (fragment_of html source ns).content
+FragmentCause html source ns Memory = Unit {0}
+FragmentCause html source ns fault = CheckCause source ns fault
+
+-- an element that names no contents
+pub record IsPlainElement (content : NodeData) : Type 0 where
+  pub element : is_element content ≡ true
+  pub no_contents : contents_named content ≡ None

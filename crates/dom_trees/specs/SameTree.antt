@@ -1,5 +1,5 @@
 -- When two nodes, of one forest or of two, are the same tree.
-use Rattle.std.specs.Prelude.{◌≡◌, ℕ, false, [], ◌∷◌, Option, None, map, slice_get}
+use Rattle.std.specs.Prelude.{◌≡◌, ℕ, false, List, [], ◌∷◌, Option, None, map, slice_get}
 use Rattle.std.specs.Option.{option_map}
 use Rattle.dom_nodes.specs.declared.name.Attr.{Attr}
 use Rattle.dom_nodes.specs.declared.node_data.NodeData.{NodeData}
@@ -35,3 +35,7 @@ shown forest (Tree n contents children later) =
 -- is compared equal, and so are the orders of their children
 abbrev pub SameTree : Forest → ℕ → Forest → ℕ → Type 0
 SameTree one n other m = shown one (trees one (n ∷ [])) ≡ shown other (trees other (m ∷ []))
+
+-- some nodes of one forest and some of another are the same trees, in their order
+abbrev pub SameTrees : Forest → List ℕ → Forest → List ℕ → Type 0
+SameTrees one ns other ms = shown one (trees one ns) ≡ shown other (trees other ms)

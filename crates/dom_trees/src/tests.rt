@@ -10,7 +10,7 @@ use dom_nodes::text::Text;
 use std::alloc::Global;
 use std::test::Fail;
 
-fn html_name(alloc: Global, local: &str) -> Result<QualName, Fail> {
+pub(crate) fn html_name(alloc: Global, local: &str) -> Result<QualName, Fail> {
     Ok(QualName {
         prefix: None,
         ns: Namespace::Html,

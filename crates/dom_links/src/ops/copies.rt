@@ -4,7 +4,8 @@
 ghost use Rattle.std.specs.Prelude.{◌≡◌, ◌<◌, ◌≤◌, ◌+◌, ◌∷◌, ◌++◌, [], None, Some, length, vec_len};
 ghost use Rattle.std.specs.Prelude.{IfErr, IfOk, IfSome, MatchResult, OnErr, OnOk};
 ghost use Rattle.dom_nodes.specs.declared.fault.EditFault.TheVariants.{Memory};
-ghost use Rattle.dom_links.specs.Copies.{CheckCause, Copied, MayCopyOne, OneCause, copied};
+ghost use Rattle.dom_links.specs.Copies.{CheckCause, Copied, MayCopyOne, OneCause, copied, copied_below};
+ghost use Rattle.dom_links.specs.Copies.{FragmentCause, IsPlainElement, fragment_of};
 ghost use Rattle.dom_links.specs.Copies.{copied_data, copy_numbers, data_at};
 ghost use Rattle.dom_links.specs.Copies.{MayCopy, with_contents, with_copies, with_node_below};
 ghost use Rattle.dom_links.specs.Copying.{AreRows, Copying, IsPlaceFor, IsRow, IsTooLarge};
@@ -18,10 +19,12 @@ ghost use Rattle.dom_links.specs.Trees.{trees};
 ghost use Rattle.dom_links.specs.Walk.{IsNodeOf};
 
 use crate::iters::find_node;
-use crate::ops::create::{add_child, push_alone};
+use crate::ops::TreeNodeOps;
+use crate::ops::create::{add_child, create_root, push_alone};
 use dom_nodes::fault::EditFault;
 use dom_nodes::node_data::{Element, NodeData, TreeNode};
 use dom_nodes::node_id::NodeId;
+use std::alloc::Global;
 
 /// A node with its later siblings, of which copies are still to be made, below a node.
 #[derive(Clone, Copy)]
@@ -53,6 +56,28 @@ pub fn copy_nodes(nodes: &mut Vec<TreeNode>, ids: &[NodeId]) -> Result<Vec<NodeI
 {
     check_copies(nodes, ids)?;
     copy_all(nodes, None, ids)
+}
+
+/// The arena of a fragment: its root, an element that names no contents, and copies of nodes of
+/// another arena as the children of that.
+pub fn fragment_of(
+    alloc: Global,
+    html: NodeData,
+    other: &[TreeNode],
+    ids: &[NodeId],
+) -> Result<Vec<TreeNode>, EditFault>
+    requires html { IsPlainElement html }
+    requires other { IsSoundArena other.now }
+    ensures made { IfOk result (λ nodes.
+        forest_of nodes.items ≡ fragment_of html (forest_of other.now) ids.now) }
+    ensures sound { IfOk result (λ nodes. IsSoundArena nodes.items) }
+    ensures cause { IfErr result (λ fault. FragmentCause html (forest_of other.now) ids.now fault) }
+{
+    check_copies(other, ids)?;
+    let mut nodes = create_root(alloc, NodeData::Fragment)?;
+    let top = TreeNodeOps::append_child_data_of(&mut nodes, NodeId::root(), html)?;
+    copy_each(&mut nodes, Some(other), ids, &Some(top))?;
+    Ok(nodes)
 }
 
 /// Whether nodes may be copied.
@@ -103,7 +128,7 @@ fn copy_all(
     ensures sound { IsSoundArena nodes.new.items }
 {
     let count = nodes.len();
-    match copy_each(nodes, other, ids) {
+    match copy_each(nodes, other, ids, &None) {
         Ok(made) => Ok(made),
         Err(fault) => {
             nodes.truncate(count);
@@ -117,21 +142,23 @@ fn copy_each(
     nodes: &mut Vec<TreeNode>,
     other: Option<&[TreeNode]>,
     ids: &[NodeId],
+    parent: &Option<NodeId>,
 ) -> Result<Vec<NodeId>, EditFault>
     ghost at: { Copying }
     requires under_way { IsUnderWay at other nodes.old.items }
     requires known { AreKnown at.source ids.now }
+    requires below { IsPlaceFor at (vec_len nodes.old) parent.now }
     ensures under_way { IsUnderWay at other.entry nodes.new.items }
     ensures made { OnOk result (forest_of nodes.new.items
-        ≡ copied at.source ids.now (forest_of nodes.old.items)) }
+        ≡ copied_below at.source parent.now ids.now (forest_of nodes.old.items)) }
     ensures numbers { IfOk result (λ made. made.items
         ≡ copy_numbers at.source ids.now (forest_of nodes.old.items)) }
-    ensures cause { IfErr result
-        (λ fault. IsTooLarge (copied at.source ids.now (forest_of nodes.old.items)) fault) }
+    ensures cause { let copied = copied_below at.source parent.now ids.now (forest_of nodes.old.items)
+        in IfErr result (λ fault. IsTooLarge copied fault) }
 {
     let mut numbers = Vec::new(*nodes.allocator());
     for id in ids {
-        let number = copy_tree(nodes, other, *id)?;
+        let number = copy_tree(nodes, other, *id, *parent)?;
         push_number(&mut numbers, number)?;
     }
     Ok(numbers)
@@ -152,19 +179,22 @@ fn copy_tree(
     nodes: &mut Vec<TreeNode>,
     other: Option<&[TreeNode]>,
     id: NodeId,
+    parent: Option<NodeId>,
 ) -> Result<NodeId, EditFault>
     ghost at: { Copying }
     requires under_way { IsUnderWay at other nodes.old.items }
     requires known { id < length at.source.content }
+    requires below { IsPlaceFor at (vec_len nodes.old) parent }
     ensures under_way { IsUnderWay at other.entry nodes.new.items }
     ensures made { OnOk result (forest_of nodes.new.items
-        ≡ copied at.source (id ∷ []) (forest_of nodes.old.items)) }
+        ≡ copied_below at.source parent (id ∷ []) (forest_of nodes.old.items)) }
     ensures number { IfOk result (λ made. made ≡ vec_len nodes.old) }
-    ensures cause { IfErr result
-        (λ fault. IsTooLarge (copied at.source (id ∷ []) (forest_of nodes.old.items)) fault) }
+    ensures cause { let copied = copied_below at.source parent (id ∷ [])
+        (forest_of nodes.old.items)
+        in IfErr result (λ fault. IsTooLarge copied fault) }
 {
     let mut rows = Vec::new(*nodes.allocator());
-    let made = copy_node(nodes, other, &mut rows, id, None)?;
+    let made = copy_node(nodes, other, &mut rows, id, parent)?;
     copy_rows(nodes, other, rows)?;
     Ok(made)
 }

@@ -1,0 +1,18 @@
+//! What is true of every tree, told to the crates above. The functions do nothing.
+
+ghost use Rattle.std.specs.Prelude.{ℕ, List};
+ghost use Rattle.dom_links.specs.Copies.{MayCopy, copied, copy_numbers};
+ghost use Rattle.dom_links.specs.Forest.{Forest};
+ghost use Rattle.dom_links.specs.Sound.{IsForest};
+ghost use Rattle.dom_trees.specs.SameTree.{SameTrees};
+
+use dom_links::laws::copies_of_a_forest;
+
+/// Copies are the same trees as the nodes that were copied.
+pub fn copies_are_the_same_trees()
+    ensures { (source : Forest) (ns : List ℕ) (forest : Forest) → IsForest source → IsForest forest
+        → MayCopy source ns
+        → SameTrees source ns (copied source ns forest) (copy_numbers source ns forest) }
+{
+    copies_of_a_forest();
+}
