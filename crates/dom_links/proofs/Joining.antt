@@ -61,7 +61,7 @@ pub over_on : (forest : Forest) (n at : ℕ) (before joined more : List ℕ) (ne
 over_on forest n at before joined more next beyond good h is text added on =
     let rest = follows forest false at beyond good on in
     let here : front_texts forest (row_on forest false next) ≡ text_at forest at ++ front_texts forest (row_on forest false beyond) =
-      ap (λ o. front_texts forest (row_on forest false o)) is ∙ rw text (ap (λ ns. text_at forest at ++ front_texts forest ns) (Follows.rest rest)) in
+    ap (λ o. front_texts forest (row_on forest false o)) is ∙ rw text (ap (λ ns. text_at forest at ++ front_texts forest ns) (Follows.rest rest)) in
     record {
       goes = record {
         same = ap (λ t. t ++ front_texts forest (row_on forest false beyond)) added ∙ append_assoc joined (text_at forest at) (front_texts forest (row_on forest false beyond)) ∙ ap (λ t. joined ++ t) (sym here) ∙ h.same;

@@ -229,7 +229,7 @@ all_joined forest ns good =
     let some = filter (is_rewritten forest) ns in
     let same : dropped forest some ≡ dropped forest ns = filter_twice (λ n. is_text_at forest n && not (leads forest n)) (is_rewritten forest) ns (λ n. is_among_them (is_text_at forest n) (not (leads forest n)) (is_text_after forest n)) in
     let content : map_from 0 (held forest some) forest.content ≡ map_from 0 (held forest ns) forest.content = map_here 0 (held forest some) (held forest ns) forest.content
-      (λ m c is. (let z : 0 + m ≡ m = omega arith in subst (λ (k : ℕ). held forest some k c ≡ held forest ns k c) (sym z) (each m c is))) in
+    (λ m c is. (let z : 0 + m ≡ m = omega arith in subst (λ (k : ℕ). held forest some k c ≡ held forest ns k c) (sym z) (each m c is))) in
     ap (λ cs. forest_with cs (map (without (dropped forest some)) forest.children) (map_from 0 (left_run (dropped forest some)) forest.runs)) content
     ∙ ap (shape forest ns) same
   where

@@ -45,7 +45,7 @@ has_parent forest x n s = elim (cases_Option (parent forest n)) [
 ]
 
 -- m stands in no list before it
-only_here : (xs ys : List ℕ) (m : ℕ) → IsDistinct (xs ++ m ∷ ys) → (stands_in m xs ≡ false) × (stands_in m ys ≡ false)
+pub only_here : (xs ys : List ℕ) (m : ℕ) → IsDistinct (xs ++ m ∷ ys) → (stands_in m xs ≡ false) × (stands_in m ys ≡ false)
 only_here xs ys m once =
     let parts = distinct_parts xs (m ∷ ys) once in (
       elim (cases_Bool (stands_in m xs)) [

@@ -7,6 +7,7 @@ ghost use Rattle.dom_links.specs.Forest.{Forest, children_of};
 ghost use Rattle.dom_links.specs.Growth.{lone};
 ghost use Rattle.dom_links.specs.ListMoves.{element_at};
 ghost use Rattle.dom_links.specs.Texts.{text_of};
+ghost use Rattle.dom_trees.specs.Edits.{Edits, normalizing};
 ghost use Rattle.dom_trees.specs.Views.{base_uri, page_part};
 ghost use Rattle.dom_markup.specs.Documents.{IsHtml, IsNodeAt, IsSpelled};
 ghost use Rattle.dom_markup.specs.Html.{html_of, inner_html_of};
@@ -38,7 +39,7 @@ use crate::document::within::Within;
 use crate::laws::faults::kinds_of_faults;
 use crate::laws::plain::{documents_without_identifiers_are_plain, spelled_documents_are_the_same};
 use crate::serializing::NodeMarkup;
-use dom_nodes::fault::{MarkupFault, MarkupFaultKind, OutOfMemory};
+use dom_nodes::fault::{EditFault, MarkupFault, MarkupFaultKind, OutOfMemory};
 use dom_nodes::node_data::NodeData;
 use dom_nodes::node_id::NodeId;
 use dom_trees::node_ref::NodeRef;
@@ -220,6 +221,15 @@ impl Document {
         ensures { IfOk result (λ text. string_bytes text ≡ text_of self.now.tree 0) }
     {
         self.root().text()
+    }
+
+    /// Joins each row of texts below the root, as `Tree::normalize_of`. Refused as `Memory`.
+    pub fn normalize(&mut self) -> Result<(), EditFault>
+        ensures tree { Edits result self.old.tree self.new.tree (normalizing 0) }
+        ensures errors { self.new.errors ≡ self.old.errors }
+        ensures quirks { self.new.quirks_mode ≡ self.old.quirks_mode }
+    {
+        self.tree.normalize_of(&NodeId::root())
     }
 }
 

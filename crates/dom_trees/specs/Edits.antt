@@ -13,6 +13,7 @@ use Rattle.dom_links.specs.Forest.{Forest, children_of}
 use Rattle.dom_links.specs.Growth.{DataCause, HasFreeContents, MayAppend, NodeCause, with_child, with_node, with_template}
 use Rattle.dom_links.specs.ListMoves.{AllowedList, MayReparent, MayWrap, moved_nodes, mover, reparented, replaced, unwrapped, wrapped}
 use Rattle.dom_links.specs.Moves.{cut, moved_to}
+use Rattle.dom_links.specs.Normalized.{normalized}
 use Rattle.dom_links.specs.SetTexts.{texted}
 use Rattle.dom_links.specs.Sound.{bears}
 use Rattle.dom_links.specs.declared.gap.Gap.{Gap}
@@ -20,7 +21,7 @@ use Rattle.dom_links.specs.declared.gap.Gap.TheVariants.{Before}
 use Rattle.dom_links.specs.declared.gap.Moving.{Moving}
 use Rattle.dom_links.specs.declared.gap.Moving.TheVariants.{Node}
 use Rattle.dom_trees.specs.NewNodes.{element_with}
-use Rattle.dom_trees.specs.Refusals.{ChangeCause, KnownCause, MoveCause, ReparentCause, SetCause, TemplateCause, WrapCause}
+use Rattle.dom_trees.specs.Refusals.{ChangeCause, KnownCause, JoinCause, MoveCause, ReparentCause, SetCause, TemplateCause, WrapCause}
 
 -- An edit: the forest that it leaves, when it is allowed, and the cause that a fault tells of its refusal
 pub record TreeEdit : Type 1 where
@@ -152,3 +153,7 @@ pub record Copies (result : Result (Vec ℕ) EditFault) (old new source : Forest
 -- the text of x is set
 abbrev pub texting : ℕ → List ℕ → TreeEdit
 texting x text = record { after = texted x text; Allowed = IsKnown x; Cause = SetCause x }
+
+-- the rows of texts below x are joined
+abbrev pub normalizing : ℕ → TreeEdit
+normalizing x = record { after = normalized x; Allowed = IsKnown x; Cause = JoinCause x }

@@ -100,3 +100,32 @@ fn elements_are_stripped(rt: HostRuntime) -> Result<(), Fail> {
     assert!(rt; has_children(&tree, 3, &[]));
     Ok(())
 }
+
+/// Whether the text of the node is that.
+fn holds(tree: &Tree, at: usize, text: &str) -> Result<bool, Fail> {
+    Ok(tree.get_unchecked(&node(at)).text()?.as_str() == text)
+}
+
+#[test]
+fn rows_of_texts_are_joined(rt: HostRuntime) -> Result<(), Fail> {
+    let mut tree = Tree::new(rt.alloc(), NodeData::Document)?;
+    add_element(&mut tree, 0, "div")?;
+    add_text(&mut tree, 1, "")?;
+    add_text(&mut tree, 1, "a")?;
+    add_text(&mut tree, 1, "")?;
+    add_text(&mut tree, 1, "b")?;
+    add_element(&mut tree, 1, "i")?;
+    add_text(&mut tree, 1, "")?;
+    add_text(&mut tree, 6, "c")?;
+    let Some(mut lent) = tree.node_mut(&node(0)) else {
+        return Err(Fail::new("unknown"));
+    };
+    lent.normalize()?;
+    assert!(rt; has_children(&tree, 1, &[3, 6]));
+    assert!(rt; has_children(&tree, 6, &[8]));
+    assert!(rt; holds(&tree, 1, "abc")? && holds(&tree, 3, "ab")? && holds(&tree, 5, "")?);
+    tree.normalize_of(&node(0))?;
+    assert!(rt; has_children(&tree, 1, &[3, 6]) && holds(&tree, 1, "abc")?);
+    assert!(rt; tree.normalize_of(&node(9)) == Err(EditFault::UnknownNode));
+    Ok(())
+}

@@ -1,7 +1,8 @@
 //! Texts that stand side by side are joined.
 
 ghost use Rattle.std.specs.Prelude.{◌≡◌, ◌<◌, ◌++◌, ◌∷◌, [], IfOk, OnErr, OnOk, false, length};
-ghost use Rattle.std.specs.Prelude.{string_bytes};
+ghost use Rattle.std.specs.Prelude.{IfErr, MatchResult, string_bytes};
+ghost use Rattle.dom_nodes.specs.declared.fault.EditFault.TheVariants.{Memory};
 ghost use Rattle.dom_links.specs.Forest.{forest_of};
 ghost use Rattle.dom_links.specs.Normalized.{front_texts, is_empty_text, leads, nearest_before};
 ghost use Rattle.dom_links.specs.Normalized.{normalized};
@@ -16,7 +17,7 @@ use crate::iters::{DescendantNodes, next_sibling_id, node_at, prev_sibling_id};
 use crate::ops::TreeNodeOps;
 use crate::ops::set_text::{is_text_at, put_text};
 use crate::ops::texts::text_at;
-use dom_nodes::fault::OutOfMemory;
+use dom_nodes::fault::{EditFault, OutOfMemory};
 use dom_nodes::node_data::TreeNode;
 use dom_nodes::node_id::NodeId;
 use dom_nodes::text::Text;
@@ -24,19 +25,16 @@ use std::alloc::Global;
 
 impl TreeNodeOps {
     /// Joins each row of texts below the node: the first that is not empty holds them all, and the
-    /// others are cut out and hold nothing. Linear in what is below. Where memory is refused,
+    /// others are cut out and hold nothing. Linear in what is below. Refused as `Memory`; then
     /// nothing changes.
-    pub fn normalize(
-        alloc: Global,
-        nodes: &mut [TreeNode],
-        id: NodeId,
-    ) -> Result<(), OutOfMemory>
+    pub fn normalize(alloc: Global, nodes: &mut [TreeNode], id: NodeId) -> Result<(), EditFault>
         requires { IsSoundArena nodes.old }
         ensures made { OnOk result (forest_of nodes.new ≡ normalized id (forest_of nodes.old)) }
         ensures err { OnErr result (nodes.new ≡ nodes.old) }
+        ensures cause { IfErr result (λ fault. fault ≡ Memory) }
         ensures sound { IsSoundArena nodes.new }
     {
-        let mut found = rewrites_below(alloc, nodes, &id)?;
+        let mut found = rewrites_or_fault(alloc, nodes, &id)?;
         while let Some(rewrite) = found.pop() {
             apply(nodes, rewrite);
         }
@@ -63,6 +61,24 @@ fn apply(nodes: &mut [TreeNode], rewrite: Rewrite)
     put_text(nodes, id, text);
     if !stays {
         TreeNodeOps::remove_from_parent(nodes, id);
+    }
+}
+
+/// The same as `rewrites_below`, refused as `Memory`.
+fn rewrites_or_fault(
+    alloc: Global,
+    nodes: &[TreeNode],
+    id: &NodeId,
+) -> Result<Vec<Rewrite>, EditFault>
+    requires { IsSoundArena nodes.now }
+    ensures { MatchResult result
+        (λ found. found.items
+        ≡ rewrites (forest_of nodes.now) (walk_below (forest_of nodes.now) id.now))
+        (λ fault. fault ≡ Memory) }
+{
+    match rewrites_below(alloc, nodes, id) {
+        Ok(found) => Ok(found),
+        Err(_) => Err(EditFault::Memory),
     }
 }
 
@@ -94,11 +110,7 @@ fn add_found(found: &mut Vec<Rewrite>, rewrite: Option<Rewrite>) -> Result<(), O
 }
 
 /// What is to be done with a node, if anything.
-fn rewrite_of(
-    alloc: Global,
-    nodes: &[TreeNode],
-    id: NodeId,
-) -> Result<Option<Rewrite>, OutOfMemory>
+fn rewrite_of(alloc: Global, nodes: &[TreeNode], id: NodeId) -> Result<Option<Rewrite>, OutOfMemory>
     requires { IsSoundArena nodes.now }
     ensures { IfOk result (λ found. found ≡ rewrite_at (forest_of nodes.now) id) }
 {

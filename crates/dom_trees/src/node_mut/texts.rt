@@ -2,7 +2,7 @@
 
 ghost use Rattle.std.specs.Prelude.{map};
 ghost use Rattle.dom_links.specs.Stripped.{stripped};
-ghost use Rattle.dom_trees.specs.Edits.{texting};
+ghost use Rattle.dom_trees.specs.Edits.{normalizing, texting};
 ghost use Rattle.dom_trees.specs.Lending.{EditsAt, LeavesAt};
 
 use crate::node_mut::NodeMut;
@@ -15,6 +15,14 @@ impl<'a> NodeMut<'a> {
         ensures { EditsAt result self.old self.new (texting self.old.id text.now) }
     {
         self.tree.set_text_of(&self.id, text)
+    }
+
+    /// Joins each row of texts below the node: the first that is not empty holds them all, and the
+    /// others are cut out and hold nothing.
+    pub fn normalize(&mut self) -> Result<(), EditFault>
+        ensures { EditsAt result self.old self.new (normalizing self.old.id) }
+    {
+        self.tree.normalize_of(&self.id)
     }
 
     /// Replaces each element below the node whose local name is one of the names by its children.

@@ -2,7 +2,7 @@
 
 ghost use Rattle.std.specs.Prelude.{◌≡◌, map};
 ghost use Rattle.dom_links.specs.Stripped.{stripped};
-ghost use Rattle.dom_trees.specs.Edits.{Edits, texting};
+ghost use Rattle.dom_trees.specs.Edits.{Edits, normalizing, texting};
 
 use crate::checks::check_known;
 use crate::tree::Tree;
@@ -19,6 +19,16 @@ impl Tree {
     {
         check_known(&self.nodes, *id)?;
         TreeNodeOps::set_text(&mut self.nodes, *id, text)
+    }
+
+    /// Joins each row of texts below the node: the first that is not empty holds them all, and the
+    /// others are cut out and hold nothing. Refused as `UnknownNode` or `Memory`.
+    pub fn normalize_of(&mut self, id: &NodeId) -> Result<(), EditFault>
+        ensures { Edits result self.old self.new (normalizing id.now) }
+    {
+        check_known(&self.nodes, *id)?;
+        let alloc = self.allocator();
+        TreeNodeOps::normalize(alloc, &mut self.nodes, *id)
     }
 
     /// Replaces each element below the node whose local name is one of the names by its children.

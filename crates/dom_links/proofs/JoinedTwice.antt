@@ -1,0 +1,341 @@
+-- Joining rows of texts keeps the text, and to join them twice is to join them once.
+use Rattle.std.proofs.Common.{ℕ, zero, suc, ◌≡◌, ◌<◌, ◌≤◌, ◌+◌, Bool, true, false, List, [], ◌∷◌, ◌++◌, Option, Some, None, refl, sym, ap, ◌∙◌, subst, arith, inl, inr, length, append_assoc, append-nil, cond, map, reverse}
+use Rattle.std.specs.Prelude.{◌==◌, ◌&&◌, ◌||◌, filter, find, not, slice_get, if◌then◌else◌}
+use Rattle.std.specs.List.{flat_map}
+use Rattle.std.specs.Option.{option_map, option_map_or}
+use Rattle.std.proofs.lemmas.Bool.{cases_Bool, eqb-true, true≢false}
+use Rattle.std.proofs.lemmas.List.Concat.{flat_map-append}
+use Rattle.dom_nodes.specs.Kinds.{is_text, may_bear}
+use Rattle.dom_nodes.specs.declared.node_data.NodeData.{NodeData}
+use Rattle.dom_nodes.specs.declared.node_data.NodeData.TheVariants.{Document, Fragment, Doctype, Text, Comment, Element, ProcessingInstruction}
+use Rattle.dom_links.specs.Lists.{stands_in, IsDistinct, map_from, without}
+use Rattle.dom_links.specs.Forest.{Forest, children_of, owner_from, parent, siblings}
+use Rattle.dom_links.specs.Normalized.{dropped, front_texts, is_empty_text, joined, joined_among, leads, nearest_before, normalized}
+use Rattle.dom_links.specs.SetTexts.{is_text_at, retexted}
+use Rattle.dom_links.specs.Sound.{IsForest}
+use Rattle.dom_links.specs.Texts.{text_at, text_in, text_of}
+use Rattle.dom_links.specs.Trees.{ancestors, Trees, NoTrees, Tree, in_order, trees, trees_to, walk, walk_below}
+use Rattle.dom_links.specs.Walk.{later, rest_after}
+use Rattle.dom_links.proofs.Apart.{walk-inside}
+use Rattle.dom_links.proofs.BlockMoves.{rest_here}
+use Rattle.dom_links.proofs.Depth.{here_stands, later_stands, parent_inside, step_inside, trees-none, trees-some}
+use Rattle.dom_links.proofs.DownUp.{below_or_above}
+use Rattle.dom_links.proofs.Later.{ancestors-parent, not_above_itself}
+use Rattle.dom_links.proofs.Neighbours.{reverse_around, reverse_cons, stands_in-append, stands_in-reverse, stands_in-without, without-append}
+use Rattle.dom_links.proofs.Places.{children_mapped, owner-without, siblings_child}
+use Rattle.dom_links.proofs.Rewriting.{held}
+use Rattle.dom_links.proofs.Stripping.{only_here, stands_in-filter}
+
+-- ---- what a node is then
+
+got_held : (i : ℕ) (F : ℕ → NodeData → NodeData) (cs : List NodeData) (n : ℕ) → slice_get (map_from i F cs) n ≡ option_map (F (i + n)) (slice_get cs n)
+got_held i F [] n = refl
+got_held i F (c ∷ cs) zero = (let z : i ≡ i + 0 = omega arith in ap (λ (k : ℕ). Some (F k c)) z)
+got_held i F (c ∷ cs) (suc n) = got_held (i + 1) F cs n ∙ (let z : i + 1 + n ≡ i + suc n = omega arith in ap (λ (k : ℕ). option_map (F k) (slice_get cs n)) z)
+
+length_held : (i : ℕ) (F : ℕ → NodeData → NodeData) (cs : List NodeData) → length (map_from i F cs) ≡ length cs
+length_held i F [] = refl
+length_held i F (c ∷ cs) = ap suc (length_held (i + 1) F cs)
+
+text_kept : (text : List ℕ) (content : NodeData) → is_text (retexted text content) ≡ is_text content
+text_kept text Document = refl
+text_kept text Fragment = refl
+text_kept text (Doctype a b c) = refl
+text_kept text (Text a) = refl
+text_kept text (Comment a) = refl
+text_kept text (Element a) = refl
+text_kept text (ProcessingInstruction a b) = refl
+
+text_put : (text : List ℕ) (content : NodeData) → is_text content ≡ true → text_in (retexted text content) ≡ text
+text_put text Document is = cc
+text_put text Fragment is = cc
+text_put text (Doctype a b c) is = cc
+text_put text (Text a) is = refl
+text_put text (Comment a) is = cc
+text_put text (Element a) is = cc
+text_put text (ProcessingInstruction a b) is = cc
+
+no_text : (content : NodeData) → is_text content ≡ false → text_in content ≡ []
+no_text Document is = refl
+no_text Fragment is = refl
+no_text (Doctype a b c) is = refl
+no_text (Text a) is = cc
+no_text (Comment a) is = refl
+no_text (Element a) is = refl
+no_text (ProcessingInstruction a b) is = refl
+
+no_bearing : (content : NodeData) → is_text content ≡ true → may_bear content ≡ false
+no_bearing Document is = cc
+no_bearing Fragment is = cc
+no_bearing (Doctype a b c) is = refl
+no_bearing (Text a) is = refl
+no_bearing (Comment a) is = refl
+no_bearing (Element a) is = cc
+no_bearing (ProcessingInstruction a b) is = refl
+
+no_text_at : (forest : Forest) (n : ℕ) → is_text_at forest n ≡ false → text_at forest n ≡ []
+no_text_at forest n other = go (slice_get forest.content n) other
+  where
+    go : (o : Option NodeData) → option_map_or is_text o false ≡ false → option_map_or text_in o [] ≡ []
+    go None h = refl
+    go (Some c) h = no_text c h
+
+-- a text has no children
+text_leaf : (forest : Forest) (n : ℕ) → IsForest forest → is_text_at forest n ≡ true → children_of forest n ≡ []
+text_leaf forest n good text = go (children_of forest n) refl
+  where
+    none : (o : Option NodeData) → option_map_or is_text o false ≡ true → option_map_or may_bear o false ≡ false
+    none None h = refl
+    none (Some c) h = no_bearing c h
+
+    go : (ks : List ℕ) → children_of forest n ≡ ks → ks ≡ []
+    go [] is = refl
+    go (k ∷ ks) is =
+        let up = (good.once.in_children n k (ap (stands_in k) is ∙ here_stands k ks)).1 in
+        absurd (true≢false (sym (good.bearing n k up) ∙ none (slice_get forest.content n) text))
+
+without_reverse : (out ns : List ℕ) → without out (reverse ns) ≡ reverse (without out ns)
+without_reverse out [] = refl
+without_reverse out (n ∷ ns) =
+    ap (without out) (reverse_cons n ns) ∙ without-append out (reverse ns) (n ∷ []) ∙ ap (λ ms. ms ++ without out (n ∷ [])) (without_reverse out ns)
+    ∙ last_part (stands_in n out) refl
+  where
+    last_part : (b : Bool) → stands_in n out ≡ b → reverse (without out ns) ++ without out (n ∷ []) ≡ reverse (without out (n ∷ ns))
+    last_part true is = rw is (append-nil (reverse (without out ns)))
+    last_part false is = rw is (sym (reverse_cons n (without out ns)))
+
+module _ (forest : Forest) (x : ℕ) (good : IsForest forest) where
+  abbrev nodes : List ℕ
+  nodes = walk_below forest x
+
+  abbrev out : List ℕ
+  out = dropped forest nodes
+
+  abbrev after_it : Forest
+  after_it = normalized x forest
+
+  got : (n : ℕ) → slice_get after_it.content n ≡ option_map (held forest nodes n) (slice_get forest.content n)
+  got n = got_held 0 (held forest nodes) forest.content n ∙ (let z : 0 + n ≡ n = omega arith in ap (λ (k : ℕ). option_map (held forest nodes k) (slice_get forest.content n)) z)
+
+  kind : (n : ℕ) → is_text_at after_it n ≡ is_text_at forest n
+  kind n = ap (λ o. option_map_or is_text o false) (got n) ∙ go (slice_get forest.content n)
+    where
+      go : (o : Option NodeData) → option_map_or is_text (option_map (held forest nodes n) o) false ≡ option_map_or is_text o false
+      go None = refl
+      go (Some c) = elim (cases_Bool (stands_in n nodes)) [ inl t ↦ rw t (text_kept (joined forest n) c) | inr f ↦ rw f refl ]
+
+  text_joined : (n : ℕ) → stands_in n nodes ≡ true → is_text_at forest n ≡ true → text_at after_it n ≡ joined forest n
+  text_joined n s text = ap (λ o. option_map_or text_in o []) (got n) ∙ go (slice_get forest.content n) text
+    where
+      go : (o : Option NodeData) → option_map_or is_text o false ≡ true → option_map_or text_in (option_map (held forest nodes n) o) [] ≡ joined forest n
+      go None h = cc
+      go (Some c) h = ap (λ b. text_in (cond b (retexted (joined forest n) c) c)) s ∙ text_put (joined forest n) c h
+
+  text_same : (n : ℕ) → stands_in n nodes ≡ false → text_at after_it n ≡ text_at forest n
+  text_same n s = ap (λ o. option_map_or text_in o []) (got n) ∙ go (slice_get forest.content n)
+    where
+      go : (o : Option NodeData) → option_map_or text_in (option_map (held forest nodes n) o) [] ≡ option_map_or text_in o []
+      go None = refl
+      go (Some c) = ap (λ b. text_in (cond b (retexted (joined forest n) c) c)) s
+
+  is_out : (n : ℕ) → stands_in n out ≡ (stands_in n nodes && (is_text_at forest n && not (leads forest n)))
+  is_out n = stands_in-filter (λ m. is_text_at forest m && not (leads forest m)) nodes n
+
+  children_then : (q : ℕ) → children_of after_it q ≡ without out (children_of forest q)
+  children_then q = children_mapped (without out) forest.children q refl
+
+  -- ---- the walk then
+
+  no_walk : (f : Forest) (ns : List ℕ) → walk (trees_to f zero ns) ≡ []
+  no_walk f [] = refl
+  no_walk f (n ∷ ns) = refl
+
+  walks_then : (most : ℕ) (ns : List ℕ) → walk (trees_to after_it most (without out ns)) ≡ without out (walk (trees_to forest most ns))
+  walks_then most [] = refl
+  walks_then zero (n ∷ ns) = no_walk after_it (without out (n ∷ ns))
+  walks_then (suc most) (n ∷ ns) =
+      let below = walks_then most (children_of forest n) in
+      let others = walks_then (suc most) ns in
+      let kids = walk (trees_to forest most (children_of forest n)) in
+      let rest = walk (trees_to forest (suc most) ns) in
+      elim (cases_Bool (stands_in n out)) [
+        | inl t ↦ (let text = and_text (stands_in n nodes) (is_text_at forest n) (not (leads forest n)) (sym (is_out n) ∙ t) in
+            let leaf : kids ≡ [] = ap (λ ks. walk (trees_to forest most ks)) (text_leaf forest n good text) in
+            rw t (others ∙ ap (λ ks. without out (ks ++ rest)) (sym leaf)))
+        | inr f ↦ rw f (ap (λ ms. n ∷ ms ++ walk (trees_to after_it (suc most) (without out ns))) (ap (λ ks. walk (trees_to after_it most ks)) (children_then n) ∙ below)
+            ∙ ap (λ ms. n ∷ without out kids ++ ms) others ∙ ap (λ ms. n ∷ ms) (sym (without-append out kids rest)))
+      ]
+    where
+      and_text : (a b c : Bool) → (a && (b && c)) ≡ true → b ≡ true
+      and_text true true c h = refl
+      and_text true false c h = cc
+      and_text false b c h = cc
+
+  pub walk_then : walk_below after_it x ≡ without out nodes
+  unfolding trees
+  walk_then =
+      ap (λ most. walk (trees_to after_it most (children_of after_it x))) (length_held 0 (held forest nodes) forest.content)
+      ∙ ap (λ ks. walk (trees_to after_it (length forest.content) ks)) (children_then x) ∙ walks_then (length forest.content) (children_of forest x)
+
+  -- ---- where a node stands in its row
+
+  -- the nearest node before, going back over empty texts, is a text
+  abbrev inside : List ℕ → Bool
+  inside before = option_map_or (is_text_at forest) (find (λ m. not (is_empty_text forest m)) (reverse before)) false
+
+  inside_next : (before : List ℕ) (n : ℕ) → inside (before ++ n ∷ []) ≡ cond (not (is_empty_text forest n)) (is_text_at forest n) (inside before)
+  inside_next before n = ap (λ ms. option_map_or (is_text_at forest) (find (λ m. not (is_empty_text forest m)) ms) false) (reverse_around before [] n) ∙ go (not (is_empty_text forest n)) refl
+    where
+      go : (b : Bool) → not (is_empty_text forest n) ≡ b → option_map_or (is_text_at forest) (find (λ m. not (is_empty_text forest m)) (n ∷ reverse before)) false ≡ cond (not (is_empty_text forest n)) (is_text_at forest n) (inside before)
+      go true is = rw is refl
+      go false is = rw is refl
+
+  -- n stands between these in the children of p
+  record Stands (p n : ℕ) (before behind : List ℕ) : Type 0 where
+    up : parent forest n ≡ Some p
+    back : later forest true n ≡ reverse before
+    on : later forest false n ≡ behind
+    not_before : stands_in n before ≡ false
+
+  stands_there : (p n : ℕ) (before behind : List ℕ) → children_of forest p ≡ before ++ n ∷ behind → Stands p n before behind
+  stands_there p n before behind is =
+      let here : stands_in n (children_of forest p) ≡ true = ap (stands_in n) is ∙ stands_in-append before (n ∷ behind) n ∙ or-true (stands_in n before) _ (here_stands n behind) in
+      let up = (good.once.in_children p n here).1 in
+      let row = siblings_child forest n p up ∙ is in
+      let apart = only_here before behind n (subst IsDistinct is (good.once.children_once p)) in
+      let turned = stands_in-reverse behind n ∙ apart.1 in
+      record {
+        up = up;
+        back = ap (λ ms. rest_after (reverse ms) n) row ∙ ap (λ ms. rest_after ms n) (reverse_around before behind n) ∙ rest_here (reverse behind) (reverse before) n turned;
+        on = ap (λ ms. rest_after ms n) row ∙ rest_here before behind n apart.0;
+        not_before = apart.0;
+      }
+    where
+      or-true : (a b : Bool) → b ≡ true → (a || b) ≡ true
+      or-true true b h = refl
+      or-true false b h = h
+
+  leads_is : (p n : ℕ) (before behind : List ℕ) → Stands p n before behind → is_text_at forest n ≡ true → leads forest n ≡ (not (is_empty_text forest n) && not (inside before))
+  leads_is p n before behind there text =
+      ap (λ b. b && not (is_empty_text forest n) && not (option_map_or (is_text_at forest) (nearest_before forest n) false)) text
+      ∙ ap (λ ms. not (is_empty_text forest n) && not (option_map_or (is_text_at forest) (find (λ m. not (is_empty_text forest m)) ms) false)) there.back
+
+  out_text : (n : ℕ) → stands_in n nodes ≡ true → is_text_at forest n ≡ true → stands_in n out ≡ not (leads forest n)
+  out_text n s text = is_out n ∙ ap (λ b. b && (is_text_at forest n && not (leads forest n))) s ∙ ap (λ b. b && not (leads forest n)) text
+
+  out_other : (n : ℕ) → is_text_at forest n ≡ false → stands_in n out ≡ false
+  out_other n other = is_out n ∙ ap (λ b. stands_in n nodes && (b && not (leads forest n))) other ∙ and-false (stands_in n nodes)
+    where
+      and-false : (a : Bool) → (a && false) ≡ false
+      and-false true = refl
+      and-false false = refl
+
+  child_in : (n k : ℕ) → stands_in n nodes ≡ true → stands_in k (children_of forest n) ≡ true → stands_in k nodes ≡ true
+  child_in n k s child =
+      let up = (good.once.in_children n k child).1 in
+      let above = ancestors-parent forest k n good up (parent_inside forest k n good up) in
+      below_or_above forest good x k ∙ ap (stands_in x) above ∙ later_stands n x (ancestors forest n) (sym (below_or_above forest good x n) ∙ s)
+
+  -- ---- the text then
+
+  abbrev old_text : List ℕ → List ℕ
+  old_text ns = flat_map (text_at forest) (walk (trees forest ns))
+
+  abbrev new_text : List ℕ → List ℕ
+  new_text ns = flat_map (text_at after_it) (without out (walk (trees forest ns)))
+
+  record SameText (before behind : List ℕ) : Type 0 where
+    within : inside before ≡ true → front_texts forest behind ++ new_text behind ≡ old_text behind
+    apart : inside before ≡ false → new_text behind ≡ old_text behind
+
+  texts_then : (t : Trees) (p : ℕ) (before behind : List ℕ) → t ≡ trees forest behind → children_of forest p ≡ before ++ behind → ((m : ℕ) → stands_in m behind ≡ true → stands_in m nodes ≡ true) → SameText before behind
+  texts_then t p before [] e row in_it =
+      let none = trees-none forest in
+      let old : old_text [] ≡ [] = ap (λ ts. flat_map (text_at forest) (walk ts)) none in
+      let new : new_text [] ≡ [] = ap (λ ts. flat_map (text_at after_it) (without out (walk ts))) none in
+      record { within = λ h. new ∙ sym old; apart = λ h. new ∙ sym old }
+  texts_then NoTrees p before (n ∷ behind) e row in_it = (let no = e ∙ trees-some forest n behind good (λ m s. walk-inside forest x m good (in_it m s)) in cc)
+  texts_then (Tree r c k l) p before (n ∷ behind) e row in_it =
+      let whole = trees-some forest n behind good (λ m s. walk-inside forest x m good (in_it m s)) in
+      let same = e ∙ whole in
+      let kids_are : k ≡ trees forest (children_of forest n) = cc in
+      let rest_are : l ≡ trees forest behind = cc in
+      let here = in_it n (here_stands n behind) in
+      let kids = texts_then k n [] (children_of forest n) kids_are refl (λ m s. child_in n m here s) in
+      let rest = texts_then l p (before ++ n ∷ []) behind rest_are (row ∙ sym (append_assoc before (n ∷ []) behind)) (λ m s. in_it m (later_stands n m behind s)) in
+      let there = stands_there p n before behind row in
+      let inner = walk_below forest n in
+      let outer = walk (trees forest behind) in
+      let old : old_text (n ∷ behind) ≡ text_at forest n ++ (old_text (children_of forest n) ++ old_text behind) =
+        ap (λ ts. flat_map (text_at forest) (walk ts)) whole ∙ ap (λ ms. text_at forest n ++ ms) (flat_map-append (text_at forest) inner outer) in
+      let left : new_text (n ∷ behind) ≡ flat_map (text_at after_it) (without out (n ∷ (inner ++ outer))) = ap (λ ts. flat_map (text_at after_it) (without out (walk ts))) whole in
+      let both : flat_map (text_at after_it) (without out (inner ++ outer)) ≡ new_text (children_of forest n) ++ new_text behind =
+        ap (flat_map (text_at after_it)) (without-append out inner outer) ∙ flat_map-append (text_at after_it) (without out inner) (without out outer) in
+      let gone : stands_in n out ≡ true → new_text (n ∷ behind) ≡ new_text (children_of forest n) ++ new_text behind = λ t. left ∙ ap (λ b. flat_map (text_at after_it) (cond b (without out (inner ++ outer)) (n ∷ without out (inner ++ outer)))) t ∙ both in
+      let kept : stands_in n out ≡ false → new_text (n ∷ behind) ≡ text_at after_it n ++ (new_text (children_of forest n) ++ new_text behind) = λ f. left ∙ ap (λ b. flat_map (text_at after_it) (cond b (without out (inner ++ outer)) (n ∷ without out (inner ++ outer)))) f ∙ ap (λ ms. text_at after_it n ++ ms) both in
+      elim (cases_Bool (is_text_at forest n)) [
+        | inr other ↦ (let empty : is_empty_text forest n ≡ false = ap (λ b. b && length (text_at forest n) == 0) other in
+            let outside : inside (before ++ n ∷ []) ≡ false = inside_next before n ∙ ap (λ b. cond (not b) (is_text_at forest n) (inside before)) empty ∙ other in
+            let new : new_text (n ∷ behind) ≡ old_text (n ∷ behind) =
+              kept (out_other n other) ∙ ap (λ ms. ms ++ (new_text (children_of forest n) ++ new_text behind)) (no_text_at after_it n (kind n ∙ other))
+              ∙ ap (λ ms. ms ++ new_text behind) (kids.apart refl) ∙ ap (λ ms. old_text (children_of forest n) ++ ms) (rest.apart outside)
+              ∙ sym (old ∙ ap (λ ms. ms ++ (old_text (children_of forest n) ++ old_text behind)) (no_text_at forest n other)) in
+            record {
+              within = λ h. ap (λ b. cond b (text_at forest n ++ front_texts forest behind) [] ++ new_text (n ∷ behind)) other ∙ new;
+              apart = λ h. new;
+            })
+        | inl text ↦ (let leaf = text_leaf forest n good text in
+            let old_none : old_text (children_of forest n) ≡ [] = ap old_text leaf ∙ ap (λ ts. flat_map (text_at forest) (walk ts)) (trees-none forest) in
+            let new_none : new_text (children_of forest n) ≡ [] = ap new_text leaf ∙ ap (λ ts. flat_map (text_at after_it) (without out (walk ts))) (trees-none forest) in
+            let old_is : old_text (n ∷ behind) ≡ text_at forest n ++ old_text behind = old ∙ ap (λ ms. text_at forest n ++ (ms ++ old_text behind)) old_none in
+            let front : front_texts forest (n ∷ behind) ≡ text_at forest n ++ front_texts forest behind = ap (λ b. cond b (text_at forest n ++ front_texts forest behind) []) text in
+            let leading = leads_is p n before behind there text in
+            let then_gone : leads forest n ≡ false → new_text (n ∷ behind) ≡ new_text behind = λ f. gone (out_text n here text ∙ ap not f) ∙ ap (λ ms. ms ++ new_text behind) new_none in
+            record {
+              within = λ h. (let f : leads forest n ≡ false = leading ∙ ap (λ b. not (is_empty_text forest n) && not b) h ∙ and-false (not (is_empty_text forest n)) in
+                  let more : inside (before ++ n ∷ []) ≡ true = inside_next before n ∙ either (not (is_empty_text forest n)) (is_text_at forest n) (inside before) text h in
+                  ap (λ ms. ms ++ new_text (n ∷ behind)) front ∙ ap (λ ms. (text_at forest n ++ front_texts forest behind) ++ ms) (then_gone f)
+                  ∙ append_assoc (text_at forest n) (front_texts forest behind) (new_text behind) ∙ ap (λ ms. text_at forest n ++ ms) (rest.within more) ∙ sym old_is);
+              apart = λ h. elim (cases_Bool (is_empty_text forest n)) [
+                | inl nothing ↦ (let f : leads forest n ≡ false = leading ∙ ap (λ b. not b && not (inside before)) nothing in
+                    let less : inside (before ++ n ∷ []) ≡ false = inside_next before n ∙ ap (λ b. cond (not b) (is_text_at forest n) (inside before)) nothing ∙ h in
+                    let no : text_at forest n ≡ [] = no_bytes (text_at forest n) (sym (ap (λ b. b && length (text_at forest n) == 0) text) ∙ nothing) in
+                    then_gone f ∙ rest.apart less ∙ sym (old_is ∙ ap (λ ms. ms ++ old_text behind) no))
+                | inr full ↦ (let t : leads forest n ≡ true = leading ∙ ap (λ b. not b && not (inside before)) full ∙ ap not h in
+                    let more : inside (before ++ n ∷ []) ≡ true = inside_next before n ∙ ap (λ b. cond (not b) (is_text_at forest n) (inside before)) full ∙ text in
+                    let held_now : text_at after_it n ≡ text_at forest n ++ front_texts forest behind = text_joined n here text ∙ ap (λ b. cond b (text_at forest n ++ front_texts forest (later forest false n)) []) t ∙ ap (λ ms. text_at forest n ++ front_texts forest ms) there.on in
+                    kept (out_text n here text ∙ ap not t) ∙ ap (λ ms. ms ++ (new_text (children_of forest n) ++ new_text behind)) held_now
+                    ∙ ap (λ ms. (text_at forest n ++ front_texts forest behind) ++ (ms ++ new_text behind)) new_none
+                    ∙ append_assoc (text_at forest n) (front_texts forest behind) (new_text behind) ∙ ap (λ ms. text_at forest n ++ ms) (rest.within more) ∙ sym old_is)
+              ];
+            })
+      ]
+    where
+      and-false : (a : Bool) → (a && false) ≡ false
+      and-false true = refl
+      and-false false = refl
+
+      either : (b c d : Bool) → c ≡ true → d ≡ true → cond b c d ≡ true
+      either true c d p q = p
+      either false c d p q = q
+
+      no_bytes : (ts : List ℕ) → (length ts == 0) ≡ true → ts ≡ []
+      no_bytes [] h = refl
+      no_bytes (c ∷ ts) h = (let e : length (c ∷ ts) ≡ 0 = eqb-true (length (c ∷ ts)) 0 h in absurd (omega (arith, e)))
+
+  pub text_stays : text_of after_it x ≡ text_of forest x
+  text_stays =
+      let rest = texts_then (trees forest (children_of forest x)) x [] (children_of forest x) refl refl (λ m s. child_of_x m s) in
+      let top : text_at after_it x ≡ text_at forest x = text_same x not_itself in
+      ap (λ ms. text_at after_it x ++ flat_map (text_at after_it) ms) walk_then ∙ ap (λ ms. ms ++ new_text (children_of forest x)) top ∙ ap (λ ms. text_at forest x ++ ms) (rest.apart refl)
+    where
+      child_of_x : (m : ℕ) → stands_in m (children_of forest x) ≡ true → stands_in m nodes ≡ true
+      child_of_x m s =
+          let up = (good.once.in_children x m s).1 in
+          below_or_above forest good x m ∙ ap (stands_in x) (ancestors-parent forest m x good up (parent_inside forest m x good up)) ∙ here_stands x (ancestors forest x)
+
+      not_itself : stands_in x nodes ≡ false
+      not_itself = elim (cases_Bool (stands_in x nodes)) [
+        | inr f ↦ f
+        | inl t ↦ absurd (not_above_itself forest x x good (sym (below_or_above forest good x x) ∙ t) refl)
+      ]
