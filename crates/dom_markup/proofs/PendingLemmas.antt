@@ -1,8 +1,8 @@
 -- The stack of what is still to be written.
-use Rattle.std.proofs.Common.{◌≡◌, ℕ, ◌+◌, ◌<◌, ◌≤◌, Bool, false, List, [], ◌∷◌, ◌++◌, length, Option, Some, refl, sym, ◌∙◌, ap, subst, arith, append_assoc, append-nil, slice_get, Result, Ok, Err, OnOk}
+use Rattle.std.proofs.Common.{◌≡◌, ℕ, ◌+◌, ◌<◌, ◌≤◌, Bool, true, false, cond, List, [], ◌∷◌, ◌++◌, length, Option, Some, refl, sym, ◌∙◌, ap, subst, arith, append_assoc, append-nil, slice_get, Result, Ok, Err, OnOk}
 use Rattle.dom_nodes.specs.declared.node_data.Element.{Element}
 use Rattle.dom_nodes.specs.declared.node_data.NodeData.{NodeData}
-use Rattle.dom_nodes.specs.declared.node_data.NodeData.TheVariants.{Element as AnElement}
+use Rattle.dom_nodes.specs.declared.node_data.NodeData.TheVariants.{Document, Fragment, Doctype, Text, Comment, ProcessingInstruction, Element as AnElement}
 use Rattle.dom_nodes.specs.declared.node_data.TreeNode.{TreeNode}
 use Rattle.dom_links.specs.Forest.{Forest, children_of}
 use Rattle.dom_links.specs.Sound.{IsForest}
@@ -12,7 +12,7 @@ use Rattle.dom_links.specs.Laws.{AreLines}
 use Rattle.dom_markup.specs.declared.serializing.stack.SerializeOp.{SerializeOp}
 use Rattle.dom_markup.specs.declared.serializing.stack.SerializeOp.TheVariants.{Open, Close}
 use Rattle.dom_markup.specs.Html.{closing, end_tag, is_void_node, is_void, is_raw, keeps_texts, opening, trees_text}
-use Rattle.dom_markup.specs.Pending.{AreWithin, IsOpWithin, op_text, op_weight, ops_text, row_text, row_weight, text_below, trees_weight, weight, weight_below}
+use Rattle.dom_markup.specs.Pending.{AreWithin, IsOpWithin, op_text, op_weight, ops_text, row_text, row_weight, text_below, trees_weight, weight, weight_below, weight_following}
 use Rattle.dom_markup.proofs.RowLemmas.{contents_row}
 
 -- ---- pushing
@@ -108,10 +108,24 @@ opened-text forest lines raw n node is known old one new first second =
     let joined : new ≡ inside ++ (after ++ old) = second ∙ ap (λ t. inside ++ t) first in
     ap (λ t. t ++ old) (row-tree forest lines raw n node is known) ∙ (append_assoc (begin ++ inside) after old ∙ (append_assoc begin inside (after ++ old) ∙ ap (λ t. begin ++ t) (sym joined)))
 
+-- what follows takes no more steps than all that is below it
+following-most : (forest : Forest) (n : ℕ) (content : NodeData) → weight_following forest n content ≤ 1 + weight_below forest n
+following-most forest n Document = omega arith
+following-most forest n Fragment = omega arith
+following-most forest n (AnElement e) = by_void (is_void e)
+  where
+    by_void : (b : Bool) → cond b 0 (1 + weight_below forest n) ≤ 1 + weight_below forest n
+    by_void true = omega arith
+    by_void false = omega arith
+following-most forest n (Doctype name public system) = omega arith
+following-most forest n (Text contents) = omega arith
+following-most forest n (Comment contents) = omega arith
+following-most forest n (ProcessingInstruction target contents) = omega arith
+
 pub opened-weight : (forest : Forest) → AreLines forest → (n : ℕ) (node : TreeNode) → IsNodeOf forest n node → n < length forest.content → (old one new : ℕ) →
-    one ≤ row_weight forest node.next_sibling + old → new ≤ 1 + weight_below forest n + one →
+    one ≡ row_weight forest node.next_sibling + old → new ≡ weight_following forest n node.content + one →
     new < row_weight forest (Some n) + old
-opened-weight forest lines n node is known old one new first second = omega (arith, row-weight forest lines n node is known, first, second)
+opened-weight forest lines n node is known old one new first second = omega (arith, row-weight forest lines n node is known, following-most forest n node.content, first, second)
 
 -- ---- what follows a node's opening
 
@@ -147,17 +161,20 @@ element-below forest good lines n node e is shape void raw keeps rest closed ope
     let joined : all ≡ inner ++ (children ++ (tag ++ rest)) = third ∙ ap (λ t. inner ++ t) (second ∙ ap (λ t. children ++ t) (one ∙ ap (λ t. t ++ rest) ends)) in
     joined ∙ (ap (λ t. inner ++ t) (sym (append_assoc children tag rest)) ∙ (sym (append_assoc inner (children ++ tag) rest) ∙ ap (λ t. t ++ rest) (sym follows)))
 
-pub top-weight : (forest : Forest) → AreLines forest → (n : ℕ) (node : TreeNode) → IsNodeOf forest n node → (old new : ℕ) → new ≤ row_weight forest node.first_child + old → new ≤ 1 + weight_below forest n + old
-top-weight forest lines n node is old new wrote =
+pub top-weight : (forest : Forest) → AreLines forest → (n : ℕ) (node : TreeNode) → IsNodeOf forest n node → weight_following forest n node.content ≡ trees_weight (trees forest (children_of forest n)) → (old new : ℕ) →
+    new ≡ row_weight forest node.first_child + old → new ≡ weight_following forest n node.content + old
+top-weight forest lines n node is follows old new wrote =
     let children = ap (λ ns. trees_weight (trees forest ns)) (children-row forest lines n node is) in
-    omega (arith, wrote, children)
+    omega (arith, wrote, children, follows)
 
-pub element-weight : (forest : Forest) → IsForest forest → AreLines forest → (n : ℕ) (node : TreeNode) (e : Element) → IsNodeOf forest n node → node.content ≡ AnElement e → (old closed opened new : ℕ) →
-    closed ≡ 1 + old → opened ≤ row_weight forest node.first_child + closed → new ≤ row_weight forest e.template_contents + opened → new ≤ 1 + weight_below forest n + old
-element-weight forest good lines n node e is shape old closed opened new one two three =
+pub element-weight : (forest : Forest) → IsForest forest → AreLines forest → (n : ℕ) (node : TreeNode) (e : Element) → IsNodeOf forest n node → node.content ≡ AnElement e → is_void_node node.content ≡ false → (old closed opened new : ℕ) →
+    closed ≡ 1 + old → opened ≡ row_weight forest node.first_child + closed → new ≡ row_weight forest e.template_contents + opened → new ≡ weight_following forest n node.content + old
+element-weight forest good lines n node e is shape void old closed opened new one two three =
     let children = ap (λ ns. trees_weight (trees forest ns)) (children-row forest lines n node is) in
     let contents = ap (λ ns. trees_weight (trees forest ns)) (contents_row forest good n e (is.content_is ∙ ap Some shape)) in
-    omega (arith, one, two, three, children, contents)
+    let not_void : is_void e ≡ false = rw shape at void in
+    let follows : weight_following forest n node.content ≡ 1 + weight_below forest n = rw (shape, not_void) refl in
+    omega (arith, one, two, three, children, contents, follows)
 
 -- ---- results
 

@@ -1,12 +1,11 @@
 -- What a reader's steps are on a text.
 use Rattle.std.specs.Prelude.{slice_get, ◌⊎◌}
 use Rattle.std.specs.Option.{option_map_or}
-use Rattle.std.proofs.Common.{Vec, Global, Result, MatchResult, Option, Some, None, ◌≡◌, ◌≢◌, ◌<◌, ◌≤◌, ◌+◌, ◌-◌, ℕ, List, [], ◌∷◌, ◌++◌, length, map, true, false, refl, sym, ap, ◌∙◌, subst, arith, cond, append_assoc, append-nil, inl, inr}
+use Rattle.std.proofs.Common.{Vec, Global, Result, Option, Some, None, ◌≡◌, ◌≢◌, ◌<◌, ◌≤◌, ◌+◌, ◌-◌, ℕ, List, [], ◌∷◌, ◌++◌, length, map, true, false, refl, sym, ap, ◌∙◌, subst, arith, cond, append_assoc, append-nil, inl, inr}
 use Rattle.std.proofs.lemmas.Bool.{true≢false, cases_Bool}
 use Rattle.std.proofs.lemmas.List.{map-append}
 use Rattle.dom_nodes.specs.declared.fault.EditFault.{EditFault}
 use Rattle.dom_nodes.specs.declared.fault.EditFault.TheVariants as edit_faults
-use Rattle.dom_nodes.specs.declared.fault.MarkupFault.{MarkupFault}
 use Rattle.dom_nodes.specs.declared.fault.MarkupFaultKind.{MarkupFaultKind}
 use Rattle.dom_nodes.specs.declared.fault.MarkupFaultKind.TheVariants as kinds
 use Rattle.dom_nodes.specs.declared.node_data.NodeData.{NodeData}
@@ -21,13 +20,12 @@ use Rattle.dom_trees.specs.Refusals.{TemplateCause}
 use Rattle.dom_trees.specs.NewNodes.{element_with}
 use Rattle.dom_markup.specs.Bytes.{folded}
 use Rattle.dom_nodes.specs.Words.{is_among}
-use Rattle.dom_markup.specs.Names.{Mode, markup, text_of, raw_text_of, is_template, void_names}
-use Rattle.dom_markup.specs.References.{decoded}
+use Rattle.dom_markup.specs.Names.{Mode, markup, is_template, void_names}
 use Rattle.dom_markup.specs.ValueTrees.{Attribute, ValueTrees}
-use Rattle.dom_markup.specs.Markup.{Item, AreInPlace, Begins, BeginsNothing, BeginsStart, BeginsEnd, BeginsDoctype, SpellsItemsUpTo, Spells, SpellsNothing, items_of, mode_after, mode_past, text_front}
-use Rattle.dom_markup.specs.Markup.Item.{start_tag, end_tag, characters, comment, doctype}
+use Rattle.dom_markup.specs.Markup.{Item, AreInPlace, Begins, BeginsNothing, SpellsItemsUpTo, Spells, SpellsNothing, items_of, mode_after, mode_past}
+use Rattle.dom_markup.specs.Markup.Item.{start_tag}
 use Rattle.dom_trees.specs.NewNodes.{html_name}
-use Rattle.dom_markup.specs.Numbered.{read_attr, read_element, document_of}
+use Rattle.dom_markup.specs.Numbered.{read_element, document_of}
 use Rattle.dom_markup.specs.Refusals.{nodes_begun, Refused, Declines, StopsBefore, BeginsNothingAt, Cause, IsFaultAt, LeavesSomeOpen, StartCause}
 use Rattle.dom_markup.specs.Front.{BeginsLetter}
 use Rattle.dom_markup.specs.Frames.{HasRead, Opened, opened, is_top, opened_size, with_element, children_place}

@@ -1,14 +1,15 @@
 -- What is still to be written, the next entry first.
-use Rattle.std.specs.Prelude.{◌≡◌, ℕ, ◌+◌, ◌<◌, ◌≤◌, Bool, false, List, [], ◌++◌, ◌∷◌, length, Option, Some, Result, MatchResult, OnOk, slice_get}
+use Rattle.std.specs.Prelude.{◌≡◌, ℕ, ◌+◌, ◌<◌, Bool, false, List, [], ◌++◌, ◌∷◌, length, Option, Some, Result, MatchResult, OnOk, slice_get, if◌then◌else◌}
 use Rattle.std.specs.Io.KnownBytes.{Appends}
 use Rattle.std.specs.Option.{option_map_or}
 use Rattle.dom_nodes.specs.declared.node_data.NodeData.{NodeData}
+use Rattle.dom_nodes.specs.declared.node_data.NodeData.TheVariants.{Document, Fragment, Element}
 use Rattle.dom_links.specs.Forest.{Forest, children_of}
 use Rattle.dom_links.specs.Trees.{Trees, NoTrees, Tree, contents_list, trees}
 use Rattle.dom_links.specs.Walk.{row_on}
 use Rattle.dom_markup.specs.declared.serializing.stack.SerializeOp.{SerializeOp}
 use Rattle.dom_markup.specs.declared.serializing.stack.SerializeOp.TheVariants.{Open, Close}
-use Rattle.dom_markup.specs.Html.{closing, following, keeps_texts, trees_text}
+use Rattle.dom_markup.specs.Html.{closing, following, is_void, keeps_texts, trees_text}
 use Rattle.dom_markup.specs.Writing.{AppendsBeginning}
 
 -- the text of a node and its later siblings
@@ -57,15 +58,23 @@ text_below forest n content =
 abbrev pub weight_below : Forest → ℕ → ℕ
 weight_below forest n = trees_weight (trees forest (contents_list forest n)) + trees_weight (trees forest (children_of forest n))
 
+-- the steps that follow the opening of node n: its children's, and for an element that isn't void its contents' and one for
+-- its end tag
+abbrev pub weight_following : Forest → ℕ → NodeData → ℕ
+weight_following forest n Document = trees_weight (trees forest (children_of forest n))
+weight_following forest n Fragment = trees_weight (trees forest (children_of forest n))
+weight_following forest n (Element e) = if is_void e then 0 else 1 + weight_below forest n
+weight_following forest n _ = 0
+
 -- some of the text was written and the rest is still to be written, or after a fault a beginning of it was written
 abbrev pub WritesSome : {T E : Type 0} → Option (List ℕ) → Option (List ℕ) → Result T E → (text rest : List ℕ) → Type 0
 WritesSome old new result text rest = MatchResult result (λ _. (front : List ℕ) × (front ++ rest ≡ text) × Appends old new front) (λ _. AppendsBeginning old new text)
 
--- where memory isn't refused, this text comes first now, in so many steps at most
+-- where memory isn't refused, this text comes first now, in so many steps
 pub record Pushes {T E : Type 0} (forest : Forest) (old new : List SerializeOp) (result : Result T E) (text : List ℕ) (steps : ℕ) : Type 0 where
   pub text_is : OnOk result (ops_text forest new ≡ text ++ ops_text forest old)
   pub within : AreWithin forest new
-  pub fewer : OnOk result (weight forest new ≤ steps + weight forest old)
+  pub weighs : OnOk result (weight forest new ≡ steps + weight forest old)
 
 -- some of this text and what comes then is written and the rest is left, in fewer steps; after a fault a beginning was
 -- written

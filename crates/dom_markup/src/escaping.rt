@@ -8,7 +8,7 @@ ghost use Rattle.dom_markup.specs.Writing.{Writes};
 use crate::writing::{PutText, ToText};
 use dom_nodes::fault::OutOfMemory;
 use memchr::memmem::Finder;
-use memchr::{memchr2, memchr3};
+use memchr::{memchr, memchr2, memchr3};
 use std::alloc::Global;
 
 /// The text, escaped as an attribute's value is.
@@ -48,8 +48,19 @@ impl Escaper {
         self.put_spaced::<P, W>(w, rest)
     }
 
-    /// Puts a text, escaped as an attribute's value.
+    /// Puts a text, escaped as an attribute's value. Most values hold nothing to be named, not even
+    /// the first byte of a no-break space, and are searched once.
     pub(crate) fn put_value<P: PutText<W>, W>(&self, w: &mut W, text: &str) -> Result<(), P::Fault>
+        ensures { Writes (P.written w.old) (P.written w.new) result (escaped_value text.now) }
+    {
+        match memchr3(b'&', b'"', 0xC2, text.as_bytes()) {
+            Some(_) => self.put_named::<P, W>(w, text),
+            None => P::put(w, text),
+        }
+    }
+
+    /// The same of a value that may hold something to be named.
+    fn put_named<P: PutText<W>, W>(&self, w: &mut W, text: &str) -> Result<(), P::Fault>
         ensures { Writes (P.written w.old) (P.written w.new) result (escaped_value text.now) }
     {
         let mut rest = text;
@@ -74,11 +85,14 @@ impl Escaper {
         P::put(w, rest)
     }
 
-    /// The first no-break space of a text.
+    /// The first no-break space of a text. Few texts have its first byte, so that is looked for
+    /// first.
     fn cut_spaced<'a>(&self, text: &'a str) -> Option<Named<'a>>
         ensures { Cuts spaced (λ plain. plain) text.now result }
     {
-        let at = self.space.find(text.as_bytes())?;
+        let bytes = text.as_bytes();
+        memchr(0xC2, bytes)?;
+        let at = self.space.find(bytes)?;
         Some(Named {
             before: &text[..at],
             name: "&nbsp;",

@@ -13,7 +13,8 @@ ghost use Rattle.dom_markup.specs.Taking.{Leaves, Takes};
 ghost use Rattle.dom_markup.specs.Stretches.{attribute_of, passes, PastAttributes, Splits};
 
 use crate::document::names::is_letter;
-use memchr::{memchr, memchr_iter};
+use memchr::memchr;
+use std::simd::prelude::*;
 
 /// What a stretch of markup is made of.
 #[derive(Clone, Copy)]
@@ -144,9 +145,18 @@ pub fn split_text(text: &str) -> (&str, &str)
 }
 
 /// About how many nodes the text has: as many as it has `<`, for an element with a text has two of
-/// both. Nothing but room for nodes hangs on it.
+/// both. Nothing but room for nodes hangs on it, so the last few bytes don't count.
 pub fn nodes_about(text: &str) -> usize {
-    memchr_iter(b'<', text.as_bytes()).count()
+    let bytes = text.as_bytes();
+    let mut count: usize = 0;
+    let mut at = 0;
+    while bytes.len() - at >= 32 {
+        let lanes = u8x32::from_slice(&bytes[at..]);
+        let found = lanes.simd_eq(u8x32::splat(b'<')).to_bitmask().count_ones();
+        count = count.saturating_add(found as usize);
+        at += 32;
+    }
+    count
 }
 
 // ---- comments

@@ -8,7 +8,7 @@ ghost use Rattle.dom_links.specs.Walk.{IsNodeOf, IsWithin};
 ghost use Rattle.dom_markup.specs.Html.{html_of, inner_html_of, is_kept};
 ghost use Rattle.dom_markup.specs.Pending.{AreWithin, IsOpWithin, Pushes, Steps};
 ghost use Rattle.dom_markup.specs.Pending.{op_text, op_weight, ops_text};
-ghost use Rattle.dom_markup.specs.Pending.{row_text, row_weight, text_below, weight_below};
+ghost use Rattle.dom_markup.specs.Pending.{row_text, row_weight, text_below, weight_following};
 ghost use Rattle.dom_markup.specs.Writing.{Writes};
 
 use crate::escaping::Escaper;
@@ -205,7 +205,8 @@ fn push_following(
     requires all_within { AreWithin (forest_of nodes.now) ops.old }
     ensures { let forest = forest_of nodes.now in
         Pushes forest ops.old ops.new result
-        (text_below forest id node.now.content) (1 + weight_below forest id) }
+        (text_below forest id node.now.content)
+        (weight_following forest id node.now.content) }
 {
     lines_of_a_forest();
     match &node.content {

@@ -1,4 +1,4 @@
-use Rattle.std.proofs.Common.{◌≡◌, ◌∷◌, [], ℕ, List, Bool, sym, ◌∙◌, ap, map, refl, inl, inr, rules}
+use Rattle.std.proofs.Common.{[], ◌∙◌, ap, refl, inr, rules}
 use Rattle.std.proofs.lemmas.Result.{err_from_is_err_and}
 use Rattle.dom_nodes.specs.declared.name.QualName.{QualName}
 use Rattle.dom_nodes.specs.Words.{is_among}

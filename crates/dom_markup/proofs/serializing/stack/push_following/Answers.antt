@@ -1,4 +1,4 @@
-use Rattle.std.proofs.Common.{◌++◌, ◌+◌, ◌≤◌, false, Some, rules, ◌∙◌, ap, subst, sym}
+use Rattle.std.proofs.Common.{◌++◌, ◌+◌, false, Some, rules, ◌∙◌, ap, subst, sym}
 use Rattle.dom_links.specs.Forest.{forest_of}
 use Rattle.dom_links.specs.Walk.{IsWithin}
 use Rattle.dom_markup.specs.declared.serializing.stack.SerializeOp.TheVariants.{Close}
@@ -36,10 +36,10 @@ returns-in_ok-push_open-in-Element c =
           one.text two.text_is (text ∙ ap (λ at. row_text forest false at ++ ops_text forest c.push_open.new.ops) c.template_contents.ensures))
           three.text_is;
       within = three.within;
-      fewer = on_ok c.push_open-in-Element.result
-          (λ fewer. element-weight forest c.requires.sound.forest (c.lines_of_a_forest.ensures _ c.requires.sound.forest) c.args.id c.args.node.now c.in-Element.element c.requires.node c.in-Element.is _ _ _ _
-          one.weight two.fewer (subst (λ at. weight forest c.push_open-in-Element.new.ops ≤ row_weight forest at + weight forest c.push_open.new.ops) c.template_contents.ensures fewer))
-          three.fewer;
+      weighs = on_ok c.push_open-in-Element.result
+          (λ weighs. element-weight forest c.requires.sound.forest (c.lines_of_a_forest.ensures _ c.requires.sound.forest) c.args.id c.args.node.now c.in-Element.element c.requires.node c.in-Element.is (sym c.if-not-is_void_node.ensures) _ _ _ _
+          one.weight two.weighs (weighs ∙ ap (λ at. row_weight forest at + weight forest c.push_open.new.ops) c.template_contents.ensures))
+          three.weighs;
     }
 
 pub returns-in-Document : goal.returns-in-Document
@@ -49,5 +49,5 @@ returns-in-Document c =
     record {
       text_is = on_ok c.push_open-in-Document.result (top-below forest (c.lines_of_a_forest.ensures _ c.requires.sound.forest) c.args.id c.args.node.now c.requires.node false (search rules) _ _) made.text_is;
       within = made.within;
-      fewer = on_ok c.push_open-in-Document.result (top-weight forest (c.lines_of_a_forest.ensures _ c.requires.sound.forest) c.args.id c.args.node.now c.requires.node _ _) made.fewer;
+      weighs = on_ok c.push_open-in-Document.result (top-weight forest (c.lines_of_a_forest.ensures _ c.requires.sound.forest) c.args.id c.args.node.now c.requires.node (search rules) _ _) made.weighs;
     }

@@ -17,5 +17,5 @@ returns g c =
           (opened-text forest (c.lines_of_a_forest.ensures _ c.requires.sound.forest) c.args.raw c.args.id c.node_at-node.result.now c.node_at-node.ensures c.requires.known (ops_text forest c.args.ops.now) (ops_text forest c.push_open.new.ops) (ops_text forest c.push_following.new.ops) later.text_is below.text_is);
       within = on_ok-any c.put_opening.result below.within;
       fewer = on_ok-any c.put_opening.result
-          (opened-weight forest (c.lines_of_a_forest.ensures _ c.requires.sound.forest) c.args.id c.node_at-node.result.now c.node_at-node.ensures c.requires.known (weight forest c.args.ops.now) (weight forest c.push_open.new.ops) (weight forest c.push_following.new.ops) later.fewer below.fewer);
+          (opened-weight forest (c.lines_of_a_forest.ensures _ c.requires.sound.forest) c.args.id c.node_at-node.result.now c.node_at-node.ensures c.requires.known (weight forest c.args.ops.now) (weight forest c.push_open.new.ops) (weight forest c.push_following.new.ops) later.weighs below.weighs);
     }

@@ -1,4 +1,4 @@
-use Rattle.std.proofs.Common.{◌≡◌, ◌-◌, take, ℕ, List, [], ◌∷◌, ◌++◌, sym, ◌∙◌, ap, subst, map, refl}
+use Rattle.std.proofs.Common.{◌≡◌, ◌-◌, take, ℕ, List, [], ◌∷◌, ◌++◌, ◌∙◌, ap, subst, map, refl}
 use Rattle.std.proofs.lemmas.List.{map-append}
 use Rattle.std.proofs.lemmas.Bool.{false≢true}
 use Rattle.dom_markup.specs.Bytes.{folded}
