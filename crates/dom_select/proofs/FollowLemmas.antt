@@ -292,22 +292,16 @@ pub record Following (forest : Forest) (spared : ℕ) (first : ℕ → Type 0) (
   pub whole : Reaches first (steps_of steps) forest spared n → Reaches first (steps_of left) forest spared w
 
 module _ (forest : Forest) (spared : ℕ) (first : ℕ → Type 0) where
-  pub follows_none : (level : ℕ) (ss : Chain) (n : ℕ) → level ≤ 1 → EndHolds forest spared first ss n → Followed forest spared first level ss ss n n
-  follows_none level ss n low held = record {
+  pub follows_none : (level : ℕ) (ss : Chain) (n : ℕ) → EndsLoosely level ss → EndHolds forest spared first ss n → Followed forest spared first level ss ss n n
+  follows_none level ss n loose held = record {
     passed = [];
     split = sym (append-nil ss);
     tighter = tt;
-    loose = λ front last _. binds last.0;
+    loose = loose;
     led = refl;
     held = held;
     whole = λ r. r;
   }
-    where
-      binds : (k : Combinator) → level ≤ looseness k
-      binds Descendant = omega arith
-      binds Child = omega arith
-      binds Adjacent = omega arith
-      binds Sibling = omega arith
 
   pub following_first : (level : ℕ) (ss left : Chain) (n w : ℕ) → 1 < level → Followed forest spared first (level - 1) ss left n w → Following forest spared first level (level - 1) ss left n w
   following_first level ss left n w high f = record {
@@ -424,6 +418,12 @@ weight_cut ss left passed e = let same = ap (λ z. steps_weight (steps_of z)) e 
     shorter_front : (left passed : Chain) → steps_weight (steps_of left) ≤ steps_weight (steps_of (left ++ passed))
     shorter_front [] passed = omega arith
     shorter_front (s ∷ left) passed = let less = shorter_front left passed in omega arith
+
+pub loose_nowhere : (level : ℕ) (ss : Chain) → ss ≡ [] → EndsLoosely level ss
+loose_nowhere level ss is = λ front last so. absurd (none_last front last (sym is ∙ so))
+
+pub loose_at_last : (level : ℕ) (ss front : Chain) (last : Combinator × CompoundSelector) → ss ≡ front ++ last ∷ [] → level ≤ looseness last.0 → EndsLoosely level ss
+loose_at_last level ss front last is le = λ other one so. subst (λ (s : Combinator × CompoundSelector). level ≤ looseness s.0) (last_once front other last one (sym is ∙ so)) le
 
 -- the answer is some just where the fact holds
 pub some_where : {P : Type 0} (o : Option P) (b : Bool) (R : Type 0) (F : P → Type 0) → ((p : P) → F p → R) → MatchOption o (R → ⊥) F → b ≡ is_some o → IsTrue b ↔ R

@@ -12,6 +12,7 @@ pub mod Names
 pub mod Nth
 pub mod PseudoTexts
 pub mod Pseudos
+pub mod SelectorCss
 pub mod Spelling
 pub mod Strings
 pub mod Syntax

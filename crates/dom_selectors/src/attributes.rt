@@ -8,7 +8,7 @@ ghost use Rattle.dom_selectors.specs.Attributes.{SpellsFlag, SpellsCase, SpellsC
 ghost use Rattle.dom_selectors.specs.Attributes.{SpellsAsked, SpellsAttribute};
 
 use crate::fault::SelectorFault;
-use crate::names::{after_white, take_name};
+use crate::names::{after_white, take_name, take_selector_name};
 use crate::strings::{is_quote, take_string};
 use crate::syntax::{AttrOperator, Attribute, Comparison};
 use dom_nodes::case_sensitivity::CaseSensitivity;
@@ -149,7 +149,7 @@ pub(crate) fn take_attribute(
 ) -> Result<(Attribute, &[char]), SelectorFault>
     ensures { Takes result same SpellsAttribute no_other text.now }
 {
-    let (name, after_name) = take_name(alloc, after_white(text))?;
+    let (name, after_name) = take_selector_name(alloc, after_white(text))?;
     let (comparison, rest) = take_asked(alloc, after_white(after_name))?;
     Ok((Attribute { name, comparison }, rest))
 }

@@ -118,8 +118,17 @@ fn push_css(out: &mut String, c: char) -> Result<(), AllocError>
     out.push(c)
 }
 
-/// Adds a `\`, the number of a control character, and a space.
-fn push_number(out: &mut String, c: char) -> Result<(), AllocError>
+/// Adds the text as a string.
+pub(crate) fn push_string(out: &mut String, text: &str) -> Result<(), OutOfMemory>
+    ensures { OnOk result (string_bytes out.new ≡ string_bytes out.old ++ css_text text.now) }
+{
+    let written = in_quotes(*out.allocator(), text)?;
+    out.push_str(written.as_str())?;
+    Ok(())
+}
+
+/// Adds a `\`, the number of a character, and a space.
+pub(crate) fn push_number(out: &mut String, c: char) -> Result<(), AllocError>
     requires { c < 256 }
     ensures { OnOk result (string_bytes out.new
         ≡ string_bytes out.old ++ encode_utf8_all (backslash ∷ hex_of c ++ space ∷ [])) }

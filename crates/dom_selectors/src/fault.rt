@@ -1,5 +1,6 @@
 //! Why a text is no selector.
 
+use dom_nodes::fault::OutOfMemory;
 use std::alloc::{AllocError, AllocFailed};
 
 /// Why a text is no selector.
@@ -43,6 +44,17 @@ impl<T: Drop> From<AllocFailed<T>> for SelectorFault {
     ghost from_gives = { λ _ fault. fault ≡ Memory };
 
     fn from(_refused: AllocFailed<T>) -> SelectorFault {
+        SelectorFault::Memory
+    }
+}
+
+impl From<OutOfMemory> for SelectorFault {
+    ghost use Rattle.std.specs.Prelude.{◌≡◌};
+    ghost use Rattle.dom_selectors.specs.declared.fault.SelectorFault.TheVariants.{Memory};
+
+    ghost from_gives = { λ _ fault. fault ≡ Memory };
+
+    fn from(_refused: OutOfMemory) -> SelectorFault {
         SelectorFault::Memory
     }
 }

@@ -13,6 +13,8 @@ pub(crate) mod nth;
 pub mod parser;
 pub mod pseudo_class;
 pub(crate) mod pseudos;
+mod selector_css;
+pub mod selector_name;
 pub(crate) mod strings;
 pub mod syntax;
 #[cfg(test)]

@@ -11,6 +11,7 @@ ghost use Rattle.dom_selectors.specs.Names.{is_hex, hex_len, after_space, char_o
 ghost use Rattle.dom_selectors.specs.Names.{SpellsNameChar, SpellsName, goes_on, starts, starts_name};
 
 use crate::fault::SelectorFault;
+use crate::selector_name::SelectorName;
 use dom_nodes::text::Text;
 use std::alloc::Global;
 
@@ -20,13 +21,13 @@ pub(crate) fn is_line_end(c: char) -> bool
     matches!(c, '\n' | '\u{c}' | '\r')
 }
 
-fn is_name_start(c: char) -> bool
+pub(crate) fn is_name_start(c: char) -> bool
     ensures { result ≡ is_name_start c }
 {
     c.is_ascii_alphabetic() || c == '_' || c >= '\u{80}'
 }
 
-fn is_name_char(c: char) -> bool
+pub(crate) fn is_name_char(c: char) -> bool
     ensures { result ≡ is_name_char c }
 {
     is_name_start(c) || c.is_ascii_digit() || c == '-'
@@ -180,4 +181,16 @@ pub(crate) fn take_name(alloc: Global, text: &[char]) -> Result<(Text, &[char]),
         rest = after;
     }
     Ok((Text::from(name), rest))
+}
+
+/// The identifier at the front as a name that is asked for, and what follows it.
+pub(crate) fn take_selector_name(
+    alloc: Global,
+    text: &[char],
+) -> Result<(SelectorName, &[char]), SelectorFault>
+    ensures { Takes result same SpellsName no_other text.now }
+{
+    let (name, rest) = take_name(alloc, text)?;
+    let name = SelectorName::new(alloc, name)?;
+    Ok((name, rest))
 }

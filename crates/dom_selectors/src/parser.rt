@@ -23,7 +23,7 @@ ghost use Rattle.dom_selectors.specs.ValuesAsTrees.{read_list, read_nested, read
 
 use crate::attributes::{after_char, take_attribute};
 use crate::fault::SelectorFault;
-use crate::names::{after_white, starts_name, take_name};
+use crate::names::{after_white, starts_name, take_name, take_selector_name};
 use crate::nth::take_nth;
 use crate::pseudos::{bare_item, is_relative, pseudo_of, quantified, text_part};
 use crate::strings::take_string;
@@ -243,7 +243,7 @@ fn take_type(alloc: Global, text: &[char]) -> Result<(Vec<Part>, &[char]), Selec
     if !starts_name(text) {
         return Ok((parts, text));
     }
-    let (name, rest) = take_name(alloc, text)?;
+    let (name, rest) = take_selector_name(alloc, text)?;
     parts.push(Part::Type(name))?;
     Ok((parts, rest))
 }
@@ -464,7 +464,7 @@ fn has_no_zero(text: &[char]) -> bool
 }
 
 /// The characters of a text.
-fn letters(alloc: Global, text: &str) -> Result<Vec<char>, AllocError>
+pub(crate) fn letters(alloc: Global, text: &str) -> Result<Vec<char>, AllocError>
     ensures { IfOk result (λ letters. letters.items ≡ chars text.now) }
 {
     text.chars().collect(alloc)

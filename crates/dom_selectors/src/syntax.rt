@@ -1,5 +1,6 @@
 //! What a selector's text stands for.
 
+use crate::selector_name::SelectorName;
 use dom_links::indexes::{IndexKind, Nth};
 use dom_nodes::case_sensitivity::CaseSensitivity;
 use dom_nodes::text::Text;
@@ -32,7 +33,7 @@ pub struct Comparison {
 /// An attribute, and what its value is asked for, if anything.
 #[derive(Drop)]
 pub struct Attribute {
-    pub name: Text,
+    pub name: SelectorName,
     pub comparison: Option<Comparison>,
 }
 
@@ -62,7 +63,7 @@ pub enum Part {
     /// `*`: it holds of every node.
     Universal,
     /// The name of an element.
-    Type(Text),
+    Type(SelectorName),
     /// `#` and the value of an attribute `id`.
     Id(Text),
     /// `.` and a word of the attribute `class`.

@@ -14,7 +14,7 @@ use std::marker::Model;
 #[derive(Drop)]
 pub struct SelectorCaches<'t> {
     tree: &'t Tree,
-    keeps: bool,
+    waits: Option<u32>,
     child: Vec<u32>,
     last_child: Vec<u32>,
     of_type: Vec<u32>,
@@ -43,22 +43,31 @@ impl<'t> SelectorCaches<'t> {
     pub fn new(tree: &'t Tree) -> SelectorCaches<'t>
         ensures { result ≡ tree.entry.now }
     {
-        SelectorCaches::made(tree, true)
+        SelectorCaches::made(tree, Some(0))
+    }
+
+    /// Caches of one selection. They keep nothing, and take no memory, before many indexes were
+    /// asked for: room for all of the tree's is too much for a selection that asks a few nodes.
+    pub(crate) fn late(tree: &'t Tree) -> SelectorCaches<'t>
+        ensures { result ≡ tree.entry.now }
+    {
+        SelectorCaches::made(tree, Some(64))
     }
 
     /// Caches that never keep anything, and take no memory.
     pub(crate) fn none(tree: &'t Tree) -> SelectorCaches<'t>
         ensures { result ≡ tree.entry.now }
     {
-        SelectorCaches::made(tree, false)
+        SelectorCaches::made(tree, None)
     }
 
-    fn made(tree: &'t Tree, keeps: bool) -> SelectorCaches<'t>
+    /// Caches that keep nothing of so many indexes that are asked for, or never anything.
+    fn made(tree: &'t Tree, waits: Option<u32>) -> SelectorCaches<'t>
         ensures { result ≡ tree.entry.now }
     {
         SelectorCaches {
             tree,
-            keeps,
+            waits,
             child: Vec::new(tree.allocator()),
             last_child: Vec::new(tree.allocator()),
             of_type: Vec::new(tree.allocator()),
@@ -79,13 +88,27 @@ impl<'t> SelectorCaches<'t> {
         self.hits
     }
 
+    /// Whether the next index is kept.
+    fn keeps(&mut self) -> bool
+        ensures { self.new ≡ self.old }
+    {
+        let Some(more) = self.waits else {
+            return false;
+        };
+        if more == 0 {
+            return true;
+        }
+        self.waits = Some(more - 1);
+        false
+    }
+
     /// An index of a node.
     pub(crate) fn index_at(&mut self, id: &NodeId, kind: IndexKind) -> u64
         ensures is { result ≡ index_at kind self.old id.now }
         ensures few { result ≤ 4294967295 }
         ensures same { self.new ≡ self.old }
     {
-        if !self.keeps {
+        if !self.keeps() {
             return index_at(self.tree.nodes(), id, kind);
         }
         match kind {

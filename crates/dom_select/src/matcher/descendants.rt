@@ -8,6 +8,7 @@ ghost use Rattle.dom_select.specs.Selected.{Selected};
 ghost use Rattle.dom_selectors.specs.Spelling.{Decides};
 
 use crate::matcher::Matcher;
+use crate::matcher::caches::SelectorCaches;
 use crate::matcher::parts::is_element;
 use dom_links::iters::DescendantNodes;
 use dom_nodes::fault::OutOfMemory;
@@ -16,16 +17,18 @@ use dom_trees::node_ref::NodeRef;
 use dom_trees::tree::Tree;
 use std::marker::Model;
 
-/// The elements below a node that a selector means, each before those below it. It takes no memory.
+/// The elements below a node that a selector means, each before those below it. It takes memory
+/// only for sibling indexes, where many are asked for and memory isn't refused.
 #[derive(Drop)]
 pub struct DescendantMatches<'a, 'b> {
     ids: DescendantNodes<'a>,
     tree: &'a Tree,
+    caches: SelectorCaches<'a>,
     matcher: &'b Matcher,
 }
 
 impl<'a, 'b> Model for DescendantMatches<'a, 'b> {
-    ghost use Rattle.std.specs.Prelude.{List};
+    ghost use Rattle.std.specs.Prelude.{◌≡◌, List};
     ghost use Rattle.std.specs.Coded.{code_by, codes};
     ghost use Rattle.dom_select.specs.Descendants.{Matches};
     ghost use Rattle.dom_selectors.specs.Tokens.{Token, list_of, read_back, tokens_of};
@@ -35,6 +38,8 @@ impl<'a, 'b> Model for DescendantMatches<'a, 'b> {
     ghost coded = { Prim.hlevel (codes, code_by (List Token) (Prim.hlevel codes) tokens_of list_of read_back) };
 
     ghost view = { λ it. record { left = it.ids.left; tree = it.tree; selector = it.matcher.now } };
+
+    ghost invariant = { λ it. it.caches ≡ it.tree.now };
 }
 
 impl<'a, 'b> DescendantMatches<'a, 'b> {
@@ -50,6 +55,7 @@ impl<'a, 'b> DescendantMatches<'a, 'b> {
         DescendantMatches {
             ids: tree.descendant_ids_of_it(&id),
             tree,
+            caches: SelectorCaches::late(tree),
             matcher,
         }
     }
@@ -65,7 +71,7 @@ impl<'a, 'b> Iterator for DescendantMatches<'a, 'b> {
     fn next(&mut self) -> Option<NodeRef<'a>> {
         loop {
             let id = self.ids.next()?;
-            if is_selected(self.tree, id, self.matcher) {
+            if is_selected_with(self.matcher, &mut self.caches, id) {
                 return Some(NodeRef::new(id, self.tree));
             }
         }
@@ -96,4 +102,20 @@ pub(crate) fn is_selected(tree: &Tree, id: NodeId, matcher: &Matcher) -> bool
         return false;
     }
     matcher.match_element(&NodeRef::new(id, tree))
+}
+
+/// The same, asked with caches of the tree.
+pub(crate) fn is_selected_with(
+    matcher: &Matcher,
+    caches: &mut SelectorCaches<'_>,
+    id: NodeId,
+) -> bool
+    ensures is { Decides result (IsMatch matcher.now caches.old id) }
+    ensures same { caches.new ≡ caches.old }
+{
+    let tree = caches.tree();
+    if !is_element(tree, &id) {
+        return false;
+    }
+    matcher.match_element_with_caches(&NodeRef::new(id, tree), caches)
 }

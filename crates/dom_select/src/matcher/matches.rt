@@ -4,15 +4,15 @@
 //! left of a farther one stands on the left of that one too.
 
 ghost use Rattle.std.specs.Prelude.{◌≡◌, ◌↔◌, ◌∷◌, [], map, IfSome, Some, IsTrue, MatchBool};
-ghost use Rattle.std.specs.Prelude.{MatchOption};
+ghost use Rattle.std.specs.Prelude.{◌<◌, false, MatchOption};
 ghost use Rattle.dom_selectors.specs.ListsAsTrees.{lists_of, steps_of};
 ghost use Rattle.dom_select.specs.Leftward.{ends_at};
 ghost use Rattle.dom_select.specs.Meaning.{Holds, LeadsOn, LeadsToSome, ListsHold, ListHolds};
 ghost use Rattle.dom_select.specs.Meaning.{Means, PartsHold, Reaches};
 ghost use Rattle.dom_selectors.specs.ValuesAsTrees.{read_compound, read_list, read_nested, read_step};
 ghost use Rattle.dom_selectors.specs.Syntax.{no_lists, compound as the_compound};
-ghost use Rattle.dom_select.specs.Chains.{EndHolds, Followed, FollowedFrom, IsOrPrecedes};
-ghost use Rattle.dom_select.specs.Chains.{ReachesSome, looseness};
+ghost use Rattle.dom_select.specs.Chains.{EndHolds, EndsLoosely, Followed, FollowedFrom};
+ghost use Rattle.dom_select.specs.Chains.{IsOrPrecedes, ReachesSome, looseness};
 ghost use Rattle.dom_select.specs.Has.{Begins, IsReached, ReachesWithin, may_end};
 
 use crate::matcher::caches::SelectorCaches;
@@ -20,7 +20,7 @@ use crate::matcher::chains::{ends_at, know_lines, looseness, may_beside, on_the_
 use crate::matcher::has::{Start, first_top, is_led, may_end, next_top};
 use crate::matcher::parts::{is_named_node, parts_hold};
 use dom_nodes::node_id::NodeId;
-use dom_nodes::text::Text;
+use dom_selectors::selector_name::SelectorName;
 use dom_selectors::syntax::{Combinator, Compound, Nested, Part, Selector, Step};
 use dom_trees::tree::Tree;
 
@@ -28,7 +28,7 @@ use dom_trees::tree::Tree;
 const ALL: usize = 5;
 
 /// The name, where the compound is a type and nothing else.
-fn bare_type(compound: &Compound) -> Option<&Text>
+fn bare_type(compound: &Compound) -> Option<&SelectorName>
     ensures { IfSome result
         (λ name. read_compound compound.now ≡ the_compound (Part.«Type» name.now ∷ []) no_lists) }
 {
@@ -42,7 +42,7 @@ fn bare_type(compound: &Compound) -> Option<&Text>
 }
 
 /// Whether the number is an element's that bears the name as a type.
-fn bears_name(tree: &Tree, id: &NodeId, name: &str) -> bool
+fn bears_name(tree: &Tree, id: &NodeId, name: &SelectorName) -> bool
     ensures { MatchBool result (PartsHold (Part.«Type» name.now ∷ []) tree.now id.now)
         (PartsHold (Part.«Type» name.now ∷ []) tree.now id.now → ⊥) }
 {
@@ -61,7 +61,7 @@ fn holds(compound: &Compound, tree: &Tree, caches: &mut SelectorCaches<'_>, id: 
     ensures kept { caches.new ≡ tree.now }
 {
     if let Some(name) = bare_type(compound) {
-        return bears_name(tree, &id, name.as_str());
+        return bears_name(tree, &id, name);
     }
     if !parts_hold(&compound.parts, tree, caches, &id) {
         return false;
@@ -226,6 +226,9 @@ fn reaches(
     if steps.is_empty() {
         return begins(start, first, tree, caches, id);
     }
+    if !end_holds(start, first, steps, tree, caches, id, id) {
+        return false;
+    }
     follow(ALL, start, first, steps, tree, caches, id, id).is_some()
 }
 
@@ -283,6 +286,17 @@ fn end_holds(
     }
 }
 
+/// Whether no step binds more tightly than `level` before one that doesn't.
+fn ends_loosely(steps: &[Step], level: usize) -> bool
+    ensures loose { IsTrue result → EndsLoosely level (map read_step steps.now) }
+    ensures high { result ≡ false → 1 < level }
+{
+    match steps.split_last() {
+        None => true,
+        Some((last, _)) => looseness(last.combinator) >= level,
+    }
+}
+
 /// Where a chain was followed to: the steps that are left, and the node that they must reach.
 #[derive(Clone, Copy)]
 struct Place<'a> {
@@ -311,7 +325,7 @@ fn follow<'a>(
         level (map read_step steps.now) (map read_step place.left.now) id place.at) }
     ensures kept { caches.new ≡ tree.now }
 {
-    if level <= 1 {
+    if ends_loosely(steps, level) {
         if !end_holds(start, first, steps, tree, caches, spared, id) {
             return None;
         }

@@ -2,7 +2,7 @@
 
 ghost use Rattle.std.specs.Prelude.{◌≡◌, ◌↔◌, ◌||◌, Some, slice_get, codes, IsTrue, MatchBool};
 ghost use Rattle.std.specs.List.{list_any};
-ghost use Rattle.std.specs.Str.{bytes_eq, str_to_ascii_lowercase};
+ghost use Rattle.std.specs.Str.{bytes_eq};
 ghost use Rattle.dom_links.specs.ListMoves.{element_at};
 ghost use Rattle.dom_select.specs.Meaning.{PartsHold};
 ghost use Rattle.dom_select.specs.Parts.{EachHolds, PartHolds, attr_passes, element_passes};
@@ -14,10 +14,11 @@ use crate::matcher::caches::SelectorCaches;
 use crate::matcher::joined::contains_joined;
 use crate::matcher::positions::has_position;
 use crate::matcher::texts::{has_text, is_empty, is_only_text};
-use dom_nodes::name::{Attr, Namespace};
+use dom_nodes::name::{Attr, LocalName, Namespace};
 use dom_nodes::node_data::{Element, NodeData};
 use dom_nodes::node_id::NodeId;
 use dom_selectors::comparisons::passes;
+use dom_selectors::selector_name::SelectorName;
 use dom_selectors::syntax::{Attribute, Comparison, Part};
 use dom_trees::tree::Tree;
 
@@ -39,11 +40,11 @@ pub(crate) fn parts_hold(
 }
 
 /// Whether the node is an element that bears the name as a type.
-pub(crate) fn is_named_node(node: &NodeData, name: &str) -> bool
+pub(crate) fn is_named_node(node: &NodeData, name: &SelectorName) -> bool
     ensures { result ≡ node_passes (Part.«Type» name.now) node.now }
 {
     match node {
-        NodeData::Element(element) => is_named(&element.name.ns, element.node_name(), name),
+        NodeData::Element(element) => is_named(&element.name.ns, &element.name.local, name),
         _ => false,
     }
 }
@@ -128,7 +129,7 @@ fn element_passes(part: &Part, element: &Element) -> bool
 {
     match part {
         Part::Universal => true,
-        Part::Type(name) => is_named(&element.name.ns, element.node_name(), name.as_str()),
+        Part::Type(name) => is_named(&element.name.ns, &element.name.local, name),
         Part::Id(value) => has_attr(element.attrs.as_slice(), "id", value.as_str()),
         Part::Class(word) => element.has_class(word.as_str()),
         Part::Attribute(asked) => attrs_pass(asked, element),
@@ -144,30 +145,13 @@ fn element_passes(part: &Part, element: &Element) -> bool
 }
 
 /// Whether a local name is a selector's name: with A to Z folded in HTML, as written elsewhere.
-fn is_named(ns: &Namespace, local: &str, name: &str) -> bool
+fn is_named(ns: &Namespace, local: &LocalName, name: &SelectorName) -> bool
     ensures { result ≡ bytes_eq local.now (name_within ns.now name.now) }
 {
     match ns {
-        Namespace::Html => is_folded(local.as_bytes(), name.as_bytes()),
-        _ => local == name,
+        Namespace::Html => local.is_same(name.folded()),
+        _ => local.as_str() == name.as_str(),
     }
-}
-
-/// Whether the local name is the other name with A to Z folded.
-fn is_folded(local: &[u8], name: &[u8]) -> bool
-    ensures { result ≡ bytes_eq local.now (str_to_ascii_lowercase name.now) }
-{
-    if local.len() != name.len() {
-        return false;
-    }
-    let mut n = 0;
-    while n < name.len() {
-        if local[n] != name[n].to_ascii_lowercase() {
-            return false;
-        }
-        n += 1;
-    }
-    true
 }
 
 fn has_attr(attrs: &[Attr], name: &str, value: &str) -> bool
@@ -200,7 +184,7 @@ fn attr_passes(ns: &Namespace, asked: &Attribute, attr: &Attr) -> bool
     if !is_without(&attr.name.ns) {
         return false;
     }
-    if !is_named(ns, attr.name.local.as_str(), asked.name.as_str()) {
+    if !is_named(ns, &attr.name.local, &asked.name) {
         return false;
     }
     asked_passes(&asked.comparison, attr.value.as_str())

@@ -9,7 +9,8 @@ ghost use Rattle.dom_select.specs.Marks.{has_mark, left_in};
 ghost use Rattle.dom_select.specs.Selected.{Selected, walks_below};
 
 use crate::matcher::Matcher;
-use crate::matcher::descendants::is_selected;
+use crate::matcher::caches::SelectorCaches;
+use crate::matcher::descendants::is_selected_with;
 use dom_links::iters::DescendantNodes;
 use dom_links::laws::trees_of_a_forest;
 use dom_nodes::fault::OutOfMemory;
@@ -118,17 +119,19 @@ fn mark(marks: &mut Vec<bool>, id: NodeId) -> bool
     true
 }
 
-/// The elements below some nodes that a selector means, each once, in the order of the walks. Only
-/// making it takes memory.
+/// The elements below some nodes that a selector means, each once, in the order of the walks. Making
+/// it takes memory, and later only sibling indexes do, where many are asked for and memory isn't
+/// refused.
 #[derive(Drop)]
 pub struct Matches<'a, 'b, 'r> {
     ids: FirstMet<'a, 'r>,
     tree: &'a Tree,
+    caches: SelectorCaches<'a>,
     matcher: &'b Matcher,
 }
 
 impl<'a, 'b, 'r> Model for Matches<'a, 'b, 'r> {
-    ghost use Rattle.std.specs.Prelude.{List};
+    ghost use Rattle.std.specs.Prelude.{◌≡◌, List};
     ghost use Rattle.std.specs.Coded.{code_by, codes};
     ghost use Rattle.dom_select.specs.Descendants.{Matches};
     ghost use Rattle.dom_selectors.specs.Tokens.{Token, list_of, read_back, tokens_of};
@@ -138,6 +141,8 @@ impl<'a, 'b, 'r> Model for Matches<'a, 'b, 'r> {
     ghost coded = { Prim.hlevel (codes, code_by (List Token) (Prim.hlevel codes) tokens_of list_of read_back) };
 
     ghost view = { λ it. record { left = it.ids; tree = it.tree; selector = it.matcher.now } };
+
+    ghost invariant = { λ it. it.caches ≡ it.tree.now };
 }
 
 impl<'a, 'b, 'r> Matches<'a, 'b, 'r> {
@@ -163,7 +168,12 @@ impl<'a, 'b, 'r> Matches<'a, 'b, 'r> {
             roots,
         };
         let ids = FirstMet { walks, marks };
-        Ok(Matches { ids, tree, matcher })
+        Ok(Matches {
+            ids,
+            tree,
+            caches: SelectorCaches::late(tree),
+            matcher,
+        })
     }
 }
 
@@ -185,7 +195,7 @@ impl<'a, 'b, 'r> Iterator for Matches<'a, 'b, 'r> {
     fn next(&mut self) -> Option<NodeRef<'a>> {
         loop {
             let id = self.ids.next()?;
-            if is_selected(self.tree, id, self.matcher) {
+            if is_selected_with(self.matcher, &mut self.caches, id) {
                 return Some(NodeRef::new(id, self.tree));
             }
         }

@@ -110,6 +110,28 @@ fn asks_caches_in_turn(rt: HostRuntime) -> Result<(), Fail> {
 }
 
 #[test]
+fn keeps_indexes_while_it_selects(rt: HostRuntime) -> Result<(), Fail> {
+    let alloc = rt.alloc();
+    let mut tree = tree_of(alloc, &[])?;
+    for _ in 0..300 {
+        append(alloc, &mut tree, (0, "b", "", ""))?;
+    }
+    let cases = [
+        (":nth-child(2n+1)", 150),
+        (":nth-last-child(-n+299):nth-of-type(3n)", 100),
+        (":has(+ :nth-last-of-type(7)), :nth-child(250)", 2),
+    ];
+    for (text, wanted) in cases {
+        let matcher = Matcher::new(alloc, text)?;
+        assert_eq!(rt;
+            select_below(&tree, &NodeId::root(), &matcher)?.len(),
+            wanted
+        );
+    }
+    Ok(())
+}
+
+#[test]
 fn finds_by_a_test(rt: HostRuntime) -> Result<(), Fail> {
     let alloc = rt.alloc();
     let tree = page(alloc)?;

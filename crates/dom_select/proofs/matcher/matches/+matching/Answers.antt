@@ -27,7 +27,7 @@ follow-returns-then-not-end_holds-clause-is t c = λ r. c.if-not-end_holds.ensur
 
 pub follow-loop-last-init : goal.follow-loop-last-init
 follow-loop-last-init t c =
-    let high : 1 < c.args.level = omega (arith, c.if-level-le1.false) in
+    let high : 1 < c.args.level = c.ends_loosely.ensures.high c.if-ends_loosely.false in
     record { kept = c.in-Some.ensures.kept; following = following_first c.args.tree.now c.args.spared (Begins c.args.start.now (read_compound c.args.first.now) c.args.tree.now) c.args.level (map read_step c.args.steps.now) (map read_step c.in-Some.place.left.now) c.args.id c.in-Some.place.at high c.in-Some.ensures.is }
 
 pub follow-returns-then-looseness-level-clause-is : goal.follow-returns-then-looseness-level-clause-is
@@ -126,6 +126,13 @@ reaches-returns-clause-is t c =
     let steps = map read_step c.args.steps.now in
     ends_if c.args.start.now (read_compound c.args.first.now) (steps_of steps) c.args.tree.now c.args.id _ (sym c.may_end.ensures ∙ c.if-not-may_end.false)
     (some_where c.follow.result c.is_some.result _ _ (λ place f. followed_all c.args.tree.now c.args.id first steps (map read_step place.left.now) c.args.id place.at f) c.follow.ensures.is c.is_some.ensures)
+
+pub reaches-returns-then-not-end_holds-clause-is : goal.reaches-returns-then-not-end_holds-clause-is
+reaches-returns-then-not-end_holds-clause-is t c =
+    let first = Begins c.args.start.now (read_compound c.args.first.now) c.args.tree.now in
+    let steps = map read_step c.args.steps.now in
+    ends_if c.args.start.now (read_compound c.args.first.now) (steps_of steps) c.args.tree.now c.args.id _ (sym c.may_end.ensures ∙ c.if-not-may_end.false)
+    ((λ e. absurd (true≢false (sym e))), λ r. absurd (c.if-not-end_holds.ensures.is (reaches_end c.args.tree.now c.args.id first steps c.args.id r)))
 
 pub reaches-begins-requires : goal.reaches-begins-requires
 reaches-begins-requires t c = (omega (arith, c.decreases), c.requires)

@@ -1,9 +1,10 @@
 use Rattle.std.proofs.Common.{◌≡◌, false, List, Bool, length, sym, ap, ◌∙◌}
 use Rattle.std.specs.Prelude.{ℕ, replicate}
 use Rattle.dom_select.proofs.SeveralLemmas.{selected_all, walks_once}
+use Rattle.dom_select.proofs.matcher.several.Matches.new.Goals.{After-late}
 use Rattle.dom_select.proofs.matcher.several.Matches.new.Goals as goal
 
-no_marks : (c : goal.In_ok-marks) → c.in_ok-marks.marks.items ≡ replicate (length c.args.tree.now.content) false
+no_marks : (c : After-late) → c.in_ok-marks.marks.items ≡ replicate (length c.args.tree.now.content) false
 no_marks c = c.in_ok-marks.ensures.items_if_clones_equal (λ y e. e) ∙ ap (λ (n : ℕ). replicate n false) c.len.ensures
 
 pub returns-clause-all : goal.returns-clause-all
