@@ -3,7 +3,8 @@
 ghost use Rattle.std.specs.Char.{is_ascii_digit};
 ghost use Rattle.std.specs.List.{list_all};
 ghost use Rattle.std.specs.Prelude.{◌≡◌, ◌<◌, ◌+◌, ◌++◌, drop, length, slice_index_or, true};
-ghost use Rattle.std.specs.Prelude.{IfOk, MatchOption, OnErr, OnOk, if◌then◌else◌, string_bytes};
+ghost use Rattle.std.specs.Prelude.{IfOk, MatchOption, None, OnErr, OnOk, if◌then◌else◌};
+ghost use Rattle.std.specs.Prelude.{string_bytes};
 ghost use Rattle.dom_md.specs.Chunks.{escaped, begins_block, is_list_marker, is_mark, is_marked};
 ghost use Rattle.dom_md.specs.Chunks.{is_stop, is_underline, line_mark, with_marks};
 ghost use Rattle.dom_md.specs.Marks.{Cuts, IsFirstMark};
@@ -31,15 +32,47 @@ pub fn push_escaped_chunk(
     if !escape {
         return Ok(text.push_str(chunk)?);
     }
+    if is_plain(chunk, line_start) {
+        return Ok(text.push_str(chunk)?);
+    }
     let escaped = escaped(*text.allocator(), chunk, line_start)?;
     Ok(text.push_str(escaped.as_str())?)
+}
+
+/// Whether the chunk can be added as it is: nothing in it is a mark.
+fn is_plain(chunk: &str, line_start: bool) -> bool
+    ensures { result ≡ true → escaped line_start chunk.now ≡ chunk.now }
+{
+    match mark_at_start(chunk, line_start) {
+        Some(_) => false,
+        None => has_no_mark(chunk.as_bytes()),
+    }
+}
+
+/// The place before which a backslash stands because a line begins with the chunk.
+fn mark_at_start(chunk: &str, line_start: bool) -> Option<usize>
+    ensures { result ≡ (if line_start then line_mark chunk.now else None) }
+{
+    if line_start {
+        return line_mark(chunk);
+    }
+    None
+}
+
+fn has_no_mark(bytes: &[u8]) -> bool
+    ensures { result ≡ true → with_marks bytes.now ≡ bytes.now }
+{
+    match find_mark(bytes) {
+        Some(_) => false,
+        None => true,
+    }
 }
 
 /// The chunk with backslashes.
 fn escaped(alloc: Global, chunk: &str, line_start: bool) -> Result<String, AllocError>
     ensures { IfOk result (λ made. string_bytes made ≡ escaped line_start chunk.now) }
 {
-    let mut made = String::new(alloc);
+    let mut made = String::with_capacity(alloc, chunk.len().saturating_add(8))?;
     if line_start {
         if let Some(at) = line_mark(chunk) {
             push_marks(&mut made, &chunk[..at])?;

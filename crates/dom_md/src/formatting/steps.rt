@@ -98,7 +98,7 @@ fn spaced(alloc: Global, text: &str) -> Result<String, AllocError>
     ensures { IfOk result (λ words. string_bytes words
         ≡ encode_utf8_all (spaced_on false (chars text.now))) }
 {
-    let mut words = String::new(alloc);
+    let mut words = String::with_capacity(alloc, text.len())?;
     let mut gap = false;
     for c in text.chars() {
         if c.is_whitespace() {
@@ -164,12 +164,6 @@ const BLOCK_NAMES: [&str; 16] = [
     "table",
 ];
 
-/// The elements that a line ends with.
-const LINE_NAMES: [&str; 4] = ["br", "hr", "li", "tr"];
-
-/// The elements that a space parts.
-const CELL_NAMES: [&str; 2] = ["td", "th"];
-
 #[tactic(auto, unfolding(crate::specs::Formatted::block_names))]
 fn is_block(name: &str) -> bool
     ensures { result ≡ is_among name.now block_names }
@@ -177,18 +171,20 @@ fn is_block(name: &str) -> bool
     is_one_of(&BLOCK_NAMES, name)
 }
 
+/// Whether a line ends with the element.
 #[tactic(auto, unfolding(crate::specs::Formatted::line_names))]
 fn is_line(name: &str) -> bool
     ensures { result ≡ is_among name.now line_names }
 {
-    is_one_of(&LINE_NAMES, name)
+    matches!(name, "br" | "hr" | "li" | "tr")
 }
 
+/// Whether a space parts the element from the next.
 #[tactic(auto, unfolding(crate::specs::Formatted::cell_names))]
 fn is_cell(name: &str) -> bool
     ensures { result ≡ is_among name.now cell_names }
 {
-    is_one_of(&CELL_NAMES, name)
+    matches!(name, "td" | "th")
 }
 
 fn is_one_of(names: &[&str], name: &str) -> bool

@@ -20,6 +20,9 @@ pub(super) fn push_target(
 }
 
 fn push_address(text: &mut String, address: &str) -> Result<(), OutOfMemory> {
+    if is_bare(address) {
+        return Ok(text.push_str(address)?);
+    }
     let address = html_escape(*text.allocator(), address)?;
     if is_plain(address.as_str()) {
         return push_plain(text, address.as_str());
@@ -29,6 +32,26 @@ fn push_address(text: &mut String, address: &str) -> Result<(), OutOfMemory> {
         push_enclosed(text, c)?;
     }
     Ok(text.push('>')?)
+}
+
+/// Whether the address has letters, digits and marks alone that are written as they are.
+fn is_bare(address: &str) -> bool {
+    for byte in address.as_bytes() {
+        if !is_bare_byte(*byte) {
+            return false;
+        }
+    }
+    true
+}
+
+fn is_bare_byte(byte: u8) -> bool {
+    if byte.is_ascii_alphanumeric() {
+        return true;
+    }
+    matches!(
+        byte,
+        b'-' | b'.' | b'_' | b'~' | b'/' | b':' | b'?' | b'#' | b'%' | b'=' | b'+' | b',' | b'@'
+    )
 }
 
 /// Whether the address can stand without brackets round it.

@@ -8,7 +8,7 @@ use Rattle.dom_md.proofs.formatting.steps.spaced.Goals as goal
 use Rattle.dom_md.proofs.formatting.steps.spaced.Goals.{then-gap+in_ok-push, else-gap}
 
 pub loop-c-init : goal.loop-c-init
-loop-c-init c = spaces_begin c.args.text.now _ c.new-words.ensures.bytes
+loop-c-init c = spaces_begin c.args.text.now _ c.in_ok-words.ensures.bytes
 
 pub loop-c-preserved : goal.loop-c-preserved
 loop-c-preserved c =
