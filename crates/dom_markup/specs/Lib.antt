@@ -11,6 +11,7 @@ pub mod Token
 pub mod Tokens
 pub mod Numbered
 pub mod Refusals
+pub mod Fragments
 pub mod Frames
 pub mod Limits
 pub mod Reader
