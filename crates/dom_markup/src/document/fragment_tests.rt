@@ -19,7 +19,11 @@ fn reads_fragments(rt: HostRuntime) -> Result<(), Fail> {
         ("", 2, "<html></html>"),
         ("<p>x</p>", 4, "<html><p>x</p></html>"),
         ("a<!doctype html>b", 4, "<html>ab</html>"),
-        ("<template><u></u></template><s></s>", 6, "<html><template><u></u></template><s></s></html>"),
+        (
+            "<template><u></u></template><s></s>",
+            6,
+            "<html><template><u></u></template><s></s></html>",
+        ),
     ] {
         let fragment = Document::fragment(alloc, markup)?;
         assert!(rt; fragment.root().is_fragment());
