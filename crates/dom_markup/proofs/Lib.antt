@@ -37,3 +37,4 @@ pub mod FaultLemmas
 pub mod RowsForest
 pub mod RowsSound
 pub mod DocumentSound
+pub mod Fragments

@@ -12,6 +12,7 @@ pub mod Tokens
 pub mod Front
 pub mod Numbered
 pub mod Refusals
+pub mod Fragments
 pub mod Frames
 pub mod Limits
 pub mod Reader

@@ -1,6 +1,6 @@
 //! Documents, and reading them from explicit markup.
 
-ghost use Rattle.std.specs.Prelude.{◌≡◌, ◌≤◌, [], List, codes, find, length, string_bytes};
+ghost use Rattle.std.specs.Prelude.{◌≡◌, ◌≤◌, [], List, codes, find, length, map, string_bytes};
 ghost use Rattle.std.specs.Prelude.{IfErr, IfOk, IfSome, MatchResult};
 ghost use Rattle.std.specs.Option.{option_copied};
 ghost use Rattle.dom_links.specs.Forest.{Forest, children_of};
@@ -21,6 +21,9 @@ ghost use Rattle.dom_trees.specs.SameTree.{SameTree};
 
 mod attributes;
 mod doctypes;
+#[cfg(test)]
+mod fragment_tests;
+pub mod fragments;
 mod front;
 mod names;
 mod raw;
@@ -147,6 +150,22 @@ impl Document {
         }
     }
 
+    /// The same document: its tree with every node at its number, its errors and its mode.
+    pub fn try_clone(&self) -> Result<Document, OutOfMemory>
+        ensures tree { IfOk result (λ copy. copy.tree ≡ self.now.tree) }
+        ensures errors { IfOk result (λ copy.
+            map string_bytes copy.errors.items ≡ map string_bytes self.now.errors.items) }
+        ensures quirks { IfOk result (λ copy. copy.quirks_mode ≡ self.now.quirks_mode) }
+    {
+        let tree = self.tree.try_clone()?;
+        let errors = cloned(&self.errors)?;
+        Ok(Document {
+            tree,
+            errors,
+            quirks_mode: self.quirks_mode,
+        })
+    }
+
     /// The node that all others stand below.
     pub fn root(&self) -> NodeRef<'_>
         ensures number { result.id ≡ 0 }
@@ -244,4 +263,15 @@ fn whole(alloc: Global, tree: Tree) -> Document
         errors: Vec::new(alloc),
         quirks_mode: QuirksMode::NoQuirks,
     }
+}
+
+/// The same texts.
+fn cloned(texts: &Vec<String>) -> Result<Vec<String>, OutOfMemory>
+    ensures { IfOk result (λ made. map string_bytes made.items ≡ map string_bytes texts.now.items) }
+{
+    let mut made = Vec::new(*texts.allocator());
+    for text in texts.as_slice() {
+        made.push(text.clone()?)?;
+    }
+    Ok(made)
 }

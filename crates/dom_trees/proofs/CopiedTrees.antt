@@ -7,7 +7,7 @@ use Rattle.dom_links.specs.Copies.{copied_data, data_at, size}
 use Rattle.dom_links.specs.CopiedTrees.{HoldCopies, renumbered}
 use Rattle.dom_links.specs.Forest.{Forest}
 use Rattle.dom_links.specs.Trees.{NoTrees, Tree, Trees}
-use Rattle.dom_trees.specs.SameTree.{Shown, compared, shown, shown_tree}
+use Rattle.dom_trees.specs.SameTree.{compared, shown}
 
 compared-copied : (k : ℕ) (content : NodeData) → compared (copied_data k content) ≡ compared content
 compared-copied k Document = refl

@@ -1,5 +1,5 @@
 -- What the nodes are that calls make.
-use Rattle.std.specs.Prelude.{ℕ, false, List, [], None, Some}
+use Rattle.std.specs.Prelude.{ℕ, codes, false, List, [], None, Some}
 use Rattle.dom_nodes.specs.declared.name.Attr.{Attr}
 use Rattle.dom_nodes.specs.declared.name.QualName.{QualName}
 use Rattle.dom_nodes.specs.declared.name.Namespace.TheVariants.{Html}
@@ -30,3 +30,7 @@ element_with name attrs contents = Element (record {
 
 abbrev pub text_node : List ℕ → NodeData
 text_node text = Text text
+
+-- the element `html` of a fragment
+abbrev pub html_element : NodeData
+html_element = bare_element (html_name (codes "html"))

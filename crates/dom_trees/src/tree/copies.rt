@@ -1,12 +1,17 @@
 //! Copies of nodes with all that is below them, and of a whole tree.
 
-ghost use Rattle.std.specs.Prelude.{◌≡◌, IfOk};
+ghost use Rattle.std.specs.Prelude.{◌≡◌, IfErr, IfOk, MatchResult};
+ghost use Rattle.dom_nodes.specs.declared.fault.EditFault.TheVariants.{Memory};
+ghost use Rattle.dom_links.specs.Copies.{FragmentCause, fragment_of};
 ghost use Rattle.dom_trees.specs.Edits.{Copies};
+ghost use Rattle.dom_trees.specs.NewNodes.{html_element};
 
+use crate::names::html_name;
 use crate::tree::Tree;
 use dom_links::ops::copies;
 use dom_nodes::fault::{EditFault, OutOfMemory};
-use dom_nodes::node_data::TreeNode;
+use dom_nodes::name::LocalName;
+use dom_nodes::node_data::{Attrs, Element, NodeData, TreeNode};
 use dom_nodes::node_id::NodeId;
 use std::alloc::Global;
 
@@ -29,6 +34,19 @@ impl Tree {
         copies::copy_nodes(&mut self.nodes, ids)
     }
 
+    /// A fragment: a tree whose root is a fragment, with an element `html` below it, and copies of
+    /// nodes of another tree as the children of that. Refused as `merge` is.
+    pub fn fragment_of(other: &Tree, ids: &[NodeId]) -> Result<Tree, EditFault>
+        ensures ok { IfOk result (λ tree. tree ≡ fragment_of html_element other.now ids.now) }
+        ensures cause { IfErr result
+            (λ fault. FragmentCause html_element other.now ids.now fault) }
+    {
+        let html = html_element(other.allocator())?;
+        Ok(Tree {
+            nodes: copies::fragment_of(other.allocator(), html, &other.nodes, ids)?,
+        })
+    }
+
     /// The same tree: every node at its number as it is, cut-out ones too.
     pub fn try_clone(&self) -> Result<Tree, OutOfMemory>
         ensures { IfOk result (λ copy. copy ≡ self.now) }
@@ -47,4 +65,19 @@ fn cloned(alloc: Global, nodes: &[TreeNode]) -> Result<Vec<TreeNode>, OutOfMemor
         made.push(node.try_clone()?)?;
     }
     Ok(made)
+}
+
+/// An element `html`. Refused as `Memory`.
+fn html_element(alloc: Global) -> Result<NodeData, EditFault>
+    ensures { MatchResult result (λ made. made ≡ html_element) (λ fault. fault ≡ Memory) }
+{
+    match LocalName::new(alloc, "html") {
+        Ok(local) => Ok(NodeData::Element(Element::new(
+            html_name(local),
+            Attrs::new(alloc),
+            None,
+            false,
+        ))),
+        Err(_) => Err(EditFault::Memory),
+    }
 }

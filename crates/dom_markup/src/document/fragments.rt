@@ -1,0 +1,168 @@
+//! Fragments: markup that is read below an element `html`, and copies of nodes as such.
+
+ghost use Rattle.std.specs.Prelude.{◌≡◌, ◌≤◌, [], IfErr, IfOk, MatchResult, length};
+ghost use Rattle.dom_nodes.specs.declared.fault.EditFault.TheVariants.{Memory};
+ghost use Rattle.dom_nodes.specs.Kinds.{is_doctype, is_top};
+ghost use Rattle.dom_links.specs.Copies.{FragmentCause};
+ghost use Rattle.dom_links.specs.Growth.{lone};
+ghost use Rattle.dom_trees.specs.NewNodes.{html_element};
+ghost use Rattle.dom_trees.specs.Views.{node_is};
+ghost use Rattle.dom_markup.specs.Fragments.{FragmentRefused, IsFragmentOf, fragment_roots};
+ghost use Rattle.dom_markup.specs.Fragments.{is_whole, node_fragment, top_nodes};
+ghost use Rattle.dom_markup.specs.Limits.{limit_kind};
+
+use crate::document::{Document, QuirksMode, whole};
+use dom_nodes::fault::{EditFault, MarkupFault, MarkupFaultKind, OutOfMemory};
+use dom_nodes::node_data::NodeData;
+use dom_nodes::node_id::NodeId;
+use dom_trees::node_ref::NodeRef;
+use dom_trees::tree::Tree;
+use std::alloc::Global;
+
+impl Document {
+    /// A fragment with nothing in it, for a parser that fills it: a fragment node alone. `Err` where
+    /// memory was refused.
+    pub fn fragment_sink(alloc: Global) -> Result<Document, OutOfMemory>
+        ensures empty { IfOk result (λ document. document.tree ≡ lone NodeData.Fragment) }
+        ensures no_errors { IfOk result (λ document. document.errors.items ≡ []) }
+        ensures no_quirks { IfOk result (λ document. document.quirks_mode ≡ QuirksMode.NoQuirks) }
+    {
+        match Tree::new(alloc, NodeData::Fragment) {
+            Ok(tree) => Ok(whole(alloc, tree)),
+            Err(_) => Err(OutOfMemory),
+        }
+    }
+
+    /// The fragment that the text spells: a fragment node, below it an element `html`, and below
+    /// that what `parse` would read, without doctypes, numbered in order of start. Refused as
+    /// `parse` refuses the text.
+    pub fn fragment(alloc: Global, source: &str) -> Result<Document, MarkupFault>
+        ensures ok { IfOk result (λ document. IsFragmentOf source.now document.tree) }
+        ensures no_errors { IfOk result (λ document. document.errors.items ≡ []) }
+        ensures no_quirks { IfOk result (λ document. document.quirks_mode ≡ QuirksMode.NoQuirks) }
+        ensures refused { IfErr result (λ fault. FragmentRefused source.now fault.kind) }
+        ensures place { IfErr result (λ fault. fault.at ≤ length source.now) }
+    {
+        let read = Document::read(alloc, source)?;
+        let Ok(tops) = top_nodes(&read.tree) else {
+            return Err(MarkupFault {
+                kind: MarkupFaultKind::Memory,
+                at: source.len(),
+            });
+        };
+        match Tree::fragment_of(&read.tree, &tops) {
+            Ok(tree) => Ok(whole(alloc, tree)),
+            Err(fault) => Err(MarkupFault {
+                kind: limit_of(fault),
+                at: source.len(),
+            }),
+        }
+    }
+}
+
+/// The nodes at the top of what was read, but for doctypes.
+fn top_nodes(tree: &Tree) -> Result<Vec<NodeId>, OutOfMemory>
+    ensures { IfOk result (λ tops. tops.items ≡ top_nodes tree.now) }
+{
+    let children = tree.child_ids_of(&NodeId::root())?;
+    let mut tops = Vec::new(tree.allocator());
+    for id in children.as_slice() {
+        if !is_doctype(tree, *id) {
+            tops.push(*id)?;
+        }
+    }
+    Ok(tops)
+}
+
+fn is_doctype(tree: &Tree, id: NodeId) -> bool
+    ensures { result ≡ node_is is_doctype tree.now id }
+{
+    NodeRef::new(id, tree).is_doctype()
+}
+
+/// What a limit that copies met is called in markup.
+fn limit_of(fault: EditFault) -> MarkupFaultKind
+    ensures { result ≡ limit_kind fault }
+{
+    match fault {
+        EditFault::TooManyNodes => MarkupFaultKind::TooManyNodes,
+        _ => MarkupFaultKind::Memory,
+    }
+}
+
+/// A node as a document of its own.
+pub trait NodeFragment {
+    ghost use Rattle.dom_links.specs.Forest.{Forest};
+    ghost use Rattle.std.specs.Prelude.{ℕ};
+
+    // The forest of the node's tree.
+    ghost forest: { Self → Forest };
+
+    // The number of the node.
+    ghost number: { Self → ℕ };
+
+    /// A fragment that holds a copy of the node below an element `html`; of a document or a
+    /// fragment, copies of its children. The root and an element named `html` give a copy of the
+    /// whole tree, every node at its number. Refused as `UnknownNode`, `TooManyNodes` or `Memory`.
+    fn to_fragment(&self) -> Result<Document, EditFault>
+        ensures ok { IfOk result (λ document.
+            document.tree ≡ node_fragment (forest self.now) (number self.now)) }
+        ensures cause { let roots = fragment_roots (forest self.now) (number self.now)
+            in IfErr result (λ fault. FragmentCause html_element (forest self.now) roots fault) };
+}
+
+impl<'a> NodeFragment for NodeRef<'a> {
+    ghost forest = { λ node. node.tree.now };
+
+    ghost number = { λ node. node.id };
+
+    fn to_fragment(&self) -> Result<Document, EditFault> {
+        let alloc = self.tree.allocator();
+        Ok(whole(alloc, fragment_tree(self.tree, self.id)?))
+    }
+}
+
+/// The tree of a node's fragment.
+fn fragment_tree(tree: &Tree, id: NodeId) -> Result<Tree, EditFault>
+    ensures ok { IfOk result (λ made. made ≡ node_fragment tree.now id) }
+    ensures cause { let roots = fragment_roots tree.now id
+        in IfErr result (λ fault. FragmentCause html_element tree.now roots fault) }
+{
+    if is_whole(tree, id) {
+        return cloned(tree);
+    }
+    if !is_top(tree, id) {
+        return Tree::fragment_of(tree, &[id]);
+    }
+    match tree.child_ids_of(&id) {
+        Ok(children) => Tree::fragment_of(tree, &children),
+        Err(_) => Err(EditFault::Memory),
+    }
+}
+
+/// The same tree. Refused as `Memory`.
+fn cloned(tree: &Tree) -> Result<Tree, EditFault>
+    ensures { MatchResult result (λ made. made ≡ tree.now) (λ fault. fault ≡ Memory) }
+{
+    match tree.try_clone() {
+        Ok(made) => Ok(made),
+        Err(_) => Err(EditFault::Memory),
+    }
+}
+
+/// The root, or an element named `html`.
+fn is_whole(tree: &Tree, id: NodeId) -> bool
+    ensures { result ≡ is_whole tree.now id }
+{
+    id.value() == 0 || NodeRef::new(id, tree).has_name("html")
+}
+
+/// A document or a fragment.
+fn is_top(tree: &Tree, id: NodeId) -> bool
+    ensures { result ≡ node_is is_top tree.now id }
+{
+    match tree.get(&id) {
+        Some(node) => node.content.is_top(),
+        None => false,
+    }
+}
