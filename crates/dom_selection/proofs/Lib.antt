@@ -1,0 +1,4 @@
+pub mod SeenLemmas
+pub mod SelectionLemmas
+pub mod GatherLemmas
+pub mod SetLemmas

@@ -1,0 +1,5 @@
+pub mod Seen
+pub mod Gathering
+pub mod Selections
+pub mod SelectedNodes
+pub mod Steps
