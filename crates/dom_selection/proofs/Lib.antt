@@ -2,3 +2,5 @@ pub mod SeenLemmas
 pub mod SelectionLemmas
 pub mod GatherLemmas
 pub mod SetLemmas
+pub mod SelectLemmas
+pub mod TextLemmas

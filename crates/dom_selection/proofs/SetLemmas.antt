@@ -74,7 +74,7 @@ pub added_of : (nodes others : List NodeRef) (tree : Bor Forest) → tree_of nod
 added_of [] others tree e = absurd (none-some tree e)
 added_of (node ∷ nodes) others tree e = refl
 
-refs-joined : (tree : Bor Forest) (ns ms : List ℕ) → refs_to tree ns ++ refs_to tree ms ≡ refs_to tree (ns ++ ms)
+pub refs-joined : (tree : Bor Forest) (ns ms : List ℕ) → refs_to tree ns ++ refs_to tree ms ≡ refs_to tree (ns ++ ms)
 refs-joined tree [] ms = refl
 refs-joined tree (n ∷ ns) ms = ap (λ refs. record { id = n; tree = tree } ∷ refs) (refs-joined tree ns ms)
 

@@ -3,3 +3,4 @@ pub mod Gathering
 pub mod Selections
 pub mod SelectedNodes
 pub mod Steps
+pub mod Selecting

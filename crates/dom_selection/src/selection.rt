@@ -14,9 +14,11 @@ use std::alloc::Global;
 use std::marker::Model;
 use std::slice;
 
+mod asking;
 mod first_node;
 mod gathering;
 mod seen;
+mod selecting;
 mod sets;
 mod texts;
 
