@@ -1,0 +1,69 @@
+-- What selectors select below nodes, and which nodes they mean.
+use Rattle.std.specs.Prelude.{ℕ, ◌≡◌, ◌≢◌, ◌⊎◌, Bool, List, [], ◌∷◌, ◌++◌, Option, Result, IfOk, IfErr, MatchOption, chars}
+use Rattle.std.specs.Borrow.{Bor}
+use Rattle.dom_links.specs.Forest.{Forest}
+use Rattle.dom_links.specs.Lists.{without}
+use Rattle.dom_trees.specs.declared.node_ref.NodeRef.{NodeRef}
+use Rattle.dom_trees.specs.Views.{refs_to}
+use Rattle.dom_selectors.specs.Grammar.{StandsFor}
+use Rattle.dom_selectors.specs.Syntax.{SelectorList}
+use Rattle.dom_select.specs.Descendants.{IsMatch}
+use Rattle.dom_select.specs.Meaning.{Means}
+use Rattle.dom_select.specs.Selected.{Picks, Selected, walks_below}
+use Rattle.dom_selection.specs.Selections.{ids_of}
+
+-- these are the nodes of numbers of which it is told, of the forest and the numbers of the nodes, in their tree; none where
+-- there are no nodes
+abbrev pub AreFound : (Forest → List ℕ → List ℕ → Type 0) → List NodeRef → List NodeRef → Type 0
+AreFound Told [] found = found ≡ []
+AreFound Told (node ∷ nodes) found = (ids : List ℕ) × Told node.tree.now (ids_of (node ∷ nodes)) ids × (found ≡ refs_to node.tree ids)
+
+-- the selector selects these below the nodes
+abbrev pub Selects : SelectorList → List NodeRef → List NodeRef → Type 0
+Selects selector nodes found = AreFound (λ forest ns ids. Selected forest ns selector ids) nodes found
+
+-- the first of the numbers of which the fact holds, alone; none where it holds of none
+abbrev pub PicksFirst : (ℕ → Type 0) → List ℕ → List ℕ → Type 0
+PicksFirst P ns [] = Picks P ns []
+PicksFirst P ns (n ∷ more) = (more ≡ []) × P n × (passed : List ℕ) × (later : List ℕ) × (ns ≡ passed ++ n ∷ later) × Picks P passed []
+
+-- the first of those that the selector selects below the nodes, alone; none where it selects none
+abbrev pub SelectsFirst : SelectorList → List NodeRef → List NodeRef → Type 0
+SelectsFirst selector nodes found = AreFound (λ forest ns ids. PicksFirst (IsMatch selector forest) (walks_below forest ns) ids) nodes found
+
+-- those of the nodes that the selector means
+abbrev pub Keeps : SelectorList → List NodeRef → List NodeRef → Type 0
+Keeps selector nodes found = AreFound (λ forest ns ids. Picks (Means selector forest) ns ids) nodes found
+
+-- the nodes, and then those that the selector selects below the root and that don't stand among them
+abbrev pub Adds : SelectorList → List NodeRef → List NodeRef → Type 0
+Adds selector nodes found = AreFound (λ forest ns ids. (more : List ℕ) × Selected forest (0 ∷ []) selector more × (ids ≡ ns ++ without ns more)) nodes found
+
+-- the selector means one of the nodes
+abbrev pub MeansSome : SelectorList → List NodeRef → Type 0
+MeansSome selector [] = ⊥
+MeansSome selector (node ∷ nodes) = Means selector node.tree.now node.id ⊎ MeansSome selector nodes
+
+-- the selector selects these below the root of a tree of this forest
+abbrev pub SelectsIn : SelectorList → Forest → List NodeRef → Type 0
+SelectsIn selector forest found = (tree : Bor Forest) × (tree.now ≡ forest) × Selects selector (refs_to tree (0 ∷ [])) found
+
+-- the first of those
+abbrev pub SelectsFirstIn : SelectorList → Forest → List NodeRef → Type 0
+SelectsFirstIn selector forest found = (tree : Bor Forest) × (tree.now ≡ forest) × SelectsFirst selector (refs_to tree (0 ∷ [])) found
+
+-- the selector that the text stands for does so
+abbrev pub ByText : List ℕ → (SelectorList → Type 0) → Type 0
+ByText text Does = (selector : SelectorList) × StandsFor (chars text) selector × Does selector
+
+-- whatever selector the text stands for doesn't
+abbrev pub NotByText : List ℕ → (SelectorList → Type 0) → Type 0
+NotByText text Does = (selector : SelectorList) → StandsFor (chars text) selector → Does selector → ⊥
+
+-- the text stands for no selector
+abbrev pub StandsForNothing : List ℕ → Type 0
+StandsForNothing text = (selector : SelectorList) → StandsFor text selector → ⊥
+
+-- the text stands for no selector that selects a node below the nodes
+abbrev pub SelectsNothing : List ℕ → List NodeRef → Type 0
+SelectsNothing text nodes = (selector : SelectorList) → StandsFor (chars text) selector → Selects selector nodes []

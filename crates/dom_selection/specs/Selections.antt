@@ -1,0 +1,103 @@
+-- Lists of nodes of one tree, and what is made of them.
+use Rattle.std.specs.Prelude.{ℕ, ◌≡◌, Bool, List, [], ◌∷◌, ◌++◌, Option, Some, None, Result, IfOk, IfSome, filter, find, map}
+use Rattle.std.specs.Prelude.{false, true}
+use Rattle.std.specs.Borrow.{Bor}
+use Rattle.std.specs.List.{flat_map, list_any}
+use Rattle.dom_nodes.specs.declared.fault.OutOfMemory.{OutOfMemory}
+use Rattle.dom_links.specs.Forest.{Forest, children_of, parent}
+use Rattle.dom_links.specs.ListMoves.{element_at}
+use Rattle.dom_links.specs.Lists.{stands_in, without}
+use Rattle.dom_links.specs.Trees.{ancestors, limited}
+use Rattle.dom_links.specs.Walk.{later}
+use Rattle.dom_trees.specs.declared.node_ref.NodeRef.{NodeRef}
+use Rattle.dom_trees.specs.Views.{refs_to}
+use Rattle.dom_select.specs.Selected.{first_occurrences}
+
+-- the numbers of the nodes
+abbrev pub ids_of : List NodeRef → List ℕ
+ids_of nodes = map (λ node. node.id) nodes
+
+-- the tree of the first node
+abbrev pub tree_of : List NodeRef → Option (Bor Forest)
+tree_of [] = None
+tree_of (node ∷ nodes) = Some node.tree
+
+-- all nodes are of the tree of the first
+abbrev pub HasOneTree : List NodeRef → Type 0
+HasOneTree nodes = IfSome (tree_of nodes) (λ tree. nodes ≡ refs_to tree (ids_of nodes))
+
+-- the nodes of these numbers, all in the tree of the first
+abbrev pub in_one_tree : List NodeRef → List NodeRef
+in_one_tree [] = []
+in_one_tree (node ∷ nodes) = refs_to node.tree (ids_of (node ∷ nodes))
+
+-- what is told of the first node, or else the default
+abbrev pub at_first : {A : Type 0} → (Forest → ℕ → A) → A → List NodeRef → A
+at_first answer default [] = default
+at_first answer default (node ∷ nodes) = answer node.tree.now node.id
+
+-- there is a first node, and this text is told of it
+abbrev pub IsOfFirst : List ℕ → (Forest → ℕ → List ℕ) → List NodeRef → Type 0
+IsOfFirst text told [] = ⊥
+IsOfFirst text told (node ∷ nodes) = text ≡ told node.tree.now node.id
+
+-- the first node alone; none of none
+abbrev pub first_alone : List NodeRef → List NodeRef
+first_alone [] = []
+first_alone (node ∷ nodes) = node ∷ []
+
+-- whether it holds of some node
+abbrev pub some_node : (Forest → ℕ → Bool) → List NodeRef → Bool
+some_node holds nodes = list_any (λ node. holds node.tree.now node.id) nodes
+
+-- the texts of the nodes, joined
+abbrev pub joined : (Forest → ℕ → List ℕ) → List NodeRef → List ℕ
+joined text nodes = flat_map (λ node. text node.tree.now node.id) nodes
+
+abbrev pub one_or_none : Option ℕ → List ℕ
+one_or_none None = []
+one_or_none (Some n) = n ∷ []
+
+-- from a node to elements: its parent, its children, those above it, and the nearest beside it
+abbrev pub parent_element : Forest → ℕ → List ℕ
+parent_element forest n = filter (element_at forest) (one_or_none (parent forest n))
+
+abbrev pub child_elements : Forest → ℕ → List ℕ
+child_elements forest n = filter (element_at forest) (children_of forest n)
+
+abbrev pub elements_above : Option ℕ → Forest → ℕ → List ℕ
+elements_above most forest n = filter (element_at forest) (limited most (ancestors forest n))
+
+abbrev pub element_after : Forest → ℕ → List ℕ
+element_after forest n = one_or_none (find (element_at forest) (later forest false n))
+
+abbrev pub element_before : Forest → ℕ → List ℕ
+element_before forest n = one_or_none (find (element_at forest) (later forest true n))
+
+-- where the step leads from each node, one after the other, each node once
+abbrev pub gathered : (Forest → ℕ → List ℕ) → List NodeRef → List NodeRef
+gathered step [] = []
+gathered step (node ∷ nodes) = refs_to node.tree (first_occurrences [] (flat_map (step node.tree.now) (ids_of (node ∷ nodes))))
+
+-- the nodes that stand in the other list too; all where that is empty
+abbrev pub common : List NodeRef → List NodeRef → List NodeRef
+common nodes [] = nodes
+common nodes (other ∷ others) = filter (λ node. stands_in node.id (ids_of (other ∷ others))) nodes
+
+-- the nodes of these numbers in the tree of the first of some nodes
+abbrev pub refs_in : List NodeRef → List ℕ → List NodeRef
+refs_in [] ids = []
+refs_in (node ∷ nodes) ids = refs_to node.tree ids
+
+-- the nodes, and then those of the other list that don't stand among them; the other list where there are no nodes
+abbrev pub added : List NodeRef → List NodeRef → List NodeRef
+added [] others = others
+added (node ∷ nodes) others = (node ∷ nodes) ++ refs_in (node ∷ nodes) (without (ids_of (node ∷ nodes)) (ids_of others))
+
+-- some number stands in both lists
+abbrev pub have_common : List NodeRef → List NodeRef → Bool
+have_common nodes others = list_any (λ node. stands_in node.id (ids_of others)) nodes
+
+-- where memory sufficed, these nodes
+abbrev pub Lists : Result (List NodeRef) OutOfMemory → List NodeRef → Type 0
+Lists result nodes = IfOk result (λ found. found ≡ nodes)

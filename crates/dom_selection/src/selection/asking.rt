@@ -1,0 +1,113 @@
+//! Selectors that a selection's nodes are asked for.
+
+ghost use Rattle.std.specs.Prelude.{◌≡◌, ◌≢◌, [], None, Ok, Some, chars, IfErr, IfOk, MatchBool, MatchOption};
+ghost use Rattle.dom_selectors.specs.Grammar.{Refused, StandsFor};
+ghost use Rattle.dom_selectors.specs.declared.fault.SelectorFault.TheVariants.{Memory};
+ghost use Rattle.dom_selectors.specs.Spelling.{Decides};
+ghost use Rattle.dom_selection.specs.Selecting.{ByText, Keeps, MeansSome, NotByText};
+ghost use Rattle.dom_selection.specs.Selecting.{StandsForNothing};
+
+use crate::selection::{Selection, push_if};
+use dom_nodes::fault::OutOfMemory;
+use dom_select::matcher::Matcher;
+use dom_selectors::fault::SelectorFault;
+use dom_trees::node_ref::NodeRef;
+use std::alloc::Global;
+
+/// What the text stands for; None where it stands for nothing.
+pub(crate) fn matcher_of(alloc: Global, text: &str) -> Result<Option<Matcher>, OutOfMemory>
+    ensures { IfOk result (λ found. MatchOption found (StandsForNothing (chars text.now))
+        (StandsFor (chars text.now))) }
+{
+    match Matcher::new(alloc, text) {
+        Ok(matcher) => Ok(Some(matcher)),
+        Err(fault) => no_matcher(fault),
+    }
+}
+
+/// What a text outside the grammar gives; it gives it only if memory wasn't refused.
+fn no_matcher(fault: SelectorFault) -> Result<Option<Matcher>, OutOfMemory>
+    ensures { IfOk result (λ found. (found ≡ None) × (fault ≡ Memory → ⊥)) }
+{
+    match fault {
+        SelectorFault::Memory => Err(OutOfMemory),
+        _ => Ok(None),
+    }
+}
+
+impl<'a> Selection<'a> {
+    /// Whether one of the matcher's selectors means some node, of whichever kind. It takes no
+    /// memory.
+    pub fn is_matcher(&self, matcher: &Matcher) -> bool
+        ensures { Decides result (MeansSome matcher.now self.now) }
+    {
+        for node in self.nodes() {
+            if matcher.match_element(node) {
+                return true;
+            }
+        }
+        false
+    }
+
+    /// Whether one of the selectors in the text means some node, of whichever kind; false where the
+    /// text is outside the grammar.
+    pub fn is(&self, selectors: &str) -> Result<bool, OutOfMemory>
+        ensures { IfOk result (λ answer. MatchBool answer
+            (ByText selectors.now (λ list. MeansSome list self.now))
+            (NotByText selectors.now (λ list. MeansSome list self.now))) }
+    {
+        match matcher_of(self.allocator(), selectors)? {
+            Some(matcher) => Ok(self.is_matcher(&matcher)),
+            None => Ok(false),
+        }
+    }
+
+    /// Those of the nodes, of whichever kind, that one of the matcher's selectors means.
+    pub fn filter_matcher(&self, matcher: &Matcher) -> Result<Selection<'a>, OutOfMemory>
+        ensures { IfOk result (Keeps matcher.now self.now) }
+    {
+        let Some(tree) = self.tree() else {
+            return Ok(Selection::new(self.allocator()));
+        };
+        let mut kept = Vec::new(self.allocator());
+        for node in self.nodes() {
+            let node = NodeRef::new(node.id, tree);
+            push_if(&mut kept, &node, matcher.match_element(&node))?;
+        }
+        Ok(Selection::of_one_tree(kept))
+    }
+
+    /// Those of the nodes, of whichever kind, that one of the selectors in the text means. Refused
+    /// as `Matcher::new` refuses the text; that of an empty selection isn't read.
+    pub fn filter(&self, selectors: &str) -> Result<Selection<'a>, SelectorFault>
+        ensures none { self.now ≡ [] → result ≡ Ok [] }
+        ensures ok { IfOk result (λ kept. self.now ≢ [] →
+            ByText selectors.now (λ list. Keeps list self.now kept)) }
+        ensures refused { IfErr result (Refused (chars selectors.now)) }
+    {
+        if self.is_empty() {
+            return Ok(Selection::new(self.allocator()));
+        }
+        let matcher = Matcher::new(self.allocator(), selectors)?;
+        match self.filter_matcher(&matcher) {
+            Ok(kept) => Ok(kept),
+            Err(_) => Err(SelectorFault::Memory),
+        }
+    }
+
+    /// The same as `filter`, but None where the text is outside the grammar.
+    pub fn try_filter(&self, selectors: &str) -> Result<Option<Selection<'a>>, OutOfMemory>
+        ensures none { self.now ≡ [] → result ≡ Ok (Some []) }
+        ensures ok { IfOk result (λ found. self.now ≢ [] →
+            MatchOption found (StandsForNothing (chars selectors.now))
+            (λ kept. ByText selectors.now (λ list. Keeps list self.now kept))) }
+    {
+        if self.is_empty() {
+            return Ok(Some(Selection::new(self.allocator())));
+        }
+        match matcher_of(self.allocator(), selectors)? {
+            Some(matcher) => Ok(Some(self.filter_matcher(&matcher)?)),
+            None => Ok(None),
+        }
+    }
+}

@@ -1,0 +1,137 @@
+//! What selectors select below a selection's nodes.
+
+ghost use Rattle.std.specs.Prelude.{◌≡◌, ◌≢◌, [], Ok, Some, chars, IfErr, IfOk, MatchOption};
+ghost use Rattle.dom_selectors.specs.Grammar.{Refused};
+ghost use Rattle.dom_selection.specs.Selecting.{Adds, ByText, Selects, SelectsFirst};
+ghost use Rattle.dom_selection.specs.Selecting.{SelectsNothing, StandsForNothing};
+
+use crate::selection::asking::matcher_of;
+use crate::selection::{Selection, push_node};
+use dom_nodes::fault::OutOfMemory;
+use dom_select::matcher::Matcher;
+use dom_select::matcher::matcher_iter::MatcherIter;
+use dom_selectors::fault::SelectorFault;
+
+impl<'a> Selection<'a> {
+    /// The elements below the nodes that one of the matcher's selectors means, each once, in the
+    /// order of the walks.
+    pub fn select_matcher(&self, matcher: &Matcher) -> Result<Selection<'a>, OutOfMemory>
+        ensures { IfOk result (Selects matcher.now self.now) }
+    {
+        let Some(tree) = self.tree() else {
+            return Ok(Selection::new(self.allocator()));
+        };
+        let roots = self.ids()?;
+        let mut found = Vec::new(self.allocator());
+        for node in MatcherIter::new(tree, &roots, matcher)? {
+            push_node(&mut found, &node)?;
+        }
+        Ok(Selection::of_one_tree(found))
+    }
+
+    /// The elements below the nodes that one of the selectors in the text means, each once, in the
+    /// order of the walks. Refused as `Matcher::new` refuses the text.
+    pub fn select(&self, selectors: &str) -> Result<Selection<'a>, SelectorFault>
+        ensures ok { IfOk result (λ found.
+            ByText selectors.now (λ list. Selects list self.now found)) }
+        ensures refused { IfErr result (Refused (chars selectors.now)) }
+    {
+        let matcher = Matcher::new(self.allocator(), selectors)?;
+        match self.select_matcher(&matcher) {
+            Ok(found) => Ok(found),
+            Err(_) => Err(SelectorFault::Memory),
+        }
+    }
+
+    /// As `select`.
+    pub fn nip(&self, selectors: &str) -> Result<Selection<'a>, SelectorFault>
+        ensures ok { IfOk result (λ found.
+            ByText selectors.now (λ list. Selects list self.now found)) }
+        ensures refused { IfErr result (Refused (chars selectors.now)) }
+    {
+        self.select(selectors)
+    }
+
+    /// The same as `select`, but None where nothing is selected or the text is outside the grammar.
+    pub fn try_select(&self, selectors: &str) -> Result<Option<Selection<'a>>, OutOfMemory>
+        ensures { IfOk result (λ found. MatchOption found (SelectsNothing selectors.now self.now)
+            (λ some. (some ≢ []) × ByText selectors.now (λ list. Selects list self.now some))) }
+    {
+        let Some(matcher) = matcher_of(self.allocator(), selectors)? else {
+            return Ok(None);
+        };
+        let found = self.select_matcher(&matcher)?;
+        if found.is_empty() {
+            return Ok(None);
+        }
+        Ok(Some(found))
+    }
+
+    /// The first of what `select_matcher` gives, alone; none of none.
+    pub fn select_single_matcher(&self, matcher: &Matcher) -> Result<Selection<'a>, OutOfMemory>
+        ensures { IfOk result (SelectsFirst matcher.now self.now) }
+    {
+        let all = self.select_matcher(matcher)?;
+        Ok(all.first())
+    }
+
+    /// The first of what `select` gives, alone; none of none.
+    pub fn select_single(&self, selectors: &str) -> Result<Selection<'a>, SelectorFault>
+        ensures ok { IfOk result (λ found.
+            ByText selectors.now (λ list. SelectsFirst list self.now found)) }
+        ensures refused { IfErr result (Refused (chars selectors.now)) }
+    {
+        let matcher = Matcher::new(self.allocator(), selectors)?;
+        match self.select_single_matcher(&matcher) {
+            Ok(found) => Ok(found),
+            Err(_) => Err(SelectorFault::Memory),
+        }
+    }
+
+    /// The nodes, and then what the matcher's selectors select below the root that doesn't stand
+    /// among them; none of none.
+    pub fn add_matcher(&self, matcher: &Matcher) -> Result<Selection<'a>, OutOfMemory>
+        ensures { IfOk result (Adds matcher.now self.now) }
+    {
+        let Some(tree) = self.tree() else {
+            return Ok(Selection::new(self.allocator()));
+        };
+        let more = Selection::from(tree.root()).select_matcher(matcher)?;
+        self.add_selection(&more)
+    }
+
+    /// The nodes, and then what the selectors in the text select below the root that doesn't stand
+    /// among them; none of none. Refused as `Matcher::new` refuses the text; that of an empty
+    /// selection isn't read.
+    pub fn add(&self, selectors: &str) -> Result<Selection<'a>, SelectorFault>
+        ensures none { self.now ≡ [] → result ≡ Ok [] }
+        ensures ok { IfOk result (λ all. self.now ≢ [] →
+            ByText selectors.now (λ list. Adds list self.now all)) }
+        ensures refused { IfErr result (Refused (chars selectors.now)) }
+    {
+        if self.is_empty() {
+            return Ok(Selection::new(self.allocator()));
+        }
+        let matcher = Matcher::new(self.allocator(), selectors)?;
+        match self.add_matcher(&matcher) {
+            Ok(all) => Ok(all),
+            Err(_) => Err(SelectorFault::Memory),
+        }
+    }
+
+    /// The same as `add`, but None where the text is outside the grammar.
+    pub fn try_add(&self, selectors: &str) -> Result<Option<Selection<'a>>, OutOfMemory>
+        ensures none { self.now ≡ [] → result ≡ Ok (Some []) }
+        ensures ok { IfOk result (λ found. self.now ≢ [] →
+            MatchOption found (StandsForNothing (chars selectors.now))
+            (λ all. ByText selectors.now (λ list. Adds list self.now all))) }
+    {
+        if self.is_empty() {
+            return Ok(Some(Selection::new(self.allocator())));
+        }
+        match matcher_of(self.allocator(), selectors)? {
+            Some(matcher) => Ok(Some(self.add_matcher(&matcher)?)),
+            None => Ok(None),
+        }
+    }
+}

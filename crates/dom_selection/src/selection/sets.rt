@@ -1,0 +1,52 @@
+//! Selections as sets: what two of them share, and both together.
+
+ghost use Rattle.std.specs.Prelude.{◌≡◌, ◌++◌, ◌∷◌, [], IfOk, OnOk};
+ghost use Rattle.dom_links.specs.Lists.{stands_in, without};
+ghost use Rattle.dom_trees.specs.Views.{refs_to};
+ghost use Rattle.dom_selection.specs.Selections.{HasOneTree, Lists, added, common, have_common, ids_of};
+
+use crate::selection::seen::Seen;
+use crate::selection::{Selection, copies_of, push_if};
+use dom_nodes::fault::OutOfMemory;
+use dom_trees::node_ref::NodeRef;
+
+impl<'a> Selection<'a> {
+    /// Whether some number stands in both selections.
+    pub fn is_selection(&self, other: &Selection<'_>) -> Result<bool, OutOfMemory>
+        ensures { IfOk result (λ answer. answer ≡ have_common self.now other.now) }
+    {
+        let theirs = Seen::of(self.allocator(), other.nodes())?;
+        Ok(self.nodes().iter().any(|node| theirs.has(node.id)))
+    }
+
+    /// The nodes whose numbers stand in the other selection too; all of them where that is empty.
+    pub fn filter_selection(&self, other: &Selection<'_>) -> Result<Selection<'a>, OutOfMemory>
+        ensures { Lists result (common self.now other.now) }
+    {
+        if other.is_empty() {
+            return self.try_clone();
+        }
+        let theirs = Seen::of(self.allocator(), other.nodes())?;
+        let mut kept = Vec::new(self.allocator());
+        for node in self.nodes() {
+            push_if(&mut kept, node, theirs.has(node.id))?;
+        }
+        Ok(Selection::of_one_tree(kept))
+    }
+
+    /// The nodes, and then those of the other selection that don't stand among them, each for the
+    /// node of its number in this selection's tree; the other selection where this one is empty.
+    pub fn add_selection(&self, other: &Selection<'a>) -> Result<Selection<'a>, OutOfMemory>
+        ensures { Lists result (added self.now other.now) }
+    {
+        let Some(tree) = self.tree() else {
+            return other.try_clone();
+        };
+        let ours = Seen::of(self.allocator(), self.nodes())?;
+        let mut all = copies_of(self.allocator(), self.nodes())?;
+        for node in other.nodes() {
+            push_if(&mut all, &NodeRef::new(node.id, tree), !ours.has(node.id))?;
+        }
+        Ok(Selection::of_one_tree(all))
+    }
+}
