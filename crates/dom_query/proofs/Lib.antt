@@ -7,3 +7,4 @@ pub mod Outputs
 pub mod Refusals
 pub mod Failing
 pub mod Driving
+pub mod Statuses

@@ -6,6 +6,7 @@ use Rattle.dom_markup.specs.Writing.{AppendsBeginning}
 use Rattle.dom_query.specs.declared.driver.Job.{Job}
 use Rattle.dom_query.specs.declared.driver.Job.TheVariants.{Script, Markdown}
 use Rattle.dom_query.specs.declared.runner.RunFault.{RunFault}
+use Rattle.dom_query.specs.declared.runner.RunFault.TheVariants.{BadScript, BadMarkup}
 use Rattle.dom_query.specs.declared.telling.DriveFault.{DriveFault}
 use Rattle.dom_query.specs.declared.telling.DriveFault.TheVariants.{Usage, Read, Run}
 use Rattle.dom_query.specs.Markdown.{MarkdownTells, WroteMarkdown}
@@ -74,3 +75,10 @@ pub record Drove (words : List (List ℕ)) (known old new err told : Option (Lis
   pub tells : AppendsBeginning err told (told_after fault)
   pub stopped : Stopped words known old new fault
   pub begun : BeganOver words known old new
+
+-- what a status tells of a drive: the job was done; the script was refused; the markup was; the words ask for nothing
+pub record StatusTells (words : List (List ℕ)) (known old new : Option (List ℕ)) (status : ℕ) : Type 0 where
+  pub job_done : status ≡ 0 → Stopped words known old new None
+  pub bad_script : status ≡ 2 → (line : ℕ) × Stopped words known old new (Some (Run (BadScript line)))
+  pub bad_markup : status ≡ 3 → Stopped words known old new (Some (Run BadMarkup))
+  pub usage : status ≡ 64 → Stopped words known old new (Some Usage)
