@@ -2,7 +2,7 @@ use Rattle.std.proofs.Common.{Bool, true, ◌≡◌, ◌<◌, ◌+◌, ℕ, cond
 use Rattle.dom_links.specs.Forest.{forest_of}
 use Rattle.dom_links.specs.Indexes.{counts, index_at}
 use Rattle.dom_links.proofs.Cuts.{length-contents}
-use Rattle.dom_links.proofs.IndexLemmas.{Counted, counted_all, counts_is, counts_on, index_past, starts}
+use Rattle.dom_links.proofs.IndexLemmas.{Counted, counts_is, counts_on, index_past, starts}
 use Rattle.dom_links.proofs.KnownLemmas.{as_far, never_many}
 use Rattle.dom_links.proofs.indexes.index_with.Goals as goal
 use Rattle.dom_links.proofs.indexes.index_with.Goals.{then-counts+else-there-gt0, else-counts}

@@ -1,4 +1,4 @@
-use Rattle.std.proofs.Common.{Bool, true, ◌≡◌, ◌<◌, ◌+◌, ◌-◌, ℕ, List, cond, sym, ap, ◌∙◌, subst, arith}
+use Rattle.std.proofs.Common.{Bool, true, ◌≡◌, ◌+◌, ◌-◌, ℕ, cond, sym, ap, ◌∙◌, subst, arith}
 use Rattle.dom_links.specs.Forest.{forest_of}
 use Rattle.dom_links.specs.Indexes.{AreIndexes, counts, index_at}
 use Rattle.dom_links.proofs.Cuts.{length-contents}
