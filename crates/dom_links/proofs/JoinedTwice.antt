@@ -1,30 +1,31 @@
 -- Joining rows of texts keeps the text, and to join them twice is to join them once.
-use Rattle.std.proofs.Common.{ℕ, zero, suc, ◌≡◌, ◌<◌, ◌≤◌, ◌+◌, Bool, true, false, List, [], ◌∷◌, ◌++◌, Option, Some, None, refl, sym, ap, ◌∙◌, subst, arith, inl, inr, length, append_assoc, append-nil, cond, map, reverse}
-use Rattle.std.specs.Prelude.{◌==◌, ◌&&◌, ◌||◌, filter, find, not, slice_get, if◌then◌else◌}
+use Rattle.std.proofs.Common.{ℕ, zero, suc, ◌≡◌, ◌+◌, Bool, true, false, List, [], ◌∷◌, ◌++◌, Option, Some, None, refl, sym, ap, ◌∙◌, subst, arith, inl, inr, length, append_assoc, append-nil, cond, map, reverse}
+use Rattle.std.specs.Prelude.{◌==◌, ◌&&◌, ◌||◌, find, not, slice_get}
 use Rattle.std.specs.List.{flat_map}
 use Rattle.std.specs.Option.{option_map, option_map_or}
-use Rattle.std.proofs.lemmas.Bool.{cases_Bool, eqb-true, true≢false}
+use Rattle.std.proofs.lemmas.Bool.{cases_Bool, eqb-true, ne_eqb, true≢false}
 use Rattle.std.proofs.lemmas.List.Concat.{flat_map-append}
 use Rattle.dom_nodes.specs.Kinds.{is_text, may_bear}
 use Rattle.dom_nodes.specs.declared.node_data.NodeData.{NodeData}
 use Rattle.dom_nodes.specs.declared.node_data.NodeData.TheVariants.{Document, Fragment, Doctype, Text, Comment, Element, ProcessingInstruction}
 use Rattle.dom_links.specs.Lists.{stands_in, IsDistinct, map_from, without}
 use Rattle.dom_links.specs.Forest.{Forest, children_of, owner_from, parent, siblings}
-use Rattle.dom_links.specs.Normalized.{dropped, front_texts, is_empty_text, joined, joined_among, leads, nearest_before, normalized}
+use Rattle.dom_links.specs.Normalized.{dropped, front_texts, is_empty_text, joined, leads, nearest_before, normalized}
 use Rattle.dom_links.specs.SetTexts.{is_text_at, retexted}
 use Rattle.dom_links.specs.Sound.{IsForest}
 use Rattle.dom_links.specs.Texts.{text_at, text_in, text_of}
-use Rattle.dom_links.specs.Trees.{ancestors, Trees, NoTrees, Tree, in_order, trees, trees_to, walk, walk_below}
+use Rattle.dom_links.specs.Trees.{ancestors, Trees, NoTrees, Tree, trees, trees_to, walk, walk_below}
 use Rattle.dom_links.specs.Walk.{later, rest_after}
 use Rattle.dom_links.proofs.Apart.{walk-inside}
 use Rattle.dom_links.proofs.BlockMoves.{rest_here}
-use Rattle.dom_links.proofs.Depth.{here_stands, later_stands, parent_inside, step_inside, trees-none, trees-some}
+use Rattle.dom_links.proofs.Depth.{here_stands, later_stands, parent_inside, trees-none, trees-some}
 use Rattle.dom_links.proofs.DownUp.{below_or_above}
-use Rattle.dom_links.proofs.Later.{ancestors-parent, not_above_itself}
-use Rattle.dom_links.proofs.Neighbours.{reverse_around, reverse_cons, stands_in-append, stands_in-reverse, stands_in-without, without-append}
+use Rattle.dom_links.proofs.Later.{ancestors-parent, ancestors-same, not_above_itself}
+use Rattle.dom_links.proofs.Neighbours.{around, reverse_around, reverse_cons, stands_in-append, stands_in-reverse, stands_in-without, without-append}
 use Rattle.dom_links.proofs.Places.{children_mapped, owner-without, siblings_child}
-use Rattle.dom_links.proofs.Rewriting.{held}
-use Rattle.dom_links.proofs.Stripping.{only_here, stands_in-filter}
+use Rattle.dom_links.proofs.Rewriting.{forest_with, held, left_run, map_from_none, map_here, map_nothing, runs_nothing}
+use Rattle.dom_links.proofs.SettingTexts.{other_stays}
+use Rattle.dom_links.proofs.Stripping.{has_parent, only_here, stands_in-filter}
 
 -- ---- what a node is then
 
@@ -196,6 +197,7 @@ module _ (forest : Forest) (x : ℕ) (good : IsForest forest) where
     back : later forest true n ≡ reverse before
     on : later forest false n ≡ behind
     not_before : stands_in n before ≡ false
+    not_behind : stands_in n behind ≡ false
 
   stands_there : (p n : ℕ) (before behind : List ℕ) → children_of forest p ≡ before ++ n ∷ behind → Stands p n before behind
   stands_there p n before behind is =
@@ -209,6 +211,7 @@ module _ (forest : Forest) (x : ℕ) (good : IsForest forest) where
         back = ap (λ ms. rest_after (reverse ms) n) row ∙ ap (λ ms. rest_after ms n) (reverse_around before behind n) ∙ rest_here (reverse behind) (reverse before) n turned;
         on = ap (λ ms. rest_after ms n) row ∙ rest_here before behind n apart.0;
         not_before = apart.0;
+        not_behind = apart.1;
       }
     where
       or-true : (a b : Bool) → b ≡ true → (a || b) ≡ true
@@ -267,19 +270,19 @@ module _ (forest : Forest) (x : ℕ) (good : IsForest forest) where
       let inner = walk_below forest n in
       let outer = walk (trees forest behind) in
       let old : old_text (n ∷ behind) ≡ text_at forest n ++ (old_text (children_of forest n) ++ old_text behind) =
-        ap (λ ts. flat_map (text_at forest) (walk ts)) whole ∙ ap (λ ms. text_at forest n ++ ms) (flat_map-append (text_at forest) inner outer) in
+      ap (λ ts. flat_map (text_at forest) (walk ts)) whole ∙ ap (λ ms. text_at forest n ++ ms) (flat_map-append (text_at forest) inner outer) in
       let left : new_text (n ∷ behind) ≡ flat_map (text_at after_it) (without out (n ∷ (inner ++ outer))) = ap (λ ts. flat_map (text_at after_it) (without out (walk ts))) whole in
       let both : flat_map (text_at after_it) (without out (inner ++ outer)) ≡ new_text (children_of forest n) ++ new_text behind =
-        ap (flat_map (text_at after_it)) (without-append out inner outer) ∙ flat_map-append (text_at after_it) (without out inner) (without out outer) in
+      ap (flat_map (text_at after_it)) (without-append out inner outer) ∙ flat_map-append (text_at after_it) (without out inner) (without out outer) in
       let gone : stands_in n out ≡ true → new_text (n ∷ behind) ≡ new_text (children_of forest n) ++ new_text behind = λ t. left ∙ ap (λ b. flat_map (text_at after_it) (cond b (without out (inner ++ outer)) (n ∷ without out (inner ++ outer)))) t ∙ both in
       let kept : stands_in n out ≡ false → new_text (n ∷ behind) ≡ text_at after_it n ++ (new_text (children_of forest n) ++ new_text behind) = λ f. left ∙ ap (λ b. flat_map (text_at after_it) (cond b (without out (inner ++ outer)) (n ∷ without out (inner ++ outer)))) f ∙ ap (λ ms. text_at after_it n ++ ms) both in
       elim (cases_Bool (is_text_at forest n)) [
         | inr other ↦ (let empty : is_empty_text forest n ≡ false = ap (λ b. b && length (text_at forest n) == 0) other in
             let outside : inside (before ++ n ∷ []) ≡ false = inside_next before n ∙ ap (λ b. cond (not b) (is_text_at forest n) (inside before)) empty ∙ other in
             let new : new_text (n ∷ behind) ≡ old_text (n ∷ behind) =
-              kept (out_other n other) ∙ ap (λ ms. ms ++ (new_text (children_of forest n) ++ new_text behind)) (no_text_at after_it n (kind n ∙ other))
-              ∙ ap (λ ms. ms ++ new_text behind) (kids.apart refl) ∙ ap (λ ms. old_text (children_of forest n) ++ ms) (rest.apart outside)
-              ∙ sym (old ∙ ap (λ ms. ms ++ (old_text (children_of forest n) ++ old_text behind)) (no_text_at forest n other)) in
+            kept (out_other n other) ∙ ap (λ ms. ms ++ (new_text (children_of forest n) ++ new_text behind)) (no_text_at after_it n (kind n ∙ other))
+            ∙ ap (λ ms. ms ++ new_text behind) (kids.apart refl) ∙ ap (λ ms. old_text (children_of forest n) ++ ms) (rest.apart outside)
+            ∙ sym (old ∙ ap (λ ms. ms ++ (old_text (children_of forest n) ++ old_text behind)) (no_text_at forest n other)) in
             record {
               within = λ h. ap (λ b. cond b (text_at forest n ++ front_texts forest behind) [] ++ new_text (n ∷ behind)) other ∙ new;
               apart = λ h. new;
@@ -339,3 +342,182 @@ module _ (forest : Forest) (x : ℕ) (good : IsForest forest) where
         | inr f ↦ f
         | inl t ↦ absurd (not_above_itself forest x x good (sym (below_or_above forest good x x) ∙ t) refl)
       ]
+
+  -- ---- the rows then
+
+  record LaterThen (n : ℕ) (before behind : List ℕ) : Type 0 where
+    back : later after_it true n ≡ without out (reverse before)
+    on : later after_it false n ≡ without out behind
+
+  later_then : (p n : ℕ) (before behind : List ℕ) → children_of forest p ≡ before ++ n ∷ behind → stands_in n out ≡ false → LaterThen n before behind
+  later_then p n before behind is stays =
+      let there = stands_there p n before behind is in
+      let up : parent after_it n ≡ Some p = owner-without 0 out forest.children n ∙ ap (λ b. cond b None (owner_from 0 forest.children n)) stays ∙ there.up in
+      let kept : without out (n ∷ behind) ≡ n ∷ without out behind = ap (λ b. cond b (without out behind) (n ∷ without out behind)) stays in
+      let row : siblings after_it n ≡ without out before ++ n ∷ without out behind =
+      siblings_child after_it n p up ∙ children_then p ∙ ap (without out) is ∙ without-append out before (n ∷ behind) ∙ ap (λ ms. without out before ++ ms) kept in
+      let front : stands_in n (without out before) ≡ false = stands_in-without out before n ∙ ap (λ b. b && not (stands_in n out)) there.not_before in
+      let rear : stands_in n (reverse (without out behind)) ≡ false = stands_in-reverse (without out behind) n ∙ stands_in-without out behind n ∙ ap (λ b. b && not (stands_in n out)) there.not_behind in
+      record {
+        back = ap (λ ms. rest_after (reverse ms) n) row ∙ ap (λ ms. rest_after ms n) (reverse_around (without out before) (without out behind) n)
+            ∙ rest_here (reverse (without out behind)) (reverse (without out before)) n rear ∙ sym (without_reverse out before);
+        on = ap (λ ms. rest_after ms n) row ∙ rest_here (without out before) (without out behind) n front;
+      }
+
+  empty_follows : (n : ℕ) → is_text_at forest n ≡ true → is_empty_text forest n ≡ true → leads forest n ≡ false
+  empty_follows n text empty =
+      ap (λ b. b && not (is_empty_text forest n) && not (option_map_or (is_text_at forest) (nearest_before forest n) false)) text
+      ∙ ap (λ b. not b && not (option_map_or (is_text_at forest) (nearest_before forest n) false)) empty
+
+  empty_is_text : (n : ℕ) → is_empty_text forest n ≡ true → is_text_at forest n ≡ true
+  empty_is_text n h = go (is_text_at forest n) (length (text_at forest n) == 0) h
+    where
+      go : (a b : Bool) → (a && b) ≡ true → a ≡ true
+      go true b h = refl
+      go false b h = h
+
+  -- going back, no text is met then where none was
+  back_then : (ns : List ℕ) → ((m : ℕ) → stands_in m ns ≡ true → stands_in m nodes ≡ true) → option_map_or (is_text_at forest) (find (λ m. not (is_empty_text forest m)) ns) false ≡ false →
+      option_map_or (is_text_at after_it) (find (λ m. not (is_empty_text after_it m)) (without out ns)) false ≡ false
+  back_then [] in_it none = refl
+  back_then (m ∷ ns) in_it none = elim (cases_Bool (is_empty_text forest m)) [
+    | inl e ↦ (let text = empty_is_text m e in
+        let gone : stands_in m out ≡ true = out_text m (in_it m (here_stands m ns)) text ∙ ap not (empty_follows m text e) in
+        let less = sym (ap (λ b. option_map_or (is_text_at forest) (cond (not b) (Some m) (find (λ k. not (is_empty_text forest k)) ns)) false) e) ∙ none in
+        ap (λ b. option_map_or (is_text_at after_it) (find (λ k. not (is_empty_text after_it k)) (cond b (without out ns) (m ∷ without out ns))) false) gone
+        ∙ back_then ns (λ k s. in_it k (later_stands m k ns s)) less)
+    | inr f ↦ (let other : is_text_at forest m ≡ false = sym (ap (λ b. option_map_or (is_text_at forest) (cond (not b) (Some m) (find (λ k. not (is_empty_text forest k)) ns)) false) f) ∙ none in
+        let still : is_text_at after_it m ≡ false = kind m ∙ other in
+        let full : is_empty_text after_it m ≡ false = ap (λ b. b && length (text_at after_it m) == 0) still in
+        ap (λ b. option_map_or (is_text_at after_it) (find (λ k. not (is_empty_text after_it k)) (cond b (without out ns) (m ∷ without out ns))) false) (out_other m other)
+        ∙ ap (λ b. option_map_or (is_text_at after_it) (cond (not b) (Some m) (find (λ k. not (is_empty_text after_it k)) (without out ns))) false) full ∙ still)
+  ]
+
+  -- no text is left right after one that leads
+  front_then : (p : ℕ) (before behind : List ℕ) → children_of forest p ≡ before ++ behind → ((m : ℕ) → stands_in m behind ≡ true → stands_in m nodes ≡ true) → inside before ≡ true → front_texts after_it (without out behind) ≡ []
+  front_then p before [] row in_it h = refl
+  front_then p before (m ∷ behind) row in_it h = elim (cases_Bool (is_text_at forest m)) [
+    | inl text ↦ (let there = stands_there p m before behind row in
+        let f : leads forest m ≡ false = leads_is p m before behind there text ∙ ap (λ b. not (is_empty_text forest m) && not b) h ∙ and-false (not (is_empty_text forest m)) in
+        let gone : stands_in m out ≡ true = out_text m (in_it m (here_stands m behind)) text ∙ ap not f in
+        let more : inside (before ++ m ∷ []) ≡ true = inside_next before m ∙ either (not (is_empty_text forest m)) (is_text_at forest m) (inside before) text h in
+        ap (λ b. front_texts after_it (cond b (without out behind) (m ∷ without out behind))) gone
+        ∙ front_then p (before ++ m ∷ []) behind (row ∙ sym (append_assoc before (m ∷ []) behind)) (λ k s. in_it k (later_stands m k behind s)) more)
+    | inr other ↦ ap (λ b. front_texts after_it (cond b (without out behind) (m ∷ without out behind))) (out_other m other)
+        ∙ ap (λ b. cond b (text_at after_it m ++ front_texts after_it (without out behind)) []) (kind m ∙ other)
+  ]
+    where
+      and-false : (a : Bool) → (a && false) ≡ false
+      and-false true = refl
+      and-false false = refl
+
+      either : (b c d : Bool) → c ≡ true → d ≡ true → cond b c d ≡ true
+      either true c d p q = p
+      either false c d p q = q
+
+  record Settled (n : ℕ) : Type 0 where
+    first_one : leads after_it n ≡ true
+    no_other : front_texts after_it (later after_it false n) ≡ []
+
+  both_parts : (a b : Bool) → (not a && not b) ≡ true → (a ≡ false) × (b ≡ false)
+  both_parts false false h = (refl, refl)
+  both_parts false true h = cc
+  both_parts true b h = cc
+
+  settled : (n : ℕ) → stands_in n nodes ≡ true → stands_in n out ≡ false → is_text_at forest n ≡ true → Settled n
+  settled n s stays text =
+      let up = has_parent forest x n (sym (below_or_above forest good x n) ∙ s) in
+      let p = up.0 in
+      let child : stands_in n (children_of forest p) ≡ true = ap (stands_in n) (sym (siblings_child forest n p up.1)) ∙ good.once.placed n (walk-inside forest x n good s) in
+      let parts = around n (children_of forest p) (good.once.children_once p) child in
+      let in_it : (m : ℕ) → stands_in m (children_of forest p) ≡ true → stands_in m nodes ≡ true = λ m c.
+      below_or_above forest good x m ∙ ap (stands_in x) (ancestors-same forest n m ((good.once.in_children p m c).1 ∙ sym up.1)) ∙ (sym (below_or_above forest good x n) ∙ s) in
+      let there = stands_there p n parts.front parts.back parts.is in
+      let then' = later_then p n parts.front parts.back parts.is stays in
+      let leading : leads forest n ≡ true = not-true (leads forest n) (sym (out_text n s text) ∙ stays) in
+      let facts = both_parts (is_empty_text forest n) (inside parts.front) (sym (leads_is p n parts.front parts.back there text) ∙ leading) in
+      let front_in : (m : ℕ) → stands_in m (reverse parts.front) ≡ true → stands_in m nodes ≡ true = λ m c.
+      in_it m (ap (stands_in m) parts.is ∙ stands_in-append parts.front (n ∷ parts.back) m ∙ ap (λ b. b || stands_in m (n ∷ parts.back)) (sym (stands_in-reverse parts.front m) ∙ c)) in
+      let back_in : (m : ℕ) → stands_in m parts.back ≡ true → stands_in m nodes ≡ true = λ m c.
+      in_it m (ap (stands_in m) parts.is ∙ stands_in-append parts.front (n ∷ parts.back) m ∙ or-true (stands_in m parts.front) (stands_in m (n ∷ parts.back)) (later_stands n m parts.back c)) in
+      let still : is_text_at after_it n ≡ true = kind n ∙ text in
+      let held_now : text_at after_it n ≡ text_at forest n ++ front_texts forest (later forest false n) = text_joined n s text ∙ ap (λ b. cond b (text_at forest n ++ front_texts forest (later forest false n)) []) leading in
+      let some : (length (text_at forest n) == 0) ≡ false = sym (ap (λ b. b && length (text_at forest n) == 0) text) ∙ facts.0 in
+      let full : is_empty_text after_it n ≡ false = ap (λ b. b && length (text_at after_it n) == 0) still ∙ ap (λ ts. length ts == 0) held_now ∙ more_bytes (text_at forest n) (front_texts forest (later forest false n)) some in
+      let none = ap (λ ms. option_map_or (is_text_at after_it) (find (λ m. not (is_empty_text after_it m)) ms) false) then'.back ∙ back_then (reverse parts.front) front_in facts.1 in
+      let more : inside (parts.front ++ n ∷ []) ≡ true = inside_next parts.front n ∙ ap (λ b. cond (not b) (is_text_at forest n) (inside parts.front)) facts.0 ∙ text in
+      record {
+        first_one = ap (λ b. b && not (is_empty_text after_it n) && not (option_map_or (is_text_at after_it) (nearest_before after_it n) false)) still
+            ∙ ap (λ b. not b && not (option_map_or (is_text_at after_it) (nearest_before after_it n) false)) full ∙ ap not none;
+        no_other = ap (front_texts after_it) then'.on ∙ front_then p (parts.front ++ n ∷ []) parts.back (parts.is ∙ sym (append_assoc parts.front (n ∷ []) parts.back)) back_in more;
+      }
+    where
+      or-true : (a b : Bool) → b ≡ true → (a || b) ≡ true
+      or-true true b h = refl
+      or-true false b h = h
+
+      not-true : (b : Bool) → not b ≡ false → b ≡ true
+      not-true true h = refl
+      not-true false h = cc
+
+      more_bytes : (ts us : List ℕ) → (length ts == 0) ≡ false → (length (ts ++ us) == 0) ≡ false
+      more_bytes [] us h = cc
+      more_bytes (t ∷ ts) us h = ne_eqb (length (t ∷ (ts ++ us))) 0 (λ e. absurd (omega (arith, e)))
+
+  -- who stands below then
+  below_then : (n : ℕ) → stands_in n (walk_below after_it x) ≡ true → (stands_in n nodes ≡ true) × (stands_in n out ≡ false)
+  below_then n s = go (stands_in n nodes) (stands_in n out) (sym (stands_in-without out nodes n) ∙ sym (ap (stands_in n) walk_then) ∙ s)
+    where
+      go : (a b : Bool) → (a && not b) ≡ true → (a ≡ true) × (b ≡ false)
+      go true false h = (refl, refl)
+      go true true h = cc
+      go false b h = cc
+
+  none_out : (ns : List ℕ) → ((n : ℕ) → stands_in n ns ≡ true → stands_in n (walk_below after_it x) ≡ true) → dropped after_it ns ≡ []
+  none_out [] in_it = refl
+  none_out (n ∷ ns) in_it =
+      let rest = none_out ns (λ m s. in_it m (later_stands n m ns s)) in
+      let place = below_then n (in_it n (here_stands n ns)) in
+      let stays : (is_text_at after_it n && not (leads after_it n)) ≡ false = elim (cases_Bool (is_text_at forest n)) [
+        | inl text ↦ ap (λ b. is_text_at after_it n && not b) (Settled.first_one (settled n place.0 place.1 text)) ∙ and-false (is_text_at after_it n)
+        | inr other ↦ ap (λ b. b && not (leads after_it n)) (kind n ∙ other)
+      ] in
+      ap (λ b. cond b (n ∷ dropped after_it ns) (dropped after_it ns)) stays ∙ rest
+    where
+      and-false : (a : Bool) → (a && false) ≡ false
+      and-false true = refl
+      and-false false = refl
+
+  same_held : (n : ℕ) (content : NodeData) → slice_get after_it.content n ≡ Some content → held after_it (walk_below after_it x) (0 + n) content ≡ content
+  same_held n content is =
+      let z : 0 + n ≡ n = omega arith in
+      subst (λ (k : ℕ). held after_it (walk_below after_it x) k content ≡ content) (sym z) (elim (cases_Bool (stands_in n (walk_below after_it x))) [
+        | inr f ↦ ap (λ b. cond b (retexted (joined after_it n) content) content) f
+        | inl s ↦ ap (λ b. cond b (retexted (joined after_it n) content) content) s ∙ (let place = below_then n s in
+            elim (cases_Bool (is_text_at forest n)) [
+              | inr other ↦ other_stays (joined after_it n) content (sym (ap (λ o. option_map_or is_text o false) is) ∙ kind n ∙ other)
+              | inl text ↦ (let done = settled n place.0 place.1 text in
+                  let all : joined after_it n ≡ text_in content = ap (λ b. cond b (text_at after_it n ++ front_texts after_it (later after_it false n)) []) done.first_one
+                  ∙ ap (λ ts. text_at after_it n ++ ts) done.no_other ∙ append-nil (text_at after_it n) ∙ ap (λ o. option_map_or text_in o []) is in
+                  ap (λ ts. retexted ts content) all ∙ text_again content)
+            ])
+      ])
+    where
+      text_again : (c : NodeData) → retexted (text_in c) c ≡ c
+      text_again Document = refl
+      text_again Fragment = refl
+      text_again (Doctype a b c) = refl
+      text_again (Text a) = refl
+      text_again (Comment a) = refl
+      text_again (Element a) = refl
+      text_again (ProcessingInstruction a b) = refl
+
+  pub joined_again : normalized x after_it ≡ after_it
+  joined_again =
+      let ns = walk_below after_it x in
+      let none = none_out ns (λ n s. s) in
+      let content = map_here 0 (held after_it ns) (λ n c. c) after_it.content same_held ∙ map_from_none 0 after_it.content in
+      ap (λ ms. forest_with (map_from 0 (held after_it ns) after_it.content) (map (without ms) after_it.children) (map_from 0 (left_run ms) after_it.runs)) none
+      ∙ ap (λ cs. forest_with cs (map (without []) after_it.children) (map_from 0 (left_run []) after_it.runs)) content
+      ∙ ap (λ ls. forest_with after_it.content ls (map_from 0 (left_run []) after_it.runs)) (map_nothing after_it.children)
+      ∙ ap (λ ls. forest_with after_it.content after_it.children ls) (runs_nothing 0 after_it.runs)

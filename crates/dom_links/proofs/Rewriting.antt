@@ -123,7 +123,7 @@ shape forest ns out = record {
   runs = map_from 0 (left_run out) forest.runs;
 }
 
-abbrev forest_with : List NodeData → List (List ℕ) → List (List ℕ) → Forest
+abbrev pub forest_with : List NodeData → List (List ℕ) → List (List ℕ) → Forest
 forest_with content children runs = record { content = content; children = children; runs = runs }
 
 stays_in : (forest : Forest) (n : ℕ) (done : List ℕ) → leads forest n ≡ true → dropped forest (n ∷ done) ≡ dropped forest done
@@ -156,15 +156,15 @@ settles forest n done text =
 
 -- nothing is done yet
 
-map_from_none : {X : Type 0} (i : ℕ) (xs : List X) → map_from i (λ n x. x) xs ≡ xs
+pub map_from_none : {X : Type 0} (i : ℕ) (xs : List X) → map_from i (λ n x. x) xs ≡ xs
 map_from_none i [] = refl
 map_from_none i (x ∷ xs) = ap (λ ys. x ∷ ys) (map_from_none (i + 1) xs)
 
-map_nothing : (lists : List (List ℕ)) → map (without []) lists ≡ lists
+pub map_nothing : (lists : List (List ℕ)) → map (without []) lists ≡ lists
 map_nothing [] = refl
 map_nothing (ns ∷ lists) = rw (without_nothing ns, map_nothing lists) refl
 
-runs_nothing : (i : ℕ) (lists : List (List ℕ)) → map_from i (left_run []) lists ≡ lists
+pub runs_nothing : (i : ℕ) (lists : List (List ℕ)) → map_from i (left_run []) lists ≡ lists
 runs_nothing i [] = refl
 runs_nothing i (ns ∷ lists) = rw (without_nothing ns, runs_nothing (i + 1) lists) refl
 
@@ -208,7 +208,7 @@ not_needed forest n (Text t) good is other =
     not-false true h = refl
     not-false false h = cc
 
-map_here : (i : ℕ) (F G : ℕ → NodeData → NodeData) (cs : List NodeData) → ((m : ℕ) (c : NodeData) → slice_get cs m ≡ Some c → F (i + m) c ≡ G (i + m) c) → map_from i F cs ≡ map_from i G cs
+pub map_here : (i : ℕ) (F G : ℕ → NodeData → NodeData) (cs : List NodeData) → ((m : ℕ) (c : NodeData) → slice_get cs m ≡ Some c → F (i + m) c ≡ G (i + m) c) → map_from i F cs ≡ map_from i G cs
 map_here i F G [] same = refl
 map_here i F G (c ∷ cs) same =
     let z : i + 0 ≡ i = omega arith in

@@ -30,7 +30,7 @@ keeps_text text (Comment a) = record { top = refl; fragment = refl; bearing = re
 keeps_text text (Element a) = record { top = refl; fragment = refl; bearing = refl; contents = refl }
 keeps_text text (ProcessingInstruction a b) = record { top = refl; fragment = refl; bearing = refl; contents = refl }
 
-other_stays : (text : List ℕ) (content : NodeData) → is_text content ≡ false → retexted text content ≡ content
+pub other_stays : (text : List ℕ) (content : NodeData) → is_text content ≡ false → retexted text content ≡ content
 other_stays text Document other = refl
 other_stays text Fragment other = refl
 other_stays text (Doctype a b c) other = refl

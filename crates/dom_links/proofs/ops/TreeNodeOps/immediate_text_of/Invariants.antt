@@ -1,8 +1,7 @@
-use Rattle.std.proofs.Common.{◌≡◌, ◌++◌, string_bytes, false}
+use Rattle.std.proofs.Common.{◌≡◌, ◌++◌, string_bytes}
 use Rattle.std.specs.List.{flat_map}
 use Rattle.dom_links.specs.Forest.{forest_of}
 use Rattle.dom_links.specs.Texts.{text_at, immediate_text_of}
-use Rattle.dom_links.specs.Walk.{row_on}
 use Rattle.dom_links.proofs.ops.TreeNodeOps.immediate_text_of.Given as goal
 
 -- what was joined, and then the texts of the children that are left
