@@ -95,7 +95,8 @@ pub trait NodeSelect {
 
     /// Whether any of its attributes of the local name `id` has that value.
     fn has_id(&self, id: &CssLocalName, case_sensitivity: CaseSensitivity) -> bool
-        ensures { result ≡ has_id_at case_sensitivity (forest self.now) (number self.now) id.now.0 };
+        ensures { result
+            ≡ has_id_at case_sensitivity (forest self.now) (number self.now) id.now.0 };
 
     /// Whether the pseudo-class holds of it.
     fn match_non_ts_pseudo_class(&self, pseudo: &NonTSPseudoClass) -> bool

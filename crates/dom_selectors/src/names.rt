@@ -8,7 +8,8 @@ ghost use Rattle.dom_selectors.specs.Spelling.{Takes, TakesSome, no_other, same}
 ghost use Rattle.dom_selectors.specs.Characters.{is_line_end, is_name_start, is_name_char};
 ghost use Rattle.dom_selectors.specs.Characters.{after_white};
 ghost use Rattle.dom_selectors.specs.Names.{is_hex, hex_len, after_space, char_of, SpellsEscape};
-ghost use Rattle.dom_selectors.specs.Names.{SpellsNameChar, SpellsName, goes_on, starts, starts_name};
+ghost use Rattle.dom_selectors.specs.Names.{SpellsNameChar, SpellsName, goes_on, starts};
+ghost use Rattle.dom_selectors.specs.Names.{starts_name};
 
 use crate::fault::SelectorFault;
 use crate::selector_name::SelectorName;

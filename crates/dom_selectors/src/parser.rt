@@ -11,15 +11,19 @@ ghost use Rattle.dom_selectors.specs.Grammar.{SpellsCombinator, SpellsCompound, 
 ghost use Rattle.dom_selectors.specs.Grammar.{SpellsForm, SpellsInner, SpellsItem, SpellsLater};
 ghost use Rattle.dom_selectors.specs.Grammar.{SpellsLead, SpellsList, SpellsListed, SpellsPlain};
 ghost use Rattle.dom_selectors.specs.Grammar.{SpellsPseudo, SpellsSelector, SpellsStep, SpellsType};
-ghost use Rattle.dom_selectors.specs.Grammar.{begins_comma, begins_compound, begins_item, begins_open};
-ghost use Rattle.dom_selectors.specs.Grammar.{begins_step, combinator_of, inner_room, is_combinator};
+ghost use Rattle.dom_selectors.specs.Grammar.{begins_comma, begins_compound, begins_item};
+ghost use Rattle.dom_selectors.specs.Grammar.{begins_open};
+ghost use Rattle.dom_selectors.specs.Grammar.{begins_step, combinator_of, inner_room};
+ghost use Rattle.dom_selectors.specs.Grammar.{is_combinator};
 ghost use Rattle.dom_selectors.specs.Grammar.{is_star, stands_behind, stands_for, whole};
 ghost use Rattle.dom_selectors.specs.ListsAsTrees.{Item, lists_of};
 ghost use Rattle.dom_selectors.specs.Nth.{SpellsNth};
 ghost use Rattle.dom_selectors.specs.Strings.{SpellsString};
 ghost use Rattle.dom_selectors.specs.Spelling.{Refuses, TakesSome, Takes, no_other, same};
-ghost use Rattle.dom_selectors.specs.ValuesAsTrees.{PushesItem, lists_then, read_compound, read_item};
-ghost use Rattle.dom_selectors.specs.ValuesAsTrees.{read_list, read_nested, read_selector, read_step};
+ghost use Rattle.dom_selectors.specs.ValuesAsTrees.{PushesItem, lists_then, read_compound};
+ghost use Rattle.dom_selectors.specs.ValuesAsTrees.{read_item};
+ghost use Rattle.dom_selectors.specs.ValuesAsTrees.{read_list, read_nested, read_selector};
+ghost use Rattle.dom_selectors.specs.ValuesAsTrees.{read_step};
 
 use crate::attributes::{after_char, take_attribute};
 use crate::fault::SelectorFault;

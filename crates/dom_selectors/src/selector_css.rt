@@ -1,6 +1,7 @@
 //! Selectors as CSS writes them.
 
-ghost use Rattle.std.specs.Prelude.{◌≡◌, ◌++◌, ◌<◌, Bool, false, map, decimal, encode_utf8_all, flat_map};
+ghost use Rattle.std.specs.Prelude.{◌≡◌, ◌++◌, ◌<◌, Bool, false, map, decimal};
+ghost use Rattle.std.specs.Prelude.{encode_utf8_all, flat_map};
 ghost use Rattle.std.specs.Prelude.{IfOk, OnOk, codes, if◌then◌else◌, string_bytes, true};
 ghost use Rattle.dom_selectors.specs.Css.{css_text};
 ghost use Rattle.dom_selectors.specs.ListsAsTrees.{lists_of, steps_of};

@@ -40,7 +40,9 @@ fn place_below(nodes: &[TreeNode], place: &Place) -> Option<Place>
     requires place { IsPlace (forest_of nodes.now) (Some place.now) }
     ensures inner { (stops : ℕ → Bool)
         → IfSome result (λ inner. ahead stops (forest_of nodes.now) result ≡
-        walk_until stops (trees (forest_of nodes.now) (children_of (forest_of nodes.now) place.now.id)) ++ behind stops (forest_of nodes.now) place.now) }
+        walk_until stops
+        (trees (forest_of nodes.now) (children_of (forest_of nodes.now) place.now.id))
+        ++ behind stops (forest_of nodes.now) place.now) }
     ensures leaf { IfNone result (children_of (forest_of nodes.now) place.now.id ≡ []) }
     ensures place { IsPlace (forest_of nodes.now) result }
 {

@@ -45,7 +45,8 @@ impl<'a> MiniSelector<'a> {
     ghost use Rattle.std.specs.Option.{option_copied};
     ghost use Rattle.std.specs.Prelude.{ℕ, List, MatchResult};
     ghost use Rattle.dom_selectors.specs.MiniGrammar.{RefusesMini, SpellsMini};
-    ghost use Rattle.dom_selectors.specs.MiniSyntax.{asked_of, combinator_of, has_part, named, texts_of};
+    ghost use Rattle.dom_selectors.specs.MiniSyntax.{asked_of, combinator_of, has_part, named};
+    ghost use Rattle.dom_selectors.specs.MiniSyntax.{texts_of};
 
     /// The mini selector at the front of the text, whatever follows it: `NoSelector` where none can
     /// be read, and `BadQuotedValue` where a value in quotes is empty or isn't closed.

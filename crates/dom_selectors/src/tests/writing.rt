@@ -22,7 +22,10 @@ fn writes(rt: HostRuntime) -> Result<(), Fail> {
 fn rewritten(alloc: Global, text: &str) -> Result<String, Fail> {
     let selectors = parse_selectors(alloc, text)?;
     let mut out = String::new(alloc);
-    selectors.first().ok_or("none")?.to_css(&mut out)?;
+    let Some(first) = selectors.first() else {
+        return Err(Fail::from("a selector"));
+    };
+    first.to_css(&mut out)?;
     Ok(out)
 }
 
