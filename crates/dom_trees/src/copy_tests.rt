@@ -15,7 +15,8 @@ fn contents(tree: &Tree, id: NodeId) -> Option<NodeId> {
     tree.get(&id)?.content.template_contents()
 }
 
-/// Root 0 has the template 1, whose contents 2 have 3 (`u`); 1 has the child 4 (`i`), and 5 (`s`) is a later child of the root; 6 stands alone.
+/// Root 0 has the template 1, whose contents 2 have 3 (`u`); 1 has the child 4 (`i`), and 5 (`s`)
+/// is a later child of the root; 6 stands alone.
 fn start(alloc: Global) -> Result<Tree, Fail> {
     let mut tree = Tree::new(alloc, NodeData::Document)?;
     let root = NodeId::root();
