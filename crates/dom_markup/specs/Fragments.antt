@@ -1,9 +1,8 @@
 -- Fragments: what is read, or copied, below an element `html`.
-use Rattle.std.specs.Prelude.{ℕ, ◌≡◌, ◌<◌, ◌==◌, ◌||◌, ◌⊎◌, Bool, not, List, [], ◌∷◌, codes, filter, length, slice_get, if◌then◌else◌}
-use Rattle.std.specs.Option.{option_map_or}
+use Rattle.std.specs.Prelude.{ℕ, ◌≡◌, ◌<◌, ◌==◌, ◌||◌, ◌⊎◌, Bool, not, List, [], ◌∷◌, codes, filter, length, if◌then◌else◌}
 use Rattle.dom_nodes.specs.Kinds.{is_doctype, is_top}
 use Rattle.dom_nodes.specs.declared.fault.MarkupFaultKind.{MarkupFaultKind}
-use Rattle.dom_nodes.specs.declared.fault.MarkupFaultKind.TheVariants.{TooManyNodes, Memory}
+use Rattle.dom_nodes.specs.declared.fault.MarkupFaultKind.TheVariants.{TooManyNodes}
 use Rattle.dom_links.specs.Copies.{fragment_of}
 use Rattle.dom_links.specs.Forest.{Forest, children_of}
 use Rattle.dom_trees.specs.NewNodes.{html_element}

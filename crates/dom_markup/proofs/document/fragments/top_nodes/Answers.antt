@@ -1,4 +1,4 @@
-use Rattle.std.proofs.Common.{◌≡◌, ◌<◌, ◌+◌, ◌++◌, ◌∙◌, Bool, arith, ap, drop, length, sym}
+use Rattle.std.proofs.Common.{◌+◌, ◌++◌, ◌∙◌, Bool, ap, drop, sym}
 use Rattle.std.specs.Prelude.{ℕ, List, filter, not}
 use Rattle.dom_nodes.specs.Kinds.{is_doctype}
 use Rattle.dom_links.specs.Forest.{children_of}
