@@ -1,6 +1,5 @@
 -- Nodes that are selected or kept one after the other.
-use Rattle.std.proofs.Common.{ℕ, ◌≡◌, ◌<◌, ◌≤◌, ◌+◌, true, false, Bool, List, [], ◌∷◌, ◌++◌, Some, None, refl, ap, sym, ◌∙◌, cond, subst, append_assoc, append-nil, drop, length, inl, inr}
-use Rattle.std.proofs.lemmas.List.{drop_all}
+use Rattle.std.proofs.Common.{ℕ, ◌≡◌, true, false, Bool, List, [], ◌∷◌, ◌++◌, Some, None, refl, ap, sym, ◌∙◌, cond, subst, append_assoc, append-nil, inl, inr}
 use Rattle.std.proofs.lemmas.Option.{none-some, same_Some}
 use Rattle.std.specs.Prelude.{MatchBool}
 use Rattle.std.specs.Borrow.{Bor}
@@ -13,7 +12,7 @@ use Rattle.dom_select.specs.Meaning.{Means}
 use Rattle.dom_links.specs.Lists.{without}
 use Rattle.dom_select.specs.Selected.{Picks, Selected, walks_below}
 use Rattle.dom_select.proofs.MatchLemmas.{come_next}
-use Rattle.dom_selection.specs.Selecting.{Adds, AreFound, Keeps, PicksFirst, Selects, SelectsFirst}
+use Rattle.dom_selection.specs.Selecting.{Adds, Keeps, PicksFirst, Selects, SelectsFirst}
 use Rattle.dom_selection.specs.Selections.{HasOneTree, added, first_alone, ids_of, refs_in, tree_of}
 use Rattle.dom_selection.proofs.GatherLemmas.{refs-append}
 use Rattle.dom_selection.proofs.SelectionLemmas.{ids_of-refs_to, one_tree_of}

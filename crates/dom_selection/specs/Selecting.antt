@@ -1,5 +1,5 @@
 -- What selectors select below nodes, and which nodes they mean.
-use Rattle.std.specs.Prelude.{ℕ, ◌≡◌, ◌≢◌, ◌⊎◌, Bool, List, [], ◌∷◌, ◌++◌, Option, Result, IfOk, IfErr, MatchOption, chars}
+use Rattle.std.specs.Prelude.{ℕ, ◌≡◌, ◌⊎◌, List, [], ◌∷◌, ◌++◌, chars}
 use Rattle.std.specs.Borrow.{Bor}
 use Rattle.dom_links.specs.Forest.{Forest}
 use Rattle.dom_links.specs.Lists.{without}
@@ -67,3 +67,7 @@ StandsForNothing text = (selector : SelectorList) → StandsFor text selector �
 -- the text stands for no selector that selects a node below the nodes
 abbrev pub SelectsNothing : List ℕ → List NodeRef → Type 0
 SelectsNothing text nodes = (selector : SelectorList) → StandsFor (chars text) selector → Selects selector nodes []
+
+-- the same below the root of a tree of this forest
+abbrev pub SelectsNothingIn : List ℕ → Forest → Type 0
+SelectsNothingIn text forest = (selector : SelectorList) → StandsFor (chars text) selector → SelectsIn selector forest []

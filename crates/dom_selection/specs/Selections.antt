@@ -46,6 +46,10 @@ abbrev pub first_alone : List NodeRef → List NodeRef
 first_alone [] = []
 first_alone (node ∷ nodes) = node ∷ []
 
+-- each node as a list of its own
+abbrev pub each_alone : List NodeRef → List (List NodeRef)
+each_alone nodes = map (λ node. node ∷ []) nodes
+
 -- whether it holds of some node
 abbrev pub some_node : (Forest → ℕ → Bool) → List NodeRef → Bool
 some_node holds nodes = list_any (λ node. holds node.tree.now node.id) nodes

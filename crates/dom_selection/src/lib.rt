@@ -1,4 +1,7 @@
-//! Scratch.
+//! Selections: nodes of one tree that are read together, and what selectors select in documents.
 #![tactic(auto)]
 
+pub mod document_select;
 pub mod selection;
+#[cfg(test)]
+mod tests;

@@ -17,6 +17,7 @@ use std::slice;
 mod asking;
 mod first_node;
 mod gathering;
+pub mod iter;
 mod seen;
 mod selecting;
 mod sets;

@@ -83,7 +83,7 @@ impl<'a> Selection<'a> {
     {
         let matcher = Matcher::new(self.allocator(), selectors)?;
         match self.select_single_matcher(&matcher) {
-            Ok(found) => Ok(found),
+            Ok(first) => Ok(first),
             Err(_) => Err(SelectorFault::Memory),
         }
     }
@@ -109,10 +109,11 @@ impl<'a> Selection<'a> {
             ByText selectors.now (λ list. Adds list self.now all)) }
         ensures refused { IfErr result (Refused (chars selectors.now)) }
     {
+        let alloc = self.allocator();
         if self.is_empty() {
-            return Ok(Selection::new(self.allocator()));
+            return Ok(Selection::new(alloc));
         }
-        let matcher = Matcher::new(self.allocator(), selectors)?;
+        let matcher = Matcher::new(alloc, selectors)?;
         match self.add_matcher(&matcher) {
             Ok(all) => Ok(all),
             Err(_) => Err(SelectorFault::Memory),

@@ -1,4 +1,3 @@
-use Rattle.std.proofs.Common.{chars}
 use Rattle.dom_selection.specs.Selecting.{MeansSome}
 use Rattle.dom_selection.proofs.TextLemmas.{asked_text}
 use Rattle.dom_selection.proofs.selection.Selection.is.Goals as goal

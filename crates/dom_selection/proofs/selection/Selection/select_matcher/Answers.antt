@@ -1,6 +1,4 @@
-use Rattle.std.proofs.Common.{◌∙◌, ap, sym, subst, List, ℕ}
-use Rattle.std.specs.Borrow.{Bor}
-use Rattle.dom_links.specs.Forest.{Forest}
+use Rattle.std.proofs.Common.{◌∙◌, sym, subst, List}
 use Rattle.dom_trees.specs.declared.node_ref.NodeRef.{NodeRef}
 use Rattle.dom_select.specs.MatcherIters.{matches_of}
 use Rattle.dom_selection.specs.Selections.{ids_of}

@@ -1,4 +1,4 @@
-use Rattle.std.proofs.Common.{sym, subst, [], List, chars}
+use Rattle.std.proofs.Common.{subst, [], List, chars}
 use Rattle.dom_trees.specs.declared.node_ref.NodeRef.{NodeRef}
 use Rattle.dom_selectors.specs.Syntax.{SelectorList}
 use Rattle.dom_selectors.proofs.SelectorLemmas.{stands_once}
