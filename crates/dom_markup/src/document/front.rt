@@ -16,7 +16,7 @@ use crate::document::within::Within;
 use dom_nodes::fault::MarkupFaultKind;
 
 /// An item as it is written: a text, the name of an end tag, the contents of a comment, a doctype.
-/// Of a start tag only its `<` is taken, for what a reader needs of it is taken while it is scanned.
+/// Of a start tag only its `<` is taken: what a reader needs of it is taken while it is scanned.
 #[derive(Clone, Copy)]
 pub enum Front<'a> {
     StartTag,

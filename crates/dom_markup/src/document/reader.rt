@@ -1,7 +1,7 @@
 //! Reading tags and texts into a tree.
 
-ghost use Rattle.std.specs.Prelude.{◌≡◌, ◌≢◌, ◌<◌, ◌+◌, ◌++◌, ◌⊎◌, [], List, ℕ, None, codes, length};
-ghost use Rattle.std.specs.Prelude.{IfErr, IfOk, MatchResult};
+ghost use Rattle.std.specs.Prelude.{◌≡◌, ◌≢◌, ◌<◌, ◌+◌, ◌++◌, ◌⊎◌, [], List, ℕ, None, codes};
+ghost use Rattle.std.specs.Prelude.{IfErr, IfOk, MatchResult, length};
 ghost use Rattle.dom_links.specs.Growth.{with_child, with_template};
 ghost use Rattle.dom_trees.specs.NewNodes.{html_name};
 ghost use Rattle.dom_trees.specs.NewNodes.{element_with};
