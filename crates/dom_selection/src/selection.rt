@@ -1,6 +1,7 @@
 //! Nodes of one tree that are read together.
 
-ghost use Rattle.std.specs.Prelude.{◌≡◌, ◌≢◌, ◌∷◌, ◌++◌, [], length, reverse, slice_get, IfOk, IfSome, MatchBool, OnOk, if◌then◌else◌};
+ghost use Rattle.std.specs.Prelude.{◌≡◌, ◌≢◌, ◌∷◌, ◌++◌, [], length, reverse, slice_get};
+ghost use Rattle.std.specs.Prelude.{IfOk, IfSome, MatchBool, OnOk, if◌then◌else◌};
 ghost use Rattle.std.specs.Option.{option_copied};
 ghost use Rattle.dom_selection.specs.Selections.{HasOneTree, ids_of, in_one_tree, tree_of};
 ghost use Rattle.dom_trees.specs.Views.{refs_to};

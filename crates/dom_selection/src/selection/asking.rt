@@ -1,6 +1,7 @@
 //! Selectors that a selection's nodes are asked for.
 
-ghost use Rattle.std.specs.Prelude.{◌≡◌, ◌≢◌, [], None, Ok, Some, chars, IfErr, IfOk, MatchBool, MatchOption};
+ghost use Rattle.std.specs.Prelude.{◌≡◌, ◌≢◌, [], None, Ok, Some, chars};
+ghost use Rattle.std.specs.Prelude.{IfErr, IfOk, MatchBool, MatchOption};
 ghost use Rattle.dom_selectors.specs.Grammar.{Refused, StandsFor};
 ghost use Rattle.dom_selectors.specs.declared.fault.SelectorFault.TheVariants.{Memory};
 ghost use Rattle.dom_selectors.specs.Spelling.{Decides};

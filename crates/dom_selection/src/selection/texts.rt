@@ -14,7 +14,8 @@ use dom_nodes::fault::OutOfMemory;
 impl<'a> Selection<'a> {
     /// Whether the name is a word of the first attribute `class` of some node.
     pub fn has_class(&self, class: &str) -> bool
-        ensures { result ≡ some_node (λ forest n. is_among class.now (class_words (node_attrs forest n))) self.now }
+        ensures { result ≡ some_node
+            (λ forest n. is_among class.now (class_words (node_attrs forest n))) self.now }
     {
         self.nodes().iter().any(|node| node.has_class(class))
     }
