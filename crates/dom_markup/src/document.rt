@@ -21,8 +21,6 @@ ghost use Rattle.dom_trees.specs.SameTree.{SameTree};
 
 mod attributes;
 mod doctypes;
-#[cfg(test)]
-mod fragment_tests;
 pub mod fragments;
 mod front;
 mod names;
@@ -30,8 +28,6 @@ mod raw;
 mod reader;
 mod scan;
 mod tags;
-#[cfg(test)]
-mod tests;
 pub mod tokens;
 mod within;
 

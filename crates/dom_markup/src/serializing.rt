@@ -17,8 +17,6 @@ use std::io::Write;
 
 mod stack;
 mod tags;
-#[cfg(test)]
-mod tests;
 
 /// Whether a node is written with its own tags, or only what is below it.
 #[derive(Clone, Copy, PartialEq, Eq, Debug, Drop)]

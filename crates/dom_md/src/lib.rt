@@ -11,7 +11,3 @@ pub mod serializer;
 
 pub use dom_markup::escaping::html_escape;
 
-#[cfg(test)]
-mod md_tests;
-#[cfg(test)]
-mod tests;

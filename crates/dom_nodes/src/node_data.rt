@@ -8,8 +8,6 @@ mod changing;
 mod classes;
 mod lending;
 mod node_edit;
-#[cfg(test)]
-mod tests;
 
 use crate::fault::OutOfMemory;
 use crate::name::{Attr, QualName};

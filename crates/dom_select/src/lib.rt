@@ -7,6 +7,4 @@ pub mod laws;
 pub mod matcher;
 pub mod mini_selector;
 pub mod node_select;
-#[cfg(test)]
-mod tests;
 pub mod traversal;

@@ -3,5 +3,3 @@
 
 pub mod document_select;
 pub mod selection;
-#[cfg(test)]
-mod tests;

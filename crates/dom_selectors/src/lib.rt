@@ -17,5 +17,3 @@ mod selector_css;
 pub mod selector_name;
 pub(crate) mod strings;
 pub mod syntax;
-#[cfg(test)]
-mod tests;

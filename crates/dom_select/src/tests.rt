@@ -1,7 +1,0 @@
-//! What selectors select in small trees.
-
-mod asking;
-mod copying;
-mod mini;
-mod positions;
-mod selecting;

@@ -1,0 +1,5 @@
+//! Tests of `dom_markup`.
+
+mod document;
+mod document_fragment;
+mod serializing;

@@ -1,0 +1,4 @@
+//! Tests of `dom_md`.
+
+mod markdown;
+mod pieces;

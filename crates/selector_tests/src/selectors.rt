@@ -1,0 +1,5 @@
+//! Tests of `dom_selectors`.
+
+mod mini;
+mod reading;
+mod writing;

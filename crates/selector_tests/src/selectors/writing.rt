@@ -1,0 +1,63 @@
+//! What is written in CSS.
+
+use dom_selectors::css::{CssLocalName, CssString, ToCss};
+use dom_selectors::parser::parse_selectors;
+use dom_nodes::name::LocalName;
+use dom_nodes::text::Text;
+use std::alloc::Global;
+use std::test::Fail;
+
+#[test]
+fn writes(rt: HostRuntime) -> Result<(), Fail> {
+    let alloc = rt.alloc();
+    let mut out = String::from_str(alloc, "=")?;
+    CssString(Text::new(alloc, "a\"\\\u{1}\u{7f}é\0")?).to_css(&mut out)?;
+    assert!(rt; out.as_str() == "=\"a\\\"\\\\\\1 \\7f é\u{fffd}\"");
+    CssLocalName(LocalName::new(alloc, "a b")?).to_css(&mut out)?;
+    assert!(rt; out.as_str() == "=\"a\\\"\\\\\\1 \\7f é\u{fffd}\"a b");
+    Ok(())
+}
+
+/// The text of the first selector that a text stands for.
+fn rewritten(alloc: Global, text: &str) -> Result<String, Fail> {
+    let selectors = parse_selectors(alloc, text)?;
+    let mut out = String::new(alloc);
+    let Some(first) = selectors.first() else {
+        return Err(Fail::from("a selector"));
+    };
+    first.to_css(&mut out)?;
+    Ok(out)
+}
+
+#[test]
+fn writes_selectors(rt: HostRuntime) -> Result<(), Fail> {
+    let alloc = rt.alloc();
+    let cases = [
+        ("div#k.a.b", "div#k.a.b"),
+        ("a>b + c~d   e", "a > b + c ~ d e"),
+        ("*", "*"),
+        (".\\31 a\\:b", ".\\31 a\\3a b"),
+        ("#-\\32 ", "#\\2d 2"),
+        (
+            "[ a ][b = c][d~='x\"' I][e|=f s]",
+            "[a][b=\"c\"][d~=\"x\\\"\" i][e|=\"f\"]",
+        ),
+        (":visited:scope:any-link", ":hover:root:link"),
+        (":first-child", ":nth-child(0n+1)"),
+        (":nth-last-of-type( -N - 3)", ":nth-last-of-type(-1n-3)"),
+        (
+            ":where(a,:not(b c)):HAS(> a, + b, c)",
+            ":is(a, :not(b c)):has(> a, + b, c)",
+        ),
+        (
+            ":has-text('x'):contains(\"\")",
+            ":has-text(\"x\"):contains(\"\")",
+        ),
+    ];
+    for (text, wanted) in cases {
+        let written = rewritten(alloc, text)?;
+        assert_eq!(rt; written.as_str(), wanted);
+        assert!(rt; rewritten(alloc, wanted)?.as_str() == wanted);
+    }
+    Ok(())
+}

@@ -1,0 +1,4 @@
+//! Tests of `dom_links`.
+
+mod changes;
+mod slices;

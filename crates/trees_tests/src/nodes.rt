@@ -1,0 +1,4 @@
+//! Tests of `dom_nodes`.
+
+mod node_data;
+mod values;
