@@ -10,4 +10,3 @@ pub mod node_md;
 pub mod serializer;
 
 pub use dom_markup::escaping::html_escape;
-

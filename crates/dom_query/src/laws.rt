@@ -13,8 +13,8 @@ pub fn one_output()
     dom_select::laws::one_selection();
 }
 
-/// The status of a drive tells how it ended: 0 that its job was done, 2 that the script was refused,
-/// 3 that the markup was, 64 that the words ask for nothing.
+/// The status of a drive tells how it ended: 0 that its job was done, 2 that the script was
+/// refused, 3 that the markup was, 64 that the words ask for nothing.
 pub fn a_status_tells()
     ensures { (words : List (List ℕ)) (known old new err told : Option (List ℕ)) (status : ℕ)
         → Drove words known old new err told status → StatusTells words known old new status }

@@ -4,7 +4,8 @@
 ghost use Rattle.std.specs.Prelude.{◌≡◌, ◌<◌, ◌≤◌, ◌+◌, ◌∷◌, ◌++◌, [], None, Some, length, vec_len};
 ghost use Rattle.std.specs.Prelude.{IfErr, IfOk, IfSome, MatchResult, OnErr, OnOk};
 ghost use Rattle.dom_nodes.specs.declared.fault.EditFault.TheVariants.{Memory};
-ghost use Rattle.dom_links.specs.Copies.{CheckCause, Copied, MayCopyOne, OneCause, copied, copied_below};
+ghost use Rattle.dom_links.specs.Copies.{CheckCause, Copied, MayCopyOne, OneCause};
+ghost use Rattle.dom_links.specs.Copies.{copied, copied_below};
 ghost use Rattle.dom_links.specs.Copies.{FragmentCause, IsPlainElement, fragment_of};
 ghost use Rattle.dom_links.specs.Copies.{copied_data, copy_numbers, data_at};
 ghost use Rattle.dom_links.specs.Copies.{MayCopy, with_contents, with_copies, with_node_below};
@@ -153,8 +154,8 @@ fn copy_each(
         ≡ copied_below at.source parent.now ids.now (forest_of nodes.old.items)) }
     ensures numbers { IfOk result (λ made. made.items
         ≡ copy_numbers at.source ids.now (forest_of nodes.old.items)) }
-    ensures cause { let copied = copied_below at.source parent.now ids.now (forest_of nodes.old.items)
-        in IfErr result (λ fault. IsTooLarge copied fault) }
+    ensures cause { IfErr result (λ fault. IsTooLarge
+        (copied_below at.source parent.now ids.now (forest_of nodes.old.items)) fault) }
 {
     let mut numbers = Vec::new(*nodes.allocator());
     for id in ids {

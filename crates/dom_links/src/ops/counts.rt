@@ -39,7 +39,8 @@ struct Collapsing {
 
 /// Reads a text.
 fn add_text(read: &mut Collapsing, text: &str)
-    ensures { (rest : List ℕ) (total : ℕ) → IsCounting read.old.count read.old.gap (text.now ++ rest) total
+    ensures { (rest : List ℕ) (total : ℕ)
+        → IsCounting read.old.count read.old.gap (text.now ++ rest) total
         → IsCounting read.new.count read.new.gap rest total }
 {
     for c in text.chars() {

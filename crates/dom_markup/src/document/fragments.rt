@@ -20,8 +20,8 @@ use dom_trees::tree::Tree;
 use std::alloc::Global;
 
 impl Document {
-    /// A fragment with nothing in it, for a parser that fills it: a fragment node alone. `Err` where
-    /// memory was refused.
+    /// A fragment with nothing in it, for a parser that fills it: a fragment node alone. `Err`
+    /// where memory was refused.
     pub fn fragment_sink(alloc: Global) -> Result<Document, OutOfMemory>
         ensures empty { IfOk result (λ document. document.tree ≡ lone NodeData.Fragment) }
         ensures no_errors { IfOk result (λ document. document.errors.items ≡ []) }

@@ -35,7 +35,8 @@ impl<'a, 'b> Model for DescendantMatches<'a, 'b> {
 
     ghost Value = { Matches };
 
-    ghost coded = { Prim.hlevel (codes, code_by (List Token) (Prim.hlevel codes) tokens_of list_of read_back) };
+    ghost coded = { Prim.hlevel
+        (codes, code_by (List Token) (Prim.hlevel codes) tokens_of list_of read_back) };
 
     ghost view = { λ it. record { left = it.ids.left; tree = it.tree; selector = it.matcher.now } };
 

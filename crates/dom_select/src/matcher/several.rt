@@ -119,8 +119,8 @@ fn mark(marks: &mut Vec<bool>, id: NodeId) -> bool
     true
 }
 
-/// The elements below some nodes that a selector means, each once, in the order of the walks. Making
-/// it takes memory, and later only sibling indexes do, where many are asked for and memory isn't
+/// The elements below some nodes that a selector means, each once, in the order of the walks.
+/// Making it takes memory, and later only sibling indexes do, where many are asked for and memory isn't
 /// refused.
 #[derive(Drop)]
 pub struct Matches<'a, 'b, 'r> {
@@ -138,7 +138,8 @@ impl<'a, 'b, 'r> Model for Matches<'a, 'b, 'r> {
 
     ghost Value = { Matches };
 
-    ghost coded = { Prim.hlevel (codes, code_by (List Token) (Prim.hlevel codes) tokens_of list_of read_back) };
+    ghost coded = { Prim.hlevel
+        (codes, code_by (List Token) (Prim.hlevel codes) tokens_of list_of read_back) };
 
     ghost view = { λ it. record { left = it.ids; tree = it.tree; selector = it.matcher.now } };
 

@@ -41,7 +41,8 @@ impl<'a> Selection<'a> {
 
     /// Whether there is an attribute of that local name.
     pub fn has_attr(&self, name: &str) -> bool
-        ensures { result ≡ is_some (at_first (λ forest n. node_attr forest n name.now) None self.now) }
+        ensures { let value = at_first (λ forest n. node_attr forest n name.now) None self.now
+            in result ≡ is_some value }
     {
         self.attr(name).is_some()
     }

@@ -5,8 +5,9 @@ ghost use Rattle.dom_links.specs.Forest.{children_of, parent};
 ghost use Rattle.dom_links.specs.ListMoves.{element_at};
 ghost use Rattle.dom_links.specs.Trees.{ancestors, limited};
 ghost use Rattle.dom_selection.specs.Gathering.{HasMet, Meets};
-ghost use Rattle.dom_selection.specs.Selections.{Lists, child_elements, element_after, element_before};
-ghost use Rattle.dom_selection.specs.Selections.{elements_above, gathered, one_or_none, parent_element};
+ghost use Rattle.dom_selection.specs.Selections.{Lists, child_elements, element_after};
+ghost use Rattle.dom_selection.specs.Selections.{element_before, elements_above, gathered};
+ghost use Rattle.dom_selection.specs.Selections.{one_or_none, parent_element};
 ghost use Rattle.dom_selection.specs.Steps.{step_of};
 
 use crate::selection::seen::Seen;

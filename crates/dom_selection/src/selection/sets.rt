@@ -3,7 +3,8 @@
 ghost use Rattle.std.specs.Prelude.{◌≡◌, ◌++◌, ◌∷◌, [], IfOk, OnOk};
 ghost use Rattle.dom_links.specs.Lists.{stands_in, without};
 ghost use Rattle.dom_trees.specs.Views.{refs_to};
-ghost use Rattle.dom_selection.specs.Selections.{HasOneTree, Lists, added, common, have_common, ids_of};
+ghost use Rattle.dom_selection.specs.Selections.{HasOneTree, Lists, added, common};
+ghost use Rattle.dom_selection.specs.Selections.{have_common, ids_of};
 
 use crate::selection::seen::Seen;
 use crate::selection::{Selection, copies_of, push_if};

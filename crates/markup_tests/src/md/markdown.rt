@@ -1,10 +1,10 @@
 //! Markdown, against cases from outside.
 
+use dom_markup::document::Document;
+use dom_markup::escaping::html_escape;
 use dom_md::context::{EmphasisScope, FormatOpts, ListContext, ListKind};
 use dom_md::node_md::{DocumentMd, NodeMd};
 use dom_md::serializer::{MDSerializer, serialize_md};
-use dom_markup::document::Document;
-use dom_markup::escaping::html_escape;
 use dom_nodes::node_id::NodeId;
 use dom_trees::node_ref::NodeRef;
 use std::alloc::Global;

@@ -1,11 +1,11 @@
 //! Pieces of Markdown and formatted texts, against cases from outside.
 
+use dom_markup::document::Document;
 use dom_md::cells::escape_table_cell_inplace;
 use dom_md::chunks::push_escaped_chunk;
 use dom_md::fences::fence_len;
 use dom_md::formatting::formatted_node;
 use dom_md::node_md::{DocumentMd, NodeMd};
-use dom_markup::document::Document;
 use dom_nodes::node_id::NodeId;
 use dom_trees::node_ref::NodeRef;
 use std::alloc::Global;

@@ -1,15 +1,15 @@
 //! What nodes answer in small trees, and selections below several of them.
 
-use dom_select::matcher::Matcher;
-use dom_select::matcher::caches::SelectorCaches;
-use dom_select::matcher::matcher_iter::MatcherIter;
-use dom_select::matcher::several::{Matches, select_below_all};
-use dom_select::node_select::NodeSelect;
 use dom_nodes::case_sensitivity::CaseSensitivity;
 use dom_nodes::name::{Attr, LocalName, Namespace, QualName};
 use dom_nodes::node_data::{Attrs, Element, NodeData};
 use dom_nodes::node_id::NodeId;
 use dom_nodes::text::Text;
+use dom_select::matcher::Matcher;
+use dom_select::matcher::caches::SelectorCaches;
+use dom_select::matcher::matcher_iter::MatcherIter;
+use dom_select::matcher::several::{Matches, select_below_all};
+use dom_select::node_select::NodeSelect;
 use dom_selectors::css::{CssLocalName, CssString, ToCss};
 use dom_selectors::pseudo_class::{NonTSPseudoClass, PseudoElement};
 use dom_trees::node_ref::NodeRef;

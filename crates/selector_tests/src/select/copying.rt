@@ -1,12 +1,12 @@
 //! Copies, selectors for themselves, caches asked in turn, and lists that nest.
 
+use crate::select::selecting::{Row, append, tree_of};
+use dom_nodes::node_data::TreeNode;
+use dom_nodes::node_id::NodeId;
 use dom_select::matcher::caches::SelectorCaches;
 use dom_select::matcher::descendants::select_below;
 use dom_select::matcher::{MatchNode, Matcher};
-use crate::select::selecting::{Row, append, tree_of};
 use dom_select::traversal::Traversal;
-use dom_nodes::node_data::TreeNode;
-use dom_nodes::node_id::NodeId;
 use dom_selectors::css::{CssLocalName, CssString};
 use dom_trees::node_ref::NodeRef;
 use dom_trees::tree::Tree;

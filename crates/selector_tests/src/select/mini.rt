@@ -1,9 +1,9 @@
 //! What mini selectors and paths of them find in small trees.
 
-use dom_select::mini_selector::extension::MiniSelect;
 use crate::select::selecting::{Row, tree_of};
-use dom_select::traversal::Traversal;
 use dom_nodes::node_id::NodeId;
+use dom_select::mini_selector::extension::MiniSelect;
+use dom_select::traversal::Traversal;
 use dom_selectors::mini_selector::selector::MiniSelector;
 use dom_trees::node_ref::NodeRef;
 use dom_trees::tree::Tree;

@@ -1,11 +1,11 @@
 //! Positions, texts and `:has` in small trees.
 
-use dom_select::matcher::Matcher;
-use dom_select::matcher::descendants::select_below;
 use dom_nodes::name::{LocalName, Namespace, QualName};
 use dom_nodes::node_data::{Attrs, Element, NodeData};
 use dom_nodes::node_id::NodeId;
 use dom_nodes::text::Text;
+use dom_select::matcher::Matcher;
+use dom_select::matcher::descendants::select_below;
 use dom_trees::tree::Tree;
 use std::alloc::Global;
 use std::test::Fail;

@@ -1,12 +1,12 @@
 //! What selectors select in small trees.
 
-use dom_select::matcher::Matcher;
-use dom_select::matcher::descendants::{DescendantMatches, select_below};
-use dom_select::node_select::NodeSelect;
 use dom_nodes::name::{Attr, LocalName, Namespace, QualName};
 use dom_nodes::node_data::{Attrs, Element, NodeData};
 use dom_nodes::node_id::NodeId;
 use dom_nodes::text::Text;
+use dom_select::matcher::Matcher;
+use dom_select::matcher::descendants::{DescendantMatches, select_below};
+use dom_select::node_select::NodeSelect;
 use dom_trees::node_ref::NodeRef;
 use dom_trees::tree::Tree;
 use std::alloc::Global;

@@ -1,8 +1,8 @@
 //! Selections with ample memory: worked values.
 
+use dom_markup::document::Document;
 use dom_selection::document_select::DocumentSelect;
 use dom_selection::selection::Selection;
-use dom_markup::document::Document;
 use dom_selectors::fault::SelectorFault;
 use std::test::Fail;
 

@@ -1,9 +1,9 @@
 //! What is written in CSS.
 
-use dom_selectors::css::{CssLocalName, CssString, ToCss};
-use dom_selectors::parser::parse_selectors;
 use dom_nodes::name::LocalName;
 use dom_nodes::text::Text;
+use dom_selectors::css::{CssLocalName, CssString, ToCss};
+use dom_selectors::parser::parse_selectors;
 use std::alloc::Global;
 use std::test::Fail;
 

@@ -1,8 +1,8 @@
 //! Worked values, and that calls succeed where there is memory.
 
-use dom_nodes::node_data::{Attrs, Change, Element, NodeData, NodeEdit, TreeNode};
 use dom_nodes::case_sensitivity::CaseSensitivity;
 use dom_nodes::name::{Attr, LocalName, Namespace, QualName};
+use dom_nodes::node_data::{Attrs, Change, Element, NodeData, NodeEdit, TreeNode};
 use dom_nodes::node_id::NodeId;
 use dom_nodes::text::Text;
 use std::alloc::Global;

@@ -1,12 +1,12 @@
 //! What stands around a node, and the parts of a page.
 
-use dom_trees::iters::{ancestor_nodes, child_nodes, descendant_nodes};
 use crate::trees::lists::{add_comment, add_element, node};
-use dom_trees::node_ref::{Node, NodeRef};
-use dom_trees::tree::Tree;
 use dom_nodes::name::{LocalName, Namespace, QualName};
 use dom_nodes::node_data::{Attrs, Element, NodeData};
 use dom_nodes::text::Text;
+use dom_trees::iters::{ancestor_nodes, child_nodes, descendant_nodes};
+use dom_trees::node_ref::{Node, NodeRef};
+use dom_trees::tree::Tree;
 use std::alloc::Global;
 use std::test::Fail;
 

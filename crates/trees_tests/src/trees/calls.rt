@@ -1,11 +1,11 @@
 //! Calls on nodes by number, each made once.
 
-use dom_trees::node_ref::NodeRef;
-use dom_trees::tree::Tree;
 use dom_nodes::name::{Attr, LocalName, Namespace, QualName};
 use dom_nodes::node_data::{Attrs, Element, NodeData};
 use dom_nodes::node_id::NodeId;
 use dom_nodes::text::Text;
+use dom_trees::node_ref::NodeRef;
+use dom_trees::tree::Tree;
 use std::alloc::Global;
 use std::test::Fail;
 

@@ -1,13 +1,13 @@
 //! Changes of what a node is, and new nodes with contents.
 
 use crate::trees::lists::node;
-use dom_trees::node_ref::NodeRef;
-use dom_trees::tree::Tree;
 use dom_nodes::fault::EditFault;
 use dom_nodes::name::{LocalName, Namespace, QualName};
 use dom_nodes::node_data::{Attrs, Element, NodeData, NodeEdit};
 use dom_nodes::node_id::NodeId;
 use dom_nodes::text::Text;
+use dom_trees::node_ref::NodeRef;
+use dom_trees::tree::Tree;
 use std::alloc::Global;
 use std::test::Fail;
 

@@ -1,12 +1,12 @@
 //! Copies of nodes of the same and of another tree.
 
 use crate::trees::lists::{add_element, has_children, node};
-use dom_trees::node_ref::NodeRef;
 use crate::trees::walks::html_name;
-use dom_trees::tree::Tree;
 use dom_nodes::fault::EditFault;
 use dom_nodes::node_data::{Attrs, NodeData};
 use dom_nodes::node_id::NodeId;
+use dom_trees::node_ref::NodeRef;
+use dom_trees::tree::Tree;
 use std::alloc::Global;
 use std::test::Fail;
 

@@ -4,10 +4,10 @@ ghost use Rattle.std.specs.Prelude.{◌≡◌, ◌∷◌, [], OnErr, OnOk};
 ghost use Rattle.dom_links.specs.Moves.{cut};
 
 use crate::trees::lists::{has_children, is_run, node, start};
-use dom_trees::node_mut::NodeMut;
-use dom_trees::tree::Tree;
 use dom_nodes::fault::EditFault;
 use dom_nodes::node_id::NodeId;
+use dom_trees::node_mut::NodeMut;
+use dom_trees::tree::Tree;
 use std::alloc::Global;
 use std::test::Fail;
 

@@ -1,10 +1,10 @@
 //! Texts: what is read of them, and how they are changed.
 
 use crate::trees::lists::{add_element, has_children, node};
-use dom_trees::tree::Tree;
 use dom_nodes::fault::EditFault;
 use dom_nodes::node_data::NodeData;
 use dom_nodes::text::Text;
+use dom_trees::tree::Tree;
 use std::alloc::Global;
 use std::test::Fail;
 

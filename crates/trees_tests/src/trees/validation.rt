@@ -1,10 +1,10 @@
 //! Raw nodes that are a forest's, and raw nodes that are none, with the text of each fault.
 
-use dom_trees::tree::Tree;
 use dom_nodes::name::{LocalName, Namespace, QualName};
 use dom_nodes::node_data::{Attrs, Element, NodeData, TreeNode};
 use dom_nodes::node_id::NodeId;
 use dom_nodes::text::Text;
+use dom_trees::tree::Tree;
 use std::alloc::Global;
 use std::test::Fail;
 
