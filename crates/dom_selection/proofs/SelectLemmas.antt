@@ -8,6 +8,8 @@ use Rattle.dom_trees.specs.declared.node_ref.NodeRef.{NodeRef}
 use Rattle.dom_trees.specs.Views.{refs_to}
 use Rattle.dom_selectors.specs.Syntax.{SelectorList}
 use Rattle.dom_select.specs.Descendants.{GivesMatch, IsFirstMatch, IsMatch, Matches, ToCome}
+use Rattle.dom_select.specs.MatcherIters.{matches_of}
+use Rattle.dom_select.specs.declared.matcher.matcher_iter.MatcherIter.{MatcherIter}
 use Rattle.dom_select.specs.Meaning.{Means}
 use Rattle.dom_links.specs.Lists.{without}
 use Rattle.dom_select.specs.Selected.{Picks, Selected, walks_below}
@@ -78,6 +80,15 @@ FoundSoFar selector forest roots found walk = (ids : List ℕ) × (found ≡ ref
 
 pub found_none : (selector : SelectorList) (forest : Forest) (roots : List ℕ) (walk : Matches) → ((ids : List ℕ) → ToCome walk ids → Selected forest roots selector ids) → FoundSoFar selector forest roots [] walk
 found_none selector forest roots walk on = ([], refl, on)
+
+pub found_start : (selector : SelectorList) (tree : Bor Forest) (roots given : List ℕ) (found : List NodeRef) (it walk : MatcherIter) → found ≡ [] → walk ≡ it → (matches_of it).tree ≡ tree → given ≡ roots
+    → ((ids : List ℕ) → ToCome (matches_of it) ids → Selected tree.now given selector ids) → FoundSoFar selector (matches_of walk).tree.now roots found (matches_of walk)
+found_start selector tree roots given found it walk none same at here on = (
+  [],
+  none,
+  λ rest h. subst (λ (t : Bor Forest). Selected t.now roots selector rest) (sym (ap (λ (w : MatcherIter). (matches_of w).tree) same ∙ at))
+      (subst (λ (ns : List ℕ). Selected tree.now ns selector rest) here (on rest (subst (λ (w : MatcherIter). ToCome (matches_of w) rest) same h))),
+)
 
 pub found_one : (selector : SelectorList) (forest : Forest) (roots : List ℕ) (found : List NodeRef) (walk later : Matches) (node : NodeRef) → GivesMatch walk (Some node) later
     → FoundSoFar selector forest roots found walk → FoundSoFar selector forest roots (found ++ node ∷ []) later

@@ -1,9 +1,16 @@
-use Rattle.std.proofs.Common.{◌∙◌, sym, subst, List}
+use Rattle.std.proofs.Common.{◌∙◌, refl, sym, subst, List}
 use Rattle.dom_trees.specs.declared.node_ref.NodeRef.{NodeRef}
 use Rattle.dom_select.specs.MatcherIters.{matches_of}
 use Rattle.dom_selection.specs.Selections.{ids_of}
-use Rattle.dom_selection.proofs.SelectLemmas.{FoundSoFar, found_one, found_tree}
+use Rattle.dom_selection.proofs.SelectLemmas.{FoundSoFar, found_one, found_start, found_tree}
 use Rattle.dom_selection.proofs.selection.Selection.select_matcher.Goals as goal
+
+pub loop-node-init : goal.loop-node-init
+loop-node-init c = (
+  found_start c.args.matcher.now c.in-Some.tree (ids_of c.args.self.now) c.deref.result.now c.new-found.result.items c.in_ok-node-items.node-items c.into_iter-node-iterator.result
+      c.new-found.ensures.items c.into_iter-node-iterator.ensures.into_iter_gives c.in_ok-node-items.ensures.tree (c.deref.ensures.value ∙ c.in_ok-roots.ensures) c.in_ok-node-items.ensures.selected,
+  refl,
+)
 
 pub loop-node-preserved : goal.loop-node-preserved
 loop-node-preserved c = (
