@@ -12,3 +12,4 @@ pub mod RowLemmas
 pub mod SelectionLemmas
 pub mod SeveralLemmas
 pub mod StepLemmas
+pub mod TypeLemmas

@@ -1,5 +1,5 @@
 -- What a selector means: of which nodes it holds.
-use Rattle.std.specs.Prelude.{◌≡◌, ◌<◌, length, ℕ, List, [], ◌∷◌, Some, true, ◌⊎◌}
+use Rattle.std.specs.Prelude.{◌≡◌, ◌↔◌, ◌<◌, length, ℕ, List, [], ◌∷◌, Some, true, ◌⊎◌}
 use Rattle.dom_links.specs.Forest.{Forest, parent}
 use Rattle.dom_links.specs.Lists.{stands_in}
 use Rattle.dom_links.specs.Trees.{ancestors}
@@ -81,3 +81,7 @@ Reaches first steps forest spared n = (w : ℕ) × first w × Leads steps forest
 abbrev pub LeadsToSome : Combinator → CompoundSelector → Steps → Forest → ℕ → Type 0
 LeadsToSome lead first rest forest x =
     (w : ℕ) × (y : ℕ) × IsJoined forest x lead x w × Holds first forest w × Leads rest forest x w y × (element_at forest y ≡ true)
+
+-- the selectors mean just the nodes that bear the name as a type
+abbrev pub MeansType : List ℕ → SelectorList → Type 0
+MeansType name list = (forest : Forest) (n : ℕ) → Means list forest n ↔ PartsHold (Part.«Type» name ∷ []) forest n

@@ -1,11 +1,12 @@
 //! A list of selectors that nodes are asked for.
 
 use crate::matcher::caches::SelectorCaches;
-use crate::matcher::matches::{is_meant, means};
+use crate::matcher::matches::{is_meant, means, type_alone};
 use dom_nodes::fault::OutOfMemory;
 use dom_selectors::copies::copy_selectors;
 use dom_selectors::fault::SelectorFault;
 use dom_selectors::parser::parse_selectors;
+use dom_selectors::selector_name::SelectorName;
 pub use dom_selectors::syntax;
 pub use dom_selectors::syntax::Selector as InnerSelector;
 use dom_selectors::syntax::Selector;
@@ -47,9 +48,9 @@ impl Model for Matcher {
 }
 
 impl Matcher {
-    ghost use Rattle.std.specs.Prelude.{◌≡◌, chars, IfErr, IfOk};
+    ghost use Rattle.std.specs.Prelude.{◌≡◌, chars, IfErr, IfOk, IfSome};
     ghost use Rattle.dom_selectors.specs.Grammar.{Refused, StandsFor};
-    ghost use Rattle.dom_select.specs.Meaning.{Means};
+    ghost use Rattle.dom_select.specs.Meaning.{Means, MeansType};
     ghost use Rattle.dom_selectors.specs.Spelling.{Decides};
     ghost use Rattle.dom_selectors.specs.ValuesAsTrees.{read_list};
 
@@ -77,6 +78,13 @@ impl Matcher {
         ensures { read_list result.now ≡ self.now }
     {
         &self.selectors
+    }
+
+    /// The name, where the selector is a type and nothing else.
+    pub(crate) fn type_alone(&self) -> Option<&SelectorName>
+        ensures { IfSome result (λ name. MeansType name.now self.now) }
+    {
+        type_alone(&self.selectors)
     }
 
     /// Whether one of the selectors means the node; false for an unknown number. It takes no

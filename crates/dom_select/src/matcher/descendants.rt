@@ -1,18 +1,21 @@
 //! Which nodes a selector selects.
 
-ghost use Rattle.std.specs.Prelude.{◌≡◌, ◌∷◌, [], ℕ, List, length, IfOk, MatchBool};
+ghost use Rattle.std.specs.Prelude.{◌≡◌, ◌∷◌, [], ℕ, List, length, IfOk, IfSome};
 ghost use Rattle.std.specs.Iterator.{at_most};
 ghost use Rattle.dom_links.specs.Trees.{walk_below};
 ghost use Rattle.dom_select.specs.Descendants.{GivesMatch, IsMatch, ToCome};
+ghost use Rattle.dom_select.specs.Meaning.{MeansType};
 ghost use Rattle.dom_select.specs.Selected.{Selected};
 ghost use Rattle.dom_selectors.specs.Spelling.{Decides};
 
 use crate::matcher::Matcher;
 use crate::matcher::caches::SelectorCaches;
+use crate::matcher::matches::bears_name;
 use crate::matcher::parts::is_element;
 use dom_links::iters::DescendantNodes;
 use dom_nodes::fault::OutOfMemory;
 use dom_nodes::node_id::NodeId;
+use dom_selectors::selector_name::SelectorName;
 use dom_trees::node_ref::NodeRef;
 use dom_trees::tree::Tree;
 use std::marker::Model;
@@ -25,12 +28,15 @@ pub struct DescendantMatches<'a, 'b> {
     tree: &'a Tree,
     caches: SelectorCaches<'a>,
     matcher: &'b Matcher,
+    /// The name, where the selector is a type alone.
+    name: Option<&'b SelectorName>,
 }
 
 impl<'a, 'b> Model for DescendantMatches<'a, 'b> {
-    ghost use Rattle.std.specs.Prelude.{◌≡◌, List};
+    ghost use Rattle.std.specs.Prelude.{◌≡◌, IfSome, List};
     ghost use Rattle.std.specs.Coded.{code_by, codes};
     ghost use Rattle.dom_select.specs.Descendants.{Matches};
+    ghost use Rattle.dom_select.specs.Meaning.{MeansType};
     ghost use Rattle.dom_selectors.specs.Tokens.{Token, list_of, read_back, tokens_of};
 
     ghost Value = { Matches };
@@ -40,7 +46,8 @@ impl<'a, 'b> Model for DescendantMatches<'a, 'b> {
 
     ghost view = { λ it. record { left = it.ids.left; tree = it.tree; selector = it.matcher.now } };
 
-    ghost invariant = { λ it. it.caches ≡ it.tree.now };
+    ghost invariant = { λ it. (it.caches ≡ it.tree.now)
+        × IfSome it.name (λ name. MeansType name.now it.matcher.now) };
 }
 
 impl<'a, 'b> DescendantMatches<'a, 'b> {
@@ -58,6 +65,7 @@ impl<'a, 'b> DescendantMatches<'a, 'b> {
             tree,
             caches: SelectorCaches::late(tree),
             matcher,
+            name: matcher.type_alone(),
         }
     }
 }
@@ -72,7 +80,7 @@ impl<'a, 'b> Iterator for DescendantMatches<'a, 'b> {
     fn next(&mut self) -> Option<NodeRef<'a>> {
         loop {
             let id = self.ids.next()?;
-            if is_selected_with(self.matcher, &mut self.caches, id) {
+            if is_wanted(self.matcher, self.name, &mut self.caches, id) {
                 return Some(NodeRef::new(id, self.tree));
             }
         }
@@ -93,6 +101,24 @@ pub fn select_below(
         picked.push(node.id)?;
     }
     Ok(picked)
+}
+
+/// Whether the node is an element that the selector means; where the selector is a type alone, that
+/// is its name.
+fn is_wanted(
+    matcher: &Matcher,
+    name: Option<&SelectorName>,
+    caches: &mut SelectorCaches<'_>,
+    id: NodeId,
+) -> bool
+    requires { IfSome name (λ name. MeansType name.now matcher.now) }
+    ensures is { Decides result (IsMatch matcher.now caches.old id) }
+    ensures same { caches.new ≡ caches.old }
+{
+    match name {
+        Some(name) => bears_name(caches.tree(), &id, name),
+        None => is_selected_with(matcher, caches, id),
+    }
 }
 
 /// Whether the node is an element that the selector means.

@@ -8,7 +8,7 @@ ghost use Rattle.std.specs.Prelude.{◌<◌, false, MatchOption};
 ghost use Rattle.dom_selectors.specs.ListsAsTrees.{lists_of, steps_of};
 ghost use Rattle.dom_select.specs.Leftward.{ends_at};
 ghost use Rattle.dom_select.specs.Meaning.{Holds, LeadsOn, LeadsToSome, ListsHold, ListHolds};
-ghost use Rattle.dom_select.specs.Meaning.{Means, PartsHold, Reaches};
+ghost use Rattle.dom_select.specs.Meaning.{Means, MeansType, PartsHold, Reaches};
 ghost use Rattle.dom_selectors.specs.ValuesAsTrees.{read_compound, read_list, read_nested};
 ghost use Rattle.dom_selectors.specs.ValuesAsTrees.{read_step};
 ghost use Rattle.dom_selectors.specs.Syntax.{no_lists, compound as the_compound};
@@ -42,8 +42,21 @@ fn bare_type(compound: &Compound) -> Option<&SelectorName>
     }
 }
 
+/// The name, where the list is one selector that is a type and nothing else.
+pub(crate) fn type_alone(selectors: &[Selector]) -> Option<&SelectorName>
+    ensures { IfSome result (λ name. MeansType name.now (read_list selectors.now)) }
+{
+    let [selector] = selectors else {
+        return None;
+    };
+    if !selector.rest.as_slice().is_empty() {
+        return None;
+    }
+    bare_type(&selector.first)
+}
+
 /// Whether the number is an element's that bears the name as a type.
-fn bears_name(tree: &Tree, id: &NodeId, name: &SelectorName) -> bool
+pub(crate) fn bears_name(tree: &Tree, id: &NodeId, name: &SelectorName) -> bool
     ensures { MatchBool result (PartsHold (Part.«Type» name.now ∷ []) tree.now id.now)
         (PartsHold (Part.«Type» name.now ∷ []) tree.now id.now → ⊥) }
 {

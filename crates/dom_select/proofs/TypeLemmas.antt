@@ -1,0 +1,60 @@
+-- Selectors that are a type and nothing else.
+use Rattle.std.proofs.Common.{◌≡◌, ◌↔◌, ◌<◌, ◌≤◌, ℕ, Bool, true, false, List, [], ◌∷◌, Option, None, Some, IfSome, length, map, slice_get, get_or, sym, ap, ◌∙◌, refl, subst, inl, inr, MatchBool, arith}
+use Rattle.std.specs.Borrow.{Bor}
+use Rattle.std.specs.Option.{option_map_or}
+use Rattle.std.specs.Prelude.{◌==◌}
+use Rattle.dom_nodes.specs.declared.node_data.NodeData.{NodeData}
+use Rattle.dom_nodes.specs.declared.node_data.NodeData.TheVariants.{Comment, Doctype, Document, Element as AnElement, Fragment, ProcessingInstruction, Text}
+use Rattle.dom_nodes.specs.Kinds.{is_element}
+use Rattle.dom_links.specs.Forest.{Forest}
+use Rattle.dom_links.specs.ListMoves.{element_at}
+use Rattle.dom_selectors.specs.declared.syntax.Part.{Part}
+use Rattle.dom_selectors.specs.declared.syntax.Selector.{Selector, out-Selector}
+use Rattle.dom_selectors.specs.ListsAsTrees.{selector_list, steps_of}
+use Rattle.dom_selectors.specs.Syntax.{SelectorList, alternative, compound, no_lists, no_selectors, no_steps}
+use Rattle.dom_selectors.specs.ValuesAsTrees.{read_compound, read_list, read_step}
+use Rattle.dom_selectors.proofs.Layers.{read_selector_is}
+use Rattle.dom_select.specs.Descendants.{IsMatch}
+use Rattle.dom_select.specs.Meaning.{Means, MeansType, PartsHold}
+use Rattle.dom_select.specs.Parts.{node_passes}
+use Rattle.dom_select.proofs.FollowLemmas.{is_nil}
+
+-- a selector that is a type alone means what bears the name
+pub means_type : (name : List ℕ) (s : Selector) → read_compound (out-Selector s).first ≡ compound (Part.«Type» name ∷ []) no_lists → (out-Selector s).rest.items ≡ [] → MeansType name (read_list (s ∷ []))
+means_type name s e f forest n =
+    let is : read_list (s ∷ []) ≡ alternative (out-Selector s).lead (compound (Part.«Type» name ∷ []) no_lists) no_steps no_selectors =
+    ap (λ t. selector_list (t ∷ [])) (read_selector_is s) ∙ (ap (λ c. alternative (out-Selector s).lead c (steps_of (map read_step (out-Selector s).rest.items)) no_selectors) e ∙ ap (λ r. alternative (out-Selector s).lead (compound (Part.«Type» name ∷ []) no_lists) (steps_of (map read_step r)) no_selectors) f) in
+    let there : Means (alternative (out-Selector s).lead (compound (Part.«Type» name ∷ []) no_lists) no_steps no_selectors) forest n ↔ PartsHold (Part.«Type» name ∷ []) forest n =
+    ((λ h. elim h [ inl x ↦ subst (λ m. PartsHold (Part.«Type» name ∷ []) forest m) x.2 x.1.0 | inr none ↦ absurd none ]), λ held. inl (n, (held, tt), refl)) in
+    subst (λ l. Means l forest n ↔ PartsHold (Part.«Type» name ∷ []) forest n) (sym is) there
+
+list_of_one : (selectors : List Selector) (s : Selector) → 1 ≤ length selectors → length selectors < 2 → s ≡ get_or selectors 0 s → selectors ≡ s ∷ []
+list_of_one [] s low high is = absurd (omega arith)
+list_of_one (x ∷ []) s low high is = ap (λ y. y ∷ []) (sym is)
+list_of_one (x ∷ y ∷ more) s low high is = absurd (omega arith)
+
+pub type_of_one : (found : Option (Bor (List ℕ))) (selectors : List Selector) (s : Selector) → 1 ≤ length selectors → length selectors < 2 → s ≡ get_or selectors 0 s → (length (out-Selector s).rest.items == 0) ≡ true →
+    IfSome found (λ name. read_compound (out-Selector s).first ≡ compound (Part.«Type» name.now ∷ []) no_lists) → IfSome found (λ name. MeansType name.now (read_list selectors))
+type_of_one None selectors s low high is none h = h
+type_of_one (Some name) selectors s low high is none h =
+    subst (λ l. MeansType name.now (read_list l)) (sym (list_of_one selectors s low high is)) (means_type name.now s h (is_nil (out-Selector s).rest.items none))
+
+-- what bears a name as a type is an element
+pub type_is_element : (name : List ℕ) (forest : Forest) (n : ℕ) → PartsHold (Part.«Type» name ∷ []) forest n → element_at forest n ≡ true
+unfolding PartsHold
+type_is_element name forest n held = at (slice_get forest.content n) held.1.0
+  where
+    at : (found : Option NodeData) → option_map_or (node_passes (Part.«Type» name)) found false ≡ true → option_map_or is_element found false ≡ true
+    at None h = h
+    at (Some (AnElement element)) h = refl
+    at (Some Document) h = h
+    at (Some Fragment) h = h
+    at (Some (Doctype name public_id system_id)) h = h
+    at (Some (Text contents)) h = h
+    at (Some (Comment contents)) h = h
+    at (Some (ProcessingInstruction target contents)) h = h
+
+-- so where a selector means what bears the name, that is all there is to ask
+pub wanted_by_type : (name : List ℕ) (list : SelectorList) (forest : Forest) (n : ℕ) (b : Bool) → MeansType name list → MatchBool b (PartsHold (Part.«Type» name ∷ []) forest n) (PartsHold (Part.«Type» name ∷ []) forest n → ⊥) → MatchBool b (IsMatch list forest n) (IsMatch list forest n → ⊥)
+wanted_by_type name list forest n true means h = (type_is_element name forest n h, (means forest n).1 h)
+wanted_by_type name list forest n false means h = λ match. h ((means forest n).0 match.1)
