@@ -1,6 +1,6 @@
 -- A chain of compounds is followed from the nearest node that will do, and no farther one does better: what stands on the
 -- left of where a farther one leads stands on the left of where the nearest one leads too.
-use Rattle.std.proofs.Common.{◌≡◌, ◌⊎◌, ◌↔◌, ◌<◌, ◌≤◌, ◌+◌, ◌-◌, ℕ, suc, List, [], ◌∷◌, ◌++◌, Bool, true, false, true≢false, IsTrue, MatchBool, MatchOption, Option, Some, None, inl, inr, refl, sym, ap, ◌∙◌, subst, length, drop, arith, append_assoc, append-nil, length-drop}
+use Rattle.std.proofs.Common.{◌≡◌, ◌⊎◌, ◌↔◌, ◌<◌, ◌≤◌, ◌+◌, ℕ, suc, List, [], ◌∷◌, ◌++◌, Bool, true, false, true≢false, IsTrue, MatchBool, MatchOption, Option, Some, None, inl, inr, refl, sym, ap, ◌∙◌, subst, length, drop, arith, append_assoc, append-nil, length-drop}
 use Rattle.std.specs.Prelude.{◌==◌}
 use Rattle.std.specs.Option.{is_some}
 use Rattle.std.proofs.lemmas.Bool.{eqb-true}
@@ -282,61 +282,46 @@ module _ (forest : Forest) (spared : ℕ) (first : ℕ → Type 0) (lines : AreL
   nearest_will_do Adjacent ss left v w at b followed (inr h) = absurd (h.0 (beside_element forest spared lines v at b))
 
 -- a chain that is being followed
-pub record Following (forest : Forest) (spared : ℕ) (first : ℕ → Type 0) (tight loose : ℕ) (steps left : Chain) (n w : ℕ) : Type 0 where
+pub record Following (forest : Forest) (spared : ℕ) (first : ℕ → Type 0) (level : ℕ) (steps left : Chain) (n w : ℕ) : Type 0 where
   pub passed : Chain
   pub split : steps ≡ left ++ passed
-  pub tighter : AreTighter tight passed
-  pub ends : EndsLoosely loose left
+  pub tighter : AreTighter level passed
   pub led : Leads (steps_of passed) forest spared w n
   pub held : EndHolds forest spared first left w
   pub whole : Reaches first (steps_of steps) forest spared n → Reaches first (steps_of left) forest spared w
 
 module _ (forest : Forest) (spared : ℕ) (first : ℕ → Type 0) where
-  pub follows_none : (level : ℕ) (ss : Chain) (n : ℕ) → EndsLoosely level ss → EndHolds forest spared first ss n → Followed forest spared first level ss ss n n
-  follows_none level ss n loose held = record {
+  pub following_none : (level : ℕ) (ss : Chain) (n : ℕ) → EndHolds forest spared first ss n → Following forest spared first level ss ss n n
+  following_none level ss n held = record {
     passed = [];
     split = sym (append-nil ss);
     tighter = tt;
-    loose = loose;
     led = refl;
     held = held;
     whole = λ r. r;
   }
 
-  pub following_first : (level : ℕ) (ss left : Chain) (n w : ℕ) → 1 < level → Followed forest spared first (level - 1) ss left n w → Following forest spared first level (level - 1) ss left n w
-  following_first level ss left n w high f = record {
-    passed = f.passed;
-    split = f.split;
-    tighter = tighter_more (level - 1) level f.passed (omega arith) f.tighter;
-    ends = f.loose;
-    led = f.led;
-    held = f.held;
-    whole = f.whole;
-  }
-
   -- one more step and those before it that bind more tightly
   pub following_more : (level : ℕ) (ss left front next : Chain) (last : Combinator × CompoundSelector) (n w x : ℕ) → left ≡ front ++ last ∷ [] → looseness last.0 < level
-      → Following forest spared first level (level - 1) ss left n w → FollowedFrom forest spared first last.0 front next w x → Following forest spared first level (level - 1) ss next n x
+      → Following forest spared first level ss left n w → FollowedFrom forest spared first last.0 front next w x → Following forest spared first level ss next n x
   following_more level ss left front next last n w x is below f g =
       let h = g.followed in
       let here = f.held.behind front last is in
-      let low = f.ends front last is in
       record {
         passed = h.passed ++ last ∷ f.passed;
         split = f.split ∙ (ap (λ z. z ++ f.passed) (is ∙ ap (λ z. z ++ last ∷ []) h.split) ∙ (append_assoc (next ++ h.passed) (last ∷ []) f.passed ∙ append_assoc next h.passed (last ∷ f.passed)));
         tighter = tighter_join level h.passed (last ∷ f.passed) (tighter_more (looseness last.0) level h.passed (omega arith) h.tighter) (below, f.tighter);
-        ends = λ a b e. let more = h.loose a b e in omega arith;
         led = leads_join forest spared h.passed (last ∷ f.passed) x g.at n h.led (w, (g.stands, g.beside, here.0), here.1, f.led);
         held = h.held;
         whole = λ r. g.whole ((reaches_by_last forest spared first left front last w is).0 (f.whole r)).2;
       }
 
   pub following_not : (level : ℕ) (ss left front : Chain) (last : Combinator × CompoundSelector) (n w : ℕ) → left ≡ front ++ last ∷ []
-      → Following forest spared first level (level - 1) ss left n w → (ReachesSome forest spared first front last.0 w → ⊥) → Reaches first (steps_of ss) forest spared n → ⊥
+      → Following forest spared first level ss left n w → (ReachesSome forest spared first front last.0 w → ⊥) → Reaches first (steps_of ss) forest spared n → ⊥
   following_not level ss left front last n w is f none r = none ((reaches_by_last forest spared first left front last w is).0 (f.whole r)).2
 
   -- the next step binds as loosely as this, or there is none
-  pub followed_so_far : (level : ℕ) (ss left : Chain) (n w : ℕ) → EndsLoosely level left → Following forest spared first level (level - 1) ss left n w → Followed forest spared first level ss left n w
+  pub followed_so_far : (level : ℕ) (ss left : Chain) (n w : ℕ) → EndsLoosely level left → Following forest spared first level ss left n w → Followed forest spared first level ss left n w
   followed_so_far level ss left n w loose f = record {
     passed = f.passed;
     split = f.split;
@@ -353,7 +338,7 @@ module _ (forest : Forest) (spared : ℕ) (first : ℕ → Type 0) where
   pub ends_nowhere : (level : ℕ) (left : Chain) → left ≡ [] → EndsLoosely level left
   ends_nowhere level left is = λ other one so. absurd (none_last other one (sym is ∙ so))
 
-  pub following_at : (level : ℕ) (ss left : Chain) (n w : ℕ) → AreLines forest → IsOrPrecedes forest n spared → Following forest spared first level (level - 1) ss left n w → IsOrPrecedes forest w spared
+  pub following_at : (level : ℕ) (ss left : Chain) (n w : ℕ) → AreLines forest → IsOrPrecedes forest n spared → Following forest spared first level ss left n w → IsOrPrecedes forest w spared
   following_at level ss left n w lines at f = led_at forest spared lines f.passed w n at f.led
 
   pub reaches_alone : (ss : Chain) (n : ℕ) (b : Bool) → ss ≡ [] → (IsTrue b ↔ first n) → IsTrue b ↔ Reaches first (steps_of ss) forest spared n

@@ -12,7 +12,7 @@ ghost use Rattle.dom_select.specs.Meaning.{Means, MeansType, PartsHold, Reaches}
 ghost use Rattle.dom_selectors.specs.ValuesAsTrees.{read_compound, read_list, read_nested};
 ghost use Rattle.dom_selectors.specs.ValuesAsTrees.{read_step};
 ghost use Rattle.dom_selectors.specs.Syntax.{no_lists, compound as the_compound};
-ghost use Rattle.dom_select.specs.Chains.{EndHolds, EndsLoosely, Followed, FollowedFrom};
+ghost use Rattle.dom_select.specs.Chains.{EndHolds, Followed, FollowedFrom};
 ghost use Rattle.dom_select.specs.Chains.{IsOrPrecedes, ReachesSome, looseness};
 ghost use Rattle.dom_select.specs.Has.{Begins, IsReached, ReachesWithin, may_end};
 
@@ -66,8 +66,21 @@ pub(crate) fn bears_name(tree: &Tree, id: &NodeId, name: &SelectorName) -> bool
     }
 }
 
-/// Whether the compound holds of the node. Of a type alone the names are compared, and nothing else
-/// is looked at.
+/// Whether the compound begins with a type whose name the node doesn't bear.
+fn lacks_name(compound: &Compound, tree: &Tree, id: &NodeId) -> bool
+    ensures { IsTrue result → Holds (read_compound compound.now) tree.now id.now → ⊥ }
+{
+    let Some(part) = compound.parts.first() else {
+        return false;
+    };
+    match part {
+        Part::Type(name) => !bears_name(tree, id, name),
+        _ => false,
+    }
+}
+
+/// Whether the compound holds of the node. Names come first, since most nodes bear another one; of a
+/// type alone nothing else is looked at.
 #[cycle(matching)]
 fn holds(compound: &Compound, tree: &Tree, caches: &mut SelectorCaches<'_>, id: NodeId) -> bool
     requires { caches.old ≡ tree.now }
@@ -76,6 +89,9 @@ fn holds(compound: &Compound, tree: &Tree, caches: &mut SelectorCaches<'_>, id: 
 {
     if let Some(name) = bare_type(compound) {
         return bears_name(tree, &id, name);
+    }
+    if lacks_name(compound, tree, &id) {
+        return false;
     }
     if !parts_hold(&compound.parts, tree, caches, &id) {
         return false;
@@ -300,17 +316,6 @@ fn end_holds(
     }
 }
 
-/// Whether no step binds more tightly than `level` before one that doesn't.
-fn ends_loosely(steps: &[Step], level: usize) -> bool
-    ensures loose { IsTrue result → EndsLoosely level (map read_step steps.now) }
-    ensures high { result ≡ false → 1 < level }
-{
-    match steps.split_last() {
-        None => true,
-        Some((last, _)) => looseness(last.combinator) >= level,
-    }
-}
-
 /// Where a chain was followed to: the steps that are left, and the node that they must reach.
 #[derive(Clone, Copy)]
 struct Place<'a> {
@@ -339,18 +344,13 @@ fn follow<'a>(
         level (map read_step steps.now) (map read_step place.left.now) id place.at) }
     ensures kept { caches.new ≡ tree.now }
 {
-    if ends_loosely(steps, level) {
-        if !end_holds(start, first, steps, tree, caches, spared, id) {
-            return None;
-        }
-        return Some(Place {
-            left: steps,
-            at: id,
-        });
+    if !end_holds(start, first, steps, tree, caches, spared, id) {
+        return None;
     }
     know_lines(tree);
-    let Some(mut place) = follow(level - 1, start, first, steps, tree, caches, spared, id) else {
-        return None;
+    let mut place = Place {
+        left: steps,
+        at: id,
     };
     while let Some((last, front)) = place.left.split_last() {
         if looseness(last.combinator) >= level {

@@ -7,7 +7,7 @@ use Rattle.dom_select.specs.Has.{Begins, tops_on}
 use Rattle.dom_select.proofs.ReachLemmas.{IsMeant, left_ends, left_farther, left_nowhere, line_some, not_so, to_line}
 use Rattle.dom_select.proofs.HasLemmas.{ends_if, leads_here, leads_later, led_to, list_lighter, reached_from, stands_first}
 use Rattle.dom_select.proofs.StepLemmas.{read_front_and_last, weight_front_and_last}
-use Rattle.dom_select.proofs.FollowLemmas.{ends_here, ends_match, followed_all, followed_nearest, followed_so_far, following_at, following_first, following_more, following_not, is_nil, line_back, next_precedes, reaches_alone, reaches_end, some_where, weight_cut}
+use Rattle.dom_select.proofs.FollowLemmas.{ends_here, ends_match, followed_all, followed_nearest, followed_so_far, following_at, following_none, following_more, following_not, is_nil, line_back, next_precedes, reaches_alone, reaches_end, some_where, weight_cut}
 use Rattle.dom_select.proofs.matcher.matches.+matching.Goals as goal
 use Rattle.dom_select.proofs.matcher.matches.+matching.Goals.{follow_from-then-may_beside+in_default-follow, follow_from-else-may_beside}
 
@@ -27,36 +27,35 @@ follow-returns-then-not-end_holds-clause-is t c = λ r. c.if-not-end_holds.ensur
 
 pub follow-loop-last-init : goal.follow-loop-last-init
 follow-loop-last-init t c =
-    let high : 1 < c.args.level = c.ends_loosely.ensures.high c.if-ends_loosely.false in
-    record { kept = c.in-Some.ensures.kept; following = following_first c.args.tree.now c.args.spared (Begins c.args.start.now (read_compound c.args.first.now) c.args.tree.now) c.args.level (map read_step c.args.steps.now) (map read_step c.in-Some.place.left.now) c.args.id c.in-Some.place.at high c.in-Some.ensures.is }
+    record { kept = c.end_holds.ensures.kept; following = following_none c.args.tree.now c.args.spared (Begins c.args.start.now (read_compound c.args.first.now) c.args.tree.now) c.args.level (map read_step c.args.steps.now) c.args.id c.if-not-end_holds.ensures.is }
 
 pub follow-returns-then-looseness-level-clause-is : goal.follow-returns-then-looseness-level-clause-is
 follow-returns-then-looseness-level-clause-is t c =
-    let is = read_front_and_last c.loop-last.place.left.now c.in-Some-split_last.front.now c.in-Some-split_last.last.now c.in-Some-split_last.ensures.cases.0 in
-    let far : c.args.level ≤ looseness c.in-Some-split_last.last.now.combinator = omega (arith, c.looseness.ensures, c.if-looseness-level.true) in
+    let is = read_front_and_last c.loop-last.place.left.now c.in-Some.front.now c.in-Some.last.now c.in-Some.ensures.cases.0 in
+    let far : c.args.level ≤ looseness c.in-Some.last.now.combinator = omega (arith, c.looseness.ensures, c.if-looseness-level.true) in
     followed_so_far c.args.tree.now c.args.spared (Begins c.args.start.now (read_compound c.args.first.now) c.args.tree.now) c.args.level (map read_step c.args.steps.now) (map read_step c.loop-last.place.left.now) c.args.id c.loop-last.place.at
     (ends_here c.args.tree.now c.args.spared (Begins c.args.start.now (read_compound c.args.first.now) c.args.tree.now) c.args.level _ _ _ is far) c.loop-last.invariant.following
 
 pub follow-follow_from-requires : goal.follow-follow_from-requires
 follow-follow_from-requires t c =
     let at = c.loop-last.invariant.following in
-    let w = weight_front_and_last c.loop-last.place.left.now c.in-Some-split_last.front.now c.in-Some-split_last.last.now c.in-Some-split_last.ensures.cases.0 in
+    let w = weight_front_and_last c.loop-last.place.left.now c.in-Some.front.now c.in-Some.last.now c.in-Some.ensures.cases.0 in
     let cut = weight_cut (map read_step c.args.steps.now) (map read_step c.loop-last.place.left.now) at.passed at.split in
-    let below : looseness c.in-Some-split_last.last.now.combinator < c.args.level = omega (arith, c.looseness.ensures, c.if-looseness-level.false) in (
+    let below : looseness c.in-Some.last.now.combinator < c.args.level = omega (arith, c.looseness.ensures, c.if-looseness-level.false) in (
       omega (arith, w, cut, below, c.decreases),
       (following_at c.args.tree.now c.args.spared (Begins c.args.start.now (read_compound c.args.first.now) c.args.tree.now) c.args.level (map read_step c.args.steps.now) (map read_step c.loop-last.place.left.now) c.args.id c.loop-last.place.at c.know_lines.ensures c.requires.before at, c.loop-last.invariant.kept),
     )
 
 pub follow-returns-in_default-follow_from-clause-is : goal.follow-returns-in_default-follow_from-clause-is
 follow-returns-in_default-follow_from-clause-is t c =
-    let is = read_front_and_last c.loop-last.place.left.now c.in-Some-split_last.front.now c.in-Some-split_last.last.now c.in-Some-split_last.ensures.cases.0 in
+    let is = read_front_and_last c.loop-last.place.left.now c.in-Some.front.now c.in-Some.last.now c.in-Some.ensures.cases.0 in
     following_not c.args.tree.now c.args.spared (Begins c.args.start.now (read_compound c.args.first.now) c.args.tree.now) c.args.level (map read_step c.args.steps.now) (map read_step c.loop-last.place.left.now) _ _ c.args.id c.loop-last.place.at is
     c.loop-last.invariant.following c.in_default-follow_from.ensures.is
 
 pub follow-loop-last-preserved : goal.follow-loop-last-preserved
 follow-loop-last-preserved t c =
-    let is = read_front_and_last c.loop-last.place.left.now c.in-Some-split_last.front.now c.in-Some-split_last.last.now c.in-Some-split_last.ensures.cases.0 in
-    let below : looseness c.in-Some-split_last.last.now.combinator < c.args.level = omega (arith, c.looseness.ensures, c.if-looseness-level.false) in
+    let is = read_front_and_last c.loop-last.place.left.now c.in-Some.front.now c.in-Some.last.now c.in-Some.ensures.cases.0 in
+    let below : looseness c.in-Some.last.now.combinator < c.args.level = omega (arith, c.looseness.ensures, c.if-looseness-level.false) in
     record {
       kept = c.in-Some-follow_from.ensures.kept;
       following = following_more c.args.tree.now c.args.spared (Begins c.args.start.now (read_compound c.args.first.now) c.args.tree.now) c.args.level (map read_step c.args.steps.now) (map read_step c.loop-last.place.left.now) _ (map read_step c.in-Some-follow_from.next.left.now) _

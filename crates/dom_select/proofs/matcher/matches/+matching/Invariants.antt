@@ -1,4 +1,4 @@
-use Rattle.std.proofs.Common.{ℕ, true, ◌⊎◌, ◌≡◌, ◌+◌, ◌-◌, ◌≤◌, map, drop, length, ◌↔◌}
+use Rattle.std.proofs.Common.{ℕ, true, ◌⊎◌, ◌≡◌, ◌+◌, ◌≤◌, map, drop, length, ◌↔◌}
 use Rattle.dom_links.specs.Lists.{stands_in}
 use Rattle.dom_links.specs.Trees.{walk_below}
 use Rattle.dom_select.specs.declared.matcher.has.Start.TheVariants.{From}
@@ -63,7 +63,7 @@ invariant-means-loop-selector l =
 abbrev pub invariant-follow-loop-last : goal.invariant-follow-loop-last
 invariant-follow-loop-last l = record {
   kept : l.caches ≡ l.tree;
-  following : Following l.tree l.spared (Begins l.start (read_compound l.first) l.tree) l.level (l.level - 1) (map read_step l.steps) (map read_step l.place.left.now) l.fn.id l.place.at;
+  following : Following l.tree l.spared (Begins l.start (read_compound l.first) l.tree) l.level (map read_step l.steps) (map read_step l.place.left.now) l.fn.id l.place.at;
 }
 
 abbrev pub decreases-follow-loop-last : goal.decreases-follow-loop-last

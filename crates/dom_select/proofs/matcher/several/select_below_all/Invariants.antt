@@ -1,4 +1,4 @@
-use Rattle.std.proofs.Common.{ℕ, List, [], ◌∷◌, ◌++◌}
+use Rattle.std.proofs.Common.{ℕ, List, ◌++◌}
 use Rattle.dom_select.specs.Descendants.{ToCome}
 use Rattle.dom_select.specs.Selected.{Selected}
 use Rattle.dom_select.proofs.matcher.several.select_below_all.Given as goal

@@ -1,4 +1,4 @@
-use Rattle.std.proofs.Common.{◌≡◌, false, List, Bool, length, sym, ap, ◌∙◌}
+use Rattle.std.proofs.Common.{◌≡◌, false, length, ap, ◌∙◌}
 use Rattle.std.specs.Prelude.{ℕ, replicate}
 use Rattle.dom_select.proofs.SeveralLemmas.{selected_all, walks_once}
 use Rattle.dom_select.proofs.matcher.several.Matches.new.Goals.{After-late}
