@@ -53,7 +53,7 @@ pub(crate) fn check_open(nodes: &[TreeNode], gap: &Gap) -> Result<(), EditFault>
 }
 
 /// The node that tells the gap.
-fn target_of(gap: &Gap) -> NodeId
+pub(crate) fn target_of(gap: &Gap) -> NodeId
     ensures { result ≡ target gap.now }
 {
     match *gap {
