@@ -1,11 +1,13 @@
 //! What a parser makes of a tree while it fills it: elements with their flags, texts that are joined
 //! to texts, attributes that are still missing.
 
-ghost use Rattle.dom_trees.specs.Edits.{Edits, Makes};
+ghost use Rattle.dom_trees.specs.Edits.{Edits, Makes, appending, making};
 ghost use Rattle.dom_trees.specs.Growing.{adding_attrs, adding_text, making_element};
+ghost use Rattle.dom_trees.specs.NewNodes.{comment_node, doctype_node, instruction_node};
 
-use crate::checks::{check_known, check_open, target_of};
+use crate::checks::{check_known, check_open, check_room, target_of};
 use crate::tree::Tree;
+use crate::tree::creation::owned_text;
 use dom_links::gap::Gap;
 use dom_links::ops::{add_text, changes, templates};
 use dom_nodes::fault::EditFault;
@@ -43,6 +45,52 @@ impl Tree {
         };
         let element = Element::new(name, attrs, Some(contents), mathml);
         templates::create_template(&mut self.nodes, NodeData::Element(element))
+    }
+
+    /// Makes a comment. It stands alone. Refused as `TooManyNodes` or `Memory`.
+    pub fn new_comment(&mut self, text: &str) -> Result<NodeId, EditFault>
+        ensures { Makes result self.old self.new (making (comment_node text.now)) }
+    {
+        check_room(&self.nodes)?;
+        let contents = owned_text(self.allocator(), text)?;
+        self.create_node(NodeData::Comment { contents })
+    }
+
+    /// Makes a processing instruction. It stands alone. Refused as `TooManyNodes` or `Memory`.
+    pub fn new_instruction(&mut self, target: &str, contents: &str) -> Result<NodeId, EditFault>
+        ensures { Makes result self.old self.new
+            (making (instruction_node target.now contents.now)) }
+    {
+        check_room(&self.nodes)?;
+        let target = owned_text(self.allocator(), target)?;
+        let contents = owned_text(self.allocator(), contents)?;
+        self.create_node(NodeData::ProcessingInstruction { target, contents })
+    }
+
+    /// Makes a doctype as the last child of a node. Refused as `UnknownNode`; as `NoChildrenHere`;
+    /// as `TooManyNodes` or `Memory`.
+    pub fn append_doctype_of(
+        &mut self,
+        id: &NodeId,
+        name: &str,
+        public_id: &str,
+        system_id: &str,
+    ) -> Result<NodeId, EditFault>
+        ensures { Makes result self.old self.new
+            (appending id.now (doctype_node name.now public_id.now system_id.now)) }
+    {
+        check_room(&self.nodes)?;
+        let name = owned_text(self.allocator(), name)?;
+        let public_id = owned_text(self.allocator(), public_id)?;
+        let system_id = owned_text(self.allocator(), system_id)?;
+        self.append_child_data_of(
+            id,
+            NodeData::Doctype {
+                name,
+                public_id,
+                system_id,
+            },
+        )
     }
 
     /// Puts a text at a gap. Where a text stands right before the gap, that one grows; else a new
