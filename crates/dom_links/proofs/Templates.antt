@@ -12,7 +12,7 @@ use Rattle.dom_links.specs.Lists.{stands_in, map_from}
 use Rattle.dom_links.specs.Forest.{Forest, StandsOnce, IsArenaOf, forest_of}
 use Rattle.dom_links.specs.Moves.{end_of, children_with, run_with, put, moved_to}
 use Rattle.dom_links.specs.Sound.{Step, Reaches, one_step, then_step, contents_at, stays, IsForest, Moved}
-use Rattle.dom_links.specs.Growth.{with_node, with_child, with_template, Created, MayAppend, MayAppendTemplate, AppendedTemplate}
+use Rattle.dom_links.specs.Growth.{with_node, with_child, with_lone_template, with_template, Created, CreatedTemplate, MayAppend, MayAppendTemplate, AppendedTemplate}
 use Rattle.dom_links.proofs.Places.{get_or-map_all, length-map_from}
 use Rattle.dom_links.proofs.Cuts.{length-contents, one-stands}
 use Rattle.dom_links.proofs.Gaps.{Alone}
@@ -285,4 +285,13 @@ appended_template old mid one new t x content arena number target created' secon
       made = is;
       linked = moved.linked;
       kept = λ may good. subst IsForest (sym is) (template_kept forest t content good may);
+    }
+
+pub created_template : (old mid new : List TreeNode) (content : NodeData) → Created old mid content → Created mid new Fragment → CreatedTemplate old new content
+created_template old mid new content first second =
+    let is : forest_of new ≡ with_lone_template content (forest_of old) = second.made ∙ ap (with_node Fragment) first.made in
+    record {
+      made = is;
+      linked = second.linked;
+      kept = λ may good. subst IsForest (sym is) (lone_template_kept (forest_of old) content good may.0 may.1);
     }

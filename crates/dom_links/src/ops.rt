@@ -1,5 +1,6 @@
 //! Edits of an arena of nodes, and the tests that tell whether an edit is allowed.
 
+pub mod add_text;
 pub mod changes;
 pub mod copies;
 mod counts;

@@ -21,6 +21,7 @@ pub mod RowLemmas
 pub mod PendingLemmas
 pub mod InertLemmas
 pub mod Marks
+pub mod Filling
 pub mod Firsts
 pub mod Ends
 pub mod ReferenceLemmas

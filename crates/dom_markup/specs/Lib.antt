@@ -27,3 +27,4 @@ pub mod ReadingBack
 pub mod Documents
 pub mod FaultKinds
 pub mod Setters
+pub mod Sinks

@@ -1,5 +1,6 @@
 -- What changes leave of names and attributes.
 use Rattle.std.specs.Prelude.{ℕ, Bool, not, List, [], ◌∷◌, ◌++◌, None, is_some, codes, filter, if◌then◌else◌, ◌&&◌, ◌||◌}
+use Rattle.std.specs.List.{list_any}
 use Rattle.std.specs.Str.{bytes_eq}
 use Rattle.dom_nodes.specs.declared.name.Attr.{Attr}
 use Rattle.dom_nodes.specs.declared.name.QualName.{QualName}
@@ -8,6 +9,7 @@ use Rattle.dom_nodes.specs.declared.node_data.Element.{Element}
 use Rattle.dom_nodes.specs.declared.node_data.NodeData.{NodeData}
 use Rattle.dom_nodes.specs.declared.node_data.NodeData.TheVariants.{Element as AnElement}
 use Rattle.dom_nodes.specs.Attrs.{attr_of}
+use Rattle.dom_nodes.specs.Names.{same_name}
 use Rattle.dom_nodes.specs.Words.{is_among}
 
 -- the attribute has that local name
@@ -47,6 +49,14 @@ without_names names attrs = filter (λ attr. not (is_named_in names attr)) attrs
 -- the attributes of those local names
 abbrev pub only_names : List (List ℕ) → List Attr → List Attr
 only_names names attrs = filter (is_named_in names) attrs
+
+-- an attribute of that name, with its prefix and namespace, stands among them
+abbrev pub has_name : List Attr → QualName → Bool
+has_name attrs name = list_any (λ attr. same_name attr.name name) attrs
+
+-- the attributes, and behind them those of others whose names none of them has
+abbrev pub with_missing : List Attr → List Attr → List Attr
+with_missing added attrs = attrs ++ filter (λ attr. not (has_name attrs attr.name)) added
 
 -- the element with that local name
 abbrev pub renamed : List ℕ → Element → Element

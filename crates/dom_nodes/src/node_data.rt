@@ -7,6 +7,7 @@ mod attributes;
 mod changing;
 mod classes;
 mod lending;
+mod missing;
 mod node_edit;
 
 use crate::fault::OutOfMemory;

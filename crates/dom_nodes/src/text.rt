@@ -1,6 +1,7 @@
 //! Texts: bytes of valid UTF-8, short ones without memory of their own.
 
-ghost use Rattle.std.specs.Prelude.{◌≡◌, ◌≤◌, IfOk, MatchOption, List, ℕ, length};
+ghost use Rattle.std.specs.Prelude.{◌≡◌, ◌≤◌, ◌++◌, IfOk, MatchOption, OnErr, OnOk, List, ℕ, length};
+ghost use Rattle.dom_nodes.specs.Forms.{form_bytes};
 
 mod rare;
 mod short;
@@ -63,6 +64,24 @@ impl Text {
         }
     }
 
+    /// Adds the bytes of another text at the end. The text is unchanged after a refusal. The room of
+    /// a long text doubles, so a text that grows piece by piece is copied but a few times.
+    pub fn push_str(&mut self, more: &str) -> Result<(), OutOfMemory>
+        ensures ok { OnOk result (self.new ≡ self.old ++ more.now) }
+        ensures err { OnErr result (self.new ≡ self.old) }
+    {
+        match &mut self.form {
+            Form::Long(letters) => {
+                letters.push_str(more)?;
+            }
+            Form::Short(short) => {
+                let form = lengthened(self.alloc, short, more)?;
+                self.form = form;
+            }
+        }
+        Ok(())
+    }
+
     /// A text of the same bytes in memory of its own.
     pub fn try_clone(&self) -> Result<Text, OutOfMemory>
         ensures { IfOk result (λ made. made ≡ self.now) }
@@ -74,6 +93,18 @@ impl Text {
     pub(crate) fn allocator(&self) -> Global {
         self.alloc
     }
+}
+
+/// A short text with more behind it.
+fn lengthened(alloc: Global, short: &ShortText, more: &str) -> Result<Form, OutOfMemory>
+    ensures { IfOk result (λ form. form_bytes form ≡ short.now ++ more.now) }
+{
+    if let Some(longer) = short.lengthened(more) {
+        return Ok(Form::Short(longer));
+    }
+    let mut letters = String::from_str(alloc, short.as_str())?;
+    letters.push_str(more)?;
+    Ok(Form::Long(letters))
 }
 
 impl From<String> for Text {

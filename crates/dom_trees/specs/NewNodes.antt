@@ -4,7 +4,7 @@ use Rattle.dom_nodes.specs.declared.name.Attr.{Attr}
 use Rattle.dom_nodes.specs.declared.name.QualName.{QualName}
 use Rattle.dom_nodes.specs.declared.name.Namespace.TheVariants.{Html}
 use Rattle.dom_nodes.specs.declared.node_data.NodeData.{NodeData}
-use Rattle.dom_nodes.specs.declared.node_data.NodeData.TheVariants.{Element, Text}
+use Rattle.dom_nodes.specs.declared.node_data.NodeData.TheVariants.{Comment, Doctype, Element, ProcessingInstruction, Text}
 
 -- the HTML name of that local name, without prefix
 abbrev pub html_name : List ℕ → QualName
@@ -30,6 +30,15 @@ element_with name attrs contents = Element (record {
 
 abbrev pub text_node : List ℕ → NodeData
 text_node text = Text text
+
+abbrev pub comment_node : List ℕ → NodeData
+comment_node text = Comment text
+
+abbrev pub instruction_node : List ℕ → List ℕ → NodeData
+instruction_node target contents = ProcessingInstruction target contents
+
+abbrev pub doctype_node : List ℕ → List ℕ → List ℕ → NodeData
+doctype_node name public_id system_id = Doctype name public_id system_id
 
 -- the element `html` of a fragment
 abbrev pub html_element : NodeData

@@ -65,7 +65,7 @@ pub(crate) fn check_place(nodes: &[TreeNode], x: NodeId, place: Place) -> Result
 }
 
 /// The node that tells the gap.
-fn target_of(gap: &Gap) -> NodeId
+pub(crate) fn target_of(gap: &Gap) -> NodeId
     ensures { result ≡ target gap.now }
 {
     match *gap {

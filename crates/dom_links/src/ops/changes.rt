@@ -6,10 +6,12 @@ ghost use Rattle.std.specs.Fn.{FnOnceReturnsAtMut};
 ghost use Rattle.dom_nodes.specs.Change.{changed};
 ghost use Rattle.dom_links.specs.Forest.{forest_of};
 ghost use Rattle.dom_links.specs.Contents.{Changed, IsUpdatedAt, asks_at};
+ghost use Rattle.dom_links.specs.ListMoves.{element_at};
 ghost use Rattle.dom_links.specs.Sound.{IsSoundArena};
+ghost use Rattle.dom_nodes.specs.Changes.{with_attrs, with_missing};
 
 use dom_nodes::fault::OutOfMemory;
-use dom_nodes::node_data::{Change, NodeEdit, TreeNode};
+use dom_nodes::node_data::{Attrs, Change, NodeEdit, TreeNode};
 use dom_nodes::node_id::NodeId;
 use std::alloc::Global;
 
@@ -24,6 +26,21 @@ pub fn update<F: FnOnce(&mut NodeEdit)>(nodes: &mut [TreeNode], alloc: Global, x
     let at = x.value();
     if at < nodes.len() {
         nodes[at].update(alloc, change);
+    }
+}
+
+/// Adds attributes to an element, as `TreeNode::add_attrs_if_missing`.
+pub fn add_attrs(nodes: &mut [TreeNode], x: NodeId, attrs: Attrs) -> Result<(), OutOfMemory>
+    requires { IsSoundArena nodes.old }
+    ensures ok { OnOk result (Changed nodes.old nodes.new x (with_attrs (with_missing attrs))) }
+    ensures err { OnErr result (nodes.new ≡ nodes.old) }
+    ensures no_element { element_at (forest_of nodes.old) x ≡ false → IsOk result }
+{
+    let at = x.value();
+    if at < nodes.len() {
+        nodes[at].add_attrs_if_missing(attrs)
+    } else {
+        Ok(())
     }
 }
 

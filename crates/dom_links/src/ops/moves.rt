@@ -168,13 +168,13 @@ fn cut_out(nodes: &mut [TreeNode], moving: Moving) -> NodeId
 
 /// What nodes at a gap have as their parent, and beside them.
 #[derive(Drop)]
-struct Room {
-    owner: Option<NodeId>,
-    left: Option<NodeId>,
-    right: Option<NodeId>,
+pub(crate) struct Room {
+    pub(crate) owner: Option<NodeId>,
+    pub(crate) left: Option<NodeId>,
+    pub(crate) right: Option<NodeId>,
 }
 
-fn room_at(nodes: &[TreeNode], gap: Gap) -> Room
+pub(crate) fn room_at(nodes: &[TreeNode], gap: Gap) -> Room
     requires linked { IsArenaOf (forest_of nodes.now) nodes.now }
     requires target_known { target gap < length nodes.now }
     ensures owner { result.owner ≡ owner_at gap (forest_of nodes.now) }

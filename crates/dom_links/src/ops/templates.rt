@@ -4,7 +4,8 @@ ghost use Rattle.std.specs.Prelude.{◌≡◌, ◌<◌, ◌+◌, ◌∷◌, ◌+
 ghost use Rattle.std.specs.Prelude.{vec_len};
 ghost use Rattle.dom_nodes.specs.declared.node_data.TreeNode.{TreeNode};
 ghost use Rattle.dom_links.specs.Forest.{IsArenaOf, forest_of};
-ghost use Rattle.dom_links.specs.Growth.{AppendedTemplate, Created, NoRoom, NoRoomForTwo};
+ghost use Rattle.dom_links.specs.Growth.{AppendedTemplate, Created, CreatedTemplate};
+ghost use Rattle.dom_links.specs.Growth.{NoRoom, NoRoomForTwo};
 
 use crate::ops::TreeNodeOps;
 use crate::ops::create::push_alone;
@@ -37,6 +38,21 @@ fn create_fragment(nodes: &mut Vec<TreeNode>) -> Result<(), EditFault>
             Err(fault)
         }
     }
+}
+
+/// Makes a node, and right after it a fragment, for its contents: both or none. Whether that is
+/// allowed is the caller's condition for a forest.
+pub fn create_template(nodes: &mut Vec<TreeNode>, content: NodeData) -> Result<NodeId, EditFault>
+    requires linked { IsArenaOf (forest_of nodes.old.items) nodes.old.items }
+    ensures ok { OnOk result (CreatedTemplate nodes.old.items nodes.new.items content) }
+    ensures number { IfOk result (λ id. id ≡ vec_len nodes.old) }
+    ensures grown { OnOk result (vec_len nodes.new ≡ vec_len nodes.old + 2) }
+    ensures err { OnErr result (nodes.new.items ≡ nodes.old.items) }
+    ensures cause { IfErr result (λ fault. NoRoomForTwo (vec_len nodes.old) fault) }
+{
+    let id = push_alone(nodes, content)?;
+    create_fragment(nodes)?;
+    Ok(id)
 }
 
 /// Makes a node as the last child of another, and right after it a fragment, for its contents: both

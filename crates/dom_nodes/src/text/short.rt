@@ -1,6 +1,6 @@
 //! Texts of a few bytes, which lie in the value itself.
 
-ghost use Rattle.std.specs.Prelude.{◌≡◌, ◌<◌, MatchOption, List, ℕ, length};
+ghost use Rattle.std.specs.Prelude.{◌≡◌, ◌<◌, ◌+◌, ◌++◌, MatchOption, List, ℕ, length};
 
 use std::marker::Model;
 use std::str::from_utf8_unchecked;
@@ -36,6 +36,24 @@ impl ShortText {
         bytes[..count].copy_from_slice(text.as_bytes());
         Some(ShortText {
             length: count as u8,
+            bytes,
+        })
+    }
+
+    /// The text with more behind it; None where that has more than 30 bytes.
+    pub(crate) fn lengthened(&self, more: &str) -> Option<ShortText>
+        ensures { MatchOption result (30 < length self.now + length more.now)
+            (λ longer. longer ≡ self.now ++ more.now) }
+    {
+        let count = self.length as usize;
+        let total = count + more.len();
+        if total > 30 {
+            return None;
+        }
+        let mut bytes = self.bytes;
+        bytes[count..total].copy_from_slice(more.as_bytes());
+        Some(ShortText {
+            length: total as u8,
             bytes,
         })
     }

@@ -79,7 +79,7 @@ impl Tree {
 }
 
 /// The text. Refused as `Memory`.
-fn owned_text(alloc: Global, text: &str) -> Result<Text, EditFault>
+pub(crate) fn owned_text(alloc: Global, text: &str) -> Result<Text, EditFault>
     ensures { MatchResult result (λ made. made ≡ text.now) (λ fault. fault ≡ Memory) }
 {
     match Text::new(alloc, text) {

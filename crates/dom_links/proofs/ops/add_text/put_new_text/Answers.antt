@@ -1,0 +1,30 @@
+use Rattle.std.proofs.Common.{ℕ, ◌≡◌, ◌∙◌, ap, arith, length, rules, List, [], ◌∷◌}
+use Rattle.std.proofs.lemmas.List.{with_items_is}
+use Rattle.dom_nodes.specs.declared.node_data.NodeData.TheVariants.{Text}
+use Rattle.dom_links.specs.Forest.{forest_of}
+use Rattle.dom_links.specs.Growth.{with_node}
+use Rattle.dom_links.specs.Moves.{moved_to}
+use Rattle.dom_links.proofs.AddingTexts.{allowed_at, none_before}
+use Rattle.dom_links.proofs.Cuts.{length-contents}
+use Rattle.dom_links.proofs.ops.add_text.put_new_text.Goals as goal
+
+pub put_alone-requires-clause-allowed : goal.put_alone-requires-clause-allowed
+put_alone-requires-clause-allowed c =
+    let forest = forest_of c.args.nodes.now.items in
+    let long = length-contents forest c.args.nodes.now.items c.requires.sound.arena.links in
+    let number : c.in_ok-made.made ≡ length forest.content = omega (arith, long, c.in_ok-made.ensures.number) in
+    allowed_at forest _ c.args.gap c.in_ok-made.made _ c.requires.sound.forest c.requires.target_known c.requires.open_here (ap forest_of c.deref_mut.ensures.value ∙ c.in_ok-made.ensures.made) number
+
+pub returns-clause-made : goal.returns-clause-made
+returns-clause-made c =
+    let forest = forest_of c.args.nodes.now.items in
+    let long = length-contents forest c.args.nodes.now.items c.requires.sound.arena.links in
+    let number : c.in_ok-made.made ≡ length forest.content = omega (arith, long, c.in_ok-made.ensures.number) in
+    let same : length c.put_alone.new.nodes ≡ length c.deref_mut.result.now = omega arith in
+    let whole : length c.put_alone.new.nodes ≡ c.create_node.new.nodes.len = same ∙ c.deref_mut.ensures.len in
+    let old : forest_of c.deref_mut.result.now ≡ with_node (Text c.args.text.now) forest = ap forest_of c.deref_mut.ensures.value ∙ c.in_ok-made.ensures.made ∙ ap (λ (text : List ℕ). with_node (Text text) forest) (search rules) in
+    ap forest_of (with_items_is c.create_node.new.nodes c.put_alone.new.nodes whole)
+    ∙ c.put_alone.ensures.made
+    ∙ ap (λ (x : ℕ). moved_to (x ∷ []) c.args.gap (forest_of c.deref_mut.result.now)) number
+    ∙ ap (moved_to (length forest.content ∷ []) c.args.gap) old
+    ∙ none_before c.args.gap c.args.text.now forest c.requires.alone

@@ -1,0 +1,111 @@
+//! A text comes to a gap: the text that stands right before it grows, or a new one is put there.
+
+ghost use Rattle.std.specs.Prelude.{◌≡◌, ◌<◌, IfErr, OnErr, OnOk, None, Some, length, true};
+ghost use Rattle.dom_nodes.specs.declared.fault.EditFault.TheVariants.{Memory};
+ghost use Rattle.dom_links.specs.AddedTexts.{TextCause, lengthened, text_before, with_text};
+ghost use Rattle.dom_links.specs.Contents.{Changed};
+ghost use Rattle.dom_links.specs.Forest.{forest_of};
+ghost use Rattle.dom_links.specs.ListMoves.{moved_nodes};
+ghost use Rattle.dom_links.specs.Moves.{moved_to};
+ghost use Rattle.dom_links.specs.Sound.{Allowed, IsSoundArena, is_open, target};
+ghost use Rattle.dom_links.specs.declared.gap.Moving.TheVariants.{Node};
+
+use crate::gap::{Gap, Moving};
+use crate::ops::TreeNodeOps;
+use crate::ops::moves::room_at;
+use crate::ops::set_text::{is_text_at, owned_text};
+use dom_nodes::fault::{EditFault, OutOfMemory};
+use dom_nodes::node_data::{NodeData, TreeNode};
+use dom_nodes::node_id::NodeId;
+
+/// Lengthens the text that stands right before the gap, or puts a new text there. Refused as
+/// `Memory`, and as `TooManyNodes` where a new one is to be put; then nothing changes.
+pub fn add_text(nodes: &mut Vec<TreeNode>, gap: Gap, text: &str) -> Result<(), EditFault>
+    requires sound { IsSoundArena nodes.old.items }
+    requires target_known { target gap < length (forest_of nodes.old.items).content }
+    requires open_here { is_open gap (forest_of nodes.old.items) ≡ true }
+    ensures made { OnOk result
+        (forest_of nodes.new.items ≡ with_text gap text.now (forest_of nodes.old.items)) }
+    ensures err { OnErr result (nodes.new.items ≡ nodes.old.items) }
+    ensures cause { IfErr result (TextCause gap (forest_of nodes.old.items)) }
+    ensures sound { IsSoundArena nodes.new.items }
+{
+    let Some(before) = text_before(nodes, &gap) else {
+        return put_new_text(nodes, gap, text);
+    };
+    lengthen(nodes, before, text)
+}
+
+/// The text that stands right before the gap.
+fn text_before(nodes: &[TreeNode], gap: &Gap) -> Option<NodeId>
+    requires sound { IsSoundArena nodes.now }
+    requires target_known { target gap.now < length (forest_of nodes.now).content }
+    ensures { result ≡ text_before gap.now (forest_of nodes.now) }
+{
+    let room = room_at(nodes, *gap);
+    let Some(left) = room.left else {
+        return None;
+    };
+    if is_text_at(nodes, left) {
+        room.left
+    } else {
+        None
+    }
+}
+
+/// Adds more at the end of a text. Refused as `Memory`.
+fn lengthen(nodes: &mut [TreeNode], x: NodeId, more: &str) -> Result<(), EditFault>
+    requires { IsSoundArena nodes.old }
+    ensures ok { OnOk result (Changed nodes.old nodes.new x (lengthened more.now)) }
+    ensures err { OnErr result (nodes.new ≡ nodes.old) }
+    ensures cause { IfErr result (λ fault. fault ≡ Memory) }
+{
+    let at = x.value();
+    if at >= nodes.len() {
+        return Ok(());
+    }
+    match lengthen_node(&mut nodes[at], more) {
+        Ok(()) => Ok(()),
+        Err(_) => Err(EditFault::Memory),
+    }
+}
+
+fn lengthen_node(node: &mut TreeNode, more: &str) -> Result<(), OutOfMemory>
+    ensures ok { OnOk result
+        (node.new ≡ record node.old { content = lengthened more.now node.old.content }) }
+    ensures err { OnErr result (node.new ≡ node.old) }
+{
+    match &mut node.content {
+        NodeData::Text { contents } => contents.push_str(more),
+        _ => Ok(()),
+    }
+}
+
+/// Makes a text and puts it at the gap.
+fn put_new_text(nodes: &mut Vec<TreeNode>, gap: Gap, text: &str) -> Result<(), EditFault>
+    requires sound { IsSoundArena nodes.old.items }
+    requires target_known { target gap < length (forest_of nodes.old.items).content }
+    requires open_here { is_open gap (forest_of nodes.old.items) ≡ true }
+    requires alone { text_before gap (forest_of nodes.old.items) ≡ None }
+    ensures made { OnOk result
+        (forest_of nodes.new.items ≡ with_text gap text.now (forest_of nodes.old.items)) }
+    ensures err { OnErr result (nodes.new.items ≡ nodes.old.items) }
+    ensures cause { IfErr result (TextCause gap (forest_of nodes.old.items)) }
+    ensures sound { IsSoundArena nodes.new.items }
+{
+    let contents = owned_text(*nodes.allocator(), text)?;
+    let made = TreeNodeOps::create_node(nodes, NodeData::Text { contents })?;
+    put_alone(nodes, gap, made);
+    Ok(())
+}
+
+/// Moves one node to a gap.
+fn put_alone(nodes: &mut [TreeNode], gap: Gap, x: NodeId)
+    requires sound { IsSoundArena nodes.old }
+    requires allowed { Allowed (forest_of nodes.old) gap x }
+    ensures made { let old = forest_of nodes.old
+        in forest_of nodes.new ≡ moved_to (moved_nodes old (Node x)) gap old }
+    ensures sound { IsSoundArena nodes.new }
+{
+    TreeNodeOps::move_to(nodes, gap, Moving::Node(x));
+}

@@ -1,0 +1,47 @@
+-- What the calls do by which a parser fills a document.
+use Rattle.std.specs.Prelude.{ℕ, ◌≡◌, List, [], ◌∷◌, ◌++◌, Result, IfOk, OnErr, OnOk, is_some, map, string_bytes, if◌then◌else◌}
+use Rattle.dom_nodes.specs.declared.fault.EditFault.{EditFault}
+use Rattle.dom_nodes.specs.declared.fault.OutOfMemory.{OutOfMemory}
+use Rattle.dom_links.specs.Forest.{Forest, parent}
+use Rattle.dom_links.specs.declared.gap.Gap.{Gap}
+use Rattle.dom_links.specs.declared.gap.Gap.TheVariants.{Before, EndOf}
+use Rattle.dom_links.specs.declared.gap.Moving.TheVariants.{Node}
+use Rattle.dom_trees.specs.Edits.{Edits, Makes, TreeEdit, moving_to}
+use Rattle.dom_trees.specs.Growing.{adding_text}
+use Rattle.dom_markup.specs.declared.document.Document.{Document}
+use Rattle.dom_markup.specs.declared.document.sink.NodeOrText.{NodeOrText}
+use Rattle.dom_markup.specs.declared.document.sink.NodeOrText.TheVariants.{AppendNode, AppendText}
+
+-- what was noted while the document was read is as it was
+pub record KeepsNotes (old new : Document) : Type 0 where
+  pub errors : new.errors ≡ old.errors
+  pub quirks : new.quirks_mode ≡ old.quirks_mode
+
+-- The document's tree is edited, as `Edits` says; the notes stay
+pub record EditsIn (result : Result Unit EditFault) (old new : Document) (edit : TreeEdit) : Type 0 where
+  pub edits : Edits result old.tree new.tree edit
+  pub notes : KeepsNotes old new
+
+-- A node is made in the document's tree, as `Makes` says; the notes stay
+pub record MakesIn (result : Result ℕ EditFault) (old new : Document) (edit : TreeEdit) : Type 0 where
+  pub makes : Makes result old.tree new.tree edit
+  pub notes : KeepsNotes old new
+
+abbrev pub errors_of : Document → List (List ℕ)
+errors_of document = map string_bytes document.errors.items
+
+-- A message is noted behind the others; the tree stays
+pub record Notes (result : Result Unit OutOfMemory) (old new : Document) (message : List ℕ) : Type 0 where
+  pub ok : OnOk result (errors_of new ≡ errors_of old ++ message ∷ [])
+  pub err : OnErr result (errors_of new ≡ errors_of old)
+  pub tree : new.tree ≡ old.tree
+  pub quirks : new.quirks_mode ≡ old.quirks_mode
+
+-- a node goes to a gap, or a text comes to it
+abbrev pub putting : Gap → NodeOrText → TreeEdit
+putting gap (AppendNode n) = moving_to gap (Node n)
+putting gap (AppendText text) = adding_text gap text.now
+
+-- before a node that has a parent; else at the end of another's children
+abbrev pub gap_by_parent : Forest → ℕ → ℕ → Gap
+gap_by_parent forest n other = if is_some (parent forest n) then Before n else EndOf other

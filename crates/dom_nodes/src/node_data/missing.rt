@@ -1,0 +1,70 @@
+//! Attributes that are added where they are missing.
+
+ghost use Rattle.std.specs.Prelude.{◌≡◌, OnErr, OnOk, false, IsOk};
+ghost use Rattle.dom_nodes.specs.Changes.{has_name, with_attrs, with_missing};
+ghost use Rattle.dom_nodes.specs.Kinds.{is_element};
+
+use super::{Attrs, Element, NodeData, TreeNode};
+use crate::fault::OutOfMemory;
+use crate::name::{Attr, QualName};
+
+impl Attrs {
+    /// Adds those of other attributes at the end whose names none of these has. Names are the same
+    /// where prefix, namespace and local name are. The list is unchanged after a refusal.
+    pub fn add_missing(&mut self, mut added: Attrs) -> Result<(), OutOfMemory>
+        ensures ok { OnOk result (self.new ≡ with_missing added self.old) }
+        ensures err { OnErr result (self.new ≡ self.old) }
+    {
+        let here = self.items.as_slice();
+        added.items.retain(|attr| !has_name(here, &attr.name));
+        self.items.append(&mut added.items)?;
+        Ok(())
+    }
+}
+
+/// Whether one of the attributes has the name.
+fn has_name(attrs: &[Attr], name: &QualName) -> bool
+    ensures { result ≡ has_name attrs.now name.now }
+{
+    attrs.iter().any(|attr| attr.name.is_same(name))
+}
+
+impl Element {
+    /// Adds those of other attributes at the end whose names none of the element's has. Names are
+    /// the same where prefix, namespace and local name are. The element is unchanged after a
+    /// refusal.
+    pub fn add_attrs_if_missing(&mut self, attrs: Attrs) -> Result<(), OutOfMemory>
+        ensures ok { OnOk result (self.new ≡ record self.old {
+          attrs = with_missing attrs self.old.attrs;
+        }) }
+        ensures err { OnErr result (self.new ≡ self.old) }
+    {
+        self.attrs.add_missing(attrs)
+    }
+}
+
+impl NodeData {
+    /// As `Element::add_attrs_if_missing`; a node that is no element stays.
+    pub fn add_attrs_if_missing(&mut self, attrs: Attrs) -> Result<(), OutOfMemory>
+        ensures ok { OnOk result (self.new ≡ with_attrs (with_missing attrs) self.old) }
+        ensures err { OnErr result (self.new ≡ self.old) }
+        ensures no_element { is_element self.old ≡ false → IsOk result }
+    {
+        match self {
+            NodeData::Element(element) => element.add_attrs_if_missing(attrs),
+            _ => Ok(()),
+        }
+    }
+}
+
+impl TreeNode {
+    /// As `NodeData::add_attrs_if_missing`.
+    pub fn add_attrs_if_missing(&mut self, attrs: Attrs) -> Result<(), OutOfMemory>
+        ensures ok { OnOk result (self.new
+            ≡ record self.old { content = with_attrs (with_missing attrs) self.old.content }) }
+        ensures err { OnErr result (self.new ≡ self.old) }
+        ensures no_element { is_element self.old.content ≡ false → IsOk result }
+    {
+        self.content.add_attrs_if_missing(attrs)
+    }
+}

@@ -1,0 +1,119 @@
+//! What a parser makes of a tree while it fills it: elements with their flags, texts that are joined
+//! to texts, attributes that are still missing.
+
+ghost use Rattle.dom_trees.specs.Edits.{Edits, Makes, appending, making};
+ghost use Rattle.dom_trees.specs.Growing.{adding_attrs, adding_text, making_element};
+ghost use Rattle.dom_trees.specs.NewNodes.{comment_node, doctype_node, instruction_node};
+
+use crate::checks::{check_known, check_open, check_room, target_of};
+use crate::tree::Tree;
+use crate::tree::creation::owned_text;
+use dom_links::gap::Gap;
+use dom_links::ops::{add_text, changes, templates};
+use dom_nodes::fault::EditFault;
+use dom_nodes::name::QualName;
+use dom_nodes::node_data::{Attrs, Element, NodeData};
+use dom_nodes::node_id::NodeId;
+
+/// What an element is made with besides its name and attributes: contents of its own, as a template
+/// has, and the mark of a MathML annotation that holds HTML.
+#[derive(Clone, Copy, PartialEq, Eq, Debug, Drop)]
+pub struct ElementFlags {
+    pub template: bool,
+    pub mathml_annotation_xml_integration_point: bool,
+}
+
+impl Tree {
+    /// Makes an element that stands alone. The contents of a template are a new fragment, whose
+    /// number is the next one; both are made or none. Refused as `TooManyNodes`, where there is no
+    /// number left, or no two for a template; as `Memory`.
+    pub fn create_element(
+        &mut self,
+        name: QualName,
+        attrs: Attrs,
+        flags: ElementFlags,
+    ) -> Result<NodeId, EditFault>
+        ensures { Makes result self.old self.new (making_element name attrs flags) }
+    {
+        let mathml = flags.mathml_annotation_xml_integration_point;
+        if !flags.template {
+            let element = Element::new(name, attrs, None, mathml);
+            return self.create_node(NodeData::Element(element));
+        }
+        let Some(contents) = NodeId::new(self.nodes.len() + 1) else {
+            return Err(EditFault::TooManyNodes);
+        };
+        let element = Element::new(name, attrs, Some(contents), mathml);
+        templates::create_template(&mut self.nodes, NodeData::Element(element))
+    }
+
+    /// Makes a comment. It stands alone. Refused as `TooManyNodes` or `Memory`.
+    pub fn new_comment(&mut self, text: &str) -> Result<NodeId, EditFault>
+        ensures { Makes result self.old self.new (making (comment_node text.now)) }
+    {
+        check_room(&self.nodes)?;
+        let contents = owned_text(self.allocator(), text)?;
+        self.create_node(NodeData::Comment { contents })
+    }
+
+    /// Makes a processing instruction. It stands alone. Refused as `TooManyNodes` or `Memory`.
+    pub fn new_instruction(&mut self, target: &str, contents: &str) -> Result<NodeId, EditFault>
+        ensures { Makes result self.old self.new
+            (making (instruction_node target.now contents.now)) }
+    {
+        check_room(&self.nodes)?;
+        let target = owned_text(self.allocator(), target)?;
+        let contents = owned_text(self.allocator(), contents)?;
+        self.create_node(NodeData::ProcessingInstruction { target, contents })
+    }
+
+    /// Makes a doctype as the last child of a node. Refused as `UnknownNode`; as `NoChildrenHere`;
+    /// as `TooManyNodes` or `Memory`.
+    pub fn append_doctype_of(
+        &mut self,
+        id: &NodeId,
+        name: &str,
+        public_id: &str,
+        system_id: &str,
+    ) -> Result<NodeId, EditFault>
+        ensures { Makes result self.old self.new
+            (appending id.now (doctype_node name.now public_id.now system_id.now)) }
+    {
+        check_room(&self.nodes)?;
+        let name = owned_text(self.allocator(), name)?;
+        let public_id = owned_text(self.allocator(), public_id)?;
+        let system_id = owned_text(self.allocator(), system_id)?;
+        self.append_child_data_of(
+            id,
+            NodeData::Doctype {
+                name,
+                public_id,
+                system_id,
+            },
+        )
+    }
+
+    /// Puts a text at a gap. Where a text stands right before the gap, that one grows; else a new
+    /// one is made there. Refused as `UnknownNode`; as `NoChildrenHere` or `RootOrFragment` by the
+    /// node that tells the gap; as `TooManyNodes`, where a new text is to be made; as `Memory`.
+    pub fn add_text_at(&mut self, gap: Gap, text: &str) -> Result<(), EditFault>
+        ensures { Edits result self.old self.new (adding_text gap text.now) }
+    {
+        check_known(&self.nodes, target_of(&gap))?;
+        check_open(&self.nodes, &gap)?;
+        add_text::add_text(&mut self.nodes, gap, text)
+    }
+
+    /// Adds the attributes to an element whose names it lacks, at the end. Names are the same where
+    /// prefix, namespace and local name are. A node that is no element stays. Refused as
+    /// `UnknownNode`, and as `Memory` of an element.
+    pub fn add_missing_attrs_of(&mut self, id: &NodeId, attrs: Attrs) -> Result<(), EditFault>
+        ensures { Edits result self.old self.new (adding_attrs id.now attrs) }
+    {
+        check_known(&self.nodes, *id)?;
+        match changes::add_attrs(&mut self.nodes, *id, attrs) {
+            Ok(()) => Ok(()),
+            Err(_) => Err(EditFault::Memory),
+        }
+    }
+}
