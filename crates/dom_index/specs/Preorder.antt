@@ -1,0 +1,32 @@
+-- The order of a forest's nodes: the runs in the order of their first nodes' numbers, each node before its children.
+use Rattle.std.specs.Prelude.{ℕ, zero, suc, ◌+◌, ◌==◌, ◌&&◌, Bool, false, List, [], ◌∷◌, ◌++◌, Option, Some, None, length, if◌then◌else◌}
+use Rattle.std.specs.Option.{is_none, option_map}
+use Rattle.dom_links.specs.Forest.{Forest, parent, siblings}
+use Rattle.dom_links.specs.Lists.{before}
+use Rattle.dom_links.specs.Trees.{trees, walk}
+use Rattle.dom_links.specs.Walk.{later}
+
+-- n is the first node of a run
+abbrev pub starts_run : Forest → ℕ → Bool
+starts_run forest n = is_none (parent forest n) && is_none (before (siblings forest n) n)
+
+-- n, what is below it, and so for each sibling after it
+abbrev pub walk_from : Forest → ℕ → List ℕ
+walk_from forest n = walk (trees forest (n ∷ later forest false n))
+
+-- the walks of the runs whose first nodes have numbers below this
+abbrev pub preorder_to : Forest → ℕ → List ℕ
+preorder_to forest zero = []
+preorder_to forest (suc n) = preorder_to forest n ++ (if starts_run forest n then walk_from forest n else [])
+
+abbrev pub preorder : Forest → List ℕ
+preorder forest = preorder_to forest (length forest.content)
+
+-- the place at which a number stands first in a list, counted from 0
+abbrev pub place_in : List ℕ → ℕ → Option ℕ
+place_in [] n = None
+place_in (m ∷ ms) n = if m == n then Some 0 else option_map (λ i. i + 1) (place_in ms n)
+
+-- the place of a node in the order
+abbrev pub position : Forest → ℕ → Option ℕ
+position forest n = place_in (preorder forest) n

@@ -1,0 +1,157 @@
+//! An index of a tree's nodes.
+
+ghost use Rattle.std.specs.Prelude.{◌≡◌, ◌≤◌, [], length, slice_get, IfOk, MatchOption};
+ghost use Rattle.std.specs.Iterator.{YieldsFirst, item_count};
+ghost use Rattle.dom_links.specs.Lists.{stands_in};
+ghost use Rattle.dom_links.specs.Trees.{walk_below};
+ghost use Rattle.dom_index.specs.Index.{IsLastBelow};
+ghost use Rattle.dom_index.specs.Preorder.{position};
+
+use crate::ground::{Ground, know_forest};
+use dom_nodes::fault::OutOfMemory;
+use dom_nodes::node_id::NodeId;
+use dom_trees::tree::Tree;
+use std::marker::Model;
+
+/// The nodes of a tree in order: the runs by the numbers of their first nodes, each node before its
+/// children. It borrows the tree, so that no edit comes between two questions. A contract sees the
+/// tree.
+#[derive(Drop)]
+pub struct TreeIndex<'a> {
+    ground: Ground<'a>,
+}
+
+impl<'a> Model for TreeIndex<'a> {
+    ghost use Rattle.dom_index.specs.Index.{Indexed};
+
+    ghost Value = { Indexed };
+
+    ghost view = { λ it. record { tree = it.ground.tree } };
+}
+
+impl<'a> TreeIndex<'a> {
+    /// The index of a tree.
+    pub fn new(tree: &'a Tree) -> Result<TreeIndex<'a>, OutOfMemory>
+        ensures { IfOk result (λ index. index.tree ≡ tree.entry) }
+    {
+        Ok(TreeIndex {
+            ground: Ground::new(tree)?,
+        })
+    }
+
+    /// The place of a node in the order, counted from 0; None for an unknown number.
+    pub fn position(&self, id: &NodeId) -> Option<usize>
+        ensures { result ≡ position self.now.tree.now id.now }
+    {
+        place_at(&self.ground, id.value())
+    }
+
+    /// The greatest position at or below a node; None for an unknown number.
+    pub fn last_below(&self, id: &NodeId) -> Option<usize>
+        ensures { MatchOption result (length self.now.tree.now.content ≤ id.now)
+            (λ last. IsLastBelow self.now.tree.now id.now last) }
+    {
+        last_at(&self.ground, id.value())
+    }
+
+    /// Whether y is below x.
+    pub fn is_below(&self, x: &NodeId, y: &NodeId) -> bool
+        ensures { result ≡ stands_in y.now (walk_below self.now.tree.now x.now) }
+    {
+        is_within(&self.ground, x.value(), y.value())
+    }
+
+    /// The nodes below a node, each before what is below it. It takes no memory.
+    pub fn descendants(&self, id: &NodeId) -> IndexedNodes<'_>
+        ensures { result ≡ walk_below self.now.tree.now id.now }
+    {
+        IndexedNodes {
+            ids: below(&self.ground, *id),
+        }
+    }
+}
+
+/// The place of the node of that number.
+fn place_at(ground: &Ground<'_>, n: usize) -> Option<usize>
+    ensures { result ≡ position ground.now.tree.now n }
+{
+    written(&ground.places, n)
+}
+
+/// The place of the last node at or below the one of that number.
+fn last_at(ground: &Ground<'_>, n: usize) -> Option<usize>
+    ensures { MatchOption result (length ground.now.tree.now.content ≤ n)
+        (λ last. IsLastBelow ground.now.tree.now n last) }
+{
+    written(&ground.lasts, n)
+}
+
+/// What is written of the node of that number.
+fn written(places: &[usize], n: usize) -> Option<usize>
+    ensures { result ≡ slice_get places.now n }
+{
+    places.get(n).copied()
+}
+
+/// Whether y is below x, by their places.
+fn is_within(ground: &Ground<'_>, x: usize, y: usize) -> bool
+    ensures { result ≡ stands_in y (walk_below ground.now.tree.now x) }
+{
+    know_forest(ground.tree);
+    let count = ground.order.len();
+    if x >= count || y >= count {
+        return false;
+    }
+    let place = ground.places[y];
+    if place <= ground.places[x] {
+        return false;
+    }
+    place <= ground.lasts[x]
+}
+
+/// The nodes below a node, in order.
+fn below<'i>(ground: &'i Ground<'_>, id: NodeId) -> &'i [NodeId]
+    ensures { result.now ≡ walk_below ground.now.tree.now id }
+{
+    know_none_below(ground.tree, id);
+    let n = id.value();
+    if n >= ground.order.len() {
+        return &[];
+    }
+    &ground.order[ground.places[n] + 1..ground.lasts[n] + 1]
+}
+
+/// Tells that nothing is below an unknown number. It does nothing.
+fn know_none_below(tree: &Tree, id: NodeId)
+    ensures { length tree.now.content ≤ id → walk_below tree.now id ≡ [] }
+{
+    know_forest(tree);
+}
+
+/// The numbers of nodes that follow each other in the order of an index.
+#[derive(Drop)]
+pub struct IndexedNodes<'i> {
+    ids: &'i [NodeId],
+}
+
+impl<'i> Model for IndexedNodes<'i> {
+    ghost use Rattle.std.specs.Prelude.{ℕ, List};
+
+    ghost Value = { List ℕ };
+
+    ghost view = { λ it. it.ids.now };
+}
+
+impl<'i> Iterator for IndexedNodes<'i> {
+    type Item = NodeId;
+
+    ghost next_gives = { YieldsFirst (λ rest. rest) };
+
+    ghost remaining = { item_count (λ rest. rest) };
+
+    fn next(&mut self) -> Option<NodeId> {
+        let (first, rest) = self.ids.split_first()?;
+        self.ids = rest;
+        Some(*first)
+    }
+}
