@@ -5,26 +5,40 @@ use Rattle.std.specs.Io.KnownBytes.{Appends}
 use Rattle.dom_links.specs.Forest.{Forest}
 use Rattle.dom_markup.specs.Writing.{AppendsBeginning}
 use Rattle.dom_selectors.specs.Syntax.{SelectorList}
+use Rattle.dom_links.specs.Lists.{without}
+use Rattle.dom_select.specs.Meaning.{Means}
 use Rattle.dom_select.specs.Selected.{Selected}
 use Rattle.dom_query.specs.declared.script.Command.{Command}
-use Rattle.dom_query.specs.declared.script.Command.TheVariants.{Nothing, Select, Count, Text, Formatted, Html, Document}
+use Rattle.dom_query.specs.declared.script.Command.TheVariants.{Nothing, Pick, Go, Show, Attr}
+use Rattle.dom_query.specs.declared.script.Picking.{Picking}
+use Rattle.dom_query.specs.declared.script.Picking.TheVariants.{Select, Find, Filter, Add}
 use Rattle.dom_query.specs.Out.{Does, DoesAll}
+use Rattle.dom_query.specs.Picking.{Picked}
+use Rattle.dom_query.proofs.PickLemmas.{picks-once}
 use Rattle.dom_markup.proofs.WritingLemmas.{beginning-then, beginning-more}
 
 -- a selector selects one list of nodes at most
 abbrev pub OneSelection : Type 0
 OneSelection = (forest : Forest) (roots : List ℕ) (selector : SelectorList) (a b : List ℕ) → Selected forest roots selector a → Selected forest roots selector b → a ≡ b
 
+-- a line of each kind picks one list of nodes at most
+picked-once : OneSelection → (forest : Forest) (selection : List ℕ) (picking : Picking) (selector : SelectorList) (a b : List ℕ)
+    → Picked forest selection picking selector a → Picked forest selection picking selector b → a ≡ b
+picked-once one forest selection Select selector a b p q = one forest _ selector a b p q
+picked-once one forest selection Find selector a b p q = one forest _ selector a b p q
+picked-once one forest selection Filter selector a b p q = picks-once (Means selector forest) selection a b p q
+picked-once one forest [] Add selector a b p q = p ∙ sym q
+picked-once one forest (n ∷ ns) Add selector a b (more, p, is) (others, q, so) =
+    is ∙ ap (λ ms. (n ∷ ns) ++ without (n ∷ ns) ms) (one forest _ selector more others p q) ∙ sym so
+
 -- a command writes one text and leaves one selection at most
 pub does-once : OneSelection → (forest : Forest) (selection : List ℕ) (command : Command) (text other selected others : List ℕ)
     → Does forest selection command text selected → Does forest selection command other others → (text ≡ other) × (selected ≡ others)
 does-once one forest selection Nothing text other selected others a b = (a.0 ∙ sym b.0, a.1 ∙ sym b.1)
-does-once one forest selection (Select selector) text other selected others a b = (a.0 ∙ sym b.0, one forest _ selector selected others a.1 b.1)
-does-once one forest selection Count text other selected others a b = (a.0 ∙ sym b.0, a.1 ∙ sym b.1)
-does-once one forest selection Text text other selected others a b = (a.0 ∙ sym b.0, a.1 ∙ sym b.1)
-does-once one forest selection Formatted text other selected others a b = (a.0 ∙ sym b.0, a.1 ∙ sym b.1)
-does-once one forest selection Html text other selected others a b = (a.0 ∙ sym b.0, a.1 ∙ sym b.1)
-does-once one forest selection Document text other selected others a b = (a.0 ∙ sym b.0, a.1 ∙ sym b.1)
+does-once one forest selection (Pick picking selector) text other selected others a b = (a.0 ∙ sym b.0, picked-once one forest selection picking selector selected others a.1 b.1)
+does-once one forest selection (Go going) text other selected others a b = (a.0 ∙ sym b.0, a.1 ∙ sym b.1)
+does-once one forest selection (Show showing) text other selected others a b = (a.0 ∙ sym b.0, a.1 ∙ sym b.1)
+does-once one forest selection (Attr name) text other selected others a b = (a.0 ∙ sym b.0, a.1 ∙ sym b.1)
 
 -- commands write one text at most
 pub does-all-once : OneSelection → (forest : Forest) (selection : List ℕ) (commands : List Command) (text other : List ℕ)

@@ -12,7 +12,8 @@ use Rattle.dom_query.specs.declared.telling.DriveFault.{DriveFault}
 use Rattle.dom_query.specs.declared.telling.DriveFault.TheVariants.{Read, Run}
 use Rattle.dom_query.specs.Drive.{AsksFor, BeganOver, JobBegan, JobTells, Ran, Stopped, words_of}
 use Rattle.dom_query.specs.Markdown.{MarkdownTells, WroteMarkdown}
-use Rattle.dom_query.specs.Out.{Ending, HasOneOutput, line_of}
+use Rattle.dom_query.specs.Out.{Ending, HasOneOutput}
+use Rattle.dom_query.specs.Showing.{line_of}
 use Rattle.dom_query.specs.Runs.{Began, Ended}
 use Rattle.dom_query.proofs.Writing.{whole-begun}
 

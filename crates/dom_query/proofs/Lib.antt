@@ -1,3 +1,4 @@
+pub mod PickLemmas
 pub mod Lines
 pub mod Reading
 pub mod Writing

@@ -1,10 +1,20 @@
 -- What stands behind a word in a line, and which line asks for no command.
-use Rattle.std.proofs.Common.{◌≡◌, ◌≢◌, ℕ, List, [], ◌∷◌, ◌++◌, Option, Some, None, Bor, MatchOption, inl, inr, sym, ◌∙◌, ap, append-nil, codes}
+use Rattle.std.proofs.Common.{◌≡◌, ◌≢◌, ℕ, List, [], ◌∷◌, ◌++◌, Option, Some, None, Bor, MatchOption, IfOk, Result, Ok, Err, inl, inr, refl, sym, ◌∙◌, ap, append-nil, codes, false, true, subst}
+use Rattle.std.proofs.lemmas.Bool.{false≢true}
+use Rattle.std.specs.List.{list_all}
 use Rattle.std.specs.Str.{chars}
+use Rattle.dom_markup.specs.Bytes.{is_name_byte}
 use Rattle.std.specs.Str.Pattern.{FindsTextPrefix, StripsPrefix}
 use Rattle.std.proofs.lemmas.List.{append_cancel_left}
-use Rattle.dom_query.specs.declared.script.Command.TheVariants.{Nothing, Select, Count, Text, Formatted, Html, Document}
-use Rattle.dom_query.specs.Script.{HasArgument, IsBad, StandsForNothing}
+use Rattle.dom_selectors.specs.Grammar.{StandsFor}
+use Rattle.dom_selectors.specs.Syntax.{SelectorList}
+use Rattle.dom_query.specs.declared.script.Command.TheVariants.{Nothing, Pick, Go, Show, Attr}
+use Rattle.dom_query.specs.declared.script.Going.{Going}
+use Rattle.dom_query.specs.declared.script.Going.TheVariants.{Parent, Children, Ancestors, Next, Prev, First, Last}
+use Rattle.dom_query.specs.declared.script.Picking.TheVariants.{Select, Find, Filter, Add}
+use Rattle.dom_query.specs.declared.script.Showing.{Showing}
+use Rattle.dom_query.specs.declared.script.Showing.TheVariants.{Count, Text, Formatted, Html, InnerHtml, Document}
+use Rattle.dom_query.specs.Script.{HasArgument, HasName, HasNoName, HasNoSelector, HasSelector, IsBad, IsNoPick, StandsForNothing, going_word, is_name, showing_word}
 
 pub argument-none : (line word : List ℕ) → FindsTextPrefix word line None → (argument : List ℕ) → HasArgument line word argument → ⊥
 argument-none line word lacks argument (inl is) = lacks (32 ∷ argument) is
@@ -38,21 +48,79 @@ argument-once line word a b (inl p) (inr q) = let e : 32 ∷ a ≡ [] = behind-i
 argument-once line word a b (inr p) (inl q) = let e : 32 ∷ b ≡ [] = behind-is line word (32 ∷ b) [] q (p.0 ∙ sym (append-nil word)) in cc
 argument-once line word a b (inr p) (inr q) = p.1 ∙ sym q.1
 
--- the line is none of the words that stand alone
-pub record IsNoWord (line : List ℕ) : Type 0 where
-  pub full : line ≢ []
+-- the line goes nowhere
+pub record IsNoGoing (line : List ℕ) : Type 0 where
+  pub parent : line ≢ codes "parent"
+  pub children : line ≢ codes "children"
+  pub ancestors : line ≢ codes "ancestors"
+  pub next : line ≢ codes "next"
+  pub prev : line ≢ codes "prev"
+  pub first : line ≢ codes "first"
+  pub last : line ≢ codes "last"
+
+pub goes-nowhere : (line : List ℕ) → IsNoGoing line → (going : Going) → line ≢ going_word going
+goes-nowhere line none Parent e = none.parent e
+goes-nowhere line none Children e = none.children e
+goes-nowhere line none Ancestors e = none.ancestors e
+goes-nowhere line none Next e = none.next e
+goes-nowhere line none Prev e = none.prev e
+goes-nowhere line none First e = none.first e
+goes-nowhere line none Last e = none.last e
+
+-- the line shows nothing
+pub record IsNoShowing (line : List ℕ) : Type 0 where
   pub count : line ≢ codes "count"
   pub text : line ≢ codes "text"
   pub formatted : line ≢ codes "formatted"
   pub html : line ≢ codes "html"
+  pub inner_html : line ≢ codes "inner-html"
   pub document : line ≢ codes "document"
 
--- nor does a selector stand behind `select`
-pub bad-line : (line : List ℕ) → IsNoWord line → ((argument : List ℕ) → HasArgument line (codes "select") argument → StandsForNothing (chars argument)) → IsBad line
-bad-line line none unselected Nothing h = none.full h
-bad-line line none unselected (Select selector) h = unselected h.0 h.1 selector h.2
-bad-line line none unselected Count h = none.count h
-bad-line line none unselected Text h = none.text h
-bad-line line none unselected Formatted h = none.formatted h
-bad-line line none unselected Html h = none.html h
-bad-line line none unselected Document h = none.document h
+pub shows-nothing : (line : List ℕ) → IsNoShowing line → (showing : Showing) → line ≢ showing_word showing
+shows-nothing line none Count e = none.count e
+shows-nothing line none Text e = none.text e
+shows-nothing line none Formatted e = none.formatted e
+shows-nothing line none Html e = none.html e
+shows-nothing line none InnerHtml e = none.inner_html e
+shows-nothing line none Document e = none.document e
+
+-- the line picks nothing
+pub picks-nothing : (line : List ℕ) → HasNoSelector line (codes "select") → HasNoSelector line (codes "find") → HasNoSelector line (codes "filter") → HasNoSelector line (codes "add") → IsNoPick line
+picks-nothing line select find filter add Select = select
+picks-nothing line select find filter add Find = find
+picks-nothing line select find filter add Filter = filter
+picks-nothing line select find filter add Add = add
+
+-- a line that has another argument behind the word, or none
+pub no-selector : (line word argument : List ℕ) → HasArgument line word argument → StandsForNothing (chars argument) → HasNoSelector line word
+no-selector line word argument is none = λ selector h. none selector (subst (λ (text : List ℕ). StandsFor (chars text) selector) (argument-once line word h.0 argument h.1 is) h.2)
+
+-- what stands behind the word was read as a selector
+pub selector-read : {E : Type 0} (line word argument : List ℕ) (r : Result (Option SelectorList) E) → HasArgument line word argument
+    → IfOk r (λ found. MatchOption found (StandsForNothing (chars argument)) (StandsFor (chars argument)))
+    → IfOk r (λ found. MatchOption found (HasNoSelector line word) (HasSelector line word))
+selector-read line word argument (Ok (Some selector)) is stands = (argument, is, stands)
+selector-read line word argument (Ok None) is none = no-selector line word argument is none
+selector-read line word argument (Err e) is told = tt
+
+pub no-name : (line word argument : List ℕ) → HasArgument line word argument → is_name argument ≡ false → HasNoName line word
+no-name line word argument is none = λ name h. false≢true (sym none ∙ ap is_name (argument-once line word argument name is h.0) ∙ h.1)
+
+-- the line asks for nothing
+pub record AsksForNothing (line : List ℕ) : Type 0 where
+  pub full : line ≢ []
+  pub goes : (going : Going) → line ≢ going_word going
+  pub shows : (showing : Showing) → line ≢ showing_word showing
+  pub attr : HasNoName line (codes "attr")
+  pub picks : IsNoPick line
+
+pub bad-line : (line : List ℕ) → AsksForNothing line → IsBad line
+bad-line line none Nothing h = none.full h
+bad-line line none (Pick picking selector) h = none.picks picking selector h
+bad-line line none (Go going) h = none.goes going h
+bad-line line none (Show showing) h = none.shows showing h
+bad-line line none (Attr name) h = none.attr name h
+
+pub some-name : (text : List ℕ) → text ≢ [] → list_all is_name_byte text ≡ is_name text
+some-name [] some = absurd (some refl)
+some-name (b ∷ bs) some = refl

@@ -5,8 +5,12 @@ use Rattle.std.specs.Str.{bytes_eq, chars}
 use Rattle.dom_selectors.specs.Syntax.{SelectorList}
 use Rattle.dom_selectors.specs.Grammar.{StandsFor}
 use Rattle.dom_query.specs.declared.script.Command.{Command}
-use Rattle.dom_query.specs.declared.script.Command.TheVariants.{Nothing, Select, Count, Text, Formatted, Html, Document}
-use Rattle.dom_query.specs.Script.{AreCommands, FirstBad, HasArgument, IsBad, IsCommand, IsNoScript, IsScript, lines_of}
+use Rattle.dom_query.specs.declared.script.Command.TheVariants.{Nothing, Pick, Go, Show, Attr}
+use Rattle.dom_query.specs.declared.script.Going.TheVariants.{Parent, Children, Ancestors, Next, Prev, First, Last}
+use Rattle.dom_query.specs.declared.script.Picking.{Picking}
+use Rattle.dom_query.specs.declared.script.Picking.TheVariants.{Select, Find, Filter, Add}
+use Rattle.dom_query.specs.declared.script.Showing.TheVariants.{Count, Text, Formatted, Html, InnerHtml, Document}
+use Rattle.dom_query.specs.Script.{AreCommands, FirstBad, HasArgument, HasSelector, IsBad, IsCommand, IsNoScript, IsScript, lines_of, picking_word}
 use Rattle.dom_query.proofs.Lines.{argument-once}
 
 -- a text stands for one selector at most
@@ -18,63 +22,100 @@ abbrev word_in : List ℕ → List ℕ
 word_in [] = []
 word_in (b ∷ line) = if b == 32 then [] else b ∷ word_in line
 
--- what a word asks for: a command alone, or one with the selector behind the word
+-- what a word asks for: a command alone, one with a selector behind the word, or one that is made of what stands behind it
 data Reading : Type 0 where
   nothing : Reading
   alone : Command → Reading
-  selecting : (List ℕ) → (SelectorList → Command) → Reading
+  picking : Picking → Reading
+  taking : List ℕ → (List ℕ → Command) → Reading
 
 -- the table of words
 abbrev reading : List ℕ → Reading
 reading word =
     if bytes_eq word [] then alone Nothing
-    else if bytes_eq word (codes "select") then selecting (codes "select") Select
-    else if bytes_eq word (codes "count") then alone Count
-    else if bytes_eq word (codes "text") then alone Text
-    else if bytes_eq word (codes "formatted") then alone Formatted
-    else if bytes_eq word (codes "html") then alone Html
-    else if bytes_eq word (codes "document") then alone Document
+    else if bytes_eq word (codes "select") then picking Select
+    else if bytes_eq word (codes "find") then picking Find
+    else if bytes_eq word (codes "filter") then picking Filter
+    else if bytes_eq word (codes "add") then picking Add
+    else if bytes_eq word (codes "parent") then alone (Go Parent)
+    else if bytes_eq word (codes "children") then alone (Go Children)
+    else if bytes_eq word (codes "ancestors") then alone (Go Ancestors)
+    else if bytes_eq word (codes "next") then alone (Go Next)
+    else if bytes_eq word (codes "prev") then alone (Go Prev)
+    else if bytes_eq word (codes "first") then alone (Go First)
+    else if bytes_eq word (codes "last") then alone (Go Last)
+    else if bytes_eq word (codes "count") then alone (Show Count)
+    else if bytes_eq word (codes "text") then alone (Show Text)
+    else if bytes_eq word (codes "formatted") then alone (Show Formatted)
+    else if bytes_eq word (codes "html") then alone (Show Html)
+    else if bytes_eq word (codes "inner-html") then alone (Show InnerHtml)
+    else if bytes_eq word (codes "document") then alone (Show Document)
+    else if bytes_eq word (codes "attr") then taking (codes "attr") Attr
     else nothing
 
 -- a selector stands behind the word, and the command is made of it
-record IsMadeOf (line word : List ℕ) (make : SelectorList → Command) (command : Command) : Type 0 where
+record IsPicked (line : List ℕ) (how : Picking) (command : Command) : Type 0 where
   selector : SelectorList
+  has : HasSelector line (picking_word how) selector
+  is : command ≡ Pick how selector
+
+-- the command is made of what stands behind the word
+record IsTaken (line word : List ℕ) (make : List ℕ → Command) (command : Command) : Type 0 where
   argument : List ℕ
-  behind : HasArgument line word argument
-  stands : StandsFor (chars argument) selector
-  is : command ≡ make selector
+  has : HasArgument line word argument
+  is : command ≡ make argument
 
 abbrev IsReadAs : Reading → List ℕ → Command → Type 0
 IsReadAs nothing line command = ⊥
 IsReadAs (alone known) line command = command ≡ known
-IsReadAs (selecting word make) line command = IsMadeOf line word make command
+IsReadAs (picking how) line command = IsPicked line how command
+IsReadAs (taking word make) line command = IsTaken line word make command
 
 -- a line that is the word and what the table has for it
 at_word : (line word : List ℕ) (command : Command) → line ≡ word → IsReadAs (reading (word_in word)) word command → IsReadAs (reading (word_in line)) line command
 at_word line word command is known = subst (λ (l : List ℕ). IsReadAs (reading (word_in l)) l command) (sym is) known
 
-selected : (line : List ℕ) (selector : SelectorList) → IsCommand line (Select selector) → IsReadAs (reading (word_in line)) line (Select selector)
-selected line selector (argument, inl is, stands) = at_word line (codes "select" ++ 32 ∷ argument) (Select selector) is
-    (record { selector = selector; argument = argument; behind = inl refl; stands = stands; is = refl })
-selected line selector (argument, inr p, stands) = at_word line (codes "select") (Select selector) p.0
-    (record { selector = selector; argument = argument; behind = inr (refl, p.1); stands = stands; is = refl })
+-- a line with an argument behind the word, of which the table has this
+with_argument : (line word argument : List ℕ) (r : Reading) (command : Command) → HasArgument line word argument
+    → reading (word_in (word ++ 32 ∷ argument)) ≡ r → reading (word_in word) ≡ r → IsReadAs r line command → IsReadAs (reading (word_in line)) line command
+with_argument line word argument r command (inl is) spaced bare known = subst (λ k. IsReadAs k line command) (sym (ap (λ (l : List ℕ). reading (word_in l)) is ∙ spaced)) known
+with_argument line word argument r command (inr p) spaced bare known = subst (λ k. IsReadAs k line command) (sym (ap (λ (l : List ℕ). reading (word_in l)) p.0 ∙ bare)) known
+
+picked : (line : List ℕ) (how : Picking) (selector : SelectorList) → HasSelector line (picking_word how) selector → IsPicked line how (Pick how selector)
+picked line how selector h = record { selector = selector; has = h; is = refl }
+
+taken : (line word argument : List ℕ) (make : List ℕ → Command) → HasArgument line word argument → IsTaken line word make (make argument)
+taken line word argument make h = record { argument = argument; has = h; is = refl }
 
 -- each command is what the table has for its word
 is_read : (line : List ℕ) (command : Command) → IsCommand line command → IsReadAs (reading (word_in line)) line command
 is_read line Nothing p = at_word line [] Nothing p refl
-is_read line (Select selector) p = selected line selector p
-is_read line Count p = at_word line (codes "count") Count p refl
-is_read line Text p = at_word line (codes "text") Text p refl
-is_read line Formatted p = at_word line (codes "formatted") Formatted p refl
-is_read line Html p = at_word line (codes "html") Html p refl
-is_read line Document p = at_word line (codes "document") Document p refl
+is_read line (Pick Select selector) p = with_argument line (codes "select") p.0 (picking Select) (Pick Select selector) p.1 refl refl (picked line Select selector p)
+is_read line (Pick Find selector) p = with_argument line (codes "find") p.0 (picking Find) (Pick Find selector) p.1 refl refl (picked line Find selector p)
+is_read line (Pick Filter selector) p = with_argument line (codes "filter") p.0 (picking Filter) (Pick Filter selector) p.1 refl refl (picked line Filter selector p)
+is_read line (Pick Add selector) p = with_argument line (codes "add") p.0 (picking Add) (Pick Add selector) p.1 refl refl (picked line Add selector p)
+is_read line (Go Parent) p = at_word line (codes "parent") (Go Parent) p refl
+is_read line (Go Children) p = at_word line (codes "children") (Go Children) p refl
+is_read line (Go Ancestors) p = at_word line (codes "ancestors") (Go Ancestors) p refl
+is_read line (Go Next) p = at_word line (codes "next") (Go Next) p refl
+is_read line (Go Prev) p = at_word line (codes "prev") (Go Prev) p refl
+is_read line (Go First) p = at_word line (codes "first") (Go First) p refl
+is_read line (Go Last) p = at_word line (codes "last") (Go Last) p refl
+is_read line (Show Count) p = at_word line (codes "count") (Show Count) p refl
+is_read line (Show Text) p = at_word line (codes "text") (Show Text) p refl
+is_read line (Show Formatted) p = at_word line (codes "formatted") (Show Formatted) p refl
+is_read line (Show Html) p = at_word line (codes "html") (Show Html) p refl
+is_read line (Show InnerHtml) p = at_word line (codes "inner-html") (Show InnerHtml) p refl
+is_read line (Show Document) p = at_word line (codes "document") (Show Document) p refl
+is_read line (Attr name) p = with_argument line (codes "attr") name (taking (codes "attr") Attr) (Attr name) p.0 refl refl (taken line (codes "attr") name Attr p.0)
 
 reading-once : OneSelector → (r : Reading) (line : List ℕ) (a b : Command) → IsReadAs r line a → IsReadAs r line b → a ≡ b
 reading-once one nothing line a b p q = absurd p
 reading-once one (alone known) line a b p q = p ∙ sym q
-reading-once one (selecting word make) line a b p q =
-    let same = argument-once line word p.argument q.argument p.behind q.behind in
-    p.is ∙ ap make (one (chars q.argument) p.selector q.selector (subst (λ text. StandsFor (chars text) p.selector) same p.stands) q.stands) ∙ sym q.is
+reading-once one (picking how) line a b p q =
+    let same = argument-once line (picking_word how) p.has.0 q.has.0 p.has.1 q.has.1 in
+    p.is ∙ ap (Pick how) (one (chars q.has.0) p.selector q.selector (subst (λ text. StandsFor (chars text) p.selector) same p.has.2) q.has.2) ∙ sym q.is
+reading-once one (taking word make) line a b p q = p.is ∙ ap make (argument-once line word p.argument q.argument p.has q.has) ∙ sym q.is
 
 -- a line asks for one command at most
 pub command-once : OneSelector → (line : List ℕ) (a b : Command) → IsCommand line a → IsCommand line b → a ≡ b

@@ -1,4 +1,6 @@
 pub mod Script
+pub mod Picking
+pub mod Showing
 pub mod Out
 pub mod Faults
 pub mod Runs

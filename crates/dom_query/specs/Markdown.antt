@@ -6,7 +6,7 @@ use Rattle.dom_links.specs.Forest.{Forest}
 use Rattle.dom_query.specs.declared.runner.RunFault.{RunFault}
 use Rattle.dom_query.specs.declared.runner.RunFault.TheVariants.{Write}
 use Rattle.dom_query.specs.Faults.{IsMarkup, MarkupRefused}
-use Rattle.dom_query.specs.Out.{line_of}
+use Rattle.dom_query.specs.Showing.{line_of}
 
 -- the text is markup, and a text and a line feed were written
 abbrev pub WroteMarkdown : List ℕ → Option (List ℕ) → Option (List ℕ) → Type 0

@@ -1,11 +1,18 @@
 -- The grammar of scripts.
-use Rattle.std.specs.Prelude.{◌≡◌, ◌⊎◌, ◌+◌, ◌==◌, ℕ, zero, suc, List, [], ◌∷◌, ◌++◌, codes, length}
-use Rattle.std.specs.List.{slice_split}
+use Rattle.std.specs.Prelude.{◌≡◌, ◌⊎◌, ◌+◌, ◌==◌, ℕ, zero, suc, Bool, false, true, List, [], ◌∷◌, ◌++◌, codes, length}
+use Rattle.std.specs.List.{list_all, slice_split}
 use Rattle.std.specs.Str.{IsUtf8, chars}
+use Rattle.dom_markup.specs.Bytes.{is_name_byte}
 use Rattle.dom_selectors.specs.Grammar.{StandsFor}
 use Rattle.dom_selectors.specs.Syntax.{SelectorList}
 use Rattle.dom_query.specs.declared.script.Command.{Command}
-use Rattle.dom_query.specs.declared.script.Command.TheVariants.{Nothing, Select, Count, Text, Formatted, Html, Document}
+use Rattle.dom_query.specs.declared.script.Command.TheVariants.{Nothing, Pick, Go, Show, Attr}
+use Rattle.dom_query.specs.declared.script.Going.{Going}
+use Rattle.dom_query.specs.declared.script.Going.TheVariants.{Parent, Children, Ancestors, Next, Prev, First, Last}
+use Rattle.dom_query.specs.declared.script.Picking.{Picking}
+use Rattle.dom_query.specs.declared.script.Picking.TheVariants.{Select, Find, Filter, Add}
+use Rattle.dom_query.specs.declared.script.Showing.{Showing}
+use Rattle.dom_query.specs.declared.script.Showing.TheVariants.{Count, Text, Formatted, Html, InnerHtml, Document}
 
 -- the line is the word, one space and the argument, or the word alone, whose argument is empty
 abbrev pub HasArgument : List ℕ → List ℕ → List ℕ → Type 0
@@ -19,15 +26,63 @@ HasNoArgument line word = (argument : List ℕ) → HasArgument line word argume
 abbrev pub StandsForNothing : List ℕ → Type 0
 StandsForNothing text = (selector : SelectorList) → StandsFor text selector → ⊥
 
+-- the line is the word and a selector
+abbrev pub HasSelector : List ℕ → List ℕ → SelectorList → Type 0
+HasSelector line word selector = (argument : List ℕ) × HasArgument line word argument × StandsFor (chars argument) selector
+
+abbrev pub HasNoSelector : List ℕ → List ℕ → Type 0
+HasNoSelector line word = (selector : SelectorList) → HasSelector line word selector → ⊥
+
+-- one or more name characters
+abbrev pub is_name : List ℕ → Bool
+is_name [] = false
+is_name (b ∷ bs) = list_all is_name_byte (b ∷ bs)
+
+-- the line is the word and a name
+abbrev pub HasName : List ℕ → List ℕ → List ℕ → Type 0
+HasName line word name = HasArgument line word name × (is_name name ≡ true)
+
+abbrev pub HasNoName : List ℕ → List ℕ → Type 0
+HasNoName line word = (name : List ℕ) → HasName line word name → ⊥
+
+-- the words of lines
+abbrev pub picking_word : Picking → List ℕ
+picking_word Select = codes "select"
+picking_word Find = codes "find"
+picking_word Filter = codes "filter"
+picking_word Add = codes "add"
+
+abbrev pub going_word : Going → List ℕ
+going_word Parent = codes "parent"
+going_word Children = codes "children"
+going_word Ancestors = codes "ancestors"
+going_word Next = codes "next"
+going_word Prev = codes "prev"
+going_word First = codes "first"
+going_word Last = codes "last"
+
+abbrev pub showing_word : Showing → List ℕ
+showing_word Count = codes "count"
+showing_word Text = codes "text"
+showing_word Formatted = codes "formatted"
+showing_word Html = codes "html"
+showing_word InnerHtml = codes "inner-html"
+showing_word Document = codes "document"
+
+-- the line asks for this pick; for none
+abbrev pub IsPick : List ℕ → Picking → SelectorList → Type 0
+IsPick line picking selector = HasSelector line (picking_word picking) selector
+
+abbrev pub IsNoPick : List ℕ → Type 0
+IsNoPick line = (picking : Picking) → HasNoSelector line (picking_word picking)
+
 -- the line asks for this command
 abbrev pub IsCommand : List ℕ → Command → Type 0
 IsCommand line Nothing = line ≡ []
-IsCommand line (Select selector) = (argument : List ℕ) × HasArgument line (codes "select") argument × StandsFor (chars argument) selector
-IsCommand line Count = line ≡ codes "count"
-IsCommand line Text = line ≡ codes "text"
-IsCommand line Formatted = line ≡ codes "formatted"
-IsCommand line Html = line ≡ codes "html"
-IsCommand line Document = line ≡ codes "document"
+IsCommand line (Pick picking selector) = IsPick line picking selector
+IsCommand line (Go going) = line ≡ going_word going
+IsCommand line (Show showing) = line ≡ showing_word showing
+IsCommand line (Attr name) = HasName line (codes "attr") name
 
 -- the line asks for no command
 abbrev pub IsBad : List ℕ → Type 0

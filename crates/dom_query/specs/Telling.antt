@@ -6,7 +6,7 @@ use Rattle.dom_query.specs.declared.runner.RunFault.{RunFault}
 use Rattle.dom_query.specs.declared.runner.RunFault.TheVariants.{BadScript, BadMarkup, Edit, TooManyNodes, Memory, Write}
 use Rattle.dom_query.specs.declared.telling.DriveFault.{DriveFault}
 use Rattle.dom_query.specs.declared.telling.DriveFault.TheVariants.{Usage, Read, Run}
-use Rattle.dom_query.specs.Out.{line_of}
+use Rattle.dom_query.specs.Showing.{line_of}
 
 -- the name of an edit's fault
 abbrev pub name_text : EditFault → List ℕ

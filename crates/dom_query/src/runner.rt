@@ -1,23 +1,20 @@
 //! A script of lines, run over markup.
 
-ghost use Rattle.std.specs.Prelude.{◌≡◌, ◌∷◌, [], decimal, length, IfErr, IfOk, OnErr, OnOk};
-ghost use Rattle.dom_markup.specs.Html.{html_of};
-ghost use Rattle.dom_markup.specs.Writing.{Writes};
+ghost use Rattle.std.specs.Prelude.{◌≡◌, ◌∷◌, [], IfErr, IfOk, OnErr, OnOk};
 ghost use Rattle.dom_query.specs.Faults.{GaveOut, IsMarkup, MarkupRefused};
-ghost use Rattle.dom_query.specs.Out.{first_html, formatted_of, line_of, texts_of};
 ghost use Rattle.dom_query.specs.Out.Ending.{done};
 ghost use Rattle.dom_query.specs.Runs.{Began, Did, DidAll, DidAllBegin, DidBegin, Ended, Tells};
 
-use crate::numbers::write_number;
+mod picking;
+mod showing;
+
+use crate::runner::picking::{go, pick};
+use crate::runner::showing::{show, write_attr};
 use crate::script::{Command, ScriptFault, read_script};
 use dom_markup::document::Document;
-use dom_markup::serializing::{NodeMarkup, TraversalScope, WriteFault};
-use dom_markup::writing::write_bytes;
-use dom_md::formatting::formatted_node;
+use dom_markup::serializing::WriteFault;
 use dom_nodes::fault::{EditFault, MarkupFaultKind, OutOfMemory};
 use dom_nodes::node_id::NodeId;
-use dom_select::matcher::descendants::select_below;
-use dom_trees::node_ref::NodeRef;
 use dom_trees::tree::Tree;
 use std::alloc::{AllocError, Global};
 use std::io::Write;
@@ -91,61 +88,6 @@ impl From<ScriptFault> for RunFault {
     }
 }
 
-/// Writes the number of the nodes, and a line feed.
-fn write_count<W: Write>(selection: &[NodeId], out: &mut W) -> Result<(), WriteFault>
-    ensures { Writes (W.contents out.old) (W.contents out.new) result
-        (line_of (decimal (length selection.now))) }
-{
-    write_number(out, selection.len())?;
-    write_bytes(out, b"\n")
-}
-
-/// Writes the texts of the nodes, and a line feed.
-fn write_texts<W: Write>(tree: &Tree, selection: &[NodeId], out: &mut W) -> Result<(), RunFault>
-    ensures writes { Writes (W.contents out.old) (W.contents out.new) result
-        (line_of (texts_of tree.now selection.now)) }
-    ensures cause { IfErr result GaveOut }
-{
-    for id in selection {
-        let text = NodeRef::new(*id, tree).text()?;
-        write_bytes(out, text.as_bytes())?;
-    }
-    Ok(write_bytes(out, b"\n")?)
-}
-
-/// Writes the formatted texts of the nodes, each with its own tags, and a line feed.
-fn write_formatted<W: Write>(tree: &Tree, selection: &[NodeId], out: &mut W) -> Result<(), RunFault>
-    ensures writes { Writes (W.contents out.old) (W.contents out.new) result
-        (line_of (formatted_of tree.now selection.now)) }
-    ensures cause { IfErr result GaveOut }
-{
-    for id in selection {
-        let text = formatted_node(&NodeRef::new(*id, tree))?;
-        write_bytes(out, text.as_bytes())?;
-    }
-    Ok(write_bytes(out, b"\n")?)
-}
-
-/// Writes the HTML of a node, and a line feed.
-fn write_node<W: Write>(tree: &Tree, id: NodeId, out: &mut W) -> Result<(), WriteFault>
-    ensures { Writes (W.contents out.old) (W.contents out.new) result
-        (line_of (html_of tree.now id)) }
-{
-    NodeRef::new(id, tree).write_html(TraversalScope::IncludeNode, out)?;
-    write_bytes(out, b"\n")
-}
-
-/// Writes the HTML of the first node, or nothing, and a line feed.
-fn write_first<W: Write>(tree: &Tree, selection: &[NodeId], out: &mut W) -> Result<(), WriteFault>
-    ensures { Writes (W.contents out.old) (W.contents out.new) result
-        (line_of (first_html tree.now selection.now)) }
-{
-    match selection.first() {
-        Some(id) => write_node(tree, *id, out),
-        None => write_bytes(out, b"\n"),
-    }
-}
-
 /// Does what one line asks for, and gives what is selected then.
 fn do_command<W: Write>(
     tree: &Tree,
@@ -161,25 +103,14 @@ fn do_command<W: Write>(
 {
     match command {
         Command::Nothing => Ok(selection),
-        Command::Select(matcher) => Ok(select_below(tree, &NodeId::root(), matcher)?),
-        Command::Count => {
-            write_count(&selection, out)?;
+        Command::Pick(picking, matcher) => Ok(pick(tree, &selection, *picking, matcher)?),
+        Command::Go(going) => Ok(go(tree, &selection, *going)?),
+        Command::Show(showing) => {
+            show(tree, &selection, *showing, out)?;
             Ok(selection)
         }
-        Command::Text => {
-            write_texts(tree, &selection, out)?;
-            Ok(selection)
-        }
-        Command::Formatted => {
-            write_formatted(tree, &selection, out)?;
-            Ok(selection)
-        }
-        Command::Html => {
-            write_first(tree, &selection, out)?;
-            Ok(selection)
-        }
-        Command::Document => {
-            write_node(tree, NodeId::root(), out)?;
+        Command::Attr(name) => {
+            write_attr(tree, &selection, name.as_str(), out)?;
             Ok(selection)
         }
     }

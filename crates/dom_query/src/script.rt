@@ -1,34 +1,81 @@
 //! The lines of a script, and the commands that they ask for.
 
-ghost use Rattle.std.specs.Prelude.{◌≡◌, ◌≢◌, ◌∷◌, ◌++◌, [], chars};
-ghost use Rattle.std.specs.Prelude.{IfErr, IfOk, OnOk, MatchBool, MatchOption};
+ghost use Rattle.std.specs.Prelude.{◌≡◌, ◌∷◌, ◌++◌, [], IfErr, IfOk, OnOk, MatchOption};
 ghost use Rattle.dom_query.specs.Faults.{ScriptRefused};
-ghost use Rattle.dom_query.specs.Script.{HasArgument, HasNoArgument, StandsForNothing};
-ghost use Rattle.dom_query.specs.Script.{IsBad, IsCommand, IsScript};
-ghost use Rattle.dom_selectors.specs.Grammar.{StandsFor};
+ghost use Rattle.dom_query.specs.Script.{IsBad, IsCommand, IsNoPick, IsPick, IsScript};
 
+mod arguments;
+mod words;
+
+use crate::script::arguments::{name_behind, selector_behind};
+use crate::script::words::{going_of, showing_of};
 use dom_nodes::fault::OutOfMemory;
+use dom_nodes::text::Text;
 use dom_select::matcher::Matcher;
-use dom_selectors::fault::SelectorFault;
 use std::alloc::Global;
 
-/// What a line asks for.
+/// What a selector is asked for.
+#[derive(Clone, Copy, Drop)]
+pub enum Picking {
+    /// The matches below the root.
+    Select,
+    /// The matches below the selected nodes.
+    Find,
+    /// Those of the selected nodes that it means.
+    Filter,
+    /// The selected nodes, and then the matches below the root that aren't among them.
+    Add,
+}
+
+/// Where the selected nodes lead.
+#[derive(Clone, Copy, Drop)]
+pub enum Going {
+    /// To their parents.
+    Parent,
+    /// To their children.
+    Children,
+    /// To the elements above them.
+    Ancestors,
+    /// To the nearest elements after them.
+    Next,
+    /// To the nearest elements before them.
+    Prev,
+    /// To the first of them.
+    First,
+    /// To the last of them.
+    Last,
+}
+
+/// What of the selected nodes is written.
+#[derive(Clone, Copy, Drop)]
+pub enum Showing {
+    /// Their number.
+    Count,
+    /// Their texts.
+    Text,
+    /// Their formatted texts.
+    Formatted,
+    /// The HTML of the first.
+    Html,
+    /// The HTML of the first one's children.
+    InnerHtml,
+    /// The HTML of the root.
+    Document,
+}
+
+/// What a line asks for. The texts are its own, so that two readings of a line can be compared.
 #[derive(Drop)]
 pub enum Command {
     /// The line is empty.
     Nothing,
-    /// The matches below the root are selected.
-    Select(Matcher),
-    /// The number of selected nodes is written.
-    Count,
-    /// The texts of the selected nodes are written.
-    Text,
-    /// The formatted texts of the selected nodes are written.
-    Formatted,
-    /// The HTML of the first selected node is written.
-    Html,
-    /// The HTML of the root is written.
-    Document,
+    /// Nodes are selected by a selector.
+    Pick(Picking, Matcher),
+    /// Nodes are selected that the selected ones lead to.
+    Go(Going),
+    /// Something is written.
+    Show(Showing),
+    /// The first node's attribute of this local name is written.
+    Attr(Text),
 }
 
 /// Why a text was not read as a script.
@@ -50,40 +97,24 @@ impl From<OutOfMemory> for ScriptFault {
     }
 }
 
-/// What stands behind the word and one space; nothing behind the word alone. None where the line is
-/// another.
-fn argument_of<'a>(line: &'a str, word: &str) -> Option<&'a str>
-    ensures { MatchOption result (HasNoArgument line.now word.now)
-        (λ argument. HasArgument line.now word.now argument.now) }
+/// The pick that the line asks for, if it asks for one.
+fn pick_of(alloc: Global, line: &str) -> Result<Option<(Picking, Matcher)>, OutOfMemory>
+    ensures { IfOk result (λ found. MatchOption found (IsNoPick line.now)
+        (λ pick. IsPick line.now pick.0 pick.1)) }
 {
-    let behind = line.strip_prefix(word)?;
-    if behind.is_empty() {
-        return Some(behind);
+    if let Some(matcher) = selector_behind(alloc, line, "select")? {
+        return Ok(Some((Picking::Select, matcher)));
     }
-    behind.strip_prefix(' ')
-}
-
-/// The selector, if the text is one.
-fn selector_of(alloc: Global, text: &str) -> Result<Option<Matcher>, OutOfMemory>
-    ensures { IfOk result (λ found.
-        MatchOption found (StandsForNothing (chars text.now)) (StandsFor (chars text.now))) }
-{
-    match Matcher::new(alloc, text) {
-        Ok(matcher) => Ok(Some(matcher)),
-        Err(fault) => {
-            if is_memory(fault) {
-                return Err(OutOfMemory);
-            }
-            Ok(None)
-        }
+    if let Some(matcher) = selector_behind(alloc, line, "find")? {
+        return Ok(Some((Picking::Find, matcher)));
     }
-}
-
-/// Whether it was memory that was refused.
-fn is_memory(fault: SelectorFault) -> bool
-    ensures { MatchBool result (fault ≡ SelectorFault.Memory) (fault ≢ SelectorFault.Memory) }
-{
-    matches!(fault, SelectorFault::Memory)
+    if let Some(matcher) = selector_behind(alloc, line, "filter")? {
+        return Ok(Some((Picking::Filter, matcher)));
+    }
+    if let Some(matcher) = selector_behind(alloc, line, "add")? {
+        return Ok(Some((Picking::Add, matcher)));
+    }
+    Ok(None)
 }
 
 /// What the line asks for, if it asks for a command.
@@ -93,26 +124,17 @@ fn command_of(alloc: Global, line: &str) -> Result<Option<Command>, OutOfMemory>
     if line.is_empty() {
         return Ok(Some(Command::Nothing));
     }
-    if line == "count" {
-        return Ok(Some(Command::Count));
+    if let Some(going) = going_of(line) {
+        return Ok(Some(Command::Go(going)));
     }
-    if line == "text" {
-        return Ok(Some(Command::Text));
+    if let Some(showing) = showing_of(line) {
+        return Ok(Some(Command::Show(showing)));
     }
-    if line == "formatted" {
-        return Ok(Some(Command::Formatted));
+    if let Some(name) = name_behind(alloc, line, "attr")? {
+        return Ok(Some(Command::Attr(name)));
     }
-    if line == "html" {
-        return Ok(Some(Command::Html));
-    }
-    if line == "document" {
-        return Ok(Some(Command::Document));
-    }
-    let Some(argument) = argument_of(line, "select") else {
-        return Ok(None);
-    };
-    match selector_of(alloc, argument)? {
-        Some(matcher) => Ok(Some(Command::Select(matcher))),
+    match pick_of(alloc, line)? {
+        Some((picking, matcher)) => Ok(Some(Command::Pick(picking, matcher))),
         None => Ok(None),
     }
 }

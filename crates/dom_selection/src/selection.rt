@@ -96,6 +96,18 @@ impl<'a> Selection<'a> {
         }
     }
 
+    /// The nodes of these numbers in the tree, in their order.
+    pub fn from_ids(tree: &'a Tree, ids: &[NodeId]) -> Result<Selection<'a>, OutOfMemory>
+        ensures { Lists result (refs_to tree.entry ids.now) }
+    {
+        let root = tree.root();
+        let mut nodes = Vec::new(tree.allocator());
+        for id in ids {
+            push_node(&mut nodes, &NodeRef::new(*id, root.tree))?;
+        }
+        Ok(Selection::of_one_tree(nodes))
+    }
+
     /// The nodes.
     pub fn nodes(&self) -> &[NodeRef<'a>]
         ensures nodes { result.now ≡ self.now }

@@ -48,7 +48,7 @@ impl Tree {
 
     /// Makes a change of a node. Refused as `UnknownNode`, and as `Memory` of an element, where the
     /// change asks for memory.
-    pub(crate) fn try_change_of(&mut self, id: &NodeId, change: Change) -> Result<(), EditFault>
+    pub fn try_change_of(&mut self, id: &NodeId, change: Change) -> Result<(), EditFault>
         ensures { Edits result self.old self.new (changing id.now change.entry) }
     {
         check_known(&self.nodes, *id)?;

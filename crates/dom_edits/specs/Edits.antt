@@ -1,0 +1,39 @@
+-- What is done at a node, and at each node of a list.
+use Rattle.std.specs.Prelude.{◌≡◌, ℕ, List, [], ◌∷◌, Result, Some, IfErr, OnOk, map, slice_get, take}
+use Rattle.dom_links.specs.Forest.{Forest}
+use Rattle.dom_links.specs.Stripped.{stripped}
+use Rattle.dom_trees.specs.Edits.{IsKnown, TreeEdit, changing, normalizing, removing, texting, unwrapping}
+use Rattle.dom_trees.specs.Refusals.{KnownCause}
+use Rattle.dom_edits.specs.declared.edit.Edit.{Edit}
+use Rattle.dom_edits.specs.declared.edit.Edit.TheVariants.{Change, SetText, Remove, Unwrap, Strip, Normalize}
+use Rattle.dom_edits.specs.declared.edit.SelectionFault.{SelectionFault}
+
+-- the elements below x of these local names are replaced by their children
+abbrev pub stripping : List (List ℕ) → ℕ → TreeEdit
+stripping names x = record { after = stripped names x; Allowed = IsKnown x; Cause = KnownCause x }
+
+-- what is done at the node
+abbrev pub edit_at : Edit → ℕ → TreeEdit
+edit_at (Change change) n = changing n change
+edit_at (SetText text) n = texting n text.now
+edit_at Remove n = removing n
+edit_at Unwrap n = unwrapping n
+edit_at (Strip names) n = stripping (map (λ name. name.now) names.now) n
+edit_at Normalize n = normalizing n
+
+-- it is done at each of the nodes, one after the other, and was allowed there
+abbrev pub Each : (ℕ → TreeEdit) → List ℕ → Forest → Forest → Type 0
+Each edit [] old new = new ≡ old
+Each edit (n ∷ ns) old new = (edit n).Allowed old × Each edit ns ((edit n).after old) new
+
+-- it is done at exactly the first `done` nodes, and at the next one it is refused with its cause
+pub record Stops (edit : ℕ → TreeEdit) (nodes : List ℕ) (old new : Forest) (stop : SelectionFault) : Type 0 where
+  pub node : ℕ
+  pub next : slice_get nodes stop.done ≡ Some node
+  pub before : Each edit (take stop.done nodes) old new
+  pub cause : (edit node).Cause new stop.fault
+
+-- It is done at each of the nodes, or it stops at one
+pub record EditsEach (result : Result Unit SelectionFault) (old new : Forest) (nodes : List ℕ) (edit : ℕ → TreeEdit) : Type 0 where
+  pub ok : OnOk result (Each edit nodes old new)
+  pub err : IfErr result (Stops edit nodes old new)

@@ -1,0 +1,18 @@
+use Rattle.std.proofs.Common.{◌≢◌, List, ℕ, refl, chars}
+use Rattle.dom_selectors.specs.declared.fault.SelectorFault.{SelectorFault}
+use Rattle.dom_selectors.specs.declared.fault.SelectorFault.TheVariants.{Syntax, UnknownPseudoClass, Number, NestedHas, TooDeep, Memory}
+use Rattle.dom_selectors.specs.Grammar.{Refused}
+use Rattle.dom_query.specs.Script.{StandsForNothing}
+use Rattle.dom_query.proofs.script.arguments.selector_of.Goals as goal
+
+-- a fault other than memory tells that the text stands for nothing
+told : (text : List ℕ) (fault : SelectorFault) → Refused text fault → fault ≢ Memory → StandsForNothing text
+told text Syntax refused other = refused
+told text UnknownPseudoClass refused other = refused.1
+told text Number refused other = refused.1
+told text NestedHas refused other = refused.1
+told text TooDeep refused other = refused.1
+told text Memory refused other = absurd (other refl)
+
+pub returns-else-is_memory : goal.returns-else-is_memory
+returns-else-is_memory c = told (chars c.args.text.now) c.in-Err.fault c.in-Err.ensures.refused c.if-is_memory.ensures

@@ -1,0 +1,10 @@
+use Rattle.std.proofs.Common.{◌∙◌, ap, take}
+use Rattle.std.proofs.lemmas.List.{take_all}
+use Rattle.std.specs.Borrow.{Bor}
+use Rattle.dom_links.specs.Forest.{Forest}
+use Rattle.dom_trees.specs.Views.{refs_to}
+use Rattle.dom_selection.proofs.SelectionLemmas.{one_tree_of}
+use Rattle.dom_selection.proofs.selection.Selection.from_ids.Goals as goal
+
+pub of_one_tree-requires : goal.of_one_tree-requires
+of_one_tree-requires c = one_tree_of _ c.root-root.result.tree _ c.loop-id.invariant
