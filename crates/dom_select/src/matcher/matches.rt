@@ -7,7 +7,7 @@ ghost use Rattle.std.specs.Prelude.{◌≡◌, ◌↔◌, ◌∷◌, [], map, If
 ghost use Rattle.std.specs.Prelude.{◌<◌, false, MatchOption};
 ghost use Rattle.dom_selectors.specs.ListsAsTrees.{lists_of, steps_of};
 ghost use Rattle.dom_select.specs.Leftward.{ends_at};
-ghost use Rattle.dom_select.specs.Meaning.{Holds, LeadsOn, LeadsToSome, ListsHold, ListHolds};
+ghost use Rattle.dom_select.specs.Meaning.{Holds, LeadsOn, LeadsToSome, ListsHold, ListHolds, MayBeside};
 ghost use Rattle.dom_select.specs.Meaning.{Means, MeansType, PartsHold, Reaches};
 ghost use Rattle.dom_selectors.specs.ValuesAsTrees.{read_compound, read_list, read_nested};
 ghost use Rattle.dom_selectors.specs.ValuesAsTrees.{read_step};
@@ -316,6 +316,31 @@ fn end_holds(
     }
 }
 
+/// Whether steps may be followed from the node to the left: it may stand beside the combinator, and
+/// it bears the name that the last compound begins with.
+fn may_follow(
+    start: &Start,
+    first: &Compound,
+    steps: &[Step],
+    combinator: Combinator,
+    tree: &Tree,
+    spared: NodeId,
+    id: NodeId,
+) -> bool
+    ensures beside { IsTrue result → MayBeside tree.now spared combinator id }
+    ensures others { result ≡ false → MayBeside tree.now spared combinator id
+        × Reaches (Begins start.now (read_compound first.now) tree.now)
+        (steps_of (map read_step steps.now)) tree.now spared id → ⊥ }
+{
+    if !may_beside(tree, spared, combinator, id) {
+        return false;
+    }
+    match steps.split_last() {
+        None => !lacks_name(first, tree, &id),
+        Some((last, _)) => !lacks_name(&last.compound, tree, &id),
+    }
+}
+
 /// Where a chain was followed to: the steps that are left, and the node that they must reach.
 #[derive(Clone, Copy)]
 struct Place<'a> {
@@ -397,7 +422,7 @@ fn follow_from<'a>(
 {
     let mut at = id;
     while let Some(v) = on_the_left(tree, combinator, at) {
-        if may_beside(tree, spared, combinator, v) {
+        if may_follow(start, first, steps, combinator, tree, spared, v) {
             let level = looseness(combinator);
             if let Some(place) = follow(level, start, first, steps, tree, caches, spared, v) {
                 return Some(place);

@@ -9,7 +9,7 @@ use Rattle.dom_select.proofs.HasLemmas.{ends_if, leads_here, leads_later, led_to
 use Rattle.dom_select.proofs.StepLemmas.{read_front_and_last, weight_front_and_last}
 use Rattle.dom_select.proofs.FollowLemmas.{ends_here, ends_match, followed_all, followed_nearest, followed_so_far, following_at, following_none, following_more, following_not, is_nil, line_back, next_precedes, reaches_alone, reaches_end, some_where, weight_cut}
 use Rattle.dom_select.proofs.matcher.matches.+matching.Goals as goal
-use Rattle.dom_select.proofs.matcher.matches.+matching.Goals.{follow_from-then-may_beside+in_default-follow, follow_from-else-may_beside}
+use Rattle.dom_select.proofs.matcher.matches.+matching.Goals.{follow_from-then-may_follow+in_default-follow, follow_from-else-may_follow}
 
 pub end_holds-holds-requires : goal.end_holds-holds-requires
 end_holds-holds-requires t c =
@@ -71,7 +71,7 @@ follow_from-follow-requires t c = (
 pub follow_from-returns-in-Some-follow-clause-is : goal.follow_from-returns-in-Some-follow-clause-is
 follow_from-returns-in-Some-follow-clause-is t c =
     followed_nearest c.args.tree.now c.args.spared (Begins c.args.start.now (read_compound c.args.first.now) c.args.tree.now) c.on_the_left.ensures.lines c.args.combinator (map read_step c.args.steps.now) (map read_step c.in-Some-follow.place.left.now)
-    c.args.id c.loop-v.at c.in-Some.v c.in-Some-follow.place.at c.looseness-level.result c.requires.before (sym c.in-Some.ensures.link) (c.may_beside.ensures.0 c.if-may_beside.true) c.looseness-level.ensures c.in-Some-follow.ensures.is
+    c.args.id c.loop-v.at c.in-Some.v c.in-Some-follow.place.at c.looseness-level.result c.requires.before (sym c.in-Some.ensures.link) (c.may_follow.ensures.beside c.if-may_follow.true) c.looseness-level.ensures c.in-Some-follow.ensures.is
     c.loop-v.invariant.forth c.loop-v.invariant.back
 
 pub follow_from-returns-then-ends_at-clause-is : goal.follow_from-returns-then-ends_at-clause-is
@@ -79,9 +79,9 @@ follow_from-returns-then-ends_at-clause-is t c =
     let forest = c.args.tree.now in
     let k = c.args.combinator in
     let Q : ℕ → Type 0 = IsMeant forest c.args.spared (Begins c.args.start.now (read_compound c.args.first.now) c.args.tree.now) (steps_of (map read_step c.args.steps.now)) k in
-    let refuted : Q c.in-Some.v → ⊥ = elim c.if-may_beside.branch [
-      | follow_from-then-may_beside+in_default-follow w ↦ λ q. w.in_default-follow.ensures.is q.1
-      | follow_from-else-may_beside w ↦ λ q. not_so _ _ c.may_beside.ensures w.if-may_beside.false q.0
+    let refuted : Q c.in-Some.v → ⊥ = elim c.if-may_follow.branch [
+      | follow_from-then-may_follow+in_default-follow w ↦ λ q. w.in_default-follow.ensures.is q.1
+      | follow_from-else-may_follow w ↦ λ q. c.may_follow.ensures.others w.if-may_follow.false q
     ] in
     let none = left_ends forest k Q c.on_the_left.ensures.lines c.loop-v.at c.in-Some.v (sym c.in-Some.ensures.link) refuted (sym c.ends_at.ensures ∙ c.if-ends_at.true) in
     λ s. none (c.loop-v.invariant.forth (to_line Q forest k c.args.id s.0 c.on_the_left.ensures.lines s.1 s.2))
@@ -96,16 +96,16 @@ follow_from-loop-v-preserved t c =
     let forest = c.args.tree.now in
     let k = c.args.combinator in
     let Q : ℕ → Type 0 = IsMeant forest c.args.spared (Begins c.args.start.now (read_compound c.args.first.now) c.args.tree.now) (steps_of (map read_step c.args.steps.now)) k in
-    let refuted : Q c.in-Some.v → ⊥ = elim c.if-may_beside.branch [
-      | follow_from-then-may_beside+in_default-follow w ↦ λ q. w.in_default-follow.ensures.is q.1
-      | follow_from-else-may_beside w ↦ λ q. not_so _ _ c.may_beside.ensures w.if-may_beside.false q.0
+    let refuted : Q c.in-Some.v → ⊥ = elim c.if-may_follow.branch [
+      | follow_from-then-may_follow+in_default-follow w ↦ λ q. w.in_default-follow.ensures.is q.1
+      | follow_from-else-may_follow w ↦ λ q. c.may_follow.ensures.others w.if-may_follow.false q
     ] in
     let link = sym c.in-Some.ensures.link in
     let goes = sym c.ends_at.ensures ∙ c.if-ends_at.false in
     record {
-      kept = elim c.if-may_beside.branch [
-        | follow_from-then-may_beside+in_default-follow w ↦ w.caches-is ∙ w.in_default-follow.ensures.kept
-        | follow_from-else-may_beside w ↦ w.caches-is ∙ c.loop-v.invariant.kept
+      kept = elim c.if-may_follow.branch [
+        | follow_from-then-may_follow+in_default-follow w ↦ w.caches-is ∙ w.in_default-follow.ensures.kept
+        | follow_from-else-may_follow w ↦ w.caches-is ∙ c.loop-v.invariant.kept
       ];
       forth = λ s. (left_farther forest k Q c.on_the_left.ensures.lines c.loop-v.at c.in-Some.v link refuted goes).0 (c.loop-v.invariant.forth s);
       back = λ u s. c.loop-v.invariant.back u (line_back forest c.args.spared (Begins c.args.start.now (read_compound c.args.first.now) c.args.tree.now) c.on_the_left.ensures.lines k (map read_step c.args.steps.now) c.loop-v.at c.in-Some.v u link goes s);
