@@ -7,7 +7,7 @@ A case is a line of a file cases/*.jsonl: `markup` is standard input and `script
 arguments in its place; `markup_hex` and `script_hex` give bytes that are no text), `output` and `error` are what must
 stand on standard output and standard error, and `status` is the exit status, 0 if not given.
 
-A snippet is a block of README.md or docs/API.md: one of rust stands in a file of crates/tour/src, line for line but for
+A snippet is a block of README.md, docs/API.md or docs/SINK.md: one of rust stands in a file of crates/tour/src, line for line but for
 its indentation, and one of text in crates/tour/stdout, which the gate compares with what `tour` prints.
 
 A caller that must not compile is a file cases/must-not-compile/NAME-WHAT.txt, a program that uses the crate NAME alone. One
@@ -125,7 +125,7 @@ def snippets():
         "text": [(tour / "stdout").read_text(encoding="utf-8")],
     }
     passed = failed = 0
-    for document in (ROOT / "README.md", ROOT / "docs" / "API.md"):
+    for document in (ROOT / "README.md", ROOT / "docs" / "API.md", ROOT / "docs" / "SINK.md"):
         for kind, start, block in blocks(document):
             if any(stands_in(block, text) for text in known.get(kind, [])):
                 passed += 1

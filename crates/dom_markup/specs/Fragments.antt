@@ -9,7 +9,8 @@ use Rattle.dom_trees.specs.NewNodes.{html_element}
 use Rattle.dom_trees.specs.Views.{has_local_name, node_is}
 use Rattle.dom_markup.specs.Markup.{Spells}
 use Rattle.dom_markup.specs.Numbered.{document_of}
-use Rattle.dom_markup.specs.Refusals.{BeginsTooManyNodes, Refused}
+use Rattle.dom_markup.specs.FaultKinds.{IsLimitFault}
+use Rattle.dom_markup.specs.Refusals.{BeginsTooManyNodes, IsFaultAt, Refused}
 use Rattle.dom_markup.specs.ValueTrees.{ValueTrees}
 
 -- what is read of a document as a fragment: the nodes at the top, but for doctypes
@@ -29,6 +30,10 @@ abbrev pub FragmentRefused : List ℕ → MarkupFaultKind → Type 0
 FragmentRefused text TooManyNodes =
     BeginsTooManyNodes text ⊎ ((trees : ValueTrees) × Spells text trees × (4294967295 < length (fragment_read (document_of trees)).content))
 FragmentRefused text kind = Refused text kind
+
+-- what a fault tells of a byte of such a text: what it tells of a document, or that a limit was met once all was read
+abbrev pub IsFragmentFaultAt : List ℕ → ℕ → MarkupFaultKind → Type 0
+IsFragmentFaultAt text at kind = IsFaultAt text at kind ⊎ ((at ≡ length text) × IsLimitFault kind)
 
 -- of these a fragment holds the whole tree, as it is: the root, and an element `html`
 abbrev pub is_whole : Forest → ℕ → Bool

@@ -1,5 +1,5 @@
 -- What the calls do by which a parser fills a document.
-use Rattle.std.specs.Prelude.{ℕ, ◌≡◌, List, [], ◌∷◌, ◌++◌, Result, IfOk, OnErr, OnOk, is_some, map, string_bytes, if◌then◌else◌}
+use Rattle.std.specs.Prelude.{ℕ, ◌≡◌, List, [], ◌∷◌, ◌++◌, Result, OnErr, OnOk, is_some, map, string_bytes, if◌then◌else◌}
 use Rattle.dom_nodes.specs.declared.fault.EditFault.{EditFault}
 use Rattle.dom_nodes.specs.declared.fault.OutOfMemory.{OutOfMemory}
 use Rattle.dom_links.specs.Forest.{Forest, parent}

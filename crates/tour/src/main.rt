@@ -1,11 +1,12 @@
-//! The snippets of README.md and docs/API.md, one after the other. `check` compares them with these
-//! files.
+//! The snippets of README.md, docs/API.md and docs/SINK.md, one after the other. `check` compares
+//! them with these files.
 #![tactic(auto)]
 
 mod changing;
 mod fault;
 mod finding;
 mod links;
+mod parens;
 mod reading;
 mod walking;
 mod writing;
@@ -20,5 +21,6 @@ fn main(rt: HostRuntime) -> Result<(), TourFault> {
     finding::print_found(alloc, &mut out)?;
     walking::print_list(alloc, &mut out)?;
     changing::print_changed(alloc, &mut out)?;
-    writing::print_written(alloc, &mut out)
+    writing::print_written(alloc, &mut out)?;
+    parens::print_read(alloc, &mut out)
 }

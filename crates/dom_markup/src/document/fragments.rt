@@ -1,17 +1,22 @@
 //! Fragments: markup that is read below an element `html`, and copies of nodes as such.
 
-ghost use Rattle.std.specs.Prelude.{◌≡◌, ◌≤◌, [], IfErr, IfOk, MatchResult, length};
+ghost use Rattle.std.specs.Prelude.{◌≡◌, ◌≤◌, [], IfErr, IfOk, List, MatchResult, length};
 ghost use Rattle.dom_nodes.specs.declared.fault.EditFault.TheVariants.{Memory};
 ghost use Rattle.dom_nodes.specs.Kinds.{is_doctype, is_top};
 ghost use Rattle.dom_links.specs.Copies.{FragmentCause};
 ghost use Rattle.dom_links.specs.Growth.{lone};
 ghost use Rattle.dom_trees.specs.NewNodes.{html_element};
 ghost use Rattle.dom_trees.specs.Views.{node_is};
-ghost use Rattle.dom_markup.specs.Fragments.{FragmentRefused, IsFragmentOf, fragment_roots};
-ghost use Rattle.dom_markup.specs.Fragments.{is_whole, node_fragment, top_nodes};
+ghost use Rattle.dom_markup.specs.FaultKinds.{HoldsMark, IsLimitFault, IsNestingFault};
+ghost use Rattle.dom_markup.specs.Fragments.{FragmentRefused, IsFragmentFaultAt, IsFragmentOf};
+ghost use Rattle.dom_markup.specs.Fragments.{fragment_roots, is_whole, node_fragment, top_nodes};
 ghost use Rattle.dom_markup.specs.Limits.{limit_kind};
+ghost use Rattle.dom_markup.specs.Markup.{Item, Spells, SpellsItemsUpTo};
+ghost use Rattle.dom_markup.specs.Names.{markup};
+ghost use Rattle.dom_markup.specs.ValueTrees.{ValueTrees};
 
 use crate::document::{Document, QuirksMode, whole};
+use crate::laws::faults::kinds_of_faults;
 use dom_nodes::fault::{EditFault, MarkupFault, MarkupFaultKind, OutOfMemory};
 use dom_nodes::node_data::NodeData;
 use dom_nodes::node_id::NodeId;
@@ -35,14 +40,22 @@ impl Document {
 
     /// The fragment that the text spells: a fragment node, below it an element `html`, and below
     /// that what `parse` would read, without doctypes, numbered in order of start. Refused as
-    /// `parse` refuses the text.
+    /// `parse` refuses the text, or by a limit that was met once all was read.
     pub fn fragment(alloc: Global, source: &str) -> Result<Document, MarkupFault>
         ensures ok { IfOk result (λ document. IsFragmentOf source.now document.tree) }
         ensures no_errors { IfOk result (λ document. document.errors.items ≡ []) }
         ensures no_quirks { IfOk result (λ document. document.quirks_mode ≡ QuirksMode.NoQuirks) }
         ensures refused { IfErr result (λ fault. FragmentRefused source.now fault.kind) }
         ensures place { IfErr result (λ fault. fault.at ≤ length source.now) }
+        ensures cause { IfErr result
+            (λ fault. IsFragmentFaultAt source.now fault.at fault.kind) }
+        ensures limits { (trees : ValueTrees) → Spells source.now trees
+            → IfErr result (λ fault. IsLimitFault fault.kind) }
+        ensures nesting { IfErr result (λ fault. (items : List Item)
+            → SpellsItemsUpTo markup source.now items [] → IsNestingFault fault.kind) }
+        ensures marks { IfErr result (λ fault. HoldsMark source.now fault.kind) }
     {
+        kinds_of_faults();
         let read = Document::read(alloc, source)?;
         let Ok(tops) = top_nodes(&read.tree) else {
             return Err(MarkupFault {
@@ -82,7 +95,8 @@ fn is_doctype(tree: &Tree, id: NodeId) -> bool
 
 /// What a limit that copies met is called in markup.
 fn limit_of(fault: EditFault) -> MarkupFaultKind
-    ensures { result ≡ limit_kind fault }
+    ensures is { result ≡ limit_kind fault }
+    ensures limit { IsLimitFault result }
 {
     match fault {
         EditFault::TooManyNodes => MarkupFaultKind::TooManyNodes,
