@@ -29,7 +29,7 @@ use dom_trees::tree::Tree;
 const ALL: usize = 5;
 
 /// The name, where the compound is a type and nothing else.
-fn bare_type(compound: &Compound) -> Option<&SelectorName>
+pub(crate) fn bare_type(compound: &Compound) -> Option<&SelectorName>
     ensures { IfSome result
         (λ name. read_compound compound.now ≡ the_compound (Part.«Type» name.now ∷ []) no_lists) }
 {
@@ -43,7 +43,7 @@ fn bare_type(compound: &Compound) -> Option<&SelectorName>
 }
 
 /// Whether the number is an element's that bears the name as a type.
-fn bears_name(tree: &Tree, id: &NodeId, name: &SelectorName) -> bool
+pub(crate) fn bears_name(tree: &Tree, id: &NodeId, name: &SelectorName) -> bool
     ensures { MatchBool result (PartsHold (Part.«Type» name.now ∷ []) tree.now id.now)
         (PartsHold (Part.«Type» name.now ∷ []) tree.now id.now → ⊥) }
 {
