@@ -1,3 +1,10 @@
+pub mod ChainLemmas
+pub mod FillLemmas
+pub mod LeadLemmas
+pub mod LedLemmas
+pub mod ListLemmas
+pub mod OnwardLemmas
 pub mod OrderLemmas
+pub mod PickLemmas
 pub mod PlaceLemmas
 pub mod PositionLemmas

@@ -1,14 +1,23 @@
 -- What an index tells of a tree's nodes.
-use Rattle.std.specs.Prelude.{ℕ, ◌≡◌, ◌≤◌, ◌⊎◌, true, Some}
+use Rattle.std.specs.Prelude.{ℕ, ◌≡◌, ◌≤◌, ◌⊎◌, true, List, Some}
 use Rattle.std.specs.Borrow.{Bor}
 use Rattle.dom_links.specs.Forest.{Forest}
 use Rattle.dom_links.specs.Lists.{stands_in}
 use Rattle.dom_links.specs.Trees.{walk_below}
+use Rattle.dom_trees.specs.declared.node_ref.NodeRef.{NodeRef}
+use Rattle.dom_trees.specs.Views.{refs_to}
+use Rattle.dom_selectors.specs.Syntax.{SelectorList}
+use Rattle.dom_select.specs.Selected.{Selected}
 use Rattle.dom_index.specs.Preorder.{position}
 
--- the tree that is indexed
+-- the tree that is indexed, and how many tests the last selection has asked
 pub record Indexed : Type 0 where
   pub tree : Bor Forest
+  pub tests : ℕ
+
+-- these are the nodes, in the tree, that the selector selects below the roots
+abbrev pub Finds : Bor Forest → List ℕ → SelectorList → List NodeRef → Type 0
+Finds tree roots selector found = (ids : List ℕ) × Selected tree.now roots selector ids × (found ≡ refs_to tree ids)
 
 -- m is n or stands below it
 abbrev pub IsAtOrBelow : Forest → ℕ → ℕ → Type 0

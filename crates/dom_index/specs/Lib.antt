@@ -1,3 +1,7 @@
+pub mod Counts
 pub mod Index
+pub mod Onward
 pub mod Orders
+pub mod Picking
 pub mod Preorder
+pub mod Tables

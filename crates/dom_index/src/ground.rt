@@ -1,6 +1,6 @@
 //! The order of a tree's nodes.
 
-ghost use Rattle.std.specs.Prelude.{◌≡◌, ◌<◌, ◌≤◌, ◌++◌, ℕ, List, length, true, IfOk, OnOk};
+ghost use Rattle.std.specs.Prelude.{◌≡◌, ◌<◌, ◌≤◌, ◌++◌, ℕ, List, [], length, true, IfOk, OnOk};
 ghost use Rattle.dom_links.specs.Forest.{children_of};
 ghost use Rattle.dom_links.specs.Laws.{AreLines, AreTrees};
 ghost use Rattle.dom_links.specs.Lists.{IsDistinct, last, stands_in};
@@ -169,6 +169,25 @@ fn know_order(tree: &Tree)
     ensures inside { (n : ℕ) → stands_in n (preorder tree.now) ≡ true → n < length tree.now.content }
     ensures order { (places : List ℕ) → ArePlaces tree.now (preorder tree.now) places
         → IsOrder tree.now (preorder tree.now) places }
+{
+    know_forest(tree);
+}
+
+/// The nodes below a node, in order.
+pub(crate) fn below<'i>(ground: &'i Ground<'_>, id: NodeId) -> &'i [NodeId]
+    ensures { result.now ≡ walk_below ground.now.tree.now id }
+{
+    know_none_below(ground.tree, id);
+    let n = id.value();
+    if n >= ground.order.len() {
+        return &[];
+    }
+    &ground.order[ground.places[n] + 1..ground.lasts[n] + 1]
+}
+
+/// Tells that nothing is below an unknown number. It does nothing.
+fn know_none_below(tree: &Tree, id: NodeId)
+    ensures { length tree.now.content ≤ id → walk_below tree.now id ≡ [] }
 {
     know_forest(tree);
 }

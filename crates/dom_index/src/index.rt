@@ -1,24 +1,30 @@
 //! An index of a tree's nodes.
 
-ghost use Rattle.std.specs.Prelude.{◌≡◌, ◌≤◌, [], length, slice_get, IfOk, MatchOption};
+ghost use Rattle.std.specs.Prelude.{◌≡◌, ◌≤◌, ◌*◌, [], length, slice_get, IfOk, MatchOption};
 ghost use Rattle.std.specs.Iterator.{YieldsFirst, item_count};
 ghost use Rattle.dom_links.specs.Lists.{stands_in};
 ghost use Rattle.dom_links.specs.Trees.{walk_below};
-ghost use Rattle.dom_index.specs.Index.{IsLastBelow};
+ghost use Rattle.dom_index.specs.Counts.{selectors_count};
+ghost use Rattle.dom_index.specs.Index.{Finds, IsLastBelow};
 ghost use Rattle.dom_index.specs.Preorder.{position};
 
-use crate::ground::{Ground, know_forest};
+use crate::ground::{Ground, below, know_forest};
+use crate::picking::{know_walks, picked};
+use crate::tables::list_table;
 use dom_nodes::fault::OutOfMemory;
 use dom_nodes::node_id::NodeId;
+use dom_select::matcher::Matcher;
+use dom_trees::node_ref::NodeRef;
 use dom_trees::tree::Tree;
 use std::marker::Model;
 
 /// The nodes of a tree in order: the runs by the numbers of their first nodes, each node before its
 /// children. It borrows the tree, so that no edit comes between two questions. A contract sees the
-/// tree.
+/// tree, and how many tests the last selection has asked.
 #[derive(Drop)]
 pub struct TreeIndex<'a> {
     ground: Ground<'a>,
+    tests: u128,
 }
 
 impl<'a> Model for TreeIndex<'a> {
@@ -26,17 +32,45 @@ impl<'a> Model for TreeIndex<'a> {
 
     ghost Value = { Indexed };
 
-    ghost view = { λ it. record { tree = it.ground.tree } };
+    ghost view = { λ it. record { tree = it.ground.tree; tests = it.tests } };
 }
 
 impl<'a> TreeIndex<'a> {
     /// The index of a tree.
     pub fn new(tree: &'a Tree) -> Result<TreeIndex<'a>, OutOfMemory>
-        ensures { IfOk result (λ index. index.tree ≡ tree.entry) }
+        ensures { IfOk result (λ index. index ≡ record { tree = tree.entry; tests = 0 }) }
     {
         Ok(TreeIndex {
             ground: Ground::new(tree)?,
+            tests: 0,
         })
+    }
+
+    /// How many times the last `select` has asked a compound of a node; 0 before one.
+    pub fn tests(&self) -> u128
+        ensures { result ≡ self.now.tests }
+    {
+        self.tests
+    }
+
+    /// The elements below the roots that one of the matcher's selectors means, each once, in the
+    /// order of the walks. Each compound is asked of each node once at most. After a refusal the
+    /// index is as it was, but for the tests.
+    pub fn select(
+        &mut self,
+        matcher: &Matcher,
+        roots: &[NodeId],
+    ) -> Result<Vec<NodeRef<'a>>, OutOfMemory>
+        ensures found { IfOk result (λ found.
+            Finds self.old.tree roots.now matcher.now found.items) }
+        ensures tests { self.new.tests
+            ≤ selectors_count matcher.now * length self.old.tree.now.content }
+        ensures kept { self.new.tree ≡ self.old.tree }
+    {
+        self.tests = 0;
+        know_walks(self.ground.tree);
+        let table = list_table(&self.ground, matcher.selectors(), &mut self.tests)?;
+        picked(&self.ground, roots, table)
     }
 
     /// The place of a node in the order, counted from 0; None for an unknown number.
@@ -107,25 +141,6 @@ fn is_within(ground: &Ground<'_>, x: usize, y: usize) -> bool
         return false;
     }
     place <= ground.lasts[x]
-}
-
-/// The nodes below a node, in order.
-fn below<'i>(ground: &'i Ground<'_>, id: NodeId) -> &'i [NodeId]
-    ensures { result.now ≡ walk_below ground.now.tree.now id }
-{
-    know_none_below(ground.tree, id);
-    let n = id.value();
-    if n >= ground.order.len() {
-        return &[];
-    }
-    &ground.order[ground.places[n] + 1..ground.lasts[n] + 1]
-}
-
-/// Tells that nothing is below an unknown number. It does nothing.
-fn know_none_below(tree: &Tree, id: NodeId)
-    ensures { length tree.now.content ≤ id → walk_below tree.now id ≡ [] }
-{
-    know_forest(tree);
 }
 
 /// The numbers of nodes that follow each other in the order of an index.

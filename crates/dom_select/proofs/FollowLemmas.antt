@@ -85,7 +85,7 @@ no_ups [] t = refl
 no_ups (s ∷ ss) t = let a = level_up s.0 t.0 in let b = no_ups ss t.1 in omega arith
 
 module _ (forest : Forest) (spared : ℕ) (lines : AreLines forest) where
-  beside_element : (v : ℕ) → Precedes forest v spared → (v ≡ spared) ⊎ (element_at forest v ≡ true) → element_at forest v ≡ true
+  pub beside_element : (v : ℕ) → Precedes forest v spared → (v ≡ spared) ⊎ (element_at forest v ≡ true) → element_at forest v ≡ true
   beside_element v p (inl e) = absurd (apart forest v spared p e)
   beside_element v p (inr e) = e
 

@@ -16,6 +16,7 @@ use std::marker::Model;
 
 pub mod caches;
 pub(crate) mod chains;
+pub mod compounds;
 pub mod descendants;
 pub(crate) mod has;
 pub(crate) mod joined;

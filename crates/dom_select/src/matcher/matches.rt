@@ -29,7 +29,7 @@ use dom_trees::tree::Tree;
 const ALL: usize = 5;
 
 /// The name, where the compound is a type and nothing else.
-fn bare_type(compound: &Compound) -> Option<&SelectorName>
+pub(crate) fn bare_type(compound: &Compound) -> Option<&SelectorName>
     ensures { IfSome result
         (λ name. read_compound compound.now ≡ the_compound (Part.«Type» name.now ∷ []) no_lists) }
 {

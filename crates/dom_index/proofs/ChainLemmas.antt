@@ -1,0 +1,206 @@
+-- A table of the nodes that a chain of compounds reaches, from the table of one compound less.
+use Rattle.std.proofs.Common.{◌≡◌, ◌⊎◌, ◌<◌, ℕ, List, [], ◌∷◌, ◌++◌, Bool, true, false, true≢false, Option, Some, None, inl, inr, refl, sym, ap, ◌∙◌, subst, length, slice_get, reverse}
+use Rattle.std.specs.Prelude.{◌&&◌, ◌==◌}
+use Rattle.std.specs.Option.{option_map_or}
+use Rattle.std.proofs.lemmas.Bool.{cases_lt, eqb-true, eq-eqb, or_right, or_cases}
+use Rattle.std.proofs.lemmas.List.{get_or_past}
+use Rattle.dom_nodes.specs.declared.node_data.NodeData.{NodeData}
+use Rattle.dom_nodes.specs.declared.node_data.NodeData.TheVariants.{Document, Fragment, Doctype, Text, Comment, Element, ProcessingInstruction}
+use Rattle.dom_nodes.specs.Kinds.{is_top, may_bear}
+use Rattle.dom_links.specs.Forest.{Forest, children_or, parent, run_of, siblings}
+use Rattle.dom_links.specs.Laws.{AreLines}
+use Rattle.dom_links.specs.Lists.{stands_in}
+use Rattle.dom_links.specs.Sound.{IsForest, stays}
+use Rattle.dom_links.specs.Trees.{ancestors}
+use Rattle.dom_links.specs.Walk.{rest_after}
+use Rattle.dom_links.proofs.Depth.{parent_inside}
+use Rattle.dom_selectors.specs.declared.syntax.Combinator.{Combinator}
+use Rattle.dom_selectors.specs.declared.syntax.Combinator.TheVariants.{Descendant, Child, Adjacent, Sibling}
+use Rattle.dom_selectors.specs.ListsAsTrees.{steps_of}
+use Rattle.dom_select.specs.Leftward.{earlier}
+use Rattle.dom_links.specs.ListMoves.{element_at}
+use Rattle.dom_nodes.specs.Kinds.{is_element}
+use Rattle.dom_select.specs.Meaning.{Holds, Leads, MayBeside, Reaches, Stands}
+use Rattle.dom_selectors.specs.Syntax.{CompoundSelector, compound}
+use Rattle.dom_select.specs.Chains.{IsOrPrecedes, Precedes}
+use Rattle.dom_select.proofs.FollowLemmas.{led_at, precedes_from, precedes_then, stands_precedes, beside_element}
+use Rattle.dom_select.proofs.ReachLemmas.{from_reaches, to_reaches}
+use Rattle.dom_select.proofs.MeaningLemmas.{parts_unknown}
+use Rattle.dom_select.proofs.RowLemmas.{first_stands, parent_first}
+use Rattle.dom_selectors.specs.Spelling.{Decides}
+use Rattle.dom_index.specs.Tables.{AreTold, truth_at, serves, IsLed}
+use Rattle.dom_index.proofs.LedLemmas.{told_by}
+
+abbrev pub Chain : Type 0
+Chain = List (Combinator × CompoundSelector)
+
+-- no sibling stands before v, or v is an element: v may stand beside `+` and `~` wherever it has to
+abbrev pub IsFit : Forest → ℕ → Type 0
+IsFit forest v = (element_at forest v ≡ true) ⊎ (earlier forest v ≡ [])
+
+module _ (forest : Forest) (lines : AreLines forest) where
+  may_first : (k : Combinator) (spared w : ℕ) → Precedes forest w spared → MayBeside forest spared k w → (other : ℕ) → MayBeside forest other k w
+  may_first Descendant spared w p b other = tt
+  may_first Child spared w p b other = tt
+  may_first Adjacent spared w p b other = inr (beside_element forest spared lines w p b)
+  may_first Sibling spared w p b other = inr (beside_element forest spared lines w p b)
+
+  no_earlier : (w u : ℕ) → earlier forest u ≡ [] → stands_in w (earlier forest u) ≡ true → ⊥
+  no_earlier w u e s = true≢false (sym s ∙ ap (stands_in w) e)
+
+  may_last : (k : Combinator) (w u v : ℕ) → IsFit forest v → Stands forest k w u → MayBeside forest v k u → (other : ℕ) → MayBeside forest other k u
+  unfolding Stands
+  may_last Descendant w u v fit s b other = tt
+  may_last Child w u v fit s b other = tt
+  may_last Adjacent w u v fit s (inr e) other = inr e
+  may_last Adjacent w u v (inl e) s (inl is) other = inr (ap (element_at forest) is ∙ e)
+  may_last Adjacent w u v (inr none) s (inl is) other = absurd (no_earlier w u (ap (earlier forest) is ∙ none) (first_stands forest (earlier forest u) w s))
+  may_last Sibling w u v fit s (inr e) other = inr e
+  may_last Sibling w u v (inl e) s (inl is) other = inr (ap (element_at forest) is ∙ e)
+  may_last Sibling w u v (inr none) s (inl is) other = absurd (no_earlier w u (ap (earlier forest) is ∙ none) s)
+
+  -- a chain that leads to a node before the spared one leads there where that node itself is spared
+  sparing_here : (spared v : ℕ) → Precedes forest v spared → (ss : Chain) (w : ℕ) → Leads (steps_of ss) forest spared w v → Leads (steps_of ss) forest v w v
+  sparing_here spared v p [] w h = h
+  sparing_here spared v p (s ∷ ss) w h =
+      let u = h.0 in
+      let rest = sparing_here spared v p ss u h.3 in
+      let at = led_at forest v lines ss u v (inl refl) rest in
+      let before_spared : Precedes forest u spared = at_spared u at in
+      let first : Precedes forest w spared = precedes_then forest w u spared (stands_precedes forest lines s.0 w u h.1.0) before_spared in
+      (u, (h.1.0, may_first s.0 spared w first h.1.1 v, may_first s.0 spared u before_spared h.1.2 v), h.2, rest)
+    where
+      at_spared : (u : ℕ) → IsOrPrecedes forest u v → Precedes forest u spared
+      at_spared u (inl e) = subst (λ m. Precedes forest m spared) (sym e) p
+      at_spared u (inr q) = precedes_then forest u v spared q p
+
+  -- and back, where the node may stand beside `+` and `~` itself
+  sparing_there : (spared v : ℕ) → IsFit forest v → (ss : Chain) (w : ℕ) → Leads (steps_of ss) forest v w v → Leads (steps_of ss) forest spared w v
+  sparing_there spared v fit [] w h = h
+  sparing_there spared v fit (s ∷ ss) w h =
+      let u = h.0 in
+      let at = led_at forest v lines ss u v (inl refl) h.3 in
+      let first : Precedes forest w v = precedes_from forest w u v (stands_precedes forest lines s.0 w u h.1.0) at in
+      (u, (h.1.0, may_first s.0 v w first h.1.1 spared, may_last s.0 w u v fit h.1.0 h.1.2 spared), h.2, sparing_there spared v fit ss u h.3)
+
+module _ (forest : Forest) (good : IsForest forest) (lines : AreLines forest) where
+  some_child : (ns : List ℕ) (n v : ℕ) → ancestors forest n ≡ ns → stands_in v ns ≡ true → (c : ℕ) × (parent forest c ≡ Some v)
+  some_child [] n v e s = absurd (true≢false (sym s))
+  some_child (m ∷ ms) n v e s =
+      let up = parent_first forest lines n m ms e in
+      let both : m ∷ ms ≡ m ∷ ancestors forest m = sym e ∙ lines.up n m up in
+      let rest : ancestors forest m ≡ ms = cc in
+      elim (or_cases (m == v) (stands_in v ms) s) [
+        | inl here ↦ (n, up ∙ ap (λ p. Some p) (eqb-true m v here))
+        | inr there ↦ some_child ms m v rest there
+      ]
+
+  alone_fit : (v : ℕ) → v < length forest.content → stays forest v ≡ true → IsFit forest v
+  alone_fit v known s =
+      let alone = good.alone v known s in
+      let row : siblings forest v ≡ v ∷ [] = ap (λ p. children_or forest p (run_of forest v)) alone.0 ∙ alone.1 in
+      inr (ap (λ ns. rest_after (reverse ns) v) row ∙ (rw (eq-eqb v v refl) refl))
+
+  bearer_fit : (v : ℕ) (o : Option NodeData) → slice_get forest.content v ≡ o → v < length forest.content → option_map_or may_bear o false ≡ true → IsFit forest v
+  bearer_fit v None e known b = absurd (true≢false (sym b))
+  bearer_fit v (Some Document) e known b = alone_fit v known (or_right (v == 0) _ (ap (λ o. option_map_or is_top o false) e))
+  bearer_fit v (Some Fragment) e known b = alone_fit v known (or_right (v == 0) _ (ap (λ o. option_map_or is_top o false) e))
+  bearer_fit v (Some (Doctype _ _ _)) e known b = absurd (true≢false (sym b))
+  bearer_fit v (Some (Text _)) e known b = absurd (true≢false (sym b))
+  bearer_fit v (Some (Comment _)) e known b = absurd (true≢false (sym b))
+  bearer_fit v (Some (Element element)) e known b = inl (ap (λ o. option_map_or is_element o false) e)
+  bearer_fit v (Some (ProcessingInstruction _ _)) e known b = absurd (true≢false (sym b))
+
+  parent_fit : (n v : ℕ) → parent forest n ≡ Some v → IsFit forest v
+  parent_fit n v up = bearer_fit v (slice_get forest.content v) refl (parent_inside forest n v good up) (good.bearing v n up)
+
+  -- who is led from serves, and may stand beside `+` and `~` where it has to
+  led_fit : (k : Combinator) (v n : ℕ) → Stands forest k v n → serves forest k v ≡ true → IsFit forest v
+  unfolding Stands
+  led_fit Descendant v n s e = let child = some_child (ancestors forest n) n v refl s in parent_fit child.0 v child.1
+  led_fit Child v n s e = parent_fit n v s
+  led_fit Adjacent v n s e = inl e
+  led_fit Sibling v n s e = inl e
+
+  may_serve : (k : Combinator) (v spared : ℕ) → serves forest k v ≡ true → MayBeside forest spared k v
+  may_serve Descendant v spared e = tt
+  may_serve Child v spared e = tt
+  may_serve Adjacent v spared e = inr e
+  may_serve Sibling v spared e = inr e
+
+  must_serve : (k : Combinator) (v spared : ℕ) → Precedes forest v spared → MayBeside forest spared k v → serves forest k v ≡ true
+  must_serve Descendant v spared p b = refl
+  must_serve Child v spared p b = refl
+  must_serve Adjacent v spared p b = beside_element forest spared lines v p b
+  must_serve Sibling v spared p b = beside_element forest spared lines v p b
+
+  may_itself : (k : Combinator) (n : ℕ) → MayBeside forest n k n
+  may_itself Descendant n = tt
+  may_itself Child n = tt
+  may_itself Adjacent n = inl refl
+  may_itself Sibling n = inl refl
+
+pub holds_inside : (c : CompoundSelector) (forest : Forest) (n : ℕ) → Holds c forest n → n < length forest.content
+holds_inside (compound parts lists) forest n h = elim (cases_lt n (length forest.content)) [
+  | inl below ↦ below
+  | inr past ↦ absurd (parts_unknown parts forest n past h.0)
+]
+
+leads_inside : (forest : Forest) (spared v : ℕ) (ss : Chain) (w : ℕ) → w < length forest.content → Leads (steps_of ss) forest spared w v → v < length forest.content
+leads_inside forest spared v [] w known h = subst (λ (m : ℕ). m < length forest.content) h known
+leads_inside forest spared v (s ∷ ss) w known h = leads_inside forest spared v ss h.0 (holds_inside s.1 forest h.0 h.2) h.3
+
+pub told_true : (b : Bool) (P : Type 0) → Decides b P → P → b ≡ true
+told_true true P h p = refl
+told_true false P h p = absurd (h p)
+
+pub truth_inside : (table : List Bool) (n : ℕ) → truth_at table n ≡ true → n < length table
+truth_inside table n t = elim (cases_lt n (length table)) [
+  | inl below ↦ below
+  | inr past ↦ absurd (true≢false (sym t ∙ get_or_past table n false past))
+]
+
+pub both_true : (a b : Bool) → (a && b) ≡ true → (a ≡ true) × (b ≡ true)
+both_true true b e = (refl, e)
+both_true false b e = absurd (true≢false (sym e))
+
+-- what the table of a chain tells
+abbrev pub ReachesIt : Forest → CompoundSelector → Chain → ℕ → Type 0
+ReachesIt forest first ss n = Reaches (Holds first forest) (steps_of ss) forest n n
+
+module _ (forest : Forest) (good : IsForest forest) (lines : AreLines forest) (first : CompoundSelector) (ss : Chain) (k : Combinator) (c : CompoundSelector)
+    (table : List Bool) (told : AreTold table (length forest.content) (ReachesIt forest first ss)) where
+  chain_forth : (n : ℕ) → IsLed forest k table n → Holds c forest n → ReachesIt forest first (ss ++ (k, c) ∷ []) n
+  chain_forth n led h =
+      let v = led.0 in
+      let both = both_true (serves forest k v) (truth_at table v) led.2 in
+      let known = subst (λ (m : ℕ). v < m) told.long (truth_inside table v both.1) in
+      let here : ReachesIt forest first ss v = rw both.1 at (told.each v known) in
+      let there : Reaches (Holds first forest) (steps_of ss) forest n v = (here.0, here.1, sparing_there forest lines n v (led_fit forest good lines k v n led.1 both.0) ss here.0 here.2) in
+      to_reaches forest n (Holds first forest) ss (k, c) n (may_itself forest good lines k n, h, (v, led.1, (may_serve forest good lines k v n both.0, there)))
+
+  chain_back : (n : ℕ) → ReachesIt forest first (ss ++ (k, c) ∷ []) n → IsLed forest k table n × Holds c forest n
+  chain_back n r =
+      let last = from_reaches forest n (Holds first forest) ss (k, c) n r in
+      let v = last.2.0 in
+      let stands = last.2.1 in
+      let there = last.2.2.1 in
+      let p = stands_precedes forest lines k v n stands in
+      let here : ReachesIt forest first ss v = (there.0, there.1, sparing_here forest lines n v p ss there.0 there.2) in
+      let known = leads_inside forest n v ss there.0 (holds_inside first forest there.0 there.1) there.2 in
+      let t = told_true (truth_at table v) (ReachesIt forest first ss v) (told.each v known) here in
+      ((v, stands, rw (must_serve forest good lines k v n p last.2.2.0, t) refl), last.1)
+
+  -- the table of one compound more, from the nodes that the table so far leads to
+  pub chain_told : (flags : List Bool) (n : ℕ) (b : Bool) → Decides (truth_at flags n) (IsLed forest k table n) → Decides b ((truth_at flags n ≡ true) × Holds c forest n) → Decides b (ReachesIt forest first (ss ++ (k, c) ∷ []) n)
+  chain_told flags n b led h = told_by b _ _
+      (λ x. chain_forth n (rw x.0 at led) x.1)
+      (λ r. let x = chain_back n r in (told_true (truth_at flags n) (IsLed forest k table n) led x.0, x.1)) h
+
+pub chain_more : (forest : Forest) → IsForest forest → AreLines forest → (first : CompoundSelector) (ss more : Chain) (k : Combinator) (c : CompoundSelector) (table flags new : List Bool) → more ≡ ss ++ (k, c) ∷ [] →
+    AreTold table (length forest.content) (ReachesIt forest first ss) → AreTold flags (length forest.content) (IsLed forest k table) →
+    AreTold new (length forest.content) (λ n. (truth_at flags n ≡ true) × Holds c forest n) → AreTold new (length forest.content) (ReachesIt forest first more)
+chain_more forest good lines first ss more k c table flags new is told led asked = record {
+  long = asked.long;
+  each = λ n known. subst (λ z. Decides (truth_at new n) (ReachesIt forest first z n)) (sym is) (chain_told forest good lines first ss k c table told flags n (truth_at new n) (led.each n known) (asked.each n known));
+}

@@ -1,0 +1,142 @@
+-- Tables of lists of selectors and of the lists in a compound, list by list.
+use Rattle.std.proofs.Common.{◌≡◌, ◌⊎◌, ◌↔◌, ◌<◌, ◌≤◌, ◌+◌, ◌*◌, ℕ, List, [], ◌∷◌, ◌++◌, Bool, true, false, true≢false, MatchBool, inl, inr, refl, sym, ap, ◌∙◌, subst, length, arith, suc, map, take, drop, get_or, add-one}
+use Rattle.std.proofs.Math.Nat.{add-mul}
+use Rattle.std.proofs.Math.Seq.{drop-cons}
+use Rattle.std.proofs.lemmas.List.{take_more, map-append}
+use Rattle.std.specs.Prelude.{◌&&◌, ◌||◌, not}
+use Rattle.dom_links.specs.Forest.{Forest}
+use Rattle.dom_select.specs.Meaning.{ListHolds, ListsHold, Means}
+use Rattle.dom_selectors.specs.declared.syntax.Combinator.{Combinator}
+use Rattle.dom_selectors.specs.declared.syntax.Nested.{Nested}
+use Rattle.dom_selectors.specs.declared.syntax.Selector.{Selector, out-Selector}
+use Rattle.dom_selectors.specs.declared.syntax.Step.{Step}
+use Rattle.dom_selectors.specs.ListsAsTrees.{lists_of, steps_of}
+use Rattle.dom_selectors.specs.ValuesAsTrees.{read_compound, read_list, read_nested, read_step}
+use Rattle.dom_selectors.specs.Syntax.{CompoundSelector, NestedLists, no_lists, nested, NestedList, none_means, SelectorList, alternative, Steps, step}
+use Rattle.dom_selectors.proofs.Layers.{read_selector_is, read_step_is}
+use Rattle.dom_selectors.specs.Spelling.{Decides}
+use Rattle.dom_index.specs.Tables.{AreBoth, AreEither, AreTold, AreTurned, truth_at}
+
+-- the lists that are left decide, where the table still tells the truth
+pub record Narrowed (forest : Forest) (count : ℕ) (wanted table : List Bool) (all left : NestedLists) : Type 0 where
+  pub long : length table ≡ count
+  pub each : (n : ℕ) → n < count → MatchBool (truth_at table n) (((truth_at wanted n ≡ true) × ListsHold all forest n) ↔ ListsHold left forest n) ((truth_at wanted n ≡ true) × ListsHold all forest n → ⊥)
+
+module _ (forest : Forest) (count : ℕ) (wanted : List Bool) (all : NestedLists) where
+  pub narrowed_none : length wanted ≡ count → Narrowed forest count wanted wanted all all
+  narrowed_none long = record { long = long; each = λ n known. at n (truth_at wanted n) refl }
+    where
+      at : (n : ℕ) (b : Bool) → truth_at wanted n ≡ b → MatchBool b (((truth_at wanted n ≡ true) × ListsHold all forest n) ↔ ListsHold all forest n) ((truth_at wanted n ≡ true) × ListsHold all forest n → ⊥)
+      at n true e = (λ h. h.1, λ h. (e, h))
+      at n false e = λ h. true≢false (sym h.0 ∙ e)
+
+  narrowed_at : (list : NestedList) (left : NestedLists) (n : ℕ) (w a b : Bool) → w ≡ (a && b) → Decides b (ListHolds list forest n) →
+      MatchBool a (((truth_at wanted n ≡ true) × ListsHold all forest n) ↔ ListsHold (nested list left) forest n) ((truth_at wanted n ≡ true) × ListsHold all forest n → ⊥) →
+      MatchBool w (((truth_at wanted n ≡ true) × ListsHold all forest n) ↔ ListsHold left forest n) ((truth_at wanted n ≡ true) × ListsHold all forest n → ⊥)
+  narrowed_at list left n true true true e told h = (λ x. (h.0 x).1, λ x. h.1 (told, x))
+  narrowed_at list left n false true true e told h = absurd (true≢false (sym e))
+  narrowed_at list left n true true false e told h = absurd (true≢false e)
+  narrowed_at list left n false true false e told h = λ x. told (h.0 x).0
+  narrowed_at list left n true false b e told h = absurd (true≢false e)
+  narrowed_at list left n false false b e told h = h
+
+  pub narrowed_more : (list : NestedList) (left : NestedLists) (table other new : List Bool) → AreTold other count (ListHolds list forest) → AreBoth new table other → Narrowed forest count wanted table all (nested list left) →
+      Narrowed forest count wanted new all left
+  narrowed_more list left table other new told both h = record {
+    long = both.long ∙ h.long;
+    each = λ n known. narrowed_at list left n _ _ _ (both.each n (subst (λ (m : ℕ). n < m) (sym h.long) known)) (told.each n known) (h.each n known);
+  }
+
+  pub narrowed_all : (table : List Bool) → Narrowed forest count wanted table all no_lists → AreTold table count (λ n. (truth_at wanted n ≡ true) × ListsHold all forest n)
+  narrowed_all table h = record { long = h.long; each = λ n known. at n (truth_at table n) (h.each n known) }
+    where
+      at : (n : ℕ) (b : Bool) → MatchBool b (((truth_at wanted n ≡ true) × ListsHold all forest n) ↔ Unit {0}) ((truth_at wanted n ≡ true) × ListsHold all forest n → ⊥) → Decides b ((truth_at wanted n ≡ true) × ListsHold all forest n)
+      at n true x = x.1 tt
+      at n false x = x
+
+-- what is left decides, where the table doesn't yet tell the truth
+pub record Widened (count : ℕ) (table : List Bool) (All Left : ℕ → Type 0) : Type 0 where
+  pub long : length table ≡ count
+  pub each : (n : ℕ) → n < count → MatchBool (truth_at table n) (All n) (All n ↔ Left n)
+
+module _ (count : ℕ) (All : ℕ → Type 0) where
+  pub widened_none : (table : List Bool) → length table ≡ count → ((n : ℕ) → n < count → truth_at table n ≡ false) → Widened count table All All
+  widened_none table long empty = record { long = long; each = λ n known. rw (empty n known) (λ h. h, λ h. h) }
+
+  widened_at : (One Left : ℕ → Type 0) (n : ℕ) (w a b : Bool) → w ≡ (a || b) → Decides b (One n) →
+      MatchBool a (All n) (All n ↔ (One n ⊎ Left n)) → MatchBool w (All n) (All n ↔ Left n)
+  widened_at One Left n true true b e told h = h
+  widened_at One Left n false true b e told h = absurd (true≢false (sym e))
+  widened_at One Left n true false true e told h = h.1 (inl told)
+  widened_at One Left n false false true e told h = absurd (true≢false (sym e))
+  widened_at One Left n true false false e told h = absurd (true≢false e)
+  widened_at One Left n false false false e told h = (λ m. on (h.0 m), λ m. h.1 (inr m))
+    where
+      on : One n ⊎ Left n → Left n
+      on (inl r) = absurd (told r)
+      on (inr m) = m
+
+  pub widened_more : (One Left : ℕ → Type 0) (table other new : List Bool) → AreTold other count One → AreEither new table other →
+      Widened count table All (λ n. One n ⊎ Left n) → Widened count new All Left
+  widened_more One Left table other new told either h = record {
+    long = either.long ∙ h.long;
+    each = λ n known. widened_at One Left n _ _ _ (either.each n (subst (λ (m : ℕ). n < m) (sym h.long) known)) (told.each n known) (h.each n known);
+  }
+
+  pub widened_all : (table : List Bool) → Widened count table All (λ n. ⊥) → AreTold table count All
+  widened_all table h = record { long = h.long; each = λ n known. at n (truth_at table n) (h.each n known) }
+    where
+      at : (n : ℕ) (b : Bool) → MatchBool b (All n) (All n ↔ ⊥) → Decides b (All n)
+      at n true x = x
+      at n false x = x.0
+
+-- a table turned round
+turned_at : (w b : Bool) (P : Type 0) → w ≡ not b → Decides b P → Decides w (P → ⊥)
+turned_at true true P e h = absurd (true≢false e)
+turned_at false true P e h = λ none. none h
+turned_at true false P e h = h
+turned_at false false P e h = absurd (true≢false (sym e))
+
+pub turned_all : (forest : Forest) (count : ℕ) (list : SelectorList) (table other : List Bool) → AreTold other count (Means list forest) → AreTurned table other → AreTold table count (ListHolds (none_means list) forest)
+turned_all forest count list table other told turned = record {
+  long = turned.long ∙ told.long;
+  each = λ n known. turned_at _ _ (Means list forest n) (turned.each n (subst (λ (m : ℕ). n < m) (sym told.long) known)) (told.each n known);
+}
+
+-- so many tests were asked, and so many more may be
+pub spent : (a b m old now new all : ℕ) → now + (a + b) * m ≤ old + all * m → new ≤ now + a * m → new + b * m ≤ old + all * m
+spent a b m old now new all h k = let apart : (a + b) * m ≡ a * m + b * m = add-mul a b m in omega arith
+
+-- what was asked of the rest is within the whole
+pub spent_rest : (a b m now new : ℕ) → new ≤ now + b * m → new ≤ now + (a + b) * m
+spent_rest a b m now new k = let apart : (a + b) * m ≡ a * m + b * m = add-mul a b m in omega arith
+
+pub enough : (b m new top : ℕ) → new + b * m ≤ top → new ≤ top
+enough b m new top h = omega arith
+
+-- values in a row, cut at one of them
+module _ {A : Type 0} (i : ℕ) (xs : List A) (x : A) (known : i < length xs) (is : x ≡ get_or xs i x) where
+  pub row_cut : drop i xs ≡ x ∷ drop (i + 1) xs
+  row_cut = drop-cons xs i x known ∙ (ap (λ y. y ∷ drop (suc i) xs) (sym is) ∙ ap (λ j. x ∷ drop j xs) (sym (add-one i)))
+
+  pub row_more : take (i + 1) xs ≡ take i xs ++ x ∷ []
+  row_more = take_more xs i x known ∙ ap (λ y. take i xs ++ y ∷ []) (sym is)
+
+pub selectors_cut : (i : ℕ) (selectors : List Selector) (s : Selector) → i < length selectors → s ≡ get_or selectors i s →
+    read_list (drop i selectors) ≡ alternative (out-Selector s).lead (read_compound (out-Selector s).first) (steps_of (map read_step (out-Selector s).rest.items)) (read_list (drop (i + 1) selectors))
+selectors_cut i selectors s known is =
+    ap read_list (row_cut i selectors s known is) ∙ ap (λ (r : Combinator × CompoundSelector × Steps). alternative r.0 r.1 r.2 (read_list (drop (i + 1) selectors))) (read_selector_is s)
+
+pub lists_cut : (i : ℕ) (lists : List Nested) (l : Nested) → i < length lists → l ≡ get_or lists i l →
+    lists_of (map read_nested (drop i lists)) ≡ nested (read_nested l) (lists_of (map read_nested (drop (i + 1) lists)))
+lists_cut i lists l known is = ap (λ ls. lists_of (map read_nested ls)) (row_cut i lists l known is)
+
+pub steps_cut : (i : ℕ) (steps : List Step) (s : Step) → i < length steps → s ≡ get_or steps i s →
+    steps_of (map read_step (drop i steps)) ≡ step s.combinator (read_compound s.compound) (steps_of (map read_step (drop (i + 1) steps)))
+steps_cut i steps s known is =
+    ap (λ ss. steps_of (map read_step ss)) (row_cut i steps s known is) ∙ ap (λ (r : Combinator × CompoundSelector). step r.0 r.1 (steps_of (map read_step (drop (i + 1) steps)))) (read_step_is s)
+
+pub steps_more : (i : ℕ) (steps : List Step) (s : Step) → i < length steps → s ≡ get_or steps i s →
+    map read_step (take (i + 1) steps) ≡ map read_step (take i steps) ++ (s.combinator, read_compound s.compound) ∷ []
+steps_more i steps s known is =
+    ap (map read_step) (row_more i steps s known is) ∙ (map-append read_step (take i steps) (s ∷ []) ∙ ap (λ (r : Combinator × CompoundSelector). map read_step (take i steps) ++ r ∷ []) (read_step_is s))

@@ -1,0 +1,168 @@
+-- Where compounds lead from a node to an element, from the last step to the first.
+use Rattle.std.proofs.Common.{◌≡◌, ◌⊎◌, ◌<◌, ◌≤◌, ◌+◌, ◌*◌, ℕ, List, [], ◌∷◌, ◌++◌, Bool, true, false, true≢false, inl, inr, refl, sym, ap, ◌∙◌, subst, length, map, append_assoc, arith}
+use Rattle.std.specs.Prelude.{◌&&◌}
+use Rattle.std.proofs.lemmas.List.{map-append}
+use Rattle.dom_links.specs.Forest.{Forest}
+use Rattle.dom_links.specs.Laws.{AreLines}
+use Rattle.dom_links.specs.ListMoves.{element_at}
+use Rattle.dom_selectors.specs.declared.syntax.Combinator.{Combinator}
+use Rattle.dom_selectors.specs.declared.syntax.Combinator.TheVariants.{Descendant, Child, Adjacent, Sibling}
+use Rattle.dom_selectors.specs.declared.syntax.Step.{Step}
+use Rattle.dom_selectors.specs.ListsAsTrees.{steps_of}
+use Rattle.dom_selectors.specs.Spelling.{Decides}
+use Rattle.dom_selectors.specs.Syntax.{CompoundSelector, Steps, no_steps, step}
+use Rattle.dom_selectors.specs.ValuesAsTrees.{read_compound, read_step}
+use Rattle.dom_selectors.proofs.Layers.{read_step_is}
+use Rattle.dom_selectors.proofs.Weights.{compound_weight, steps_weight}
+use Rattle.dom_select.specs.Chains.{Precedes}
+use Rattle.dom_select.specs.Meaning.{Holds, Leads, LeadsToSome, MayBeside}
+use Rattle.dom_select.proofs.FollowLemmas.{apart, precedes_then, stands_precedes}
+use Rattle.dom_index.specs.Counts.{compound_count, steps_count}
+use Rattle.dom_index.specs.Onward.{LeadsOnward, Onward}
+use Rattle.dom_index.specs.Tables.{AreServing, AreTold, IsLeading, serves, truth_at}
+use Rattle.dom_index.proofs.ChainLemmas.{both_true, holds_inside, told_true, truth_inside}
+use Rattle.dom_index.proofs.LedLemmas.{told_by}
+use Rattle.dom_index.proofs.ListLemmas.{spent}
+
+module _ (forest : Forest) (lines : AreLines forest) where
+  -- a node that stands after x is not spared for it
+  after_element : (x w : ℕ) → Precedes forest x w → (w ≡ x) ⊎ (element_at forest w ≡ true) → element_at forest w ≡ true
+  after_element x w p (inl e) = absurd (apart forest x w p (sym e))
+  after_element x w p (inr e) = e
+
+  must_serve : (k : Combinator) (x w : ℕ) → Precedes forest x w → MayBeside forest x k w → serves forest k w ≡ true
+  must_serve Descendant x w p b = refl
+  must_serve Child x w p b = refl
+  must_serve Adjacent x w p b = after_element x w p b
+  must_serve Sibling x w p b = after_element x w p b
+
+  may_serve : (k : Combinator) (x w : ℕ) → serves forest k w ≡ true → MayBeside forest x k w
+  may_serve Descendant x w e = tt
+  may_serve Child x w e = tt
+  may_serve Adjacent x w e = inr e
+  may_serve Sibling x w e = inr e
+
+  may_start : (k : Combinator) (x : ℕ) → MayBeside forest x k x
+  may_start Descendant x = tt
+  may_start Child x = tt
+  may_start Adjacent x = inl refl
+  may_start Sibling x = inl refl
+
+  -- the steps lead from w to an element, x spared
+  abbrev Ends : Steps → ℕ → ℕ → Type 0
+  Ends steps x w = (y : ℕ) × Leads steps forest x w y × (element_at forest y ≡ true)
+
+  onward_from : (steps : Steps) (x w : ℕ) → Precedes forest x w → Ends steps x w → Onward steps forest w
+  onward_from no_steps x w p (y, same, e) = ap (element_at forest) same ∙ e
+  onward_from (step k c more) x w p (y, leads, e) =
+      let v = leads.0 in
+      let farther = precedes_then forest x w v p (stands_precedes forest lines k w v leads.1.0) in
+      (must_serve k x w p leads.1.1, (v, leads.1.0, must_serve k x v farther leads.1.2, leads.2, onward_from more x v farther (y, leads.3, e)))
+
+  onward_to : (steps : Steps) (x w : ℕ) → Precedes forest x w → Onward steps forest w → Ends steps x w
+  onward_to no_steps x w p h = (w, refl, h)
+  onward_to (step k c more) x w p h =
+      let v = h.1.0 in
+      let farther = precedes_then forest x w v p (stands_precedes forest lines k w v h.1.1) in
+      let rest = onward_to more x v farther h.1.4 in
+      (rest.0, (v, (h.1.1, may_serve k x w h.0, may_serve k x v h.1.2), h.1.3, rest.1), rest.2)
+
+  some_from : (k : Combinator) (c : CompoundSelector) (steps : Steps) (x : ℕ) → LeadsToSome k c steps forest x → LeadsOnward k c steps forest x
+  some_from k c steps x (w, y, joined, held, leads, e) =
+      let p = stands_precedes forest lines k x w joined.0 in
+      (w, joined.0, must_serve k x w p joined.2, held, onward_from steps x w p (y, leads, e))
+
+  some_to : (k : Combinator) (c : CompoundSelector) (steps : Steps) (x : ℕ) → LeadsOnward k c steps forest x → LeadsToSome k c steps forest x
+  some_to k c steps x (w, stands, served, held, onward) =
+      let p = stands_precedes forest lines k x w stands in
+      let rest = onward_to steps x w p onward in
+      (w, rest.0, (stands, may_start k x, may_serve k x w served), held, rest.1, rest.2)
+
+-- the table of the nodes that lead to those of another
+module _ (forest : Forest) (count : ℕ) (is_count : count ≡ length forest.content) (k : Combinator) (c : CompoundSelector) (steps : Steps) (wanted held : List Bool)
+    (told : AreTold wanted count (Onward steps forest)) (asked : AreTold held count (λ n. (truth_at wanted n ≡ true) × Holds c forest n)) where
+  leads_forth : (n : ℕ) → IsLeading forest k held n → LeadsOnward k c steps forest n
+  leads_forth n (v, stands, will) =
+      let both = both_true (serves forest k v) (truth_at held v) will in
+      let known = subst (λ (m : ℕ). v < m) asked.long (truth_inside held v both.1) in
+      let here : (truth_at wanted v ≡ true) × Holds c forest v = rw both.1 at (asked.each v known) in
+      let onward : Onward steps forest v = rw here.0 at (told.each v known) in
+      (v, stands, both.0, here.1, onward)
+
+  leads_back : (n : ℕ) → LeadsOnward k c steps forest n → IsLeading forest k held n
+  leads_back n (v, stands, served, holds, onward) =
+      let known : v < count = subst (λ (m : ℕ). v < m) (sym is_count) (holds_inside c forest v holds) in
+      let there = told_true (truth_at wanted v) (Onward steps forest v) (told.each v known) onward in
+      let here = told_true (truth_at held v) _ (asked.each v known) (there, holds) in
+      (v, stands, rw (served, here) refl)
+
+  pub leads_told : (flags : List Bool) → AreTold flags count (IsLeading forest k held) → AreTold flags count (LeadsOnward k c steps forest)
+  leads_told flags led = record {
+    long = led.long;
+    each = λ n known. told_by (truth_at flags n) (IsLeading forest k held n) (LeadsOnward k c steps forest n) (leads_forth n) (leads_back n) (led.each n known);
+  }
+
+-- one step more, where the node may stand beside its combinator
+onward_at : (forest : Forest) (k : Combinator) (c : CompoundSelector) (steps : Steps) (n : ℕ) (w a b : Bool) → w ≡ (a && b) → serves forest k n ≡ b → Decides a (LeadsOnward k c steps forest n) → Decides w (Onward (step k c steps) forest n)
+onward_at forest k c steps n true true true e s h = (s, h)
+onward_at forest k c steps n false true true e s h = absurd (true≢false (sym e))
+onward_at forest k c steps n true true false e s h = absurd (true≢false e)
+onward_at forest k c steps n false true false e s h = λ o. true≢false (sym o.0 ∙ s)
+onward_at forest k c steps n true false b e s h = absurd (true≢false e)
+onward_at forest k c steps n false false b e s h = λ o. h o.1
+
+pub onward_told : (forest : Forest) (count : ℕ) (k : Combinator) (c : CompoundSelector) (steps : Steps) (flags table : List Bool) → AreTold flags count (LeadsOnward k c steps forest) → AreServing forest k table flags →
+    AreTold table count (Onward (step k c steps) forest)
+onward_told forest count k c steps flags table told serving = record {
+  long = serving.long ∙ told.long;
+  each = λ n known. onward_at forest k c steps n _ _ _ (serving.each n (subst (λ (m : ℕ). n < m) (sym told.long) known)) refl (told.each n known);
+}
+
+pub some_told : (forest : Forest) → AreLines forest → (count : ℕ) (k : Combinator) (c : CompoundSelector) (steps : Steps) (flags : List Bool) → AreTold flags count (LeadsOnward k c steps forest) → AreTold flags count (LeadsToSome k c steps forest)
+some_told forest lines count k c steps flags told = record {
+  long = told.long;
+  each = λ n known. told_by (truth_at flags n) _ _ (some_to forest lines k c steps n) (some_from forest lines k c steps n) (told.each n known);
+}
+
+abbrev pub Chain : Type 0
+Chain = List (Combinator × CompoundSelector)
+
+-- counts and weights of steps with one more at their end
+pub count_last : (ss : Chain) (s : Combinator × CompoundSelector) → steps_count (steps_of (ss ++ s ∷ [])) ≡ compound_count s.1 + steps_count (steps_of ss)
+count_last [] s = refl
+count_last (t ∷ ss) s = let rest = count_last ss s in omega arith
+
+pub weight_last : (ss : Chain) (s : Combinator × CompoundSelector) → steps_weight (steps_of (ss ++ s ∷ [])) ≡ 2 + compound_weight s.1 + steps_weight (steps_of ss)
+weight_last [] s = omega arith
+weight_last (t ∷ ss) s = let rest = weight_last ss s in omega arith
+
+-- the steps that are left, with the last of them apart
+pub steps_apart : (left before : List Step) (s : Step) → left ≡ before ++ s ∷ [] → map read_step left ≡ map read_step before ++ (s.combinator, read_compound s.compound) ∷ []
+steps_apart left before s e =
+    ap (map read_step) e ∙ (map-append read_step before (s ∷ []) ∙ ap (λ (r : Combinator × CompoundSelector). map read_step before ++ r ∷ []) (read_step_is s))
+
+-- steps that are left, and those behind them, of which a table is told
+pub record Going (forest : Forest) (count : ℕ) (all left : Chain) (table : List Bool) : Type 0 where
+  pub tail : Chain
+  pub split : all ≡ left ++ tail
+  pub told : AreTold table count (Onward (steps_of tail) forest)
+
+pub going_on : (forest : Forest) (count : ℕ) → count ≡ length forest.content → (all left before : Chain) (k : Combinator) (c : CompoundSelector) (wanted held flags table : List Bool) → Going forest count all left wanted → left ≡ before ++ (k, c) ∷ [] →
+    AreTold held count (λ n. (truth_at wanted n ≡ true) × Holds c forest n) → AreTold flags count (IsLeading forest k held) → AreServing forest k table flags → Going forest count all before table
+going_on forest count is all left before k c wanted held flags table going e asked led serving = record {
+  tail = (k, c) ∷ going.tail;
+  split = going.split ∙ (ap (λ (ss : Chain). ss ++ going.tail) e ∙ append_assoc before ((k, c) ∷ []) going.tail);
+  told = onward_told forest count k c (steps_of going.tail) flags table (leads_told forest count is k c (steps_of going.tail) wanted held going.told asked flags led) serving;
+}
+
+pub going_all : (forest : Forest) (count : ℕ) (all left : Chain) (table : List Bool) → Going forest count all left table → left ≡ [] → AreTold table count (Onward (steps_of all) forest)
+going_all forest count all left table going e =
+    subst (λ (ss : Chain). AreTold table count (Onward (steps_of ss) forest)) (sym (going.split ∙ ap (λ (ss : Chain). ss ++ going.tail) e)) going.told
+
+-- the tests that were asked, and those that the steps left may ask
+pub steps_asked : (m old now new : ℕ) (all left before : List Step) (s : Step) → left ≡ before ++ s ∷ [] → now + steps_count (steps_of (map read_step left)) * m ≤ old + steps_count (steps_of (map read_step all)) * m →
+    new ≤ now + compound_count (read_compound s.compound) * m → new + steps_count (steps_of (map read_step before)) * m ≤ old + steps_count (steps_of (map read_step all)) * m
+steps_asked m old now new all left before s e so_far asked =
+    let apart = ap (λ (ss : Chain). steps_count (steps_of ss)) (steps_apart left before s e) ∙ count_last (map read_step before) (s.combinator, read_compound s.compound) in
+    let sum = subst (λ (n : ℕ). now + n * m ≤ old + steps_count (steps_of (map read_step all)) * m) apart so_far in
+    spent (compound_count (read_compound s.compound)) (steps_count (steps_of (map read_step before))) m old now new (steps_count (steps_of (map read_step all))) sum asked

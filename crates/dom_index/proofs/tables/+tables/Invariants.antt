@@ -1,0 +1,93 @@
+use Rattle.std.proofs.Common.{◌≤◌, ◌+◌, ◌*◌, length, map, drop, take}
+use Rattle.dom_selectors.specs.ListsAsTrees.{lists_of, steps_of}
+use Rattle.dom_select.specs.Meaning.{Holds, LeadsOn, Means, Reaches}
+use Rattle.dom_selectors.specs.ValuesAsTrees.{read_compound, read_list, read_nested, read_step}
+use Rattle.dom_index.specs.Counts.{compound_count, lists_count, selectors_count, steps_count}
+use Rattle.dom_index.specs.Tables.{AreTold}
+use Rattle.dom_selectors.proofs.Weights.{compound_weight, lists_weight, list_weight, selectors_weight, steps_weight}
+use Rattle.dom_index.proofs.ListLemmas.{Narrowed, Widened}
+use Rattle.dom_index.proofs.OnwardLemmas.{Going}
+use Rattle.dom_index.proofs.tables.+tables.Given as goal
+
+abbrev pub decreases-compound_table : goal.decreases-compound_table
+decreases-compound_table l = compound_weight (read_compound l.compound.now)
+
+abbrev pub decreases-narrowed_table : goal.decreases-narrowed_table
+decreases-narrowed_table l = lists_weight (lists_of (map read_nested l.lists.now))
+
+abbrev pub decreases-nested_table : goal.decreases-nested_table
+decreases-nested_table l = list_weight (read_nested l.list.now)
+
+abbrev pub decreases-list_table : goal.decreases-list_table
+decreases-list_table l = selectors_weight (read_list l.selectors.now)
+
+abbrev pub decreases-has_table : goal.decreases-has_table
+decreases-has_table l = selectors_weight (read_list l.selectors.now)
+
+abbrev pub decreases-leading_table : goal.decreases-leading_table
+decreases-leading_table l = 8 + compound_weight (read_compound l.first.now) + steps_weight (steps_of (map read_step l.steps.now))
+
+abbrev pub decreases-onward_table : goal.decreases-onward_table
+decreases-onward_table l = 1 + steps_weight (steps_of (map read_step l.steps.now))
+
+abbrev pub decreases-selector_table : goal.decreases-selector_table
+decreases-selector_table l = 8 + compound_weight (read_compound l.first.now) + steps_weight (steps_of (map read_step l.steps.now))
+
+abbrev pub invariant-list_table-loop-selector : goal.invariant-list_table-loop-selector
+invariant-list_table-loop-selector l =
+    let all = read_list l.selectors in
+    let left = read_list (drop l.selector-index l.selectors) in
+    let count = length l.ground.tree.now.content in
+    record {
+      table : Widened count l.table.items (Means all l.ground.tree.now) (Means left l.ground.tree.now);
+      tests : l.tests + selectors_count left * count ≤ l.fn.tests + selectors_count all * count;
+      light : selectors_weight left ≤ selectors_weight all;
+    }
+
+abbrev pub invariant-has_table-loop-selector : goal.invariant-has_table-loop-selector
+invariant-has_table-loop-selector l =
+    let all = read_list l.selectors in
+    let left = read_list (drop l.selector-index l.selectors) in
+    let count = length l.ground.tree.now.content in
+    record {
+      table : Widened count l.table.items (LeadsOn all l.ground.tree.now) (LeadsOn left l.ground.tree.now);
+      tests : l.tests + selectors_count left * count ≤ l.fn.tests + selectors_count all * count;
+      light : selectors_weight left ≤ selectors_weight all;
+    }
+
+-- the steps that are left, and a table of those behind them
+abbrev pub invariant-onward_table-loop-step : goal.invariant-onward_table-loop-step
+invariant-onward_table-loop-step l =
+    let all = map read_step l.steps in
+    let left = map read_step l.left in
+    let count = length l.ground.tree.now.content in
+    record {
+      going : Going l.ground.tree.now count all left l.table.items;
+      tests : l.tests + steps_count (steps_of left) * count ≤ l.fn.tests + steps_count (steps_of all) * count;
+      light : steps_weight (steps_of left) ≤ steps_weight (steps_of all);
+    }
+
+abbrev pub decreases-onward_table-loop-step : goal.decreases-onward_table-loop-step
+decreases-onward_table-loop-step l = length l.left
+
+abbrev pub invariant-narrowed_table-loop-list : goal.invariant-narrowed_table-loop-list
+invariant-narrowed_table-loop-list l =
+    let all = lists_of (map read_nested l.lists) in
+    let left = lists_of (map read_nested (drop l.list-index l.lists)) in
+    let count = length l.ground.tree.now.content in
+    record {
+      table : Narrowed l.ground.tree.now count l.fn.wanted.items l.table.items all left;
+      tests : l.tests + lists_count left * count ≤ l.fn.tests + lists_count all * count;
+      light : lists_weight left ≤ lists_weight all;
+    }
+
+abbrev pub invariant-selector_table-loop-step : goal.invariant-selector_table-loop-step
+invariant-selector_table-loop-step l =
+    let all = steps_of (map read_step l.steps) in
+    let left = steps_of (map read_step (drop l.step-index l.steps)) in
+    let count = length l.ground.tree.now.content in
+    record {
+      table : AreTold l.table.items count (λ n. Reaches (Holds (read_compound l.first) l.ground.tree.now) (steps_of (map read_step (take l.step-index l.steps))) l.ground.tree.now n n);
+      tests : l.tests + steps_count left * count ≤ l.fn.tests + (compound_count (read_compound l.first) + steps_count all) * count;
+      light : steps_weight left ≤ steps_weight all;
+    }

@@ -1,0 +1,203 @@
+//! Tables of what selectors mean, filled compound by compound.
+
+ghost use Rattle.std.specs.Prelude.{◌≡◌, ◌≤◌, ◌+◌, ◌*◌, true, length, map, IfOk};
+ghost use Rattle.dom_selectors.specs.ListsAsTrees.{lists_of, steps_of};
+ghost use Rattle.dom_selectors.specs.ValuesAsTrees.{read_compound, read_list, read_nested};
+ghost use Rattle.dom_selectors.specs.ValuesAsTrees.{read_step};
+ghost use Rattle.dom_select.specs.Meaning.{Holds, LeadsOn, LeadsToSome, ListHolds, ListsHold};
+ghost use Rattle.dom_select.specs.Meaning.{Means, Reaches};
+ghost use Rattle.dom_index.specs.Counts.{compound_count, list_count, lists_count};
+ghost use Rattle.dom_index.specs.Counts.{selectors_count, steps_count};
+ghost use Rattle.dom_index.specs.Onward.{Onward};
+ghost use Rattle.dom_index.specs.Tables.{AreTold, truth_at};
+
+use crate::ground::{Ground, know_forest};
+use crate::truths::{elements, narrow, narrow_beside, tested, turn, widen};
+use crate::ways::{leading, led};
+use dom_nodes::fault::OutOfMemory;
+use dom_selectors::syntax::{Combinator, Compound, Nested, Selector, Step};
+
+/// Where the table tells the truth and the compound holds.
+#[cycle(tables)]
+fn compound_table(
+    ground: &Ground<'_>,
+    compound: &Compound,
+    wanted: Vec<bool>,
+    tests: &mut u128,
+) -> Result<Vec<bool>, OutOfMemory>
+    requires { length wanted.items ≡ length ground.now.tree.now.content }
+    ensures table { IfOk result (λ table. AreTold table.items (length ground.now.tree.now.content)
+        (λ n. (truth_at wanted.items n ≡ true)
+        × Holds (read_compound compound.now) ground.now.tree.now n)) }
+    ensures tests { tests.new ≤ tests.old
+        + compound_count (read_compound compound.now) * length ground.now.tree.now.content }
+{
+    let narrowed = narrowed_table(ground, &compound.nested, wanted, tests)?;
+    tested(ground, compound, narrowed, tests)
+}
+
+/// Where the table tells the truth and each of the lists in a compound holds.
+#[cycle(tables)]
+fn narrowed_table(
+    ground: &Ground<'_>,
+    lists: &[Nested],
+    wanted: Vec<bool>,
+    tests: &mut u128,
+) -> Result<Vec<bool>, OutOfMemory>
+    requires { length wanted.items ≡ length ground.now.tree.now.content }
+    ensures table { IfOk result (λ table. AreTold table.items (length ground.now.tree.now.content)
+        (λ n. (truth_at wanted.items n ≡ true)
+        × ListsHold (lists_of (map read_nested lists.now)) ground.now.tree.now n)) }
+    ensures tests { tests.new ≤ tests.old
+        + lists_count (lists_of (map read_nested lists.now))
+        * length ground.now.tree.now.content }
+{
+    let mut table = wanted;
+    for list in lists {
+        let told = nested_table(ground, list, tests)?;
+        narrow(&mut table, &told);
+    }
+    Ok(table)
+}
+
+/// Where a list in a compound holds.
+#[cycle(tables)]
+fn nested_table(
+    ground: &Ground<'_>,
+    list: &Nested,
+    tests: &mut u128,
+) -> Result<Vec<bool>, OutOfMemory>
+    ensures table { IfOk result (λ table. AreTold table.items (length ground.now.tree.now.content)
+        (ListHolds (read_nested list.now) ground.now.tree.now)) }
+    ensures tests { tests.new ≤ tests.old
+        + list_count (read_nested list.now) * length ground.now.tree.now.content }
+{
+    match list {
+        Nested::Is(selectors) => list_table(ground, selectors, tests),
+        Nested::Not(selectors) => {
+            let mut table = list_table(ground, selectors, tests)?;
+            turn(&mut table);
+            Ok(table)
+        }
+        Nested::Has(selectors) => has_table(ground, selectors, tests),
+    }
+}
+
+/// Which nodes one of the selectors means.
+#[cycle(tables)]
+pub(crate) fn list_table(
+    ground: &Ground<'_>,
+    selectors: &[Selector],
+    tests: &mut u128,
+) -> Result<Vec<bool>, OutOfMemory>
+    ensures table { IfOk result (λ table. AreTold table.items (length ground.now.tree.now.content)
+        (Means (read_list selectors.now) ground.now.tree.now)) }
+    ensures tests { tests.new ≤ tests.old
+        + selectors_count (read_list selectors.now) * length ground.now.tree.now.content }
+{
+    let mut table = vec![in ground.tree.allocator(); false; ground.order.len()]?;
+    for selector in selectors {
+        let told = selector_table(ground, &selector.first, &selector.rest, tests)?;
+        widen(&mut table, &told);
+    }
+    Ok(table)
+}
+
+/// Which nodes the compounds lead to, from the first to the last.
+#[cycle(tables)]
+fn selector_table(
+    ground: &Ground<'_>,
+    first: &Compound,
+    steps: &[Step],
+    tests: &mut u128,
+) -> Result<Vec<bool>, OutOfMemory>
+    ensures table { IfOk result (λ table. AreTold table.items (length ground.now.tree.now.content)
+        (λ n. Reaches (Holds (read_compound first.now) ground.now.tree.now)
+        (steps_of (map read_step steps.now)) ground.now.tree.now n n)) }
+    ensures tests { tests.new ≤ tests.old
+        + (compound_count (read_compound first.now)
+        + steps_count (steps_of (map read_step steps.now)))
+        * length ground.now.tree.now.content }
+{
+    know_forest(ground.tree);
+    let all = vec![in ground.tree.allocator(); true; ground.order.len()]?;
+    let mut table = compound_table(ground, first, all, tests)?;
+    for step in steps {
+        let wanted = led(ground, step.combinator, &table)?;
+        table = compound_table(ground, &step.compound, wanted, tests)?;
+    }
+    Ok(table)
+}
+
+/// From which nodes one of the selectors leads to an element.
+#[cycle(tables)]
+fn has_table(
+    ground: &Ground<'_>,
+    selectors: &[Selector],
+    tests: &mut u128,
+) -> Result<Vec<bool>, OutOfMemory>
+    ensures table { IfOk result (λ table. AreTold table.items (length ground.now.tree.now.content)
+        (LeadsOn (read_list selectors.now) ground.now.tree.now)) }
+    ensures tests { tests.new ≤ tests.old
+        + selectors_count (read_list selectors.now) * length ground.now.tree.now.content }
+{
+    let mut table = vec![in ground.tree.allocator(); false; ground.order.len()]?;
+    for selector in selectors {
+        let told = leading_table(
+            ground,
+            selector.lead,
+            &selector.first,
+            &selector.rest,
+            tests,
+        )?;
+        widen(&mut table, &told);
+    }
+    Ok(table)
+}
+
+/// From which nodes the compounds lead to an element, from the last to the first.
+#[cycle(tables)]
+fn leading_table(
+    ground: &Ground<'_>,
+    lead: Combinator,
+    first: &Compound,
+    steps: &[Step],
+    tests: &mut u128,
+) -> Result<Vec<bool>, OutOfMemory>
+    ensures table { IfOk result (λ table. AreTold table.items (length ground.now.tree.now.content)
+        (LeadsToSome lead (read_compound first.now) (steps_of (map read_step steps.now))
+        ground.now.tree.now)) }
+    ensures tests { tests.new ≤ tests.old
+        + (compound_count (read_compound first.now)
+        + steps_count (steps_of (map read_step steps.now)))
+        * length ground.now.tree.now.content }
+{
+    know_forest(ground.tree);
+    let wanted = onward_table(ground, steps, tests)?;
+    let held = compound_table(ground, first, wanted, tests)?;
+    leading(ground, lead, &held)
+}
+
+/// From which nodes the steps lead to an element.
+#[cycle(tables)]
+fn onward_table(
+    ground: &Ground<'_>,
+    steps: &[Step],
+    tests: &mut u128,
+) -> Result<Vec<bool>, OutOfMemory>
+    ensures table { IfOk result (λ table. AreTold table.items (length ground.now.tree.now.content)
+        (Onward (steps_of (map read_step steps.now)) ground.now.tree.now)) }
+    ensures tests { tests.new ≤ tests.old
+        + steps_count (steps_of (map read_step steps.now))
+        * length ground.now.tree.now.content }
+{
+    let mut table = elements(ground)?;
+    let mut left = steps;
+    while let Some((step, before)) = left.split_last() {
+        let held = compound_table(ground, &step.compound, table, tests)?;
+        table = leading(ground, step.combinator, &held)?;
+        narrow_beside(ground, step.combinator, &mut table);
+        left = before;
+    }
+    Ok(table)
+}

@@ -1,0 +1,111 @@
+//! Tables of truth values, taken together or asked of nodes.
+
+ghost use Rattle.std.specs.Prelude.{◌≡◌, ◌<◌, ◌≤◌, ◌+◌, ℕ, true, length, map, IfOk};
+ghost use Rattle.dom_selectors.specs.declared.syntax.Combinator.TheVariants.{Sibling};
+ghost use Rattle.dom_selectors.specs.ListsAsTrees.{lists_of};
+ghost use Rattle.dom_selectors.specs.ValuesAsTrees.{read_compound, read_nested};
+ghost use Rattle.dom_links.specs.ListMoves.{element_at};
+ghost use Rattle.dom_select.specs.Meaning.{Holds, ListsHold};
+ghost use Rattle.dom_index.specs.Tables.{AreBoth, AreEither, AreTold, AreTurned, AreServing, truth_at};
+
+use crate::ground::{Ground, numbered};
+use crate::ways::is_element;
+use dom_nodes::fault::OutOfMemory;
+use dom_select::matcher::caches::SelectorCaches;
+use dom_select::matcher::compounds::test_compound;
+use dom_selectors::syntax::{Combinator, Compound};
+use dom_trees::node_ref::NodeRef;
+
+/// Asks the compound at the nodes of which the table tells the truth, where its lists hold.
+pub(crate) fn tested(
+    ground: &Ground<'_>,
+    compound: &Compound,
+    wanted: Vec<bool>,
+    tests: &mut u128,
+) -> Result<Vec<bool>, OutOfMemory>
+    requires wanted { length wanted.items ≡ length ground.now.tree.now.content }
+    requires lists { (n : ℕ) → n < length ground.now.tree.now.content
+        → truth_at wanted.items n ≡ true →
+        ListsHold (lists_of (map read_nested compound.now.nested.items)) ground.now.tree.now n }
+    ensures table { IfOk result (λ table. AreTold table.items (length ground.now.tree.now.content)
+        (λ n. (truth_at wanted.items n ≡ true)
+        × Holds (read_compound compound.now) ground.now.tree.now n)) }
+    ensures tests { tests.new ≤ tests.old + length ground.now.tree.now.content }
+{
+    let answers = vec![in ground.tree.allocator(); true; compound.nested.len()]?;
+    let mut caches = SelectorCaches::new(ground.tree);
+    let mut table = wanted;
+    let mut asked = 0;
+    for n in 0..table.len() {
+        if table[n] {
+            let node = NodeRef::new(numbered(ground.tree, n), ground.tree);
+            table[n] = test_compound(compound, &node, &answers, &mut caches, &mut asked);
+        }
+    }
+    *tests = tests.saturating_add(asked);
+    Ok(table)
+}
+
+/// Which nodes are elements.
+pub(crate) fn elements(ground: &Ground<'_>) -> Result<Vec<bool>, OutOfMemory>
+    ensures { IfOk result (λ table. AreTold table.items (length ground.now.tree.now.content)
+        (λ n. element_at ground.now.tree.now n ≡ true)) }
+{
+    let mut table = vec![in ground.tree.allocator(); false; ground.order.len()]?;
+    for n in 0..ground.tree.len() {
+        table[n] = is_element(ground.tree, numbered(ground.tree, n));
+    }
+    Ok(table)
+}
+
+/// Keeps the truths of a table where another tells the truth too.
+pub(crate) fn narrow(table: &mut Vec<bool>, other: &[bool])
+    requires { length other.now ≡ length table.old.items }
+    ensures { AreBoth table.new.items table.old.items other.now }
+{
+    for n in 0..table.len() {
+        table[n] = table[n] && other[n];
+    }
+}
+
+/// Adds the truths of another table.
+pub(crate) fn widen(table: &mut Vec<bool>, other: &[bool])
+    requires { length other.now ≡ length table.old.items }
+    ensures { AreEither table.new.items table.old.items other.now }
+{
+    for n in 0..table.len() {
+        table[n] = table[n] || other[n];
+    }
+}
+
+/// Turns each truth value round.
+pub(crate) fn turn(table: &mut Vec<bool>)
+    ensures { AreTurned table.new.items table.old.items }
+{
+    for n in 0..table.len() {
+        table[n] = !table[n];
+    }
+}
+
+/// Keeps the truths of the nodes that may stand beside the combinator.
+pub(crate) fn narrow_beside(ground: &Ground<'_>, combinator: Combinator, table: &mut Vec<bool>)
+    requires { length table.old.items ≡ length ground.now.tree.now.content }
+    ensures { AreServing ground.now.tree.now combinator table.new.items table.old.items }
+{
+    match combinator {
+        Combinator::Descendant | Combinator::Child => {}
+        Combinator::Adjacent | Combinator::Sibling => narrow_to_elements(ground, table),
+    }
+}
+
+/// Keeps the truths of elements.
+fn narrow_to_elements(ground: &Ground<'_>, table: &mut Vec<bool>)
+    requires { length table.old.items ≡ length ground.now.tree.now.content }
+    ensures { AreServing ground.now.tree.now Sibling table.new.items table.old.items }
+{
+    for n in 0..table.len() {
+        if table[n] {
+            table[n] = is_element(ground.tree, numbered(ground.tree, n));
+        }
+    }
+}

@@ -1,0 +1,136 @@
+//! Which nodes are led to from those that a table tells, and which lead to them, as a combinator
+//! says.
+
+ghost use Rattle.std.specs.Prelude.{◌≡◌, ◌<◌, length, IfOk};
+ghost use Rattle.dom_links.specs.ListMoves.{element_at};
+ghost use Rattle.dom_select.specs.Leftward.{left_of};
+ghost use Rattle.dom_index.specs.Tables.{AreTold, IsLeading, IsLed, is_led, passes_on, told_too};
+
+use crate::ground::{Ground, know_forest};
+use dom_links::iters::{node_at, parent_id, prev_sibling_id};
+use dom_nodes::fault::OutOfMemory;
+use dom_nodes::node_id::NodeId;
+use dom_selectors::syntax::Combinator;
+use dom_trees::tree::Tree;
+
+/// Whether the node is an element.
+pub(crate) fn is_element(tree: &Tree, id: NodeId) -> bool
+    requires { id < length tree.now.content }
+    ensures { result ≡ element_at tree.now id }
+{
+    node_at(tree.nodes(), id).content.as_element().is_some()
+}
+
+/// The next node on the way to the left: the parent, or the sibling before.
+fn left_of(tree: &Tree, combinator: Combinator, id: NodeId) -> Option<NodeId>
+    ensures { result ≡ left_of tree.now combinator id }
+{
+    match combinator {
+        Combinator::Descendant | Combinator::Child => parent_id(tree.nodes(), &id),
+        Combinator::Adjacent | Combinator::Sibling => prev_sibling_id(tree.nodes(), &id),
+    }
+}
+
+/// Whether the node will do beside the combinator, or passes on what the flags tell of it.
+fn passes_on(
+    tree: &Tree,
+    combinator: Combinator,
+    table: &[bool],
+    flags: &[bool],
+    id: NodeId,
+) -> bool
+    requires known { id < length tree.now.content }
+    requires table_long { length table.now ≡ length tree.now.content }
+    requires flags_long { length flags.now ≡ length tree.now.content }
+    ensures { result ≡ passes_on tree.now combinator table.now flags.now id }
+{
+    let v = id.value();
+    match combinator {
+        Combinator::Descendant => table[v] || flags[v],
+        Combinator::Child => table[v],
+        Combinator::Adjacent => {
+            if is_element(tree, id) {
+                table[v]
+            } else {
+                flags[v]
+            }
+        }
+        Combinator::Sibling => {
+            let element = is_element(tree, id);
+            (element && table[v]) || flags[v]
+        }
+    }
+}
+
+/// Whether the node is led to, where the flags tell that of the next one on its left.
+fn is_led(
+    ground: &Ground<'_>,
+    combinator: Combinator,
+    table: &[bool],
+    flags: &[bool],
+    id: NodeId,
+) -> bool
+    requires known { id < length ground.now.tree.now.content }
+    requires table_long { length table.now ≡ length ground.now.tree.now.content }
+    requires flags_long { length flags.now ≡ length ground.now.tree.now.content }
+    ensures { result ≡ is_led ground.now.tree.now combinator table.now flags.now id }
+{
+    match left_of(ground.tree, combinator, id) {
+        Some(left) => passes_on(ground.tree, combinator, table, flags, left),
+        None => false,
+    }
+}
+
+/// For each node whether some node that the table tells stands to it as the combinator says: first
+/// to last, each from the next one on its left.
+pub(crate) fn led(
+    ground: &Ground<'_>,
+    combinator: Combinator,
+    table: &[bool],
+) -> Result<Vec<bool>, OutOfMemory>
+    requires { length table.now ≡ length ground.now.tree.now.content }
+    ensures { IfOk result (λ flags. AreTold flags.items (length ground.now.tree.now.content)
+        (IsLed ground.now.tree.now combinator table.now)) }
+{
+    know_forest(ground.tree);
+    let mut flags = vec![in ground.tree.allocator(); false; table.len()]?;
+    for i in 0..ground.order.len() {
+        let id = ground.order[i];
+        flags[id.value()] = is_led(ground, combinator, table, &flags, id);
+    }
+    Ok(flags)
+}
+
+/// For each node whether it stands as the combinator says to some node that the table tells: last
+/// to first, each told by those whose next one on the left it is.
+pub(crate) fn leading(
+    ground: &Ground<'_>,
+    combinator: Combinator,
+    table: &[bool],
+) -> Result<Vec<bool>, OutOfMemory>
+    requires { length table.now ≡ length ground.now.tree.now.content }
+    ensures { IfOk result (λ flags. AreTold flags.items (length ground.now.tree.now.content)
+        (IsLeading ground.now.tree.now combinator table.now)) }
+{
+    know_forest(ground.tree);
+    let mut flags = vec![in ground.tree.allocator(); false; table.len()]?;
+    for i in 0..ground.order.len() {
+        let id = ground.order[ground.order.len() - 1 - i];
+        if passes_on(ground.tree, combinator, table, &flags, id) {
+            tell(&mut flags, left_of(ground.tree, combinator, id));
+        }
+    }
+    Ok(flags)
+}
+
+/// Tells the truth of a node, if there is one.
+fn tell(flags: &mut Vec<bool>, id: Option<NodeId>)
+    ensures { flags.new.items ≡ told_too flags.old.items id }
+{
+    if let Some(id) = id {
+        let n = id.value();
+        if n < flags.len() {
+            flags[n] = true;
+        }
+    }
+}

@@ -1,0 +1,50 @@
+//! A compound that is asked of one node, by what its nested lists answered.
+
+ghost use Rattle.std.specs.Prelude.{◌≡◌, ◌+◌, ◌<◌, ◌^◌, map};
+ghost use Rattle.std.specs.List.{list_all};
+ghost use Rattle.dom_selectors.specs.ListsAsTrees.{lists_of};
+ghost use Rattle.dom_selectors.specs.Spelling.{Decides};
+ghost use Rattle.dom_selectors.specs.ValuesAsTrees.{read_compound, read_nested};
+ghost use Rattle.dom_select.specs.Answers.{AreAnswers};
+ghost use Rattle.dom_select.specs.Meaning.{Holds};
+
+use crate::matcher::caches::SelectorCaches;
+use crate::matcher::matches::{bare_type, bears_name};
+use crate::matcher::parts::parts_hold;
+use dom_selectors::syntax::Compound;
+use dom_trees::node_ref::NodeRef;
+
+/// Whether the compound holds of the node, where `nested` tells of each of its lists, in their
+/// order, whether it holds of the node. The caches are the tree's. It adds one to `tests`.
+pub fn test_compound(
+    compound: &Compound,
+    x: &NodeRef<'_>,
+    nested: &[bool],
+    caches: &mut SelectorCaches<'_>,
+    tests: &mut u128,
+) -> bool
+    requires answers { AreAnswers (lists_of (map read_nested compound.now.nested.items))
+        x.now.tree.now x.now.id nested.now }
+    requires caches { caches.old ≡ x.now.tree.now }
+    requires room { tests.old + 1 < 2 ^ 128 }
+    ensures is { Decides result (Holds (read_compound compound.now) x.now.tree.now x.now.id) }
+    ensures kept { caches.new ≡ caches.old }
+    ensures counted { tests.new ≡ tests.old + 1 }
+{
+    *tests += 1;
+    if let Some(name) = bare_type(compound) {
+        return bears_name(x.tree, &x.id, name);
+    }
+    let all = are_true(nested);
+    if !all {
+        return false;
+    }
+    parts_hold(&compound.parts, x.tree, caches, &x.id)
+}
+
+/// Whether each of the answers is true.
+fn are_true(answers: &[bool]) -> bool
+    ensures { result ≡ list_all (λ b. b) answers.now }
+{
+    answers.iter().all(|answer| *answer)
+}
