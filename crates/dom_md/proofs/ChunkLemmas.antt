@@ -53,7 +53,7 @@ pub marked_punctuation : (b : ℕ) (text : List ℕ) → is_marked b text ≡ tr
 marked_punctuation b text marked = marked_is b text marked (λ (n : ℕ). is_punctuation n ≡ true)
     (λ m. mark_is b m (λ (n : ℕ). is_punctuation n ≡ true) refl refl refl refl refl refl refl refl refl) refl
 
-unmarked_plain : (b : ℕ) (text : List ℕ) → is_marked b text ≡ false → (b == backslash) ≡ false
+pub unmarked_plain : (b : ℕ) (text : List ℕ) → is_marked b text ≡ false → (b == backslash) ≡ false
 unmarked_plain b [] h = elim (cases_Bool (b == backslash)) [ inl t ↦ (let no = rw t at h in absurd (cc)) | inr f ↦ f ]
 unmarked_plain b (next ∷ text) h = elim (cases_Bool (b == backslash)) [ inl t ↦ (let no = rw t at h in absurd (cc)) | inr f ↦ f ]
 

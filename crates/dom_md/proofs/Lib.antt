@@ -5,3 +5,4 @@ pub mod ReadLemmas
 pub mod SolidLemmas
 pub mod StackLemmas
 pub mod StepLemmas
+pub mod WrittenLemmas

@@ -54,7 +54,7 @@ pub record IsUnderWay (old now : List ℕ) (parted : Bool) (left : List (List �
   pub reads : Reads old now some
   pub is : some ++ spaced parted left ≡ whole
 
-spaced-first : (word : List ℕ) (words : List (List ℕ)) → words_joined (word ∷ words) ≡ word ++ spaced true words
+pub spaced-first : (word : List ℕ) (words : List (List ℕ)) → words_joined (word ∷ words) ≡ word ++ spaced true words
 spaced-first word [] = sym (append-nil word)
 spaced-first word (next ∷ words) = ap (λ t. word ++ space ∷ t) (spaced-first next words)
 
@@ -79,7 +79,7 @@ way-next old now new word whole words left parted at same r way =
       is = append_assoc way.some (space ∷ word) (spaced parted words) ∙ ap (λ t. way.some ++ t) (sym here) ∙ way.is;
     }
 
-spaced-none : (parted : Bool) → spaced parted [] ≡ []
+pub spaced-none : (parted : Bool) → spaced parted [] ≡ []
 spaced-none true = refl
 spaced-none false = refl
 

@@ -10,3 +10,4 @@ pub mod Resolved
 pub mod Scopes
 pub mod Solid
 pub mod Words
+pub mod Written

@@ -134,7 +134,7 @@ fn find_mark(bytes: &[u8]) -> Option<usize>
 }
 
 /// Whether a backslash stands before the byte at this place.
-fn is_marked(bytes: &[u8], at: usize) -> bool
+pub(crate) fn is_marked(bytes: &[u8], at: usize) -> bool
     requires { at < length bytes.now }
     ensures { result ≡ is_marked (slice_index_or bytes.now at 0) (drop (at + 1) bytes.now) }
 {

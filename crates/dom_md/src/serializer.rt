@@ -18,13 +18,15 @@ mod tables;
 mod tasks;
 mod texts;
 mod urls;
+mod words;
 
 use crate::context::FormatOpts;
 use crate::serializer::names::is_default_skipped;
 use crate::serializer::nodes::holds_texts;
 use crate::serializer::tables::Table;
 use crate::serializer::tasks::{Item, Task};
-use crate::serializer::texts::{push_words, trim_space};
+use crate::serializer::texts::trim_space;
+use crate::serializer::words::push_words;
 use dom_nodes::fault::OutOfMemory;
 use dom_nodes::node_id::NodeId;
 use dom_trees::node_ref::NodeRef;

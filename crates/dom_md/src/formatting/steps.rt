@@ -144,31 +144,30 @@ fn ends_with(text: &str, end: &str) -> bool
     text.as_bytes().ends_with(end.as_bytes())
 }
 
-/// The elements that stand in lines of their own, a blank line behind them.
-const BLOCK_NAMES: [&str; 16] = [
-    "article",
-    "blockquote",
-    "section",
-    "div",
-    "p",
-    "pre",
-    "h1",
-    "h2",
-    "h3",
-    "h4",
-    "h5",
-    "h6",
-    "ul",
-    "ol",
-    "dl",
-    "table",
-];
-
+/// Whether the element stands in lines of its own, with a blank line behind it.
 #[tactic(auto, unfolding(crate::specs::Formatted::block_names))]
 fn is_block(name: &str) -> bool
     ensures { result ≡ is_among name.now block_names }
 {
-    is_one_of(&BLOCK_NAMES, name)
+    matches!(
+        name,
+        "article"
+            | "blockquote"
+            | "section"
+            | "div"
+            | "p"
+            | "pre"
+            | "h1"
+            | "h2"
+            | "h3"
+            | "h4"
+            | "h5"
+            | "h6"
+            | "ul"
+            | "ol"
+            | "dl"
+            | "table"
+    )
 }
 
 /// Whether a line ends with the element.
@@ -185,10 +184,4 @@ fn is_cell(name: &str) -> bool
     ensures { result ≡ is_among name.now cell_names }
 {
     matches!(name, "td" | "th")
-}
-
-fn is_one_of(names: &[&str], name: &str) -> bool
-    ensures { result ≡ list_any (λ known. bytes_eq known.now name.now) names.now }
-{
-    names.iter().any(|known| *known == name)
 }

@@ -15,16 +15,27 @@ use dom_nodes::node_id::NodeId;
 use dom_trees::node_ref::NodeRef;
 
 impl<'a> Writer<'a> {
-    /// Writes a node and pushes its later siblings.
+    /// Writes a node and pushes its later siblings. Texts at the front are written at once.
     pub(super) fn write_row(&mut self, id: NodeId, opts: FormatOpts) -> Result<(), OutOfMemory> {
         let tree = self.tree;
-        let Some(node) = tree.get(&id) else {
-            return Ok(());
-        };
-        if let Some(next) = node.next_sibling {
-            self.push(Task::Row { id: next, opts })?;
+        let mut at = id;
+        for _ in 0..u64::MAX {
+            let Some(node) = tree.get(&at) else {
+                return Ok(());
+            };
+            let NodeData::Text { contents } = &node.content else {
+                if let Some(next) = node.next_sibling {
+                    self.push(Task::Row { id: next, opts })?;
+                }
+                return self.open_node(at, opts);
+            };
+            push_text(&mut self.text, contents.as_str(), opts)?;
+            let Some(next) = node.next_sibling else {
+                return Ok(());
+            };
+            at = next;
         }
-        self.open_node(id, opts)
+        Ok(())
     }
 
     /// Writes the beginning of a node.

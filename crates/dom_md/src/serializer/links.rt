@@ -7,6 +7,7 @@ use crate::serializer::tasks::Task;
 use crate::serializer::texts::{escape_trailing_bang, push_text};
 use crate::serializer::urls::push_target;
 use dom_nodes::fault::OutOfMemory;
+use dom_nodes::node_data::NodeData;
 use dom_nodes::node_id::NodeId;
 use dom_trees::node_ref::NodeRef;
 
@@ -18,6 +19,9 @@ impl<'a> Writer<'a> {
         if node.attr("href").is_none() {
             return self.push_below(id, opts);
         }
+        if let Some(words) = only_text(&node) {
+            return self.write_text_link(id, words);
+        }
         if has_image(&node) {
             return self.begin_body(id, opts.link_body());
         }
@@ -26,13 +30,19 @@ impl<'a> Writer<'a> {
         if body.as_str().is_empty() {
             return self.begin_body(id, opts);
         }
+        self.write_text_link(id, body.as_str())
+    }
+
+    /// Writes a link of which the text is not empty.
+    fn write_text_link(&mut self, id: NodeId, text: &str) -> Result<(), OutOfMemory> {
+        let words = text.trim_ascii_start();
         // A link with only whitespace to show still parts the words round it.
-        if body.as_str().trim_ascii().is_empty() {
-            return push_text(&mut self.text, body.as_str(), opts);
+        if words.is_empty() {
+            return push_text(&mut self.text, text, FormatOpts::new());
         }
         escape_trailing_bang(&mut self.text)?;
         self.text.push('[')?;
-        push_text(&mut self.text, body.as_str(), opts)?;
+        push_text(&mut self.text, words, FormatOpts::new())?;
         self.push_link_target(id)
     }
 
@@ -59,6 +69,19 @@ impl<'a> Writer<'a> {
         let address = node.attr_or("href", "");
         let title = node.attr("title");
         push_target(&mut self.text, address, title)
+    }
+}
+
+/// The contents of the node's child, where it has one alone and that is a text that isn't empty.
+fn only_text<'a>(node: &NodeRef<'a>) -> Option<&'a str> {
+    let first = node.tree.get(&node.id)?.first_child?;
+    let child = node.tree.get(&first)?;
+    if child.next_sibling.is_some() {
+        return None;
+    }
+    match &child.content {
+        NodeData::Text { contents } if !contents.as_str().is_empty() => Some(contents.as_str()),
+        _ => None,
     }
 }
 

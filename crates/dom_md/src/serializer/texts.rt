@@ -1,14 +1,8 @@
 //! Steps on the text so far.
 
-ghost use Rattle.std.specs.Prelude.{◌≡◌, ◌∷◌, ◌||◌, OnOk, codes, false, string_bytes, true};
-ghost use Rattle.std.specs.Str.{bytes_eq};
-ghost use Rattle.dom_nodes.specs.Ascii.{space};
-ghost use Rattle.dom_nodes.specs.Words.{words_of};
-ghost use Rattle.dom_md.specs.Resolved.{Reads};
-ghost use Rattle.dom_md.specs.Words.{spaced};
-
-use crate::chunks::{is_list_marker, push_escaped_chunk};
+use crate::chunks::is_list_marker;
 use crate::context::FormatOpts;
+use crate::serializer::words::push_words;
 use dom_nodes::fault::OutOfMemory;
 
 /// Keeps what stands before a place where a character begins.
@@ -125,72 +119,8 @@ pub(super) fn push_text(
     Ok(())
 }
 
-/// Adds the words of a text, one space between any two, and one before them if they are `parted`.
-pub(super) fn push_words(
-    text: &mut String,
-    added: &str,
-    opts: FormatOpts,
-    parted: bool,
-) -> Result<(), OutOfMemory>
-    ensures { OnOk result (opts.skip_escape ≡ false → Reads (string_bytes text.old)
-        (string_bytes text.new) (spaced parted (words_of added.now))) }
-{
-    let escape = !opts.skip_escape;
-    let mut line_start = begins_line(text.as_str()) || opts.list_item;
-    let mut is_parted = parted;
-    for word in added.split_ascii_whitespace() {
-        if is_parted {
-            push_parted_word(text, word, escape, line_start)?;
-            line_start = false;
-            continue;
-        }
-        push_first_word(text, word, escape, line_start)?;
-        is_parted = true;
-        line_start = false;
-    }
-    Ok(())
-}
-
-/// Adds a word behind a space.
-fn push_parted_word(
-    text: &mut String,
-    word: &str,
-    escape: bool,
-    line_start: bool,
-) -> Result<(), OutOfMemory>
-    ensures { OnOk result (escape ≡ true → Reads (string_bytes text.old) (string_bytes text.new)
-        (space ∷ word.now)) }
-{
-    text.push(' ')?;
-    push_escaped_chunk(text, word, escape, line_start)?;
-    Ok(())
-}
-
-/// Adds a word; a backslash stands before one that would make a list's mark of the digits before it.
-fn push_first_word(
-    text: &mut String,
-    word: &str,
-    escape: bool,
-    line_start: bool,
-) -> Result<(), OutOfMemory>
-    ensures { OnOk result (escape ≡ true → Reads (string_bytes text.old) (string_bytes text.new)
-        word.now) }
-{
-    if escape && is_stop_word(word) && ends_in_marker_digits(text.as_str()) {
-        text.push('\\')?;
-        return Ok(text.push_str(word)?);
-    }
-    push_escaped_chunk(text, word, escape, line_start)
-}
-
-fn is_stop_word(word: &str) -> bool
-    ensures { result ≡ (bytes_eq word.now (codes ".") || bytes_eq word.now (codes ")")) }
-{
-    word == "." || word == ")"
-}
-
 /// Whether the text ends in digits that begin a line, or an item of a list.
-fn ends_in_marker_digits(text: &str) -> bool {
+pub(super) fn ends_in_marker_digits(text: &str) -> bool {
     let stem = text.trim_end_matches(|c: char| c.is_ascii_digit());
     let digits = text.len() - stem.len();
     if digits < 1 || 9 < digits {

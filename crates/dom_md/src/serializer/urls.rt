@@ -20,8 +20,8 @@ pub(super) fn push_target(
 }
 
 fn push_address(text: &mut String, address: &str) -> Result<(), OutOfMemory> {
-    if is_bare(address) {
-        return Ok(text.push_str(address)?);
+    if are_plain(address) {
+        return push_ampersands(text, address);
     }
     let address = html_escape(*text.allocator(), address)?;
     if is_plain(address.as_str()) {
@@ -34,24 +34,38 @@ fn push_address(text: &mut String, address: &str) -> Result<(), OutOfMemory> {
     Ok(text.push('>')?)
 }
 
-/// Whether the address has letters, digits and marks alone that are written as they are.
-fn is_bare(address: &str) -> bool {
+/// Whether the address has letters, digits and marks alone that are written as they are, and `&`.
+fn are_plain(address: &str) -> bool {
     for byte in address.as_bytes() {
-        if !is_bare_byte(*byte) {
+        if !is_plain_byte(*byte) {
             return false;
         }
     }
     true
 }
 
-fn is_bare_byte(byte: u8) -> bool {
-    if byte.is_ascii_alphanumeric() {
-        return true;
+/// A bit for each of the bytes 0 to 63 that addresses have, and that stand for themselves or are `&`:
+/// digits and `#`, `%`, `&`, `+`, `,`, `-`, `.`, `/`, `:`, `=`, `?`.
+const PLAIN_LOW: u64 = 0xa7ff_f868_0000_0000;
+/// The same for the bytes 64 to 127: letters and `@`, `_`, `~`.
+const PLAIN_HIGH: u64 = 0x47ff_fffe_87ff_ffff;
+
+fn is_plain_byte(byte: u8) -> bool {
+    let plain = if byte < 64 { PLAIN_LOW } else { PLAIN_HIGH };
+    byte < 128 && (plain >> (byte % 64)) & 1 == 1
+}
+
+/// Adds the address with `&amp;` for each `&`.
+fn push_ampersands(text: &mut String, address: &str) -> Result<(), OutOfMemory> {
+    let mut is_first = true;
+    for part in address.split('&') {
+        if !is_first {
+            text.push_str("&amp;")?;
+        }
+        text.push_str(part)?;
+        is_first = false;
     }
-    matches!(
-        byte,
-        b'-' | b'.' | b'_' | b'~' | b'/' | b':' | b'?' | b'#' | b'%' | b'=' | b'+' | b',' | b'@'
-    )
+    Ok(())
 }
 
 /// Whether the address can stand without brackets round it.

@@ -1,0 +1,183 @@
+//! The words of a text, as they are written.
+
+ghost use Rattle.std.specs.Prelude.{◌≡◌, ◌||◌, ◌+◌, ◌++◌, ◌<◌, ◌≤◌, OnOk, MatchOption, codes};
+ghost use Rattle.std.specs.Prelude.{drop, false, length, slice_index_or, string_bytes, take, true};
+ghost use Rattle.std.specs.Str.{bytes_eq};
+ghost use Rattle.dom_nodes.specs.Words.{words_of};
+ghost use Rattle.dom_md.specs.Resolved.{Reads};
+ghost use Rattle.dom_md.specs.Words.{spaced};
+ghost use Rattle.dom_md.specs.Written.{CutsChange, IsFirstChange, begins_word, change_of};
+ghost use Rattle.dom_md.specs.Written.{is_changed, written};
+
+use crate::chunks::{is_marked, push_escaped_chunk};
+use crate::context::FormatOpts;
+use crate::serializer::texts::{begins_line, ends_in_marker_digits};
+use dom_nodes::fault::OutOfMemory;
+
+/// Adds the words of a text, one space between any two, and one before them if they are `parted`.
+pub(super) fn push_words(
+    text: &mut String,
+    added: &str,
+    opts: FormatOpts,
+    parted: bool,
+) -> Result<(), OutOfMemory>
+    ensures { OnOk result (opts.skip_escape ≡ false → Reads (string_bytes text.old)
+        (string_bytes text.new) (spaced parted (words_of added.now))) }
+{
+    let row = added.trim_ascii_start();
+    if row.is_empty() {
+        return Ok(());
+    }
+    let line_start = begins_line(text.as_str()) || opts.list_item;
+    if parted {
+        text.push(' ')?;
+    }
+    push_row(text, row, !opts.skip_escape, line_start)
+}
+
+/// Adds the words of a text that begins with one.
+fn push_row(text: &mut String, row: &str, escape: bool, line_start: bool) -> Result<(), OutOfMemory>
+    ensures { OnOk result (escape ≡ true → Reads (string_bytes text.old) (string_bytes text.new)
+        (written false row.now)) }
+{
+    if escape && (line_start || begins_with_stop(row)) {
+        let end = word_len(row.as_bytes());
+        push_first_word(text, &row[..end], line_start)?;
+        return push_written(text, &row[end..], true);
+    }
+    push_written(text, row, escape)
+}
+
+fn begins_with_stop(row: &str) -> bool {
+    match row.as_bytes().first() {
+        Some(first) => *first == b'.' || *first == b')',
+        None => false,
+    }
+}
+
+/// The length of the word at the front.
+fn word_len(bytes: &[u8]) -> usize
+    ensures within { result ≤ length bytes.now }
+    ensures ascii { result < length bytes.now → slice_index_or bytes.now result 0 < 128 }
+    ensures word { written false bytes.now
+        ≡ take result bytes.now ++ written false (drop result bytes.now) }
+{
+    for at in 0..bytes.len() {
+        if bytes[at].is_ascii_whitespace() {
+            return at;
+        }
+    }
+    bytes.len()
+}
+
+/// Adds a word; a backslash stands before one that would make a list's mark of the digits before it.
+fn push_first_word(text: &mut String, word: &str, line_start: bool) -> Result<(), OutOfMemory>
+    ensures { OnOk result (Reads (string_bytes text.old) (string_bytes text.new) word.now) }
+{
+    if is_stop_word(word) && ends_in_marker_digits(text.as_str()) {
+        text.push('\\')?;
+        return Ok(text.push_str(word)?);
+    }
+    push_escaped_chunk(text, word, true, line_start)
+}
+
+fn is_stop_word(word: &str) -> bool
+    ensures { result ≡ (bytes_eq word.now (codes ".") || bytes_eq word.now (codes ")")) }
+{
+    word == "." || word == ")"
+}
+
+/// Adds a text with one space for whitespace before a word and none at its end; with `escape`, a
+/// backslash stands before each mark.
+fn push_written(text: &mut String, added: &str, escape: bool) -> Result<(), OutOfMemory>
+    ensures { OnOk result (string_bytes text.new
+        ≡ string_bytes text.old ++ written escape added.now) }
+{
+    let mut rest = added;
+    while let Some(cut) = cut_change(rest, escape) {
+        text.push_str(cut.before)?;
+        push_change(text, cut.changed, cut.after)?;
+        rest = cut.after;
+    }
+    Ok(text.push_str(rest)?)
+}
+
+/// A byte that isn't written as it is, the text before it and the text after it.
+#[derive(Clone, Copy)]
+struct Change<'a> {
+    before: &'a str,
+    changed: &'a str,
+    after: &'a str,
+}
+
+/// The first such byte.
+fn cut_change(text: &str, escape: bool) -> Option<Change<'_>>
+    ensures { MatchOption result (written escape text.now ≡ text.now) (λ cut.
+        CutsChange escape text.now cut.before.now cut.changed.now cut.after.now) }
+{
+    let at = find_change(text.as_bytes(), escape)?;
+    Some(Change {
+        before: &text[..at],
+        changed: &text[at..at + 1],
+        after: &text[at + 1..],
+    })
+}
+
+/// The place of the first such byte.
+fn find_change(bytes: &[u8], escape: bool) -> Option<usize>
+    ensures { MatchOption result (written escape bytes.now ≡ bytes.now) (λ at.
+        IsFirstChange escape bytes.now at) }
+{
+    for at in 0..bytes.len() {
+        if is_changed(bytes, at, escape) {
+            return Some(at);
+        }
+    }
+    None
+}
+
+/// Whether the byte at this place isn't written as it is.
+fn is_changed(bytes: &[u8], at: usize, escape: bool) -> bool
+    requires { at < length bytes.now }
+    ensures { result
+        ≡ is_changed escape (slice_index_or bytes.now at 0) (drop (at + 1) bytes.now) }
+{
+    // Most bytes of most texts.
+    if bytes[at].is_ascii_lowercase() {
+        return false;
+    }
+    if bytes[at].is_ascii_whitespace() {
+        if bytes[at] != b' ' {
+            return true;
+        }
+        return !begins_word(&bytes[at + 1..]);
+    }
+    if !escape {
+        return false;
+    }
+    is_marked(bytes, at)
+}
+
+fn begins_word(bytes: &[u8]) -> bool
+    ensures { result ≡ begins_word bytes.now }
+{
+    match bytes.first() {
+        Some(first) => !first.is_ascii_whitespace(),
+        None => false,
+    }
+}
+
+/// Adds what is written for such a byte.
+fn push_change(text: &mut String, changed: &str, after: &str) -> Result<(), OutOfMemory>
+    ensures { OnOk result (string_bytes text.new
+        ≡ string_bytes text.old ++ change_of changed.now after.now) }
+{
+    if begins_word(changed.as_bytes()) {
+        text.push('\\')?;
+        return Ok(text.push_str(changed)?);
+    }
+    if begins_word(after.as_bytes()) {
+        text.push(' ')?;
+    }
+    Ok(())
+}
