@@ -26,4 +26,5 @@ pub mod Plain
 pub mod ReadingBack
 pub mod Documents
 pub mod FaultKinds
+pub mod Joining
 pub mod Sinks
