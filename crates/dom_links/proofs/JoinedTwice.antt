@@ -1,109 +1,35 @@
 -- Joining rows of texts keeps the text, and to join them twice is to join them once.
 use Rattle.std.proofs.Common.{ℕ, zero, suc, ◌≡◌, ◌+◌, Bool, true, false, List, [], ◌∷◌, ◌++◌, Option, Some, None, refl, sym, ap, ◌∙◌, subst, arith, inl, inr, length, append_assoc, append-nil, cond, map, reverse}
-use Rattle.std.specs.Prelude.{◌==◌, ◌&&◌, ◌||◌, find, not, slice_get}
+use Rattle.std.specs.Prelude.{◌==◌, ◌<◌, ◌&&◌, ◌||◌, find, not, option_and_then, slice_get}
 use Rattle.std.specs.List.{flat_map}
 use Rattle.std.specs.Option.{option_map, option_map_or}
-use Rattle.std.proofs.lemmas.Bool.{cases_Bool, eqb-true, ne_eqb, true≢false}
+use Rattle.std.proofs.lemmas.Bool.{cases_Bool, eqb-true, false≢true, ne_eqb}
 use Rattle.std.proofs.lemmas.List.Concat.{flat_map-append}
-use Rattle.dom_nodes.specs.Kinds.{is_text, may_bear}
+use Rattle.dom_nodes.specs.Kinds.{contents_named, is_fragment, is_text, is_top}
 use Rattle.dom_nodes.specs.declared.node_data.NodeData.{NodeData}
 use Rattle.dom_nodes.specs.declared.node_data.NodeData.TheVariants.{Document, Fragment, Doctype, Text, Comment, Element, ProcessingInstruction}
 use Rattle.dom_links.specs.Lists.{stands_in, IsDistinct, map_from, without}
 use Rattle.dom_links.specs.Forest.{Forest, children_of, owner_from, parent, siblings}
 use Rattle.dom_links.specs.Normalized.{dropped, front_texts, is_empty_text, joined, leads, nearest_before, normalized}
+use Rattle.dom_links.specs.Readings.{JoinsTexts, Reading, ReadsAlike, read_as}
 use Rattle.dom_links.specs.SetTexts.{is_text_at, retexted}
-use Rattle.dom_links.specs.Sound.{IsForest}
+use Rattle.dom_links.specs.Sound.{IsForest, contents_at, stays}
 use Rattle.dom_links.specs.Texts.{text_at, text_in, text_of}
-use Rattle.dom_links.specs.Trees.{ancestors, Trees, NoTrees, Tree, trees, trees_to, walk, walk_below}
+use Rattle.dom_links.specs.Trees.{ancestors, contents_list, Trees, NoTrees, Tree, trees, trees_to, upward, walk, walk_below}
 use Rattle.dom_links.specs.Walk.{later, rest_after}
 use Rattle.dom_links.proofs.Apart.{walk-inside}
 use Rattle.dom_links.proofs.BlockMoves.{rest_here}
-use Rattle.dom_links.proofs.Depth.{here_stands, later_stands, parent_inside, trees-none, trees-some}
+use Rattle.dom_links.proofs.Cuts.{one-stands}
+use Rattle.dom_links.proofs.Depth.{here_stands, later_stands, parent_inside, trees-none, trees-some, upward-none}
 use Rattle.dom_links.proofs.DownUp.{below_or_above}
+use Rattle.dom_links.proofs.Grown.{within}
+use Rattle.dom_links.proofs.JoinedNodes.{got_held, length_held, no_text_at, text_kept, text_leaf, text_put, without_reverse}
 use Rattle.dom_links.proofs.Later.{ancestors-parent, ancestors-same, not_above_itself}
-use Rattle.dom_links.proofs.Neighbours.{around, reverse_around, reverse_cons, stands_in-append, stands_in-reverse, stands_in-without, without-append}
+use Rattle.dom_links.proofs.Neighbours.{around, reverse_around, stands_in-append, stands_in-reverse, stands_in-without, without-append}
 use Rattle.dom_links.proofs.Places.{children_mapped, owner-without, siblings_child}
 use Rattle.dom_links.proofs.Rewriting.{forest_with, held, left_run, map_from_none, map_here, map_nothing, runs_nothing}
 use Rattle.dom_links.proofs.SettingTexts.{other_stays}
 use Rattle.dom_links.proofs.Stripping.{has_parent, only_here, stands_in-filter}
-
--- ---- what a node is then
-
-got_held : (i : ℕ) (F : ℕ → NodeData → NodeData) (cs : List NodeData) (n : ℕ) → slice_get (map_from i F cs) n ≡ option_map (F (i + n)) (slice_get cs n)
-got_held i F [] n = refl
-got_held i F (c ∷ cs) zero = (let z : i ≡ i + 0 = omega arith in ap (λ (k : ℕ). Some (F k c)) z)
-got_held i F (c ∷ cs) (suc n) = got_held (i + 1) F cs n ∙ (let z : i + 1 + n ≡ i + suc n = omega arith in ap (λ (k : ℕ). option_map (F k) (slice_get cs n)) z)
-
-length_held : (i : ℕ) (F : ℕ → NodeData → NodeData) (cs : List NodeData) → length (map_from i F cs) ≡ length cs
-length_held i F [] = refl
-length_held i F (c ∷ cs) = ap suc (length_held (i + 1) F cs)
-
-text_kept : (text : List ℕ) (content : NodeData) → is_text (retexted text content) ≡ is_text content
-text_kept text Document = refl
-text_kept text Fragment = refl
-text_kept text (Doctype a b c) = refl
-text_kept text (Text a) = refl
-text_kept text (Comment a) = refl
-text_kept text (Element a) = refl
-text_kept text (ProcessingInstruction a b) = refl
-
-text_put : (text : List ℕ) (content : NodeData) → is_text content ≡ true → text_in (retexted text content) ≡ text
-text_put text Document is = cc
-text_put text Fragment is = cc
-text_put text (Doctype a b c) is = cc
-text_put text (Text a) is = refl
-text_put text (Comment a) is = cc
-text_put text (Element a) is = cc
-text_put text (ProcessingInstruction a b) is = cc
-
-no_text : (content : NodeData) → is_text content ≡ false → text_in content ≡ []
-no_text Document is = refl
-no_text Fragment is = refl
-no_text (Doctype a b c) is = refl
-no_text (Text a) is = cc
-no_text (Comment a) is = refl
-no_text (Element a) is = refl
-no_text (ProcessingInstruction a b) is = refl
-
-no_bearing : (content : NodeData) → is_text content ≡ true → may_bear content ≡ false
-no_bearing Document is = cc
-no_bearing Fragment is = cc
-no_bearing (Doctype a b c) is = refl
-no_bearing (Text a) is = refl
-no_bearing (Comment a) is = refl
-no_bearing (Element a) is = cc
-no_bearing (ProcessingInstruction a b) is = refl
-
-no_text_at : (forest : Forest) (n : ℕ) → is_text_at forest n ≡ false → text_at forest n ≡ []
-no_text_at forest n other = go (slice_get forest.content n) other
-  where
-    go : (o : Option NodeData) → option_map_or is_text o false ≡ false → option_map_or text_in o [] ≡ []
-    go None h = refl
-    go (Some c) h = no_text c h
-
--- a text has no children
-text_leaf : (forest : Forest) (n : ℕ) → IsForest forest → is_text_at forest n ≡ true → children_of forest n ≡ []
-text_leaf forest n good text = go (children_of forest n) refl
-  where
-    none : (o : Option NodeData) → option_map_or is_text o false ≡ true → option_map_or may_bear o false ≡ false
-    none None h = refl
-    none (Some c) h = no_bearing c h
-
-    go : (ks : List ℕ) → children_of forest n ≡ ks → ks ≡ []
-    go [] is = refl
-    go (k ∷ ks) is =
-        let up = (good.once.in_children n k (ap (stands_in k) is ∙ here_stands k ks)).1 in
-        absurd (true≢false (sym (good.bearing n k up) ∙ none (slice_get forest.content n) text))
-
-without_reverse : (out ns : List ℕ) → without out (reverse ns) ≡ reverse (without out ns)
-without_reverse out [] = refl
-without_reverse out (n ∷ ns) =
-    ap (without out) (reverse_cons n ns) ∙ without-append out (reverse ns) (n ∷ []) ∙ ap (λ ms. ms ++ without out (n ∷ [])) (without_reverse out ns)
-    ∙ last_part (stands_in n out) refl
-  where
-    last_part : (b : Bool) → stands_in n out ≡ b → reverse (without out ns) ++ without out (n ∷ []) ≡ reverse (without out (n ∷ ns))
-    last_part true is = rw is (append-nil (reverse (without out ns)))
-    last_part false is = rw is (sym (reverse_cons n (without out ns)))
 
 module _ (forest : Forest) (x : ℕ) (good : IsForest forest) where
   abbrev nodes : List ℕ
@@ -343,6 +269,261 @@ module _ (forest : Forest) (x : ℕ) (good : IsForest forest) where
         | inl t ↦ absurd (not_above_itself forest x x good (sym (below_or_above forest good x x) ∙ t) refl)
       ]
 
+  -- a child stands below x where its parent is x or stands below it
+  child_stands : (n m : ℕ) → stands_in m (children_of forest n) ≡ true → stands_in m nodes ≡ ((n == x) || stands_in x (ancestors forest n))
+  child_stands n m s =
+      let up = (good.once.in_children n m s).1 in
+      below_or_above forest good x m ∙ ap (stands_in x) (ancestors-parent forest m n good up (parent_inside forest m n good up))
+
+  held_is : (n m : ℕ) → stands_in m (contents_list forest n) ≡ true → contents_at forest n ≡ Some m
+  held_is n m s = go (contents_at forest n) refl
+    where
+      go : (o : Option ℕ) → contents_at forest n ≡ o → contents_at forest n ≡ Some m
+      go None e = (let empty : contents_list forest n ≡ [] = rw e refl in absurd (false≢true (ap (stands_in m) (sym empty) ∙ s)))
+      go (Some c) e = (let one : contents_list forest n ≡ c ∷ [] = rw e refl in e ∙ ap Some (eqb-true c m (sym (one-stands c m) ∙ ap (stands_in m) (sym one) ∙ s)))
+
+  held_known : (n m : ℕ) → stands_in m (contents_list forest n) ≡ true → m < length forest.content
+  held_known n m s = within is_fragment forest.content m (good.contents_known n m (held_is n m s)).1
+
+  -- contents stand alone, so they stand below nothing
+  held_outside : (n m : ℕ) → stands_in m (contents_list forest n) ≡ true → stands_in m nodes ≡ false
+  held_outside n m s =
+      let fragment = (good.contents_known n m (held_is n m s)).1 in
+      let none = (good.alone m (held_known n m s) (top_stays m fragment)).0 in
+      below_or_above forest good x m ∙ ap (stands_in x) (ap (upward forest) none ∙ upward-none forest)
+    where
+      tops : (o : Option NodeData) → option_map_or is_fragment o false ≡ true → option_map_or is_top o false ≡ true
+      tops None h = cc
+      tops (Some Document) h = refl
+      tops (Some Fragment) h = refl
+      tops (Some (Doctype a b c)) h = cc
+      tops (Some (Text a)) h = cc
+      tops (Some (Comment a)) h = cc
+      tops (Some (Element a)) h = cc
+      tops (Some (ProcessingInstruction a b)) h = cc
+
+      or-true : (a b : Bool) → b ≡ true → (a || b) ≡ true
+      or-true true b h = refl
+      or-true false b h = h
+
+      top_stays : (m : ℕ) → option_map_or is_fragment (slice_get forest.content m) false ≡ true → stays forest m ≡ true
+      top_stays m h = or-true (m == 0) _ (tops (slice_get forest.content m) h)
+
+  -- ---- what is read then
+
+  -- the trees without the nodes that are cut out
+  abbrev pruned : Trees → Trees
+  pruned NoTrees = NoTrees
+  pruned (Tree n contents children later) = cond (stands_in n out) (pruned later) (Tree n (pruned contents) (pruned children) (pruned later))
+
+  same_there : (n : ℕ) → stands_in n nodes ≡ false → slice_get after_it.content n ≡ slice_get forest.content n
+  same_there n s = got n ∙ go (slice_get forest.content n)
+    where
+      go : (o : Option NodeData) → option_map (held forest nodes n) o ≡ o
+      go None = refl
+      go (Some c) = ap (λ b. Some (cond b (retexted (joined forest n) c) c)) s
+
+  same_other : (n : ℕ) → is_text_at forest n ≡ false → slice_get after_it.content n ≡ slice_get forest.content n
+  same_other n other = got n ∙ go (slice_get forest.content n) other
+    where
+      go : (o : Option NodeData) → option_map_or is_text o false ≡ false → option_map (held forest nodes n) o ≡ o
+      go None h = refl
+      go (Some c) h = elim (cases_Bool (stands_in n nodes)) [
+        | inl t ↦ ap (λ b. Some (cond b (retexted (joined forest n) c) c)) t ∙ ap Some (other_stays (joined forest n) c h)
+        | inr f ↦ ap (λ b. Some (cond b (retexted (joined forest n) c) c)) f
+      ]
+
+  named_then : (n : ℕ) → contents_at after_it n ≡ contents_at forest n
+  named_then n = elim (cases_Bool (is_text_at forest n)) [
+    | inr other ↦ ap (option_and_then contents_named) (same_other n other)
+    | inl text ↦ unnamed after_it n (kind n ∙ text) ∙ sym (unnamed forest n text)
+  ]
+    where
+      unnamed : (f : Forest) (m : ℕ) → is_text_at f m ≡ true → contents_at f m ≡ None
+      unnamed f m text = go (slice_get f.content m) text
+        where
+          go : (o : Option NodeData) → option_map_or is_text o false ≡ true → option_and_then contents_named o ≡ None
+          go None h = cc
+          go (Some Document) h = cc
+          go (Some Fragment) h = cc
+          go (Some (Doctype a b c)) h = cc
+          go (Some (Text a)) h = refl
+          go (Some (Comment a)) h = cc
+          go (Some (Element a)) h = cc
+          go (Some (ProcessingInstruction a b)) h = cc
+
+  -- contents are fragments, so they are no texts
+  held_no_text : (n c : ℕ) → contents_at forest n ≡ Some c → is_text_at forest c ≡ false
+  held_no_text n c has = go (slice_get forest.content c) (good.contents_known n c has).1
+    where
+      go : (o : Option NodeData) → option_map_or is_fragment o false ≡ true → option_map_or is_text o false ≡ false
+      go None h = refl
+      go (Some Document) h = refl
+      go (Some Fragment) h = refl
+      go (Some (Doctype a b c)) h = refl
+      go (Some (Text a)) h = cc
+      go (Some (Comment a)) h = refl
+      go (Some (Element a)) h = refl
+      go (Some (ProcessingInstruction a b)) h = refl
+
+  contents_then : (n : ℕ) → contents_list after_it n ≡ without out (contents_list forest n)
+  contents_then n = go (contents_at forest n) refl
+    where
+      go : (o : Option ℕ) → contents_at forest n ≡ o → contents_list after_it n ≡ without out (contents_list forest n)
+      go None e = (let now = named_then n ∙ e in rw (now, e) refl)
+      go (Some c) e = (let now = named_then n ∙ e in rw (now, e, out_other c (held_no_text n c e)) refl)
+
+  none_zero : (f : Forest) (ns : List ℕ) → trees_to f zero ns ≡ NoTrees
+  none_zero f [] = refl
+  none_zero f (n ∷ ns) = refl
+
+  pruned_to : (most : ℕ) (ns : List ℕ) → trees_to after_it most (without out ns) ≡ pruned (trees_to forest most ns)
+  pruned_to most [] = refl
+  pruned_to zero (n ∷ ns) = none_zero after_it (without out (n ∷ ns))
+  pruned_to (suc most) (n ∷ ns) = elim (cases_Bool (stands_in n out)) [
+    | inl t ↦ rw t (pruned_to (suc most) ns)
+    | inr f ↦ rw f (ap (λ ts. Tree n ts (trees_to after_it most (children_of after_it n)) (trees_to after_it (suc most) (without out ns))) (ap (trees_to after_it most) (contents_then n) ∙ pruned_to most (contents_list forest n))
+        ∙ ap (λ ts. Tree n (pruned (trees_to forest most (contents_list forest n))) ts (trees_to after_it (suc most) (without out ns))) (ap (trees_to after_it most) (children_then n) ∙ pruned_to most (children_of forest n))
+        ∙ ap (λ ts. Tree n (pruned (trees_to forest most (contents_list forest n))) (pruned (trees_to forest most (children_of forest n))) ts) (pruned_to (suc most) ns))
+  ]
+
+  trees_then : (ns : List ℕ) → trees after_it (without out ns) ≡ pruned (trees forest ns)
+  unfolding trees
+  trees_then ns = ap (λ most. trees_to after_it most (without out ns)) (length_held 0 (held forest nodes) forest.content) ∙ pruned_to (length forest.content) ns
+
+  abbrev old_read : Reading → Bool → List ℕ → List ℕ
+  old_read reading place ns = read_as reading forest place (trees forest ns)
+
+  abbrev new_read : Reading → Bool → List ℕ → List ℕ
+  new_read reading place ns = read_as reading after_it place (pruned (trees forest ns))
+
+  -- what the first node is read as, of what is read below it
+  abbrev first_read : Reading → Bool → List ℕ → (Bool → List ℕ) → Option NodeData → List ℕ
+  first_read reading place inner below o = option_map_or (λ content. reading.node content place inner (below (reading.below content))) o []
+
+  abbrev text_read : Reading → Bool → List ℕ → List ℕ
+  text_read reading place text = reading.node (Text text) place [] []
+
+  -- a list is read then as before; where its rows are joined and a text is right before it, what its first texts hold is read there
+  record SameReading (reading : Reading) (is_row : Bool) (before behind : List ℕ) : Type 0 where
+    within : is_row ≡ true → inside before ≡ true → (place : Bool) → text_read reading place (front_texts forest behind) ++ new_read reading place behind ≡ old_read reading place behind
+    apart : (is_row ≡ true → inside before ≡ false) → (place : Bool) → new_read reading place behind ≡ old_read reading place behind
+
+  text_is : (f : Forest) (n : ℕ) → is_text_at f n ≡ true → slice_get f.content n ≡ Some (Text (text_at f n))
+  text_is f n text = go (slice_get f.content n) text
+    where
+      go : (o : Option NodeData) → option_map_or is_text o false ≡ true → o ≡ Some (Text (option_map_or text_in o []))
+      go None h = cc
+      go (Some Document) h = cc
+      go (Some Fragment) h = cc
+      go (Some (Doctype a b c)) h = cc
+      go (Some (Text a)) h = refl
+      go (Some (Comment a)) h = cc
+      go (Some (Element a)) h = cc
+      go (Some (ProcessingInstruction a b)) h = cc
+
+  read_alike : (reading : Reading) (place : Bool) (inner inner' : List ℕ) (below below' : Bool → List ℕ) → inner ≡ inner' → ((b : Bool) → below b ≡ below' b) → (o : Option NodeData) → first_read reading place inner below o ≡ first_read reading place inner' below' o
+  read_alike reading place inner inner' below below' same all None = refl
+  read_alike reading place inner inner' below below' same all (Some c) = ap (λ ts. reading.node c place ts (below (reading.below c))) same ∙ ap (λ ts. reading.node c place inner' ts) (all (reading.below c))
+
+  readings_then : (reading : Reading) → JoinsTexts reading forest → (t : Trees) (p : ℕ) (is_row : Bool) (before behind : List ℕ) → t ≡ trees forest behind → (is_row ≡ true → children_of forest p ≡ before ++ behind) → ((m : ℕ) → stands_in m behind ≡ true → stands_in m nodes ≡ is_row) →
+      ((m : ℕ) → stands_in m behind ≡ true → m < length forest.content) → SameReading reading is_row before behind
+  readings_then reading joins t p is_row before [] e row in_row known =
+      let none = trees-none forest in
+      let old : (place : Bool) → old_read reading place [] ≡ [] = λ place. ap (λ ts. read_as reading forest place ts) none in
+      let new : (place : Bool) → new_read reading place [] ≡ [] = λ place. ap (λ ts. read_as reading after_it place (pruned ts)) none in
+      record {
+        within = λ _ h place. ap (λ ms. ms ++ new_read reading place []) (joins.none place) ∙ new place ∙ sym (old place);
+        apart = λ h place. new place ∙ sym (old place);
+      }
+  readings_then reading joins NoTrees p is_row before (n ∷ behind) e row in_row known = (let no = e ∙ trees-some forest n behind good known in cc)
+  readings_then reading joins (Tree r c k l) p is_row before (n ∷ behind) e row in_row known =
+      let whole = trees-some forest n behind good known in
+      let same = e ∙ whole in
+      let held_are : c ≡ trees forest (contents_list forest n) = cc in
+      let kids_are : k ≡ trees forest (children_of forest n) = cc in
+      let rest_are : l ≡ trees forest behind = cc in
+      let here = in_row n (here_stands n behind) in
+      let inside_here = known n (here_stands n behind) in
+      let contents = readings_then reading joins c n false [] (contents_list forest n) held_are (λ no. absurd (false≢true no)) (λ m s. held_outside n m s) (λ m s. held_known n m s) in
+      let kids = readings_then reading joins k n ((n == x) || stands_in x (ancestors forest n)) [] (children_of forest n) kids_are (λ _. refl) (λ m s. child_stands n m s) (λ m s. (good.once.in_children n m s).0) in
+      let rest = readings_then reading joins l p is_row (before ++ n ∷ []) behind rest_are (λ h. row h ∙ sym (append_assoc before (n ∷ []) behind)) (λ m s. in_row m (later_stands n m behind s)) (λ m s. known m (later_stands n m behind s)) in
+      let inner : Bool → List ℕ = λ place. new_read reading place (children_of forest n) in
+      let old : (place : Bool) → old_read reading place (n ∷ behind) ≡ first_read reading place (old_read reading false (contents_list forest n)) (λ b. old_read reading b (children_of forest n)) (slice_get forest.content n) ++ old_read reading place behind
+      = λ place. ap (read_as reading forest place) whole in
+      let left : (place : Bool) → new_read reading place (n ∷ behind) ≡ read_as reading after_it place (cond (stands_in n out) (pruned (trees forest behind)) (Tree n (pruned (trees forest (contents_list forest n))) (pruned (trees forest (children_of forest n))) (pruned (trees forest behind))))
+      = λ place. ap (λ ts. read_as reading after_it place (pruned ts)) whole in
+      let gone : stands_in n out ≡ true → (place : Bool) → new_read reading place (n ∷ behind) ≡ new_read reading place behind
+      = λ t place. left place ∙ ap (λ b. read_as reading after_it place (cond b (pruned (trees forest behind)) (Tree n (pruned (trees forest (contents_list forest n))) (pruned (trees forest (children_of forest n))) (pruned (trees forest behind))))) t in
+      let kept : stands_in n out ≡ false → (place : Bool) → new_read reading place (n ∷ behind) ≡ first_read reading place (new_read reading false (contents_list forest n)) inner (slice_get after_it.content n) ++ new_read reading place behind
+      = λ f place. left place ∙ ap (λ b. read_as reading after_it place (cond b (pruned (trees forest behind)) (Tree n (pruned (trees forest (contents_list forest n))) (pruned (trees forest (children_of forest n))) (pruned (trees forest behind))))) f in
+      let alike : (place : Bool) → first_read reading place (new_read reading false (contents_list forest n)) inner (slice_get forest.content n) ≡ first_read reading place (old_read reading false (contents_list forest n)) (λ b. old_read reading b (children_of forest n)) (slice_get forest.content n)
+      = λ place. read_alike reading place _ _ inner (λ b. old_read reading b (children_of forest n)) (contents.apart (λ no. absurd (false≢true no)) false) (λ b. kids.apart (λ _. refl) b) (slice_get forest.content n) in
+      -- the node is what it was, and what is behind it is read as before
+      let stayed : stands_in n out ≡ false → slice_get after_it.content n ≡ slice_get forest.content n → (place : Bool) → new_read reading place behind ≡ old_read reading place behind → new_read reading place (n ∷ behind) ≡ old_read reading place (n ∷ behind)
+      = λ f is place later_same. kept f place ∙ ap (λ o. first_read reading place (new_read reading false (contents_list forest n)) inner o ++ new_read reading place behind) is
+      ∙ ap (λ ms. ms ++ new_read reading place behind) (alike place)
+      ∙ ap (λ ms. first_read reading place (old_read reading false (contents_list forest n)) (λ b. old_read reading b (children_of forest n)) (slice_get forest.content n) ++ ms) later_same ∙ sym (old place) in
+      elim (cases_Bool is_row) [
+        | inr f ↦ (let away = here ∙ f in
+            record {
+              within = λ t h. absurd (false≢true (sym f ∙ t));
+              apart = λ h place. stayed (is_out n ∙ ap (λ b. b && (is_text_at forest n && not (leads forest n))) away) (same_there n away) place (rest.apart (λ t. absurd (false≢true (sym f ∙ t))) place);
+            })
+        | inl t ↦ elim (cases_Bool (is_text_at forest n)) [
+          | inr other ↦ (let empty : is_empty_text forest n ≡ false = ap (λ b. b && length (text_at forest n) == 0) other in
+              let outside : inside (before ++ n ∷ []) ≡ false = inside_next before n ∙ ap (λ b. cond (not b) (is_text_at forest n) (inside before)) empty ∙ other in
+              let new : (place : Bool) → new_read reading place (n ∷ behind) ≡ old_read reading place (n ∷ behind) = λ place. stayed (out_other n other) (same_other n other) place (rest.apart (λ _. outside) place) in
+              record {
+                within = λ _ h place. ap (λ b. text_read reading place (cond b (text_at forest n ++ front_texts forest behind) []) ++ new_read reading place (n ∷ behind)) other
+                    ∙ ap (λ ms. ms ++ new_read reading place (n ∷ behind)) (joins.none place) ∙ new place;
+                apart = λ h. new;
+              })
+          | inl text ↦ (let in_nodes = here ∙ t in
+              let there = stands_there p n before behind (row t) in
+              let leading = leads_is p n before behind there text in
+              let old_is : (place : Bool) → old_read reading place (n ∷ behind) ≡ text_read reading place (text_at forest n) ++ old_read reading place behind
+              = λ place. old place ∙ ap (λ o. first_read reading place (old_read reading false (contents_list forest n)) (λ b. old_read reading b (children_of forest n)) o ++ old_read reading place behind) (text_is forest n text)
+              ∙ ap (λ ms. ms ++ old_read reading place behind) (joins.leaf (text_at forest n) place _ _) in
+              let front : front_texts forest (n ∷ behind) ≡ text_at forest n ++ front_texts forest behind = ap (λ b. cond b (text_at forest n ++ front_texts forest behind) []) text in
+              let then_gone : leads forest n ≡ false → (place : Bool) → new_read reading place (n ∷ behind) ≡ new_read reading place behind = λ f. gone (out_text n in_nodes text ∙ ap not f) in
+              -- the text and what its row holds behind it
+              let all : (place : Bool) → inside (before ++ n ∷ []) ≡ true → text_read reading place (text_at forest n ++ front_texts forest behind) ++ new_read reading place behind ≡ old_read reading place (n ∷ behind)
+              = λ place more. ap (λ ms. ms ++ new_read reading place behind) (joins.joins n (front_texts forest behind) place)
+              ∙ append_assoc (text_read reading place (text_at forest n)) (text_read reading place (front_texts forest behind)) (new_read reading place behind)
+              ∙ ap (λ ms. text_read reading place (text_at forest n) ++ ms) (rest.within t more place) ∙ sym (old_is place) in
+              record {
+                within = λ _ h place. (let f : leads forest n ≡ false = leading ∙ ap (λ b. not (is_empty_text forest n) && not b) h ∙ and-false (not (is_empty_text forest n)) in
+                    let more : inside (before ++ n ∷ []) ≡ true = inside_next before n ∙ either (not (is_empty_text forest n)) (is_text_at forest n) (inside before) text h in
+                    ap (λ ms. text_read reading place ms ++ new_read reading place (n ∷ behind)) front ∙ ap (λ ms. text_read reading place (text_at forest n ++ front_texts forest behind) ++ ms) (then_gone f place) ∙ all place more);
+                apart = λ apart place. (let h = apart t in elim (cases_Bool (is_empty_text forest n)) [
+                  | inl nothing ↦ (let f : leads forest n ≡ false = leading ∙ ap (λ b. not b && not (inside before)) nothing in
+                      let less : inside (before ++ n ∷ []) ≡ false = inside_next before n ∙ ap (λ b. cond (not b) (is_text_at forest n) (inside before)) nothing ∙ h in
+                      let no : text_at forest n ≡ [] = no_bytes (text_at forest n) (sym (ap (λ b. b && length (text_at forest n) == 0) text) ∙ nothing) in
+                      then_gone f place ∙ rest.apart (λ _. less) place ∙ sym (old_is place ∙ ap (λ ms. text_read reading place ms ++ old_read reading place behind) no ∙ ap (λ ms. ms ++ old_read reading place behind) (joins.none place)))
+                  | inr full ↦ (let leads_it : leads forest n ≡ true = leading ∙ ap (λ b. not b && not (inside before)) full ∙ ap not h in
+                      let more : inside (before ++ n ∷ []) ≡ true = inside_next before n ∙ ap (λ b. cond (not b) (is_text_at forest n) (inside before)) full ∙ text in
+                      let held_now : text_at after_it n ≡ text_at forest n ++ front_texts forest behind = text_joined n in_nodes text ∙ ap (λ b. cond b (text_at forest n ++ front_texts forest (later forest false n)) []) leads_it ∙ ap (λ ms. text_at forest n ++ front_texts forest ms) there.on in
+                      kept (out_text n in_nodes text ∙ ap not leads_it) place
+                      ∙ ap (λ o. first_read reading place (new_read reading false (contents_list forest n)) inner o ++ new_read reading place behind) (text_is after_it n (kind n ∙ text) ∙ ap (λ ts. Some (Text ts)) held_now)
+                      ∙ ap (λ ms. ms ++ new_read reading place behind) (joins.leaf (text_at forest n ++ front_texts forest behind) place _ _) ∙ all place more)
+                ]);
+              })
+        ]
+      ]
+    where
+      and-false : (a : Bool) → (a && false) ≡ false
+      and-false true = refl
+      and-false false = refl
+
+      either : (b c d : Bool) → c ≡ true → d ≡ true → cond b c d ≡ true
+      either true c d p q = p
+      either false c d p q = q
+
+      no_bytes : (ts : List ℕ) → (length ts == 0) ≡ true → ts ≡ []
+      no_bytes [] h = refl
+      no_bytes (c ∷ ts) h = (let e : length (c ∷ ts) ≡ 0 = eqb-true (length (c ∷ ts)) 0 h in absurd (omega (arith, e)))
+
   -- ---- the rows then
 
   record LaterThen (n : ℕ) (before behind : List ℕ) : Type 0 where
@@ -521,3 +702,24 @@ module _ (forest : Forest) (x : ℕ) (good : IsForest forest) where
       ∙ ap (λ cs. forest_with cs (map (without []) after_it.children) (map_from 0 (left_run []) after_it.runs)) content
       ∙ ap (λ ls. forest_with after_it.content ls (map_from 0 (left_run []) after_it.runs)) (map_nothing after_it.children)
       ∙ ap (λ ls. forest_with after_it.content after_it.children ls) (runs_nothing 0 after_it.runs)
+
+  pub read_alike_then : (reading : Reading) → JoinsTexts reading forest → x < length forest.content → ReadsAlike reading x after_it forest
+  read_alike_then reading joins known =
+      let alone : stands_in x nodes ≡ false = not_itself in
+      let left : without out (x ∷ []) ≡ x ∷ [] = ap (λ b. cond b [] (x ∷ [])) (is_out x ∙ ap (λ b. b && (is_text_at forest x && not (leads forest x))) alone) in
+      let one : (m : ℕ) → stands_in m (x ∷ []) ≡ true → m ≡ x = λ m s. sym (eqb-true x m (sym (one-stands x m) ∙ s)) in
+      let top = readings_then reading joins (trees forest (x ∷ [])) x false [] (x ∷ []) refl (λ no. absurd (false≢true no)) (λ m s. ap (λ k. stands_in k nodes) (one m s) ∙ alone) (λ m s. subst (λ (k : ℕ). k < length forest.content) (sym (one m s)) known) in
+      let kids = readings_then reading joins (trees forest (children_of forest x)) x ((x == x) || stands_in x (ancestors forest x)) [] (children_of forest x) refl (λ _. refl) (λ m s. child_stands x m s) (λ m s. (good.once.in_children x m s).0) in
+      record {
+        node = λ place. ap (read_as reading after_it place) (ap (trees after_it) (sym left) ∙ trees_then (x ∷ [])) ∙ top.apart (λ no. absurd (false≢true no)) place;
+        children = λ place. ap (read_as reading after_it place) (ap (trees after_it) (children_then x) ∙ trees_then (children_of forest x)) ∙ kids.apart (λ _. refl) place;
+        above = owner-without 0 out forest.children x ∙ ap (λ b. cond b None (owner_from 0 forest.children x)) (is_out x ∙ ap (λ b. b && (is_text_at forest x && not (leads forest x))) alone);
+        others = same_other;
+        texts = kind;
+      }
+    where
+      not_itself : stands_in x nodes ≡ false
+      not_itself = elim (cases_Bool (stands_in x nodes)) [
+        | inr f ↦ f
+        | inl t ↦ absurd (not_above_itself forest x x good (sym (below_or_above forest good x x) ∙ t) refl)
+      ]

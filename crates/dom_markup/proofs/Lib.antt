@@ -22,6 +22,7 @@ pub mod PendingLemmas
 pub mod InertLemmas
 pub mod Marks
 pub mod Filling
+pub mod JoinedHtml
 pub mod Firsts
 pub mod Ends
 pub mod ReferenceLemmas

@@ -27,4 +27,5 @@ pub mod ReadingBack
 pub mod Documents
 pub mod FaultKinds
 pub mod Setters
+pub mod Joining
 pub mod Sinks

@@ -7,6 +7,7 @@ ghost use Rattle.dom_markup.specs.Markup.{Spells};
 pub mod escaping;
 pub mod faults;
 pub mod plain;
+pub mod texts;
 
 /// A text spells one list of trees at most.
 pub fn one_reading()

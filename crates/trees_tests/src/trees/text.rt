@@ -129,3 +129,29 @@ fn rows_of_texts_are_joined(rt: HostRuntime) -> Result<(), Fail> {
     assert!(rt; tree.normalize_of(&node(9)) == Err(EditFault::UnknownNode));
     Ok(())
 }
+
+/// A `b` in a `b` and so on, 20,000 of them: each has the texts `x` and `y` and then the next one,
+/// numbered in this order.
+fn deep_texts(alloc: Global) -> Result<Tree, Fail> {
+    let mut tree = Tree::new(alloc, NodeData::Document)?;
+    for depth in 0..20000 {
+        let above = if depth == 0 { 0 } else { depth * 3 - 2 };
+        add_element(&mut tree, above, "b")?;
+        add_text(&mut tree, depth * 3 + 1, "x")?;
+        add_text(&mut tree, depth * 3 + 1, "y")?;
+    }
+    Ok(tree)
+}
+
+#[test]
+fn deep_trees_are_joined_and_stripped(rt: HostRuntime) -> Result<(), Fail> {
+    let mut tree = deep_texts(rt.alloc())?;
+    tree.normalize_of(&node(0))?;
+    assert!(rt; has_children(&tree, 1, &[2, 4]) && has_children(&tree, 59998, &[59999]));
+    assert!(rt; holds(&tree, 59998, "xy")? && tree.root().text()?.len() == 40000);
+    tree.strip_elements_of(&node(0), &["b"]);
+    assert!(rt; tree.child_ids_of(&node(0))?.len() == 20000);
+    tree.normalize_of(&node(0))?;
+    assert!(rt; has_children(&tree, 0, &[2]) && tree.root().text()?.len() == 40000);
+    Ok(())
+}
