@@ -1,5 +1,5 @@
 -- What an edit does as a line tells it.
-use Rattle.std.proofs.Common.{◌≡◌, ◌≢◌, ◌<◌, ◌≤◌, ℕ, zero, suc, List, [], ◌∷◌, Option, Some, None, Result, Ok, Err, refl, sym, ◌∙◌, ap, subst, take, length, arith}
+use Rattle.std.proofs.Common.{◌≡◌, ◌<◌, ◌≤◌, ℕ, zero, suc, List, [], ◌∷◌, Some, Result, Ok, Err, refl, sym, ◌∙◌, subst, take, length, arith}
 use Rattle.std.specs.Prelude.{slice_get}
 use Rattle.std.proofs.lemmas.Option.{none-some, same_Some}
 use Rattle.dom_nodes.specs.Change.{changed}
@@ -10,8 +10,7 @@ use Rattle.dom_nodes.specs.declared.node_data.changing.Change.{Change}
 use Rattle.dom_links.specs.Forest.{Forest}
 use Rattle.dom_trees.specs.Edits.{TreeEdit, changing}
 use Rattle.dom_trees.specs.Refusals.{ChangeCause, JoinCause, KnownCause, SetCause}
-use Rattle.dom_edits.specs.Edits.{Each, Stops, edit_at}
-use Rattle.dom_edits.specs.declared.edit.SelectionFault.{SelectionFault}
+use Rattle.dom_edits.specs.Edits.{Each}
 use Rattle.dom_query.specs.declared.script.edit_line.EditLine.{EditLine}
 use Rattle.dom_query.specs.declared.script.edit_line.EditLine.TheVariants.{SetAttr, RemoveAttr, Rename, AddClass, RemoveClass, SetText, Strip, Remove, Unwrap, Normalize}
 use Rattle.dom_query.specs.Editing.{EditsOrFails, FailsAtOne, IsRefusal, RewriteCause, line_edit, rewriting}

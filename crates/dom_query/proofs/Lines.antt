@@ -1,5 +1,5 @@
 -- What stands behind a word in a line, and which line asks for no command.
-use Rattle.std.proofs.Common.{◌≡◌, ◌≢◌, ℕ, List, [], ◌∷◌, ◌++◌, Option, Some, None, Bor, MatchOption, IfOk, Result, Ok, Err, inl, inr, refl, sym, ◌∙◌, ap, append-nil, codes, false, true, subst}
+use Rattle.std.proofs.Common.{◌≡◌, ◌≢◌, ℕ, List, [], ◌∷◌, ◌++◌, Option, Some, None, Bor, MatchOption, IfOk, Result, Ok, Err, inl, inr, refl, sym, ◌∙◌, ap, append-nil, codes, false, subst}
 use Rattle.std.proofs.lemmas.Bool.{false≢true}
 use Rattle.std.specs.List.{list_all}
 use Rattle.std.specs.Str.{chars}
@@ -16,7 +16,7 @@ use Rattle.dom_query.specs.declared.script.Showing.{Showing}
 use Rattle.dom_query.specs.declared.script.Showing.TheVariants.{Count, Text, Formatted, Html, InnerHtml, Document}
 use Rattle.dom_query.specs.EditLine.{IsNoEdit}
 use Rattle.dom_query.specs.Script.{HasNoSelector, HasSelector, IsBad, IsNoPick, StandsForNothing, going_word, showing_word}
-use Rattle.dom_query.specs.Words.{HasArgument, HasName, HasNoName, is_name}
+use Rattle.dom_query.specs.Words.{HasArgument, HasNoName, is_name}
 
 pub argument-none : (line word : List ℕ) → FindsTextPrefix word line None → (argument : List ℕ) → HasArgument line word argument → ⊥
 argument-none line word lacks argument (inl is) = lacks (32 ∷ argument) is

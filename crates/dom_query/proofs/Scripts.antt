@@ -1,6 +1,6 @@
 -- A script has one reading at most.
 use Rattle.std.proofs.Common.{◌≡◌, ◌+◌, ℕ, zero, suc, List, [], ◌∷◌, ◌++◌, inl, inr, refl, sym, ◌∙◌, ap, codes, length, arith, subst}
-use Rattle.std.specs.Prelude.{◌==◌, if◌then◌else◌}
+use Rattle.std.specs.Prelude.{if◌then◌else◌}
 use Rattle.std.specs.Str.{bytes_eq, chars}
 use Rattle.dom_selectors.specs.Syntax.{SelectorList}
 use Rattle.dom_selectors.specs.Grammar.{StandsFor}

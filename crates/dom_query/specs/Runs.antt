@@ -11,7 +11,7 @@ use Rattle.dom_query.specs.declared.runner.RunFault.TheVariants.{BadScript, BadM
 use Rattle.dom_query.specs.declared.script.Command.{Command}
 use Rattle.dom_query.specs.Editing.{IsRefusal}
 use Rattle.dom_query.specs.Out.{Does, DoesAll, Ending, Fails, Out, Ran}
-use Rattle.dom_query.specs.Out.Ending.{done, refused, bad_script, bad_markup}
+use Rattle.dom_query.specs.Out.Ending.{refused, bad_script, bad_markup}
 use Rattle.dom_query.specs.Script.{IsScript}
 
 -- the command was done with this selection, what it writes was written, and then the forest is `after`, and those nodes are

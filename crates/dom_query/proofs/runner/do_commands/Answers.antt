@@ -1,4 +1,4 @@
-use Rattle.std.proofs.Common.{◌++◌, ◌+◌, ◌∙◌, [], ◌∷◌, ap, refl, subst, sym}
+use Rattle.std.proofs.Common.{◌++◌, ◌+◌, [], ◌∷◌, ap, refl, subst, sym}
 use Rattle.std.proofs.lemmas.Result.{err_from_is_err_and}
 use Rattle.dom_query.specs.Runs.{CommandsTell}
 use Rattle.dom_query.proofs.Doing.{Reaches, commands-tell, reaches-all, reaches-fault, reaches-more, reaches-next, reaches-none}

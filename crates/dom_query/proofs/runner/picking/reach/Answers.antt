@@ -1,4 +1,4 @@
-use Rattle.std.proofs.Common.{◌∙◌, ap, sym, None, reverse, List}
+use Rattle.std.proofs.Common.{◌∙◌, ap, None, reverse, List}
 use Rattle.dom_trees.specs.declared.node_ref.NodeRef.{NodeRef}
 use Rattle.dom_selection.specs.Selections.{child_elements, element_after, element_before, elements_above, first_alone, ids_of, parent_element}
 use Rattle.dom_query.proofs.PickLemmas.{last-numbers, reached-from}

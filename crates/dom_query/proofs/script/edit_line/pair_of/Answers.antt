@@ -1,4 +1,4 @@
-use Rattle.std.proofs.Common.{codes, inl, inr, refl, sym, ◌∙◌}
+use Rattle.std.proofs.Common.{codes, inl, sym, ◌∙◌}
 use Rattle.dom_markup.proofs.Marks.{found_first, found_nowhere}
 use Rattle.dom_markup.specs.Markup.{EndsAtMark}
 use Rattle.dom_query.proofs.Names.{no-pair-alone, no-pair-spaced}
