@@ -9,17 +9,13 @@ use Rattle.dom_links.specs.Lists.{stands_in, IsDistinct, first, last, after, bef
 use Rattle.dom_links.specs.Forest.{Forest, StandsOnce, AreLinks, IsArenaOf, children_of, run_of, parent, siblings, next_link, chain}
 use Rattle.dom_links.specs.Moves.{cut}
 use Rattle.dom_links.specs.Writes.{Joined}
+pub use Rattle.dom_links.specs.ListMoves.{AreNodes}
 use Rattle.dom_links.specs.ListWrites.{ParentsSet, following}
 use Rattle.dom_links.proofs.Neighbours.{stands_in-append, stands_in-without, distinct-without, distinct_parts, names-true, names-same, first-stands, last-stands}
 use Rattle.dom_links.proofs.Places.{cases_Option, siblings_child, siblings_run, siblings_once, Beside, beside, length-map_from}
 use Rattle.dom_links.proofs.Cuts.{children-cut, parent-cut, run-cut, run-cut_past, length-contents}
 use Rattle.dom_links.proofs.Chains.{chain_all}
 use Rattle.dom_links.proofs.BlockLists.{Apart, apart_back, without_none, without_end, after-cut_end, after-end, before-cut_end, before-end, first-cut_end}
-
--- nodes of a forest, each once
-pub record AreNodes (forest : Forest) (moved : List ℕ) : Type 0 where
-  pub once : IsDistinct moved
-  pub known : (n : ℕ) → stands_in n moved ≡ true → n < length forest.content
 
 -- the list that a node stands in, once the nodes are cut out
 pub siblings-cut_out : (forest : Forest) (moved : List ℕ) (n : ℕ) → StandsOnce forest → n < length forest.content → stands_in n moved ≡ false →

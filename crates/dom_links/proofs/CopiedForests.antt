@@ -25,7 +25,7 @@ use Rattle.dom_links.proofs.Copied.{all_known, shrunk, named_at, size-below, siz
 
 -- ---- the data of a copy
 
-top-copied : (k : ℕ) (content : NodeData) → is_top (copied_data k content) ≡ is_top content
+pub top-copied : (k : ℕ) (content : NodeData) → is_top (copied_data k content) ≡ is_top content
 top-copied k Document = refl
 top-copied k Fragment = refl
 top-copied k (Element e) = refl

@@ -57,7 +57,7 @@ element_bears (Comment a) is = cc
 element_bears (Element a) is = refl
 element_bears (ProcessingInstruction a b) is = cc
 
-bears_there : (contents : List NodeData) (x : ℕ) → option_map_or is_element (slice_get contents x) false ≡ true → option_map_or may_bear (slice_get contents x) false ≡ true
+pub bears_there : (contents : List NodeData) (x : ℕ) → option_map_or is_element (slice_get contents x) false ≡ true → option_map_or may_bear (slice_get contents x) false ≡ true
 bears_there [] x is = is
 bears_there (content ∷ contents) zero is = element_bears content is
 bears_there (content ∷ contents) (suc x) is = bears_there contents x is

@@ -5,7 +5,7 @@ use Rattle.dom_nodes.specs.declared.node_data.TreeNode.{TreeNode}
 use Rattle.dom_nodes.specs.Kinds.{is_element}
 use Rattle.dom_links.specs.declared.gap.Moving.{Moving}
 use Rattle.dom_links.specs.declared.gap.Moving.TheVariants.{Node, WithLater, WholeList}
-use Rattle.dom_links.specs.Lists.{stands_in}
+use Rattle.dom_links.specs.Lists.{IsDistinct, stands_in}
 use Rattle.dom_links.specs.Forest.{Forest, forest_of, children_of, parent, run_of, siblings}
 use Rattle.dom_links.specs.Moves.{Gap, end_of, before_node, cut, moved_to}
 use Rattle.dom_links.specs.Sound.{Allowed, AtOrBelow, Edited, MayPlace, bears, is_open, stays, target}
@@ -43,6 +43,11 @@ BlockedRun forest t x = (stays forest x ≡ true) ⊎ SomeOf (with_later forest 
 abbrev pub BlockedMove : Forest → ℕ → Moving → Type 0
 BlockedMove forest t moving =
     (stays forest (mover moving) ≡ true) ⊎ SomeOf (moved_nodes forest moving) (λ n. AtOrBelow forest n t)
+
+-- nodes of a forest, each once
+pub record AreNodes (forest : Forest) (moved : List ℕ) : Type 0 where
+  pub once : IsDistinct moved
+  pub known : EachOf moved (λ n. n < length forest.content)
 
 -- the move of some nodes to a gap is allowed
 pub record AllowedList (forest : Forest) (gap : Gap) (moved : List ℕ) : Type 0 where

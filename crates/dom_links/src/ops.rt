@@ -4,6 +4,7 @@ pub mod changes;
 pub mod copies;
 mod counts;
 pub mod create;
+pub mod insertions;
 mod list_writes;
 pub mod lists;
 pub mod moves;

@@ -38,3 +38,4 @@ pub mod RowsForest
 pub mod RowsSound
 pub mod DocumentSound
 pub mod Fragments
+pub mod Putting

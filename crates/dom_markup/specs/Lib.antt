@@ -26,3 +26,4 @@ pub mod Plain
 pub mod ReadingBack
 pub mod Documents
 pub mod FaultKinds
+pub mod Setters

@@ -27,6 +27,7 @@ mod names;
 mod raw;
 mod reader;
 mod scan;
+pub mod snippet;
 mod tags;
 pub mod tokens;
 mod within;

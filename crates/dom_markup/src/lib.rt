@@ -7,4 +7,5 @@ pub mod laws;
 mod names;
 mod references;
 pub mod serializing;
+pub mod setters;
 pub mod writing;

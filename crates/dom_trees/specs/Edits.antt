@@ -11,6 +11,8 @@ use Rattle.dom_links.specs.Contents.{with_content}
 use Rattle.dom_links.specs.Copies.{CopyCause, MayCopy, copied, copy_numbers}
 use Rattle.dom_links.specs.Forest.{Forest, children_of}
 use Rattle.dom_links.specs.Growth.{DataCause, HasFreeContents, MayAppend, NodeCause, with_child, with_node, with_template}
+use Rattle.dom_links.specs.declared.gap.Place.{Place}
+use Rattle.dom_links.specs.Insertions.{MayInsert, inserted}
 use Rattle.dom_links.specs.ListMoves.{AllowedList, MayReparent, MayWrap, moved_nodes, mover, reparented, replaced, unwrapped, wrapped}
 use Rattle.dom_links.specs.Moves.{cut, moved_to}
 use Rattle.dom_links.specs.Normalized.{normalized}
@@ -21,7 +23,7 @@ use Rattle.dom_links.specs.declared.gap.Gap.TheVariants.{Before}
 use Rattle.dom_links.specs.declared.gap.Moving.{Moving}
 use Rattle.dom_links.specs.declared.gap.Moving.TheVariants.{Node}
 use Rattle.dom_trees.specs.NewNodes.{element_with}
-use Rattle.dom_trees.specs.Refusals.{ChangeCause, KnownCause, JoinCause, MoveCause, ReparentCause, SetCause, TemplateCause, WrapCause}
+use Rattle.dom_trees.specs.Refusals.{ChangeCause, InsertCause, KnownCause, JoinCause, MoveCause, ReparentCause, SetCause, TemplateCause, WrapCause}
 
 -- An edit: the forest that it leaves, when it is allowed, and the cause that a fault tells of its refusal
 pub record TreeEdit : Type 1 where
@@ -149,6 +151,14 @@ copying source ns = record {
 pub record Copies (result : Result (Vec ℕ) EditFault) (old new source : Forest) (ns : List ℕ) : Type 0 where
   pub edits : Edits result old new (copying source ns)
   pub numbers : IfOk result (λ made. made.items ≡ copy_numbers source ns old)
+
+-- nodes of a source are copied, and the copies go to a place at x
+abbrev pub inserting : Forest → List ℕ → Place → ℕ → TreeEdit
+inserting source ns place x = record {
+  after = inserted source ns place x;
+  Allowed = MayInsert source ns place x;
+  Cause = InsertCause source ns place x;
+}
 
 -- the text of x is set
 abbrev pub texting : ℕ → List ℕ → TreeEdit

@@ -3,13 +3,14 @@
 ghost use Rattle.std.specs.Prelude.{◌≡◌, ◌<◌, ◌≤◌, MatchResult, length, true};
 ghost use Rattle.dom_nodes.specs.declared.fault.EditFault.TheVariants.{TooManyNodes};
 ghost use Rattle.dom_links.specs.Forest.{forest_of};
+ghost use Rattle.dom_links.specs.Insertions.{gap_at};
 ghost use Rattle.dom_links.specs.ListMoves.{EachOf, MayWrap, moved_nodes, mover};
 ghost use Rattle.dom_links.specs.Sound.{IsSoundArena, MayPlace, is_open, target};
 ghost use Rattle.dom_trees.specs.Edits.{IsKnown, MayMove, MayReparentOf};
 ghost use Rattle.dom_trees.specs.Refusals.{KnownCause, MoveCause, MovedCause, OpenCause};
-ghost use Rattle.dom_trees.specs.Refusals.{ReparentCause, WrapCause};
+ghost use Rattle.dom_trees.specs.Refusals.{PlaceCause, ReparentCause, WrapCause};
 
-use dom_links::gap::{Gap, Moving};
+use dom_links::gap::{Gap, Moving, Place};
 use dom_links::ops::TreeNodeOps;
 use dom_links::ops::placing::stays_put;
 use dom_links::ops::siblings::first_child_of;
@@ -50,6 +51,17 @@ pub(crate) fn check_open(nodes: &[TreeNode], gap: &Gap) -> Result<(), EditFault>
         }
     }
     Ok(())
+}
+
+/// Whether nodes may be put at a place.
+pub(crate) fn check_place(nodes: &[TreeNode], x: NodeId, place: Place) -> Result<(), EditFault>
+    requires { IsSoundArena nodes.now }
+    ensures { MatchResult result (λ _. IsKnown x (forest_of nodes.now)
+        × (is_open (gap_at place x) (forest_of nodes.now) ≡ true))
+        (PlaceCause place x (forest_of nodes.now)) }
+{
+    check_known(nodes, x)?;
+    check_open(nodes, &place.gap(x))
 }
 
 /// The node that tells the gap.

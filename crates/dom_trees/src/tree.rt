@@ -25,6 +25,7 @@ use std::marker::Model;
 mod changes;
 mod copies;
 mod creation;
+mod insertions;
 mod moves;
 mod reading;
 mod templates;

@@ -61,7 +61,7 @@ impl Document {
 }
 
 /// The nodes at the top of what was read, but for doctypes.
-fn top_nodes(tree: &Tree) -> Result<Vec<NodeId>, OutOfMemory>
+pub(super) fn top_nodes(tree: &Tree) -> Result<Vec<NodeId>, OutOfMemory>
     ensures { IfOk result (λ tops. tops.items ≡ top_nodes tree.now) }
 {
     let children = tree.child_ids_of(&NodeId::root())?;

@@ -1,0 +1,35 @@
+use Rattle.std.proofs.Common.{◌∙◌, ap, arith, sym}
+use Rattle.dom_links.specs.Forest.{forest_of}
+use Rattle.dom_links.specs.Lists.{stands_in}
+use Rattle.dom_links.specs.Sound.{target}
+use Rattle.dom_links.proofs.Cuts.{length-contents}
+use Rattle.dom_links.proofs.Gathering.{IsRun, is_run, none_moved, run_moved}
+use Rattle.dom_links.proofs.Neighbours.{first-stands}
+use Rattle.dom_links.proofs.ops.insertions.move_list.Goals as goal
+
+pub returns-in_default : goal.returns-in_default
+returns-in_default c = none_moved c.args.nodes.now c.gather.new.nodes c.args.gap c.args.moved.now c.requires.moved (sym c.gather.ensures.start ∙ c.in_default.is) c.gather.ensures.arena
+
+pub put_at-requires-clause-linked : goal.put_at-requires-clause-linked
+put_at-requires-clause-linked c =
+    IsRun.linked (is_run c.args.nodes.now c.gather.new.nodes c.args.moved.now c.in-Some.start c.requires.linked c.requires.moved c.gather.ensures.arena (sym c.gather.ensures.start ∙ c.in-Some.is))
+
+pub put_at-requires-clause-known : goal.put_at-requires-clause-known
+put_at-requires-clause-known c =
+    let long = length-contents (forest_of c.args.nodes.now) c.args.nodes.now c.requires.linked.links in
+    let known = c.requires.moved.known c.in-Some.start (first-stands c.args.moved.now c.in-Some.start (sym c.gather.ensures.start ∙ c.in-Some.is)) in
+    omega (arith, long, known, c.gather.auto.nodes)
+
+pub put_at-requires-clause-run : goal.put_at-requires-clause-run
+put_at-requires-clause-run c =
+    IsRun.run (is_run c.args.nodes.now c.gather.new.nodes c.args.moved.now c.in-Some.start c.requires.linked c.requires.moved c.gather.ensures.arena (sym c.gather.ensures.start ∙ c.in-Some.is))
+
+pub put_at-requires-clause-apart : goal.put_at-requires-clause-apart
+put_at-requires-clause-apart c =
+    ap (stands_in (target c.args.gap)) (IsRun.all (is_run c.args.nodes.now c.gather.new.nodes c.args.moved.now c.in-Some.start c.requires.linked c.requires.moved c.gather.ensures.arena (sym c.gather.ensures.start ∙ c.in-Some.is))) ∙ c.requires.apart
+
+pub returns : goal.returns
+returns c =
+    run_moved c.args.nodes.now c.gather.new.nodes c.put_at.new.nodes c.args.gap c.args.moved.now c.in-Some.start c.requires.linked c.requires.moved
+    (is_run c.args.nodes.now c.gather.new.nodes c.args.moved.now c.in-Some.start c.requires.linked c.requires.moved c.gather.ensures.arena (sym c.gather.ensures.start ∙ c.in-Some.is))
+    c.put_at.ensures

@@ -1,0 +1,83 @@
+//! Markup that was read to be put into trees.
+
+ghost use Rattle.std.specs.Prelude.{◌≡◌, ◌≤◌, ◌∷◌, [], IfErr, IfOk, length};
+ghost use Rattle.dom_links.specs.Forest.{Forest};
+ghost use Rattle.dom_trees.specs.Edits.{Edits};
+ghost use Rattle.dom_markup.specs.Documents.{IsSpelled};
+ghost use Rattle.dom_markup.specs.Fragments.{top_nodes};
+ghost use Rattle.dom_markup.specs.Refusals.{IsFaultAt, Refused};
+ghost use Rattle.dom_markup.specs.Setters.{putting, replacing};
+
+use crate::document::Document;
+use crate::document::fragments::top_nodes;
+use dom_links::gap::Place;
+use dom_nodes::fault::{EditFault, MarkupFault, MarkupFaultKind};
+use dom_nodes::node_id::NodeId;
+use dom_trees::tree::Tree;
+use std::alloc::Global;
+use std::marker::Model;
+
+/// What was read of markup, to be put into trees as often as is wanted. A contract sees it as the
+/// document's forest.
+#[derive(Drop)]
+pub struct Snippet {
+    tree: Tree,
+    tops: Vec<NodeId>,
+}
+
+impl Model for Snippet {
+    ghost use Rattle.dom_links.specs.Forest.{Forest};
+    ghost use Rattle.dom_markup.specs.Fragments.{top_nodes};
+    ghost use Rattle.std.specs.Prelude.{◌≡◌};
+
+    ghost Value = { Forest };
+
+    ghost view = { λ snippet. snippet.tree };
+
+    ghost invariant = { λ snippet. snippet.tops.items ≡ top_nodes snippet.tree };
+}
+
+impl Snippet {
+    /// Reads the text as `Document::parse` does, and refuses it so.
+    pub fn read(alloc: Global, text: &str) -> Result<Snippet, MarkupFault>
+        ensures ok { IfOk result (λ snippet. IsSpelled text.now snippet) }
+        ensures refused { IfErr result (λ fault. Refused text.now fault.kind) }
+        ensures place { IfErr result (λ fault. fault.at ≤ length text.now) }
+        ensures cause { IfErr result (λ fault. IsFaultAt text.now fault.at fault.kind) }
+    {
+        let document = Document::read(alloc, text)?;
+        let Ok(tops) = top_nodes(&document.tree) else {
+            return Err(MarkupFault {
+                kind: MarkupFaultKind::Memory,
+                at: text.len(),
+            });
+        };
+        Ok(Snippet {
+            tree: document.tree,
+            tops,
+        })
+    }
+
+    /// Puts copies of the nodes at the top, but for doctypes, with all that is below them, at a
+    /// place that a node of the tree tells. All is done or nothing, also where there is nothing to
+    /// put. Refused as `UnknownNode`; as `NoChildrenHere`, where the place is among the children of
+    /// a node that has none; as `RootOrFragment` by the node beside the place; as `TooManyNodes` or
+    /// `Memory`.
+    pub fn put_at(&self, tree: &mut Tree, id: &NodeId, place: Place) -> Result<(), EditFault>
+        ensures { Edits result tree.old tree.new (putting place id.now self.now) }
+    {
+        self.tree.nodes();
+        tree.merge_at(id, place, &self.tree, &self.tops)
+    }
+
+    /// Where the nodes go that take the place of a node: none take none.
+    pub(crate) fn replacing(&self) -> Place
+        ensures { result ≡ replacing (top_nodes self.now) }
+    {
+        if self.tops.is_empty() {
+            Place::Before
+        } else {
+            Place::InsteadOfNode
+        }
+    }
+}
