@@ -1,7 +1,9 @@
 -- The commands that were done so far, and those that are left.
-use Rattle.std.proofs.Common.{◌≡◌, ℕ, List, [], ◌∷◌, ◌++◌, Option, refl, sym, ◌∙◌, ap, append_assoc, append-nil, subst, ◌+◌, ◌<◌, ◌≤◌, length, get_or, drop}
+use Rattle.std.proofs.Common.{◌≡◌, ℕ, List, [], ◌∷◌, ◌++◌, Option, inl, inr, refl, sym, ◌∙◌, ap, append_assoc, append-nil, subst, ◌+◌, ◌<◌, ◌≤◌, length, get_or, drop}
 use Rattle.std.proofs.lemmas.List.{at_drop_more, drop_all}
 use Rattle.std.specs.Io.KnownBytes.{Appends}
+use Rattle.dom_nodes.specs.declared.fault.EditFault.{EditFault}
+use Rattle.dom_nodes.specs.declared.fault.EditFault.TheVariants.{TooManyNodes as TooMany}
 use Rattle.dom_links.specs.Forest.{Forest}
 use Rattle.dom_markup.specs.Writing.{AppendsBeginning}
 use Rattle.dom_selectors.specs.Syntax.{SelectorList}
@@ -9,13 +11,19 @@ use Rattle.dom_links.specs.Lists.{without}
 use Rattle.dom_select.specs.Meaning.{Means}
 use Rattle.dom_select.specs.Selected.{Selected}
 use Rattle.dom_query.specs.declared.script.Command.{Command}
-use Rattle.dom_query.specs.declared.script.Command.TheVariants.{Nothing, Pick, Go, Show, Attr}
+use Rattle.dom_query.specs.declared.script.Command.TheVariants.{Nothing, Pick, Go, Show, Attr, Edit}
 use Rattle.dom_query.specs.declared.script.Picking.{Picking}
 use Rattle.dom_query.specs.declared.script.Picking.TheVariants.{Select, Find, Filter, Add}
-use Rattle.dom_query.specs.Out.{Does, DoesAll}
+use Rattle.dom_query.specs.Editing.{IsRefusal, line_edit, targets}
+use Rattle.dom_query.specs.Out.{Does, DoesAll, Ending, Fails}
+use Rattle.dom_query.specs.Out.Ending.{done, refused}
 use Rattle.dom_query.specs.Picking.{Picked}
+use Rattle.dom_query.specs.Runs.{CommandTells, CommandsTell, DidBegin, IsEnding}
+use Rattle.dom_query.specs.declared.runner.RunFault.{RunFault}
+use Rattle.dom_query.specs.declared.runner.RunFault.TheVariants.{BadScript, BadMarkup, TooManyNodes, Memory, Write, Edit as RunEdit}
+use Rattle.dom_query.proofs.EditLemmas.{done-not-refused, each-once, refused-once}
 use Rattle.dom_query.proofs.PickLemmas.{picks-once}
-use Rattle.dom_markup.proofs.WritingLemmas.{beginning-then, beginning-more}
+use Rattle.dom_markup.proofs.WritingLemmas.{beginning-then, beginning-more, written-then}
 
 -- a selector selects one list of nodes at most
 abbrev pub OneSelection : Type 0
@@ -31,70 +39,128 @@ picked-once one forest [] Add selector a b p q = p ∙ sym q
 picked-once one forest (n ∷ ns) Add selector a b (more, p, is) (others, q, so) =
     is ∙ ap (λ ms. (n ∷ ns) ++ without (n ∷ ns) ms) (one forest _ selector more others p q) ∙ sym so
 
--- a command writes one text and leaves one selection at most
-pub does-once : OneSelection → (forest : Forest) (selection : List ℕ) (command : Command) (text other selected others : List ℕ)
-    → Does forest selection command text selected → Does forest selection command other others → (text ≡ other) × (selected ≡ others)
-does-once one forest selection Nothing text other selected others a b = (a.0 ∙ sym b.0, a.1 ∙ sym b.1)
-does-once one forest selection (Pick picking selector) text other selected others a b = (a.0 ∙ sym b.0, picked-once one forest selection picking selector selected others a.1 b.1)
-does-once one forest selection (Go going) text other selected others a b = (a.0 ∙ sym b.0, a.1 ∙ sym b.1)
-does-once one forest selection (Show showing) text other selected others a b = (a.0 ∙ sym b.0, a.1 ∙ sym b.1)
-does-once one forest selection (Attr name) text other selected others a b = (a.0 ∙ sym b.0, a.1 ∙ sym b.1)
+-- a command writes one text and leaves one selection and one forest at most
+pub does-once : OneSelection → (forest : Forest) (selection : List ℕ) (command : Command) (text other selected others : List ℕ) (after last : Forest)
+    → Does forest selection command text after selected → Does forest selection command other last others → (text ≡ other) × (selected ≡ others) × (after ≡ last)
+does-once one forest selection Nothing text other selected others after last a b = (a.0 ∙ sym b.0, a.1 ∙ sym b.1, a.2 ∙ sym b.2)
+does-once one forest selection (Pick picking selector) text other selected others after last a b =
+    (a.0 ∙ sym b.0, picked-once one forest selection picking selector selected others a.1 b.1, a.2 ∙ sym b.2)
+does-once one forest selection (Go going) text other selected others after last a b = (a.0 ∙ sym b.0, a.1 ∙ sym b.1, a.2 ∙ sym b.2)
+does-once one forest selection (Show showing) text other selected others after last a b = (a.0 ∙ sym b.0, a.1 ∙ sym b.1, a.2 ∙ sym b.2)
+does-once one forest selection (Attr name) text other selected others after last a b = (a.0 ∙ sym b.0, a.1 ∙ sym b.1, a.2 ∙ sym b.2)
+does-once one forest selection (Edit edit) text other selected others after last a b =
+    (a.0 ∙ sym b.0, a.1 ∙ sym b.1, each-once (line_edit edit) (targets edit selection) forest after last a.2 b.2)
 
--- commands write one text at most
-pub does-all-once : OneSelection → (forest : Forest) (selection : List ℕ) (commands : List Command) (text other : List ℕ)
-    → DoesAll forest selection commands text → DoesAll forest selection commands other → text ≡ other
-does-all-once one forest selection [] text other a b = a ∙ sym b
-does-all-once one forest selection (command ∷ commands) text other (x, xs, s, isa, doa, resta) (y, ys, t, isb, dob, restb) =
-    let same = does-once one forest selection command x y s t doa dob in
-    let later : xs ≡ ys = does-all-once one forest t commands xs ys (subst (λ ns. DoesAll forest ns commands xs) same.1 resta) restb in
-    isa ∙ (ap (λ zs. zs ++ xs) same.0 ∙ (ap (λ zs. y ++ zs) later ∙ sym isb))
+-- a command that is done isn't refused
+does-not-fail : (forest : Forest) (selection : List ℕ) (command : Command) (text selected : List ℕ) (after : Forest) (fault : EditFault)
+    → Does forest selection command text after selected → Fails forest selection command fault → IsRefusal fault → ⊥
+does-not-fail forest selection Nothing text selected after fault does fails is = fails
+does-not-fail forest selection (Pick picking selector) text selected after fault does fails is = fails
+does-not-fail forest selection (Go going) text selected after fault does fails is = fails
+does-not-fail forest selection (Show showing) text selected after fault does fails is = fails
+does-not-fail forest selection (Attr name) text selected after fault does fails is = fails
+does-not-fail forest selection (Edit edit) text selected after fault does fails is = done-not-refused edit (targets edit selection) forest after fault does.2 fails is
 
--- All the commands write a text just where it begins with `front` and those that are left write the rest, with the
--- selection that stands now
-pub record Reaches (forest : Forest) (at_first : List ℕ) (all left : List Command) (selection front : List ℕ) : Type 0 where
-  pub forth : (rest : List ℕ) → DoesAll forest selection left rest → DoesAll forest at_first all (front ++ rest)
-  pub back : (text : List ℕ) → DoesAll forest at_first all text → (rest : List ℕ) × (text ≡ front ++ rest) × DoesAll forest selection left rest
+fails-once : (forest : Forest) (selection : List ℕ) (command : Command) (fault other : EditFault)
+    → Fails forest selection command fault → Fails forest selection command other → IsRefusal fault → IsRefusal other → fault ≡ other
+fails-once forest selection Nothing fault other p q is so = absurd p
+fails-once forest selection (Pick picking selector) fault other p q is so = absurd p
+fails-once forest selection (Go going) fault other p q is so = absurd p
+fails-once forest selection (Show showing) fault other p q is so = absurd p
+fails-once forest selection (Attr name) fault other p q is so = absurd p
+fails-once forest selection (Edit edit) fault other p q is so = refused-once edit (targets edit selection) forest fault other p q is so
 
-pub reaches-none : (forest : Forest) (at_first : List ℕ) (all : List Command) → Reaches forest at_first all all at_first []
-reaches-none forest at_first all = record { forth = λ rest d. d; back = λ text d. (text, refl, d) }
+-- commands write one text and end in one way at most
+pub does-all-once : OneSelection → (forest : Forest) (selection : List ℕ) (line : ℕ) (commands : List Command) (text other : List ℕ) (ending last : Ending) → IsEnding ending → IsEnding last
+    → DoesAll forest selection line commands text ending → DoesAll forest selection line commands other last → (text ≡ other) × (ending ≡ last)
+does-all-once one forest selection line [] text other ending last is so a b = (a.0 ∙ sym b.0, a.1 ∙ sym b.1)
+does-all-once one forest selection line (command ∷ commands) text other ending last is so (inl (f, p, t, e)) (inl (g, q, u, d)) =
+    (t ∙ sym u, e ∙ ap (refused line) (fails-once forest selection command f g p q (subst IsEnding e is) (subst IsEnding d so)) ∙ sym d)
+does-all-once one forest selection line (command ∷ commands) text other ending last is so (inl (f, p, t, e)) (inr (y, ys, ss, c, isb, dob, restb)) =
+    absurd (does-not-fail forest selection command y ss c f dob p (subst IsEnding e is))
+does-all-once one forest selection line (command ∷ commands) text other ending last is so (inr (x, xs, s, b, isa, doa, resta)) (inl (g, q, u, d)) =
+    absurd (does-not-fail forest selection command x s b g doa q (subst IsEnding d so))
+does-all-once one forest selection line (command ∷ commands) text other ending last is so (inr (x, xs, s, b, isa, doa, resta)) (inr (y, ys, ss, c, isb, dob, restb)) =
+    let same = does-once one forest selection command x y s ss b c doa dob in
+    let later = does-all-once one c ss (line + 1) commands xs ys ending last is so
+    (subst (λ f. DoesAll f ss (line + 1) commands xs ending) same.2 (subst (λ ns. DoesAll b ns (line + 1) commands xs ending) same.1 resta)) restb in
+    (isa ∙ (ap (λ zs. zs ++ xs) same.0 ∙ (ap (λ zs. y ++ zs) later.0 ∙ sym isb)), later.1)
+
+-- All the commands write a text and end so just where it begins with `front` and those that are left, from this line on, write
+-- the rest and end so, with the forest and the selection that stand now
+pub record Reaches (forest : Forest) (at_first : List ℕ) (all left : List Command) (now : Forest) (selection : List ℕ) (line : ℕ) (front : List ℕ) : Type 0 where
+  pub forth : (rest : List ℕ) (ending : Ending) → DoesAll now selection line left rest ending → DoesAll forest at_first 1 all (front ++ rest) ending
+  pub back : (text : List ℕ) (ending : Ending) → IsEnding ending → DoesAll forest at_first 1 all text ending → (rest : List ℕ) × (text ≡ front ++ rest) × DoesAll now selection line left rest ending
+
+pub reaches-none : (forest : Forest) (at_first : List ℕ) (all : List Command) → Reaches forest at_first all all forest at_first 1 []
+reaches-none forest at_first all = record { forth = λ rest ending d. d; back = λ text ending is d. (text, refl, d) }
 
 -- the next of those that are left
-pub reaches-next : (forest : Forest) (at_first : List ℕ) (all : List Command) (i : ℕ) (command : Command) (selection front : List ℕ)
-    → i < length all → command ≡ get_or all i command → Reaches forest at_first all (drop i all) selection front
-    → Reaches forest at_first all (command ∷ drop (i + 1) all) selection front
-reaches-next forest at_first all i command selection front within is r =
+pub reaches-next : (forest : Forest) (at_first : List ℕ) (all : List Command) (i : ℕ) (command : Command) (now : Forest) (selection : List ℕ) (line : ℕ) (front : List ℕ)
+    → i < length all → command ≡ get_or all i command → Reaches forest at_first all (drop i all) now selection line front
+    → Reaches forest at_first all (command ∷ drop (i + 1) all) now selection line front
+reaches-next forest at_first all i command now selection line front within is r =
     let next : drop i all ≡ get_or all i command ∷ drop (i + 1) all = at_drop_more (λ left. left) all i command within in
-    subst (λ left. Reaches forest at_first all left selection front) (next ∙ ap (λ c. c ∷ drop (i + 1) all) (sym is)) r
+    subst (λ left. Reaches forest at_first all left now selection line front) (next ∙ ap (λ c. c ∷ drop (i + 1) all) (sym is)) r
 
 -- one more command is done
-pub reaches-more : OneSelection → (forest : Forest) (at_first : List ℕ) (all : List Command) (command : Command) (left : List Command) (selection front text selected : List ℕ)
-    → Reaches forest at_first all (command ∷ left) selection front → Does forest selection command text selected
-    → Reaches forest at_first all left selected (front ++ text)
-reaches-more one forest at_first all command left selection front text selected r does = record {
-  forth = λ rest d. subst (DoesAll forest at_first all) (sym (append_assoc front text rest)) (r.forth (text ++ rest) (text, rest, selected, refl, does, d));
-  back = λ whole d. back-more whole (r.back whole d);
+pub reaches-more : OneSelection → (forest : Forest) (at_first : List ℕ) (all : List Command) (command : Command) (left : List Command) (now : Forest) (selection : List ℕ) (line : ℕ) (front text selected : List ℕ) (after : Forest)
+    → Reaches forest at_first all (command ∷ left) now selection line front → Does now selection command text after selected
+    → Reaches forest at_first all left after selected (line + 1) (front ++ text)
+reaches-more one forest at_first all command left now selection line front text selected after r does = record {
+  forth = λ rest ending d. subst (λ t. DoesAll forest at_first 1 all t ending) (sym (append_assoc front text rest)) (r.forth (text ++ rest) ending (inr (text, rest, selected, after, refl, does, d)));
+  back = λ whole ending is d. back-more whole ending is (r.back whole ending is d);
 }
   where
-    back-more : (whole : List ℕ) → (more : List ℕ) × (whole ≡ front ++ more) × DoesAll forest selection (command ∷ left) more
-        → (rest : List ℕ) × (whole ≡ (front ++ text) ++ rest) × DoesAll forest selected left rest
-    back-more whole (more, is, (x, xs, s, so, did, later)) =
-        let same = does-once one forest selection command x text s selected did does in
-        (xs, is ∙ (ap (λ zs. front ++ zs) (so ∙ ap (λ zs. zs ++ xs) same.0) ∙ sym (append_assoc front text xs)), subst (λ ns. DoesAll forest ns left xs) same.1 later)
+    back-more : (whole : List ℕ) (ending : Ending) → IsEnding ending → (more : List ℕ) × (whole ≡ front ++ more) × DoesAll now selection line (command ∷ left) more ending
+        → (rest : List ℕ) × (whole ≡ (front ++ text) ++ rest) × DoesAll after selected (line + 1) left rest ending
+    back-more whole ending is (more, so, inl (f, fails, t, e)) = absurd (does-not-fail now selection command text selected after f does fails (subst IsEnding e is))
+    back-more whole ending is (more, same_whole, inr (x, xs, s, b, so, did, later)) =
+        let same = does-once one now selection command x text s selected b after did does in (
+          xs,
+          same_whole ∙ (ap (λ zs. front ++ zs) (so ∙ ap (λ zs. zs ++ xs) same.0) ∙ sym (append_assoc front text xs)),
+          subst (λ f. DoesAll f selected (line + 1) left xs ending) same.2 (subst (λ ns. DoesAll b ns (line + 1) left xs ending) same.1 later),
+        )
 
 -- all are done
-pub reaches-all : (forest : Forest) (at_first : List ℕ) (all : List Command) (i : ℕ) (selection front : List ℕ)
-    → length all ≤ i → Reaches forest at_first all (drop i all) selection front → DoesAll forest at_first all front
-reaches-all forest at_first all i selection front past r =
-    subst (DoesAll forest at_first all) (append-nil front) (r.forth [] (subst (λ left. DoesAll forest selection left []) (sym (drop_all i all past)) refl))
+pub reaches-all : (forest : Forest) (at_first : List ℕ) (all : List Command) (i : ℕ) (now : Forest) (selection : List ℕ) (line : ℕ) (front : List ℕ)
+    → length all ≤ i → Reaches forest at_first all (drop i all) now selection line front → DoesAll forest at_first 1 all front done
+reaches-all forest at_first all i now selection line front past r =
+    subst (λ t. DoesAll forest at_first 1 all t done) (append-nil front) (r.forth [] done (subst (λ left. DoesAll now selection line left [] done) (sym (drop_all i all past)) (refl, refl)))
+
+-- the next command fails
+pub reaches-refused : (forest : Forest) (at_first : List ℕ) (all : List Command) (command : Command) (left : List Command) (now : Forest) (selection : List ℕ) (line : ℕ) (front : List ℕ) (fault : EditFault)
+    → Reaches forest at_first all (command ∷ left) now selection line front → Fails now selection command fault → DoesAll forest at_first 1 all front (refused line fault)
+reaches-refused forest at_first all command left now selection line front fault r fails =
+    subst (λ t. DoesAll forest at_first 1 all t (refused line fault)) (append-nil front) (r.forth [] (refused line fault) (inl (fault, fails, refl, refl)))
 
 -- a fault in the next command
-pub reaches-fault : (forest : Forest) (at_first : List ℕ) (all : List Command) (command : Command) (left : List Command) (selection front : List ℕ) (a b c : Option (List ℕ))
-    → Reaches forest at_first all (command ∷ left) selection front → Appends a b front
-    → ((text selected : List ℕ) → Does forest selection command text selected → AppendsBeginning b c text)
-    → (text : List ℕ) → DoesAll forest at_first all text → AppendsBeginning a c text
-reaches-fault forest at_first all command left selection front a b c r written begun text d = at-fault (r.back text d)
+pub reaches-fault : (forest : Forest) (at_first : List ℕ) (all : List Command) (command : Command) (left : List Command) (now : Forest) (selection : List ℕ) (line : ℕ) (front : List ℕ) (a b c : Option (List ℕ))
+    → Reaches forest at_first all (command ∷ left) now selection line front → Appends a b front
+    → DidBegin now selection command b c
+    → (text : List ℕ) (ending : Ending) → IsEnding ending → DoesAll forest at_first 1 all text ending → AppendsBeginning a c text
+reaches-fault forest at_first all command left now selection line front a b c r written begun text ending is d = at-fault (r.back text ending is d)
   where
-    at-fault : (more : List ℕ) × (text ≡ front ++ more) × DoesAll forest selection (command ∷ left) more → AppendsBeginning a c text
-    at-fault (more, is, (x, xs, s, so, did, later)) =
-        subst (AppendsBeginning a c) (sym (is ∙ ap (λ zs. front ++ zs) so))
-        (beginning-then a b c front (x ++ xs) written (beginning-more b c x xs (begun x s did)))
+    at-fault : (more : List ℕ) × (text ≡ front ++ more) × DoesAll now selection line (command ∷ left) more ending → AppendsBeginning a c text
+    at-fault (more, so, inl (f, fails, t, e)) = subst (AppendsBeginning a c) (sym (so ∙ ap (λ zs. front ++ zs) t)) (beginning-then a b c front [] written (begun.1 f fails))
+    at-fault (more, same_whole, inr (x, xs, s, after, so, did, later)) =
+        subst (AppendsBeginning a c) (sym (same_whole ∙ ap (λ zs. front ++ zs) so))
+        (beginning-then a b c front (x ++ xs) written (beginning-more b c x xs (begun.0 x s after did)))
+
+-- what a fault of the next command tells of all
+pub commands-tell : (forest : Forest) (at_first : List ℕ) (all : List Command) (command : Command) (left : List Command) (now : Forest) (selection : List ℕ) (line : ℕ) (front : List ℕ) (a b c : Option (List ℕ)) (fault : RunFault)
+    → Reaches forest at_first all (command ∷ left) now selection line front → Appends a b front → CommandTells now selection command line b c fault → CommandsTell forest at_first all a c fault
+commands-tell forest at_first all command left now selection line front a b c (RunEdit place fault) r written (is, refusal, fails, none) = (
+  refusal,
+  (
+    front,
+    subst (λ k. DoesAll forest at_first 1 all front (refused k fault)) (sym is) (reaches-refused forest at_first all command left now selection line front fault r fails),
+    subst (Appends a c) (append-nil front) (written-then a b c front [] written none),
+  ),
+)
+commands-tell forest at_first all command left now selection line front a b c TooManyNodes r written (fails, none) =
+    (line, (front, reaches-refused forest at_first all command left now selection line front TooMany r fails, subst (Appends a c) (append-nil front) (written-then a b c front [] written none)))
+commands-tell forest at_first all command left now selection line front a b c Memory r written told = tt
+commands-tell forest at_first all command left now selection line front a b c Write r written told = tt
+commands-tell forest at_first all command left now selection line front a b c (BadScript place) r written told = absurd told
+commands-tell forest at_first all command left now selection line front a b c BadMarkup r written told = absurd told

@@ -1,5 +1,8 @@
 pub mod PickLemmas
 pub mod Lines
+pub mod Names
+pub mod EditLines
+pub mod EditLemmas
 pub mod Reading
 pub mod Writing
 pub mod Doing

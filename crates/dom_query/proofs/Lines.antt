@@ -1,5 +1,5 @@
 -- What stands behind a word in a line, and which line asks for no command.
-use Rattle.std.proofs.Common.{◌≡◌, ◌≢◌, ℕ, List, [], ◌∷◌, ◌++◌, Option, Some, None, Bor, MatchOption, IfOk, Result, Ok, Err, inl, inr, refl, sym, ◌∙◌, ap, append-nil, codes, false, true, subst}
+use Rattle.std.proofs.Common.{◌≡◌, ◌≢◌, ℕ, List, [], ◌∷◌, ◌++◌, Option, Some, None, Bor, MatchOption, IfOk, Result, Ok, Err, inl, inr, refl, sym, ◌∙◌, ap, append-nil, codes, false, subst}
 use Rattle.std.proofs.lemmas.Bool.{false≢true}
 use Rattle.std.specs.List.{list_all}
 use Rattle.std.specs.Str.{chars}
@@ -8,13 +8,15 @@ use Rattle.std.specs.Str.Pattern.{FindsTextPrefix, StripsPrefix}
 use Rattle.std.proofs.lemmas.List.{append_cancel_left}
 use Rattle.dom_selectors.specs.Grammar.{StandsFor}
 use Rattle.dom_selectors.specs.Syntax.{SelectorList}
-use Rattle.dom_query.specs.declared.script.Command.TheVariants.{Nothing, Pick, Go, Show, Attr}
+use Rattle.dom_query.specs.declared.script.Command.TheVariants.{Nothing, Pick, Go, Show, Attr, Edit}
 use Rattle.dom_query.specs.declared.script.Going.{Going}
 use Rattle.dom_query.specs.declared.script.Going.TheVariants.{Parent, Children, Ancestors, Next, Prev, First, Last}
 use Rattle.dom_query.specs.declared.script.Picking.TheVariants.{Select, Find, Filter, Add}
 use Rattle.dom_query.specs.declared.script.Showing.{Showing}
 use Rattle.dom_query.specs.declared.script.Showing.TheVariants.{Count, Text, Formatted, Html, InnerHtml, Document}
-use Rattle.dom_query.specs.Script.{HasArgument, HasName, HasNoName, HasNoSelector, HasSelector, IsBad, IsNoPick, StandsForNothing, going_word, is_name, showing_word}
+use Rattle.dom_query.specs.EditLine.{IsNoEdit}
+use Rattle.dom_query.specs.Script.{HasNoSelector, HasSelector, IsBad, IsNoPick, StandsForNothing, going_word, showing_word}
+use Rattle.dom_query.specs.Words.{HasArgument, HasNoName, is_name}
 
 pub argument-none : (line word : List ℕ) → FindsTextPrefix word line None → (argument : List ℕ) → HasArgument line word argument → ⊥
 argument-none line word lacks argument (inl is) = lacks (32 ∷ argument) is
@@ -112,6 +114,7 @@ pub record AsksForNothing (line : List ℕ) : Type 0 where
   pub goes : (going : Going) → line ≢ going_word going
   pub shows : (showing : Showing) → line ≢ showing_word showing
   pub attr : HasNoName line (codes "attr")
+  pub edits : IsNoEdit line
   pub picks : IsNoPick line
 
 pub bad-line : (line : List ℕ) → AsksForNothing line → IsBad line
@@ -120,6 +123,7 @@ bad-line line none (Pick picking selector) h = none.picks picking selector h
 bad-line line none (Go going) h = none.goes going h
 bad-line line none (Show showing) h = none.shows showing h
 bad-line line none (Attr name) h = none.attr name h
+bad-line line none (Edit edit) h = none.edits edit h
 
 pub some-name : (text : List ℕ) → text ≢ [] → list_all is_name_byte text ≡ is_name text
 some-name [] some = absurd (some refl)

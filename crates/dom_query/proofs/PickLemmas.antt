@@ -1,5 +1,5 @@
 -- Numbers that are picked, and what is told of references to them.
-use Rattle.std.proofs.Common.{◌≡◌, ℕ, List, [], ◌∷◌, ◌++◌, inl, inr, refl, sym, ◌∙◌, ap, subst, reverse, take, map, IfOk, Result, Ok, Err}
+use Rattle.std.proofs.Common.{◌≡◌, ℕ, List, [], ◌∷◌, ◌++◌, inl, inr, refl, sym, ◌∙◌, ap, subst, reverse, take, IfOk, Result, Ok, Err}
 use Rattle.std.specs.Global.{Vec}
 use Rattle.std.specs.List.{flat_map}
 use Rattle.std.proofs.lemmas.List.{map-append, reverse-append}
@@ -11,7 +11,7 @@ use Rattle.dom_trees.specs.declared.node_ref.NodeRef.{NodeRef}
 use Rattle.dom_trees.specs.Views.{refs_to}
 use Rattle.dom_selectors.specs.Syntax.{SelectorList}
 use Rattle.dom_select.specs.Meaning.{Means}
-use Rattle.dom_select.specs.Selected.{Picks, Selected, first_occurrences, walks_below}
+use Rattle.dom_select.specs.Selected.{Picks, Selected, first_occurrences}
 use Rattle.dom_selection.specs.Selecting.{Adds, AreFound, Keeps, Selects}
 use Rattle.dom_selection.specs.Selections.{Lists, first_alone, gathered, ids_of}
 use Rattle.dom_selection.proofs.SelectionLemmas.{ids_of-refs_to}

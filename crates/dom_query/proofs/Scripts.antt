@@ -1,33 +1,34 @@
 -- A script has one reading at most.
 use Rattle.std.proofs.Common.{◌≡◌, ◌+◌, ℕ, zero, suc, List, [], ◌∷◌, ◌++◌, inl, inr, refl, sym, ◌∙◌, ap, codes, length, arith, subst}
-use Rattle.std.specs.Prelude.{◌==◌, if◌then◌else◌}
+use Rattle.std.specs.Prelude.{if◌then◌else◌}
 use Rattle.std.specs.Str.{bytes_eq, chars}
 use Rattle.dom_selectors.specs.Syntax.{SelectorList}
 use Rattle.dom_selectors.specs.Grammar.{StandsFor}
 use Rattle.dom_query.specs.declared.script.Command.{Command}
-use Rattle.dom_query.specs.declared.script.Command.TheVariants.{Nothing, Pick, Go, Show, Attr}
+use Rattle.dom_query.specs.declared.script.Command.TheVariants.{Nothing, Pick, Go, Show, Attr, Edit}
+use Rattle.dom_query.specs.declared.script.edit_line.EditLine.TheVariants.{SetAttr, RemoveAttr, Rename, AddClass, RemoveClass, SetText, Strip, Remove, Unwrap, Normalize}
 use Rattle.dom_query.specs.declared.script.Going.TheVariants.{Parent, Children, Ancestors, Next, Prev, First, Last}
 use Rattle.dom_query.specs.declared.script.Picking.{Picking}
 use Rattle.dom_query.specs.declared.script.Picking.TheVariants.{Select, Find, Filter, Add}
 use Rattle.dom_query.specs.declared.script.Showing.TheVariants.{Count, Text, Formatted, Html, InnerHtml, Document}
-use Rattle.dom_query.specs.Script.{AreCommands, FirstBad, HasArgument, HasSelector, IsBad, IsCommand, IsNoScript, IsScript, lines_of, picking_word}
+use Rattle.dom_query.specs.Script.{AreCommands, FirstBad, HasSelector, IsBad, IsCommand, IsNoScript, IsScript, lines_of, picking_word}
+use Rattle.dom_query.specs.EditLine.{HasPair}
+use Rattle.dom_query.specs.Words.{HasArgument}
 use Rattle.dom_query.proofs.Lines.{argument-once}
+use Rattle.dom_query.proofs.Names.{pair-once, word_in}
 
 -- a text stands for one selector at most
 abbrev pub OneSelector : Type 0
 OneSelector = (text : List ℕ) (a b : SelectorList) → StandsFor text a → StandsFor text b → a ≡ b
 
--- the word of a line: what stands before its first space
-abbrev word_in : List ℕ → List ℕ
-word_in [] = []
-word_in (b ∷ line) = if b == 32 then [] else b ∷ word_in line
-
--- what a word asks for: a command alone, one with a selector behind the word, or one that is made of what stands behind it
+-- what a word asks for: a command alone, one with a selector behind the word, one that is made of what stands behind it, or
+-- that sets an attribute
 data Reading : Type 0 where
   nothing : Reading
   alone : Command → Reading
   picking : Picking → Reading
   taking : List ℕ → (List ℕ → Command) → Reading
+  setting : Reading
 
 -- the table of words
 abbrev reading : List ℕ → Reading
@@ -51,6 +52,16 @@ reading word =
     else if bytes_eq word (codes "inner-html") then alone (Show InnerHtml)
     else if bytes_eq word (codes "document") then alone (Show Document)
     else if bytes_eq word (codes "attr") then taking (codes "attr") Attr
+    else if bytes_eq word (codes "set-attr") then setting
+    else if bytes_eq word (codes "remove-attr") then taking (codes "remove-attr") (λ name. Edit (RemoveAttr name))
+    else if bytes_eq word (codes "rename") then taking (codes "rename") (λ name. Edit (Rename name))
+    else if bytes_eq word (codes "add-class") then taking (codes "add-class") (λ text. Edit (AddClass text))
+    else if bytes_eq word (codes "remove-class") then taking (codes "remove-class") (λ text. Edit (RemoveClass text))
+    else if bytes_eq word (codes "set-text") then taking (codes "set-text") (λ text. Edit (SetText text))
+    else if bytes_eq word (codes "strip") then taking (codes "strip") (λ names. Edit (Strip names))
+    else if bytes_eq word (codes "remove") then alone (Edit Remove)
+    else if bytes_eq word (codes "unwrap") then alone (Edit Unwrap)
+    else if bytes_eq word (codes "normalize") then alone (Edit Normalize)
     else nothing
 
 -- a selector stands behind the word, and the command is made of it
@@ -65,11 +76,21 @@ record IsTaken (line word : List ℕ) (make : List ℕ → Command) (command : C
   has : HasArgument line word argument
   is : command ≡ make argument
 
+-- a name and a value stand behind the word
+record IsSet (line : List ℕ) (command : Command) : Type 0 where
+  argument : List ℕ
+  name : List ℕ
+  value : List ℕ
+  has : HasArgument line (codes "set-attr") argument
+  pair : HasPair argument name value
+  is : command ≡ Edit (SetAttr name value)
+
 abbrev IsReadAs : Reading → List ℕ → Command → Type 0
 IsReadAs nothing line command = ⊥
 IsReadAs (alone known) line command = command ≡ known
 IsReadAs (picking how) line command = IsPicked line how command
 IsReadAs (taking word make) line command = IsTaken line word make command
+IsReadAs setting line command = IsSet line command
 
 -- a line that is the word and what the table has for it
 at_word : (line word : List ℕ) (command : Command) → line ≡ word → IsReadAs (reading (word_in word)) word command → IsReadAs (reading (word_in line)) line command
@@ -86,6 +107,10 @@ picked line how selector h = record { selector = selector; has = h; is = refl }
 
 taken : (line word argument : List ℕ) (make : List ℕ → Command) → HasArgument line word argument → IsTaken line word make (make argument)
 taken line word argument make h = record { argument = argument; has = h; is = refl }
+
+with_text : (line word text : List ℕ) (make : List ℕ → Command) → HasArgument line word text
+    → reading (word_in (word ++ 32 ∷ text)) ≡ taking word make → reading (word_in word) ≡ taking word make → IsReadAs (reading (word_in line)) line (make text)
+with_text line word text make has spaced bare = with_argument line word text (taking word make) (make text) has spaced bare (taken line word text make has)
 
 -- each command is what the table has for its word
 is_read : (line : List ℕ) (command : Command) → IsCommand line command → IsReadAs (reading (word_in line)) line command
@@ -107,7 +132,18 @@ is_read line (Show Formatted) p = at_word line (codes "formatted") (Show Formatt
 is_read line (Show Html) p = at_word line (codes "html") (Show Html) p refl
 is_read line (Show InnerHtml) p = at_word line (codes "inner-html") (Show InnerHtml) p refl
 is_read line (Show Document) p = at_word line (codes "document") (Show Document) p refl
-is_read line (Attr name) p = with_argument line (codes "attr") name (taking (codes "attr") Attr) (Attr name) p.0 refl refl (taken line (codes "attr") name Attr p.0)
+is_read line (Attr name) p = with_text line (codes "attr") name Attr p.0 refl refl
+is_read line (Edit (SetAttr name value)) p =
+    with_argument line (codes "set-attr") p.0 setting (Edit (SetAttr name value)) p.1 refl refl (record { argument = p.0; name = name; value = value; has = p.1; pair = p.2; is = refl })
+is_read line (Edit (RemoveAttr name)) p = with_text line (codes "remove-attr") name (λ t. Edit (RemoveAttr t)) p.0 refl refl
+is_read line (Edit (Rename name)) p = with_text line (codes "rename") name (λ t. Edit (Rename t)) p.0 refl refl
+is_read line (Edit (AddClass classes)) p = with_text line (codes "add-class") classes (λ t. Edit (AddClass t)) p refl refl
+is_read line (Edit (RemoveClass classes)) p = with_text line (codes "remove-class") classes (λ t. Edit (RemoveClass t)) p refl refl
+is_read line (Edit (SetText text)) p = with_text line (codes "set-text") text (λ t. Edit (SetText t)) p refl refl
+is_read line (Edit (Strip names)) p = with_text line (codes "strip") names (λ t. Edit (Strip t)) p.0 refl refl
+is_read line (Edit Remove) p = at_word line (codes "remove") (Edit Remove) p refl
+is_read line (Edit Unwrap) p = at_word line (codes "unwrap") (Edit Unwrap) p refl
+is_read line (Edit Normalize) p = at_word line (codes "normalize") (Edit Normalize) p refl
 
 reading-once : OneSelector → (r : Reading) (line : List ℕ) (a b : Command) → IsReadAs r line a → IsReadAs r line b → a ≡ b
 reading-once one nothing line a b p q = absurd p
@@ -115,6 +151,10 @@ reading-once one (alone known) line a b p q = p ∙ sym q
 reading-once one (picking how) line a b p q =
     let same = argument-once line (picking_word how) p.has.0 q.has.0 p.has.1 q.has.1 in
     p.is ∙ ap (Pick how) (one (chars q.has.0) p.selector q.selector (subst (λ text. StandsFor (chars text) p.selector) same p.has.2) q.has.2) ∙ sym q.is
+reading-once one setting line a b p q =
+    let same = argument-once line (codes "set-attr") p.argument q.argument p.has q.has in
+    let parts = pair-once q.argument p.name q.name p.value q.value (subst (λ text. HasPair text p.name p.value) same p.pair) q.pair in
+    p.is ∙ (ap (λ n. Edit (SetAttr n p.value)) parts.0 ∙ ap (λ v. Edit (SetAttr q.name v)) parts.1) ∙ sym q.is
 reading-once one (taking word make) line a b p q = p.is ∙ ap make (argument-once line word p.argument q.argument p.has q.has) ∙ sym q.is
 
 -- a line asks for one command at most

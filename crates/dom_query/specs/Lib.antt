@@ -1,6 +1,9 @@
+pub mod Words
+pub mod EditLine
 pub mod Script
 pub mod Picking
 pub mod Showing
+pub mod Editing
 pub mod Out
 pub mod Faults
 pub mod Runs

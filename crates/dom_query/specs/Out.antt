@@ -1,46 +1,62 @@
 -- What a run writes, and how it ends.
-use Rattle.std.specs.Prelude.{◌≡◌, ◌⊎◌, ℕ, List, [], ◌∷◌, ◌++◌}
+use Rattle.std.specs.Prelude.{◌≡◌, ◌⊎◌, ◌+◌, ℕ, List, [], ◌∷◌, ◌++◌}
 use Rattle.std.specs.Str.{IsUtf8}
+use Rattle.dom_nodes.specs.declared.fault.EditFault.{EditFault}
 use Rattle.dom_links.specs.Forest.{Forest}
+use Rattle.dom_edits.specs.Edits.{Each}
 use Rattle.dom_markup.specs.Markup.{Spells, SpellsNothing}
 use Rattle.dom_markup.specs.Numbered.{document_of}
 use Rattle.dom_markup.specs.ValueTrees.{ValueTrees}
 use Rattle.dom_query.specs.declared.script.Command.{Command}
-use Rattle.dom_query.specs.declared.script.Command.TheVariants.{Nothing, Pick, Go, Show, Attr}
+use Rattle.dom_query.specs.declared.script.Command.TheVariants.{Nothing, Pick, Go, Show, Attr, Edit}
+use Rattle.dom_query.specs.Editing.{FailsAtOne, IsRefusal, line_edit, targets}
 use Rattle.dom_query.specs.Picking.{Picked, led}
 use Rattle.dom_query.specs.Script.{IsScript, IsNoScript}
 use Rattle.dom_query.specs.Showing.{first_attr, line_of, shown}
 
--- the commands were done; a line is no command; the markup is none
+-- the commands were done; an edit is refused at a line; a line is no command; the markup is none
 pub data Ending : Type 0 where
   done : Ending
+  refused : ℕ → EditFault → Ending
   bad_script : ℕ → Ending
   bad_markup : Ending
 
--- with this selection the command writes the text, and then those nodes are selected
-abbrev pub Does : Forest → List ℕ → Command → List ℕ → List ℕ → Type 0
-Does forest selection Nothing text selected = (text ≡ []) × (selected ≡ selection)
-Does forest selection (Pick picking selector) text selected = (text ≡ []) × Picked forest selection picking selector selected
-Does forest selection (Go going) text selected = (text ≡ []) × (selected ≡ led going forest selection)
-Does forest selection (Show showing) text selected = (text ≡ line_of (shown showing forest selection)) × (selected ≡ selection)
-Does forest selection (Attr name) text selected = (text ≡ line_of (first_attr name forest selection)) × (selected ≡ selection)
+-- With this selection the command writes the text, and then the forest is `after`, and those nodes are selected
+abbrev pub Does : Forest → List ℕ → Command → List ℕ → Forest → List ℕ → Type 0
+Does forest selection Nothing text after selected = (text ≡ []) × (selected ≡ selection) × (after ≡ forest)
+Does forest selection (Pick picking selector) text after selected = (text ≡ []) × Picked forest selection picking selector selected × (after ≡ forest)
+Does forest selection (Go going) text after selected = (text ≡ []) × (selected ≡ led going forest selection) × (after ≡ forest)
+Does forest selection (Show showing) text after selected = (text ≡ line_of (shown showing forest selection)) × (selected ≡ selection) × (after ≡ forest)
+Does forest selection (Attr name) text after selected = (text ≡ line_of (first_attr name forest selection)) × (selected ≡ selection) × (after ≡ forest)
+Does forest selection (Edit edit) text after selected = (text ≡ []) × (selected ≡ selection) × Each (line_edit edit) (targets edit selection) forest after
 
--- with this selection the commands write the text, one after the other
-abbrev pub DoesAll : Forest → List ℕ → List Command → List ℕ → Type 0
-DoesAll forest selection [] text = text ≡ []
-DoesAll forest selection (command ∷ commands) text =
-    (first rest selected : List ℕ) × (text ≡ first ++ rest) × Does forest selection command first selected × DoesAll forest selected commands rest
+-- the command is an edit that is refused with this fault
+abbrev pub Fails : Forest → List ℕ → Command → EditFault → Type 0
+Fails forest selection (Edit edit) fault = FailsAtOne (line_edit edit) (targets edit selection) forest fault
+Fails forest selection _ fault = ⊥
+
+-- With this selection the commands, the first of which stands in this line, write the text one after the other, and end so:
+-- all were done, or one failed
+abbrev pub DoesAll : Forest → List ℕ → ℕ → List Command → List ℕ → Ending → Type 0
+DoesAll forest selection line [] text ending = (text ≡ []) × (ending ≡ done)
+DoesAll forest selection line (command ∷ commands) text ending =
+    ((fault : EditFault) × Fails forest selection command fault × (text ≡ []) × (ending ≡ refused line fault))
+    ⊎ ((first rest selected : List ℕ) × (after : Forest) × (text ≡ first ++ rest) × Does forest selection command first after selected × DoesAll after selected (line + 1) commands rest ending)
 
 -- the text isn't UTF-8, or it spells no trees
 abbrev pub IsNoMarkup : List ℕ → Type 0
 IsNoMarkup markup = (IsUtf8 markup → ⊥) ⊎ SpellsNothing markup
 
--- A run of the script over the markup writes this text and ends so: the script is read first, then the markup, and then
--- the commands are done, at first with the root selected
-abbrev pub Out : List ℕ → List ℕ → List ℕ → Ending → Type 0
-Out markup script text done =
+-- the script is read, then the markup, and then the commands are done, at first with the root selected
+abbrev pub Ran : List ℕ → List ℕ → List ℕ → Ending → Type 0
+Ran markup script text ending =
     (commands : List Command) × (trees : ValueTrees) × IsScript script commands × IsUtf8 markup × Spells markup trees
-    × DoesAll (document_of trees) (0 ∷ []) commands text
+    × DoesAll (document_of trees) (0 ∷ []) 1 commands text ending
+
+-- A run of the script over the markup writes this text and ends so; numbers and memory that give out are no ending of it
+abbrev pub Out : List ℕ → List ℕ → List ℕ → Ending → Type 0
+Out markup script text done = Ran markup script text done
+Out markup script text (refused line fault) = IsRefusal fault × Ran markup script text (refused line fault)
 Out markup script text (bad_script line) = IsNoScript script line × (text ≡ [])
 Out markup script text bad_markup = ((commands : List Command) × IsScript script commands) × IsNoMarkup markup × (text ≡ [])
 

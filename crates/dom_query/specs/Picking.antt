@@ -6,7 +6,7 @@ use Rattle.dom_links.specs.Lists.{without}
 use Rattle.dom_selectors.specs.Syntax.{SelectorList}
 use Rattle.dom_select.specs.Meaning.{Means}
 use Rattle.dom_select.specs.Selected.{Picks, Selected, first_occurrences}
-use Rattle.dom_selection.specs.Selections.{child_elements, element_after, element_before, elements_above, parent_element}
+use Rattle.dom_selection.specs.Selections.{child_elements, element_after, element_before, elements_above, parent_node}
 use Rattle.dom_query.specs.declared.script.Going.{Going}
 use Rattle.dom_query.specs.declared.script.Going.TheVariants.{Parent, Children, Ancestors, Next, Prev, First, Last}
 use Rattle.dom_query.specs.declared.script.Picking.{Picking}
@@ -31,7 +31,7 @@ reached step forest ns = first_occurrences [] (flat_map (step forest) ns)
 
 -- where the selection leads
 abbrev pub led : Going → Forest → List ℕ → List ℕ
-led Parent forest selection = reached parent_element forest selection
+led Parent forest selection = reached parent_node forest selection
 led Children forest selection = reached child_elements forest selection
 led Ancestors forest selection = reached (elements_above None) forest selection
 led Next forest selection = reached element_after forest selection

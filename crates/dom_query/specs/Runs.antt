@@ -1,35 +1,69 @@
 -- What a run leaves in a writer that held the bytes `old` and now holds `new`, and what its faults tell.
-use Rattle.std.specs.Prelude.{ℕ, List, [], Option}
+use Rattle.std.specs.Prelude.{◌≡◌, ◌⊎◌, ℕ, List, [], Option}
 use Rattle.std.specs.Io.KnownBytes.{Appends}
+use Rattle.dom_nodes.specs.declared.fault.EditFault.{EditFault}
+use Rattle.dom_nodes.specs.declared.fault.EditFault.TheVariants.{TooManyNodes as TooMany, Memory as NoMemory}
 use Rattle.dom_links.specs.Forest.{Forest}
 use Rattle.dom_markup.specs.Refusals.{BeginsTooManyNodes}
 use Rattle.dom_markup.specs.Writing.{AppendsBeginning}
 use Rattle.dom_query.specs.declared.runner.RunFault.{RunFault}
 use Rattle.dom_query.specs.declared.runner.RunFault.TheVariants.{BadScript, BadMarkup, Edit, TooManyNodes, Memory, Write}
 use Rattle.dom_query.specs.declared.script.Command.{Command}
-use Rattle.dom_query.specs.Out.{Does, DoesAll, Ending, Out}
-use Rattle.dom_query.specs.Out.Ending.{bad_script, bad_markup}
+use Rattle.dom_query.specs.Editing.{IsRefusal}
+use Rattle.dom_query.specs.Out.{Does, DoesAll, Ending, Fails, Out, Ran}
+use Rattle.dom_query.specs.Out.Ending.{refused, bad_script, bad_markup}
 use Rattle.dom_query.specs.Script.{IsScript}
 
--- the command was done with this selection, what it writes was written, and then those nodes are selected
-abbrev pub Did : Forest → List ℕ → Command → Option (List ℕ) → Option (List ℕ) → List ℕ → Type 0
-Did forest selection command old new selected =
-    (text : List ℕ) × Does forest selection command text selected × Appends old new text
+-- the command was done with this selection, what it writes was written, and then the forest is `after`, and those nodes are
+-- selected
+abbrev pub Did : Forest → List ℕ → Command → Option (List ℕ) → Option (List ℕ) → Forest → List ℕ → Type 0
+Did forest selection command old new after selected =
+    (text : List ℕ) × Does forest selection command text after selected × Appends old new text
 
--- a beginning of what the command writes was written
+-- a beginning of what the command writes was written, and nothing where it is refused
 abbrev pub DidBegin : Forest → List ℕ → Command → Option (List ℕ) → Option (List ℕ) → Type 0
 DidBegin forest selection command old new =
-    (text selected : List ℕ) → Does forest selection command text selected → AppendsBeginning old new text
+    ((text selected : List ℕ) (after : Forest) → Does forest selection command text after selected → AppendsBeginning old new text)
+    × ((fault : EditFault) → Fails forest selection command fault → AppendsBeginning old new [])
 
--- the commands were done, at first with this selection, and what they write was written
-abbrev pub DidAll : Forest → List ℕ → List Command → Option (List ℕ) → Option (List ℕ) → Type 0
-DidAll forest selection commands old new =
-    (text : List ℕ) × DoesAll forest selection commands text × Appends old new text
+-- the fault of a run that tells of an edit's fault in this line
+abbrev pub fault_at : ℕ → EditFault → RunFault
+fault_at line TooMany = TooManyNodes
+fault_at line NoMemory = Memory
+fault_at line fault = Edit line fault
+
+-- the command failed in this line, and nothing was written; or memory or the writer gave out
+abbrev pub CommandTells : Forest → List ℕ → Command → ℕ → Option (List ℕ) → Option (List ℕ) → RunFault → Type 0
+CommandTells forest selection command line old new (Edit at fault) = (at ≡ line) × IsRefusal fault × Fails forest selection command fault × Appends old new []
+CommandTells forest selection command line old new TooManyNodes = Fails forest selection command TooMany × Appends old new []
+CommandTells forest selection command line old new Memory = Unit {0}
+CommandTells forest selection command line old new Write = Unit {0}
+CommandTells forest selection command line old new (BadScript at) = ⊥
+CommandTells forest selection command line old new BadMarkup = ⊥
+
+-- the commands end so, at first with this selection, and what they write was written
+abbrev pub DidAll : Forest → List ℕ → List Command → Option (List ℕ) → Option (List ℕ) → Ending → Type 0
+DidAll forest selection commands old new ending =
+    (text : List ℕ) × DoesAll forest selection 1 commands text ending × Appends old new text
+
+-- numbers and memory that give out are no ending of a run
+abbrev pub IsEnding : Ending → Type 0
+IsEnding (refused line fault) = IsRefusal fault
+IsEnding _ = Unit {0}
 
 -- a beginning of what the commands write was written
 abbrev pub DidAllBegin : Forest → List ℕ → List Command → Option (List ℕ) → Option (List ℕ) → Type 0
 DidAllBegin forest selection commands old new =
-    (text : List ℕ) → DoesAll forest selection commands text → AppendsBeginning old new text
+    (text : List ℕ) (ending : Ending) → IsEnding ending → DoesAll forest selection 1 commands text ending → AppendsBeginning old new text
+
+-- what a fault tells of the commands
+abbrev pub CommandsTell : Forest → List ℕ → List Command → Option (List ℕ) → Option (List ℕ) → RunFault → Type 0
+CommandsTell forest selection commands old new (Edit line fault) = IsRefusal fault × DidAll forest selection commands old new (refused line fault)
+CommandsTell forest selection commands old new TooManyNodes = (line : ℕ) × DidAll forest selection commands old new (refused line TooMany)
+CommandsTell forest selection commands old new Memory = Unit {0}
+CommandsTell forest selection commands old new Write = Unit {0}
+CommandsTell forest selection commands old new (BadScript line) = ⊥
+CommandsTell forest selection commands old new BadMarkup = ⊥
 
 -- what the run writes was written, and it ended so
 abbrev pub Ended : List ℕ → List ℕ → Option (List ℕ) → Option (List ℕ) → Ending → Type 0
@@ -39,12 +73,18 @@ Ended markup script old new ending = (text : List ℕ) × Out markup script text
 abbrev pub Began : List ℕ → List ℕ → Option (List ℕ) → Option (List ℕ) → Type 0
 Began markup script old new = (text : List ℕ) (ending : Ending) → Out markup script text ending → AppendsBeginning old new text
 
--- what a fault tells; no line is an edit yet
+-- numbers gave out: the markup has too many nodes, and nothing was written; or the lines before an edit were done and
+-- written, and it asks for a number too many
+abbrev pub RanOut : List ℕ → List ℕ → Option (List ℕ) → Option (List ℕ) → Type 0
+RanOut markup script old new =
+    (((commands : List Command) × IsScript script commands) × BeginsTooManyNodes markup × Appends old new [])
+    ⊎ ((line : ℕ) × (text : List ℕ) × Ran markup script text (refused line TooMany) × Appends old new text)
+
+-- what a fault tells
 abbrev pub Tells : List ℕ → List ℕ → Option (List ℕ) → Option (List ℕ) → RunFault → Type 0
 Tells markup script old new (BadScript line) = Ended markup script old new (bad_script line)
 Tells markup script old new BadMarkup = Ended markup script old new bad_markup
-Tells markup script old new (Edit line fault) = ⊥
-Tells markup script old new TooManyNodes =
-    ((commands : List Command) × IsScript script commands) × BeginsTooManyNodes markup × Appends old new []
+Tells markup script old new (Edit line fault) = Ended markup script old new (refused line fault)
+Tells markup script old new TooManyNodes = RanOut markup script old new
 Tells markup script old new Memory = Unit {0}
 Tells markup script old new Write = Unit {0}

@@ -1,26 +1,19 @@
 -- The grammar of scripts.
-use Rattle.std.specs.Prelude.{◌≡◌, ◌⊎◌, ◌+◌, ◌==◌, ℕ, zero, suc, Bool, false, true, List, [], ◌∷◌, ◌++◌, codes, length}
-use Rattle.std.specs.List.{list_all, slice_split}
+use Rattle.std.specs.Prelude.{◌≡◌, ◌+◌, ◌==◌, ℕ, zero, suc, List, [], ◌∷◌, ◌++◌, codes, length}
+use Rattle.std.specs.List.{slice_split}
 use Rattle.std.specs.Str.{IsUtf8, chars}
-use Rattle.dom_markup.specs.Bytes.{is_name_byte}
 use Rattle.dom_selectors.specs.Grammar.{StandsFor}
 use Rattle.dom_selectors.specs.Syntax.{SelectorList}
 use Rattle.dom_query.specs.declared.script.Command.{Command}
-use Rattle.dom_query.specs.declared.script.Command.TheVariants.{Nothing, Pick, Go, Show, Attr}
+use Rattle.dom_query.specs.declared.script.Command.TheVariants.{Nothing, Pick, Go, Show, Attr, Edit}
 use Rattle.dom_query.specs.declared.script.Going.{Going}
 use Rattle.dom_query.specs.declared.script.Going.TheVariants.{Parent, Children, Ancestors, Next, Prev, First, Last}
 use Rattle.dom_query.specs.declared.script.Picking.{Picking}
 use Rattle.dom_query.specs.declared.script.Picking.TheVariants.{Select, Find, Filter, Add}
 use Rattle.dom_query.specs.declared.script.Showing.{Showing}
 use Rattle.dom_query.specs.declared.script.Showing.TheVariants.{Count, Text, Formatted, Html, InnerHtml, Document}
-
--- the line is the word, one space and the argument, or the word alone, whose argument is empty
-abbrev pub HasArgument : List ℕ → List ℕ → List ℕ → Type 0
-HasArgument line word argument = (line ≡ word ++ 32 ∷ argument) ⊎ ((line ≡ word) × (argument ≡ []))
-
--- the line isn't that word, with or without an argument
-abbrev pub HasNoArgument : List ℕ → List ℕ → Type 0
-HasNoArgument line word = (argument : List ℕ) → HasArgument line word argument → ⊥
+use Rattle.dom_query.specs.EditLine.{IsEdit}
+use Rattle.dom_query.specs.Words.{HasArgument, HasName}
 
 -- the text stands for no selector
 abbrev pub StandsForNothing : List ℕ → Type 0
@@ -32,18 +25,6 @@ HasSelector line word selector = (argument : List ℕ) × HasArgument line word 
 
 abbrev pub HasNoSelector : List ℕ → List ℕ → Type 0
 HasNoSelector line word = (selector : SelectorList) → HasSelector line word selector → ⊥
-
--- one or more name characters
-abbrev pub is_name : List ℕ → Bool
-is_name [] = false
-is_name (b ∷ bs) = list_all is_name_byte (b ∷ bs)
-
--- the line is the word and a name
-abbrev pub HasName : List ℕ → List ℕ → List ℕ → Type 0
-HasName line word name = HasArgument line word name × (is_name name ≡ true)
-
-abbrev pub HasNoName : List ℕ → List ℕ → Type 0
-HasNoName line word = (name : List ℕ) → HasName line word name → ⊥
 
 -- the words of lines
 abbrev pub picking_word : Picking → List ℕ
@@ -83,6 +64,7 @@ IsCommand line (Pick picking selector) = IsPick line picking selector
 IsCommand line (Go going) = line ≡ going_word going
 IsCommand line (Show showing) = line ≡ showing_word showing
 IsCommand line (Attr name) = HasName line (codes "attr") name
+IsCommand line (Edit edit) = IsEdit line edit
 
 -- the line asks for no command
 abbrev pub IsBad : List ℕ → Type 0

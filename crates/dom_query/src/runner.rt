@@ -1,13 +1,16 @@
 //! A script of lines, run over markup.
 
 ghost use Rattle.std.specs.Prelude.{◌≡◌, ◌∷◌, [], IfErr, IfOk, OnErr, OnOk};
-ghost use Rattle.dom_query.specs.Faults.{GaveOut, IsMarkup, MarkupRefused};
+ghost use Rattle.dom_query.specs.Faults.{IsMarkup, MarkupRefused};
 ghost use Rattle.dom_query.specs.Out.Ending.{done};
-ghost use Rattle.dom_query.specs.Runs.{Began, Did, DidAll, DidAllBegin, DidBegin, Ended, Tells};
+ghost use Rattle.dom_query.specs.Runs.{Began, CommandTells, CommandsTell, Did, DidAll};
+ghost use Rattle.dom_query.specs.Runs.{DidAllBegin, DidBegin, Ended, Tells, fault_at};
 
+mod editing;
 mod picking;
 mod showing;
 
+use crate::runner::editing::edit_selected;
 use crate::runner::picking::{go, pick};
 use crate::runner::showing::{show, write_attr};
 use crate::script::{Command, ScriptFault, read_script};
@@ -31,7 +34,7 @@ pub enum RunFault {
     /// An edit was refused, at that line.
     #[error("edit refused at line {0}: {1}")]
     Edit(usize, EditFault),
-    /// The markup has more nodes than there are numbers.
+    /// The markup, or an edit of what it spells, asks for more nodes than there are numbers.
     #[error("too many nodes")]
     TooManyNodes,
     /// Memory was refused.
@@ -88,18 +91,31 @@ impl From<ScriptFault> for RunFault {
     }
 }
 
+/// The fault of the run that tells of an edit's fault in this line.
+fn fault_at(line: usize, fault: EditFault) -> RunFault
+    ensures { result ≡ fault_at line fault }
+{
+    match fault {
+        EditFault::TooManyNodes => RunFault::TooManyNodes,
+        EditFault::Memory => RunFault::Memory,
+        fault => RunFault::Edit(line, fault),
+    }
+}
+
 /// Does what one line asks for, and gives what is selected then.
 fn do_command<W: Write>(
-    tree: &Tree,
+    tree: &mut Tree,
     selection: Vec<NodeId>,
     command: &Command,
+    line: usize,
     out: &mut W,
 ) -> Result<Vec<NodeId>, RunFault>
-    ensures ok { IfOk result (λ selected. Did tree.now selection.items command.now
-        (W.contents out.old) (W.contents out.new) selected.items) }
-    ensures begun { OnErr result (DidBegin tree.now selection.items command.now
+    ensures ok { IfOk result (λ selected. Did tree.old selection.items command.now
+        (W.contents out.old) (W.contents out.new) tree.new selected.items) }
+    ensures begun { OnErr result (DidBegin tree.old selection.items command.now
         (W.contents out.old) (W.contents out.new)) }
-    ensures cause { IfErr result GaveOut }
+    ensures cause { IfErr result (CommandTells tree.old selection.items command.now line
+        (W.contents out.old) (W.contents out.new)) }
 {
     match command {
         Command::Nothing => Ok(selection),
@@ -113,6 +129,10 @@ fn do_command<W: Write>(
             write_attr(tree, &selection, name.as_str(), out)?;
             Ok(selection)
         }
+        Command::Edit(edit) => match edit_selected(tree, &selection, edit) {
+            Ok(()) => Ok(selection),
+            Err(fault) => Err(fault_at(line, fault)),
+        },
     }
 }
 
@@ -131,20 +151,23 @@ fn root_alone(alloc: Global) -> Result<Vec<NodeId>, RunFault>
 /// Does the lines in their order, at first with the root selected.
 fn do_commands<W: Write>(
     alloc: Global,
-    tree: &Tree,
+    tree: &mut Tree,
     commands: &[Command],
     out: &mut W,
 ) -> Result<(), RunFault>
-    ensures ok { OnOk result (DidAll tree.now (0 ∷ []) commands.now
+    ensures ok { OnOk result (DidAll tree.old (0 ∷ []) commands.now
+        (W.contents out.old) (W.contents out.new) done) }
+    ensures begun { OnErr result (DidAllBegin tree.old (0 ∷ []) commands.now
         (W.contents out.old) (W.contents out.new)) }
-    ensures begun { OnErr result (DidAllBegin tree.now (0 ∷ []) commands.now
+    ensures cause { IfErr result (CommandsTell tree.old (0 ∷ []) commands.now
         (W.contents out.old) (W.contents out.new)) }
-    ensures cause { IfErr result GaveOut }
 {
     dom_select::laws::one_selection();
     let mut selection = root_alone(alloc)?;
+    let mut line = 0usize;
     for command in commands {
-        selection = do_command(tree, selection, command, out)?;
+        line += 1;
+        selection = do_command(tree, selection, command, line, out)?;
     }
     Ok(())
 }
@@ -187,6 +210,6 @@ pub fn run<W: Write>(
     dom_markup::laws::one_reading();
     dom_select::laws::one_reading();
     let commands = read_script(alloc, script)?;
-    let document = read_markup(alloc, markup)?;
-    do_commands(alloc, &document.tree, &commands, out)
+    let mut document = read_markup(alloc, markup)?;
+    do_commands(alloc, &mut document.tree, &commands, out)
 }

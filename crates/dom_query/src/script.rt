@@ -5,9 +5,11 @@ ghost use Rattle.dom_query.specs.Faults.{ScriptRefused};
 ghost use Rattle.dom_query.specs.Script.{IsBad, IsCommand, IsNoPick, IsPick, IsScript};
 
 mod arguments;
+pub mod edit_line;
 mod words;
 
 use crate::script::arguments::{name_behind, selector_behind};
+use crate::script::edit_line::{EditLine, edit_of};
 use crate::script::words::{going_of, showing_of};
 use dom_nodes::fault::OutOfMemory;
 use dom_nodes::text::Text;
@@ -76,6 +78,8 @@ pub enum Command {
     Show(Showing),
     /// The first node's attribute of this local name is written.
     Attr(Text),
+    /// The tree is changed.
+    Edit(EditLine),
 }
 
 /// Why a text was not read as a script.
@@ -132,6 +136,9 @@ fn command_of(alloc: Global, line: &str) -> Result<Option<Command>, OutOfMemory>
     }
     if let Some(name) = name_behind(alloc, line, "attr")? {
         return Ok(Some(Command::Attr(name)));
+    }
+    if let Some(edit) = edit_of(alloc, line)? {
+        return Ok(Some(Command::Edit(edit)));
     }
     match pick_of(alloc, line)? {
         Some((picking, matcher)) => Ok(Some(Command::Pick(picking, matcher))),

@@ -7,6 +7,7 @@ use std::io::{ErrorKind, Read, Write};
 use std::process::Abort;
 use std::test::Fail;
 
+mod lines;
 mod selecting;
 mod texts;
 

@@ -62,10 +62,11 @@ abbrev pub one_or_none : Option ℕ → List ℕ
 one_or_none None = []
 one_or_none (Some n) = n ∷ []
 
--- from a node to elements: its parent, its children, those above it, and the nearest beside it
-abbrev pub parent_element : Forest → ℕ → List ℕ
-parent_element forest n = filter (element_at forest) (one_or_none (parent forest n))
+-- from a node to its parent, of any kind
+abbrev pub parent_node : Forest → ℕ → List ℕ
+parent_node forest n = one_or_none (parent forest n)
 
+-- and to elements: its children, those above it, and the nearest beside it
 abbrev pub child_elements : Forest → ℕ → List ℕ
 child_elements forest n = filter (element_at forest) (children_of forest n)
 

@@ -3,8 +3,8 @@
 ghost use Rattle.std.specs.Prelude.{◌≡◌, ◌≢◌, chars, IfOk, MatchBool, MatchOption};
 ghost use Rattle.std.specs.List.{list_all};
 ghost use Rattle.dom_markup.specs.Bytes.{is_name_byte};
-ghost use Rattle.dom_query.specs.Script.{HasArgument, HasName, HasNoArgument, HasNoName};
-ghost use Rattle.dom_query.specs.Script.{HasNoSelector, HasSelector, StandsForNothing, is_name};
+ghost use Rattle.dom_query.specs.Script.{HasNoSelector, HasSelector, StandsForNothing};
+ghost use Rattle.dom_query.specs.Words.{HasArgument, HasName, HasNoArgument, HasNoName, is_name};
 ghost use Rattle.dom_selectors.specs.Grammar.{StandsFor};
 
 use dom_nodes::fault::OutOfMemory;

@@ -1,13 +1,12 @@
 //! Nodes that are gathered from where some nodes lead, each once.
 
 ghost use Rattle.std.specs.Prelude.{◌≡◌, ◌∷◌, [], not, filter, OnOk};
-ghost use Rattle.dom_links.specs.Forest.{children_of, parent};
 ghost use Rattle.dom_links.specs.ListMoves.{element_at};
 ghost use Rattle.dom_links.specs.Trees.{ancestors, limited};
 ghost use Rattle.dom_selection.specs.Gathering.{HasMet, Meets};
 ghost use Rattle.dom_selection.specs.Selections.{Lists, child_elements, element_after};
 ghost use Rattle.dom_selection.specs.Selections.{element_before, elements_above, gathered};
-ghost use Rattle.dom_selection.specs.Selections.{one_or_none, parent_element};
+ghost use Rattle.dom_selection.specs.Selections.{one_or_none, parent_node};
 ghost use Rattle.dom_selection.specs.Steps.{step_of};
 
 use crate::selection::seen::Seen;
@@ -104,23 +103,13 @@ impl<'a> Gathered<'a> {
         Ok(())
     }
 
-    /// Meets the parent of a node, if it is an element.
-    fn meet_parent(&mut self, id: NodeId) -> Result<(), OutOfMemory>
-        ensures { OnOk result (Meets self.old self.new (parent_element self.old.tree.now id)) }
-    {
-        match parent_id(self.tree.nodes(), &id) {
-            Some(parent) => self.meet_element(parent),
-            None => Ok(()),
-        }
-    }
-
     /// Meets where the step leads from a node.
     fn meet_from(&mut self, step: Step, id: NodeId) -> Result<(), OutOfMemory>
         ensures { OnOk result (Meets self.old self.new (step_of step self.old.tree.now id)) }
     {
         let nodes = self.tree.nodes();
         match step {
-            Step::Parent => self.meet_parent(id),
+            Step::Parent => self.meet_some(parent_id(nodes, &id)),
             Step::Children => self.meet_children(id),
             Step::Ancestors(most) => self.meet_ancestors(id, most),
             Step::Next => self.meet_some(TreeNodeOps::next_element_sibling_of(nodes, &id)),
@@ -144,9 +133,9 @@ impl<'a> Selection<'a> {
         Ok(Selection::of_one_tree(gathered.nodes))
     }
 
-    /// The parents that are elements, each once.
+    /// The parents, of whichever kind, each once.
     pub fn parent(&self) -> Result<Selection<'a>, OutOfMemory>
-        ensures { Lists result (gathered parent_element self.now) }
+        ensures { Lists result (gathered parent_node self.now) }
     {
         self.gather(Step::Parent)
     }

@@ -8,5 +8,6 @@ returns-in-None c = bad-line c.args.line.now (record {
   goes = c.in_default.ensures;
   shows = c.in_default-showing_of.ensures;
   attr = rw c.in_default-2.is at c.in_ok-name.ensures;
+  edits = rw c.in_default-3.is at c.in_ok-edit.ensures;
   picks = rw c.in-None.is at c.in_ok-picking.ensures;
 })

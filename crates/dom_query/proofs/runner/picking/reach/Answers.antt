@@ -1,11 +1,11 @@
-use Rattle.std.proofs.Common.{◌∙◌, ap, sym, None, reverse, List}
+use Rattle.std.proofs.Common.{◌∙◌, ap, None, reverse, List}
 use Rattle.dom_trees.specs.declared.node_ref.NodeRef.{NodeRef}
-use Rattle.dom_selection.specs.Selections.{child_elements, element_after, element_before, elements_above, first_alone, ids_of, parent_element}
+use Rattle.dom_selection.specs.Selections.{child_elements, element_after, element_before, elements_above, first_alone, ids_of, parent_node}
 use Rattle.dom_query.proofs.PickLemmas.{last-numbers, reached-from}
 use Rattle.dom_query.proofs.runner.picking.reach.Goals as goal
 
 pub returns-in-Parent : goal.returns-in-Parent
-returns-in-Parent c = rw c.in-Parent.is (reached-from parent_element c.args.tree c.args.selection.now c.in_ok-from.from c.parent.result c.in_ok-from.ensures c.parent.ensures)
+returns-in-Parent c = rw c.in-Parent.is (reached-from parent_node c.args.tree c.args.selection.now c.in_ok-from.from c.parent.result c.in_ok-from.ensures c.parent.ensures)
 
 pub returns-in-Children : goal.returns-in-Children
 returns-in-Children c = rw c.in-Children.is (reached-from child_elements c.args.tree c.args.selection.now c.in_ok-from.from c.children.result c.in_ok-from.ensures c.children.ensures)

@@ -1,5 +1,3 @@
-use Rattle.std.proofs.Common.{Option, Result, Ok, Err, Some, None}
-use Rattle.dom_selectors.specs.Syntax.{SelectorList}
 use Rattle.dom_query.proofs.Lines.{selector-read}
 use Rattle.dom_query.proofs.script.arguments.selector_behind.Goals as goal
 

@@ -1,0 +1,168 @@
+-- What an edit does as a line tells it.
+use Rattle.std.proofs.Common.{◌≡◌, ◌<◌, ◌≤◌, ℕ, zero, suc, List, [], ◌∷◌, Some, Result, Ok, Err, refl, sym, ◌∙◌, subst, take, length, arith}
+use Rattle.std.specs.Prelude.{slice_get}
+use Rattle.std.proofs.lemmas.Option.{none-some, same_Some}
+use Rattle.dom_nodes.specs.Change.{changed}
+use Rattle.dom_nodes.specs.declared.fault.EditFault.{EditFault}
+use Rattle.dom_nodes.specs.declared.fault.EditFault.TheVariants.{UnknownNode, NoChildrenHere, RootOrFragment, Cycle, TooManyNodes, Memory, BadContents, Markup}
+use Rattle.dom_nodes.specs.declared.node_data.NodeData.{NodeData}
+use Rattle.dom_nodes.specs.declared.node_data.changing.Change.{Change}
+use Rattle.dom_links.specs.Forest.{Forest}
+use Rattle.dom_trees.specs.Edits.{TreeEdit, changing}
+use Rattle.dom_trees.specs.Refusals.{ChangeCause, JoinCause, KnownCause, SetCause}
+use Rattle.dom_edits.specs.Edits.{Each}
+use Rattle.dom_query.specs.declared.script.edit_line.EditLine.{EditLine}
+use Rattle.dom_query.specs.declared.script.edit_line.EditLine.TheVariants.{SetAttr, RemoveAttr, Rename, AddClass, RemoveClass, SetText, Strip, Remove, Unwrap, Normalize}
+use Rattle.dom_query.specs.Editing.{EditsOrFails, FailsAtOne, IsRefusal, RewriteCause, line_edit, rewriting}
+
+-- ---- changes of data
+
+each-rewrites : (change : Change) (ns : List ℕ) (old new : Forest) → Each (λ n. changing n change) ns old new → Each (rewriting (changed change)) ns old new
+each-rewrites change [] old new done = done
+each-rewrites change (n ∷ ns) old new done = (done.0, each-rewrites change ns _ new done.1)
+
+rewrite-cause : (n : ℕ) (change : Change) (forest : Forest) (fault : EditFault) → ChangeCause n change forest fault → RewriteCause n forest fault
+rewrite-cause n change forest UnknownNode told = told
+rewrite-cause n change forest Memory told = tt
+rewrite-cause n change forest NoChildrenHere told = told
+rewrite-cause n change forest RootOrFragment told = told
+rewrite-cause n change forest Cycle told = told
+rewrite-cause n change forest TooManyNodes told = told
+rewrite-cause n change forest BadContents told = told
+rewrite-cause n change forest (Markup fault) told = told
+
+fails-rewrites : (change : Change) (ns : List ℕ) (old : Forest) (fault : EditFault) → FailsAtOne (λ n. changing n change) ns old fault → FailsAtOne (rewriting (changed change)) ns old fault
+fails-rewrites change ns old fault (done, after, stops) = (
+  done,
+  after,
+  record {
+    node = stops.node;
+    next = stops.next;
+    before = each-rewrites change (take done ns) old after stops.before;
+    cause = rewrite-cause stops.node change after fault stops.cause;
+  },
+)
+
+-- a change leaves what the line tells
+pub line-rewrites : (r : Result Unit EditFault) (old new : Forest) (ns : List ℕ) (change : Change) (told : NodeData → NodeData) → changed change ≡ told
+    → EditsOrFails r old new ns (λ n. changing n change) → EditsOrFails r old new ns (rewriting told)
+line-rewrites (Ok x) old new ns change told is edits = record { ok = subst (λ f. Each (rewriting f) ns old new) is (each-rewrites change ns old new edits.ok); err = tt }
+line-rewrites (Err fault) old new ns change told is edits = record {
+  ok = tt;
+  err = λ other. subst (λ f. FailsAtOne (rewriting f) ns old fault) is (fails-rewrites change ns old fault (edits.err other));
+}
+
+-- ---- refusals
+
+rewrite-unknown : (n : ℕ) (forest : Forest) (fault : EditFault) → IsRefusal fault → RewriteCause n forest fault → (fault ≡ UnknownNode) × (length forest.content ≤ n)
+rewrite-unknown n forest UnknownNode is told = (refl, told)
+rewrite-unknown n forest Memory is told = absurd is
+rewrite-unknown n forest NoChildrenHere is told = absurd told
+rewrite-unknown n forest RootOrFragment is told = absurd told
+rewrite-unknown n forest Cycle is told = absurd told
+rewrite-unknown n forest TooManyNodes is told = absurd told
+rewrite-unknown n forest BadContents is told = absurd told
+rewrite-unknown n forest (Markup fault) is told = absurd told
+
+known-unknown : (n : ℕ) (forest : Forest) (fault : EditFault) → KnownCause n forest fault → (fault ≡ UnknownNode) × (length forest.content ≤ n)
+known-unknown n forest UnknownNode told = (refl, told)
+known-unknown n forest Memory told = absurd told
+known-unknown n forest NoChildrenHere told = absurd told
+known-unknown n forest RootOrFragment told = absurd told
+known-unknown n forest Cycle told = absurd told
+known-unknown n forest TooManyNodes told = absurd told
+known-unknown n forest BadContents told = absurd told
+known-unknown n forest (Markup fault) told = absurd told
+
+join-unknown : (n : ℕ) (forest : Forest) (fault : EditFault) → IsRefusal fault → JoinCause n forest fault → (fault ≡ UnknownNode) × (length forest.content ≤ n)
+join-unknown n forest UnknownNode is told = (refl, told)
+join-unknown n forest Memory is told = absurd is
+join-unknown n forest NoChildrenHere is told = absurd told
+join-unknown n forest RootOrFragment is told = absurd told
+join-unknown n forest Cycle is told = absurd told
+join-unknown n forest TooManyNodes is told = absurd told
+join-unknown n forest BadContents is told = absurd told
+join-unknown n forest (Markup fault) is told = absurd told
+
+set-unknown : (n : ℕ) (forest : Forest) (fault : EditFault) → IsRefusal fault → SetCause n forest fault → (fault ≡ UnknownNode) × (length forest.content ≤ n)
+set-unknown n forest UnknownNode is told = (refl, told)
+set-unknown n forest Memory is told = absurd is
+set-unknown n forest NoChildrenHere is told = absurd told
+set-unknown n forest RootOrFragment is told = absurd told
+set-unknown n forest Cycle is told = absurd told
+set-unknown n forest TooManyNodes is told = absurd is
+set-unknown n forest BadContents is told = absurd told
+set-unknown n forest (Markup fault) is told = absurd told
+
+-- a line is refused only at an unknown node
+refused-unknown : (edit : EditLine) (n : ℕ) (forest : Forest) (fault : EditFault) → IsRefusal fault → (line_edit edit n).Cause forest fault → (fault ≡ UnknownNode) × (length forest.content ≤ n)
+refused-unknown (SetAttr name value) n forest fault is told = rewrite-unknown n forest fault is told
+refused-unknown (RemoveAttr name) n forest fault is told = rewrite-unknown n forest fault is told
+refused-unknown (Rename name) n forest fault is told = rewrite-unknown n forest fault is told
+refused-unknown (AddClass classes) n forest fault is told = rewrite-unknown n forest fault is told
+refused-unknown (RemoveClass classes) n forest fault is told = rewrite-unknown n forest fault is told
+refused-unknown (SetText text) n forest fault is told = set-unknown n forest fault is told
+refused-unknown (Strip names) n forest fault is told = known-unknown n forest fault told
+refused-unknown Remove n forest fault is told = known-unknown n forest fault told
+refused-unknown Unwrap n forest fault is told = known-unknown n forest fault told
+refused-unknown Normalize n forest fault is told = join-unknown n forest fault is told
+
+allowed-known : (edit : EditLine) (n : ℕ) (forest : Forest) → (line_edit edit n).Allowed forest → n < length forest.content
+allowed-known (SetAttr name value) n forest may = may
+allowed-known (RemoveAttr name) n forest may = may
+allowed-known (Rename name) n forest may = may
+allowed-known (AddClass classes) n forest may = may
+allowed-known (RemoveClass classes) n forest may = may
+allowed-known (SetText text) n forest may = may
+allowed-known (Strip names) n forest may = may
+allowed-known Remove n forest may = may
+allowed-known Unwrap n forest may = may
+allowed-known Normalize n forest may = may
+
+-- where an edit is allowed it is refused by a limit alone, and it has one refusal at most
+record HasOneRefusal (edit : ℕ → TreeEdit) : Type 0 where
+  apart : (n : ℕ) (forest : Forest) (fault : EditFault) → (edit n).Allowed forest → (edit n).Cause forest fault → IsRefusal fault → ⊥
+  once : (n : ℕ) (forest : Forest) (fault other : EditFault) → (edit n).Cause forest fault → (edit n).Cause forest other → IsRefusal fault → IsRefusal other → fault ≡ other
+
+line-refusal : (edit : EditLine) → HasOneRefusal (line_edit edit)
+line-refusal edit = record {
+  apart = λ n forest fault may told is. omega (arith, allowed-known edit n forest may, (refused-unknown edit n forest fault is told).1);
+  once = λ n forest fault other told tells is so. (refused-unknown edit n forest fault is told).0 ∙ sym (refused-unknown edit n forest other so tells).0;
+}
+
+-- what is done at each of the nodes leaves one forest
+pub each-once : (edit : ℕ → TreeEdit) (ns : List ℕ) (old a b : Forest) → Each edit ns old a → Each edit ns old b → a ≡ b
+each-once edit [] old a b p q = p ∙ sym q
+each-once edit (n ∷ ns) old a b p q = each-once edit ns ((edit n).after old) a b p.1 q.1
+
+-- nothing is refused where all was done
+all-done : (edit : ℕ → TreeEdit) → HasOneRefusal edit → (ns : List ℕ) (old all after : Forest) (done n : ℕ) (fault : EditFault) → Each edit ns old all
+    → slice_get ns done ≡ Some n → Each edit (take done ns) old after → (edit n).Cause after fault → IsRefusal fault → ⊥
+all-done edit one [] old all after done n fault each next before cause is = none-some n next
+all-done edit one (m ∷ ns) old all after zero n fault each next before cause is =
+    one.apart m old fault each.0 (subst (λ f. (edit m).Cause f fault) before (subst (λ k. (edit k).Cause after fault) (sym (same_Some m n next)) cause)) is
+all-done edit one (m ∷ ns) old all after (suc done) n fault each next before cause is = all-done edit one ns ((edit m).after old) all after done n fault each.1 next before.1 cause is
+
+-- two refusals are one
+one-stop : (edit : ℕ → TreeEdit) → HasOneRefusal edit → (ns : List ℕ) (old a b : Forest) (i j n m : ℕ) (fault other : EditFault)
+    → slice_get ns i ≡ Some n → Each edit (take i ns) old a → (edit n).Cause a fault → IsRefusal fault
+    → slice_get ns j ≡ Some m → Each edit (take j ns) old b → (edit m).Cause b other → IsRefusal other → fault ≡ other
+one-stop edit one [] old a b i j n m fault other next before cause is again front tells so = absurd (none-some n next)
+one-stop edit one (x ∷ ns) old a b zero zero n m fault other next before cause is again front tells so =
+    one.once x old fault other (subst (λ f. (edit x).Cause f fault) before (subst (λ k. (edit k).Cause a fault) (sym (same_Some x n next)) cause))
+    (subst (λ f. (edit x).Cause f other) front (subst (λ k. (edit k).Cause b other) (sym (same_Some x m again)) tells)) is so
+one-stop edit one (x ∷ ns) old a b zero (suc j) n m fault other next before cause is again front tells so =
+    absurd (one.apart x old fault front.0 (subst (λ f. (edit x).Cause f fault) before (subst (λ k. (edit k).Cause a fault) (sym (same_Some x n next)) cause)) is)
+one-stop edit one (x ∷ ns) old a b (suc i) zero n m fault other next before cause is again front tells so =
+    absurd (one.apart x old other before.0 (subst (λ f. (edit x).Cause f other) front (subst (λ k. (edit k).Cause b other) (sym (same_Some x m again)) tells)) so)
+one-stop edit one (x ∷ ns) old a b (suc i) (suc j) n m fault other next before cause is again front tells so =
+    one-stop edit one ns ((edit x).after old) a b i j n m fault other next before.1 cause is again front.1 tells so
+
+pub done-not-refused : (edit : EditLine) (ns : List ℕ) (old all : Forest) (fault : EditFault) → Each (line_edit edit) ns old all → FailsAtOne (line_edit edit) ns old fault → IsRefusal fault → ⊥
+done-not-refused edit ns old all fault each (done, after, stops) is =
+    all-done (line_edit edit) (line-refusal edit) ns old all after done stops.node fault each stops.next stops.before stops.cause is
+
+pub refused-once : (edit : EditLine) (ns : List ℕ) (old : Forest) (fault other : EditFault) → FailsAtOne (line_edit edit) ns old fault → FailsAtOne (line_edit edit) ns old other
+    → IsRefusal fault → IsRefusal other → fault ≡ other
+refused-once edit ns old fault other (i, a, p) (j, b, q) is so =
+    one-stop (line_edit edit) (line-refusal edit) ns old a b i j p.node q.node fault other p.next p.before p.cause is q.next q.before q.cause so

@@ -1,0 +1,96 @@
+//! What lines change in the tree.
+
+ghost use Rattle.dom_edits.specs.Edits.{edit_at};
+ghost use Rattle.dom_query.specs.Editing.{EditsOrFails, line_edit, targets};
+
+use crate::script::edit_line::{EditLine, names_of};
+use dom_edits::edit::{Edit, edit_each};
+use dom_nodes::fault::EditFault;
+use dom_nodes::node_data::Change;
+use dom_nodes::node_id::NodeId;
+use dom_trees::tree::Tree;
+
+/// Does it at each of the nodes.
+fn do_each(tree: &mut Tree, nodes: &[NodeId], edit: Edit) -> Result<(), EditFault>
+    ensures { EditsOrFails result tree.old tree.new nodes.now (edit_at edit.entry) }
+{
+    match edit_each(tree, nodes, edit) {
+        Ok(()) => Ok(()),
+        Err(stop) => Err(stop.fault),
+    }
+}
+
+/// Strips elements below each of the nodes; the names are apart by one space.
+fn strip_each(tree: &mut Tree, nodes: &[NodeId], names: &str) -> Result<(), EditFault>
+    ensures { EditsOrFails result tree.old tree.new nodes.now
+        (line_edit (EditLine.Strip names.now)) }
+{
+    match names_of(tree.allocator(), names) {
+        Ok(names) => do_each(tree, nodes, Edit::Strip(&names)),
+        Err(_) => Err(EditFault::Memory),
+    }
+}
+
+/// Sets an attribute of each of the nodes.
+fn set_attr_each(
+    tree: &mut Tree,
+    nodes: &[NodeId],
+    name: &str,
+    value: &str,
+) -> Result<(), EditFault>
+    ensures { EditsOrFails result tree.old tree.new nodes.now
+        (line_edit (EditLine.SetAttr name.now value.now)) }
+{
+    do_each(tree, nodes, Edit::Change(Change::SetAttr { name, value }))
+}
+
+/// Does what the line does at each of the nodes.
+fn do_edit(tree: &mut Tree, nodes: &[NodeId], edit: &EditLine) -> Result<(), EditFault>
+    ensures { EditsOrFails result tree.old tree.new nodes.now (line_edit edit.now) }
+{
+    match edit {
+        EditLine::SetAttr { name, value } => {
+            set_attr_each(tree, nodes, name.as_str(), value.as_str())
+        }
+        EditLine::RemoveAttr(name) => {
+            do_each(tree, nodes, Edit::Change(Change::RemoveAttr(name.as_str())))
+        }
+        EditLine::Rename(name) => {
+            do_each(tree, nodes, Edit::Change(Change::Rename(name.as_str())))
+        }
+        EditLine::AddClass(classes) => {
+            do_each(
+                tree,
+                nodes,
+                Edit::Change(Change::AddClass(classes.as_str())),
+            )
+        }
+        EditLine::RemoveClass(classes) => {
+            do_each(
+                tree,
+                nodes,
+                Edit::Change(Change::RemoveClass(classes.as_str())),
+            )
+        }
+        EditLine::SetText(text) => do_each(tree, nodes, Edit::SetText(text.as_str())),
+        EditLine::Strip(names) => strip_each(tree, nodes, names.as_str()),
+        EditLine::Remove => do_each(tree, nodes, Edit::Remove),
+        EditLine::Unwrap => do_each(tree, nodes, Edit::Unwrap),
+        EditLine::Normalize => do_each(tree, nodes, Edit::Normalize),
+    }
+}
+
+/// Does what the line does at each selected node, or at the root.
+pub fn edit_selected(
+    tree: &mut Tree,
+    selection: &[NodeId],
+    edit: &EditLine,
+) -> Result<(), EditFault>
+    ensures { EditsOrFails result tree.old tree.new (targets edit.now selection.now)
+        (line_edit edit.now) }
+{
+    match edit {
+        EditLine::Normalize => do_edit(tree, &[NodeId::root()], edit),
+        _ => do_edit(tree, selection, edit),
+    }
+}
