@@ -4,7 +4,8 @@
 #![tactic(auto)]
 
 use dom_query::{
-    Document, DocumentMd, EditFault, Matcher, NodeId, NodeMarkup, NodeMd, Tokens, Tree,
+    Document, DocumentMd, EditFault, Matcher, NodeId, NodeMarkup, NodeMd, NodeMutMarkup, Tokens,
+    Tree,
 };
 use dom_select::matcher::descendants::select_below;
 use std::env;
@@ -25,9 +26,11 @@ enum Call {
     Md,
     Select,
     Edits,
+    Clone,
+    Append,
 }
 
-const CALLS: [(&str, Call); 10] = [
+const CALLS: [(&str, Call); 12] = [
     ("parse", Call::Parse),
     ("drop", Call::Drop),
     ("tokens", Call::Tokens),
@@ -38,6 +41,8 @@ const CALLS: [(&str, Call); 10] = [
     ("md", Call::Md),
     ("select", Call::Select),
     ("edits", Call::Edits),
+    ("clone", Call::Clone),
+    ("append", Call::Append),
 ];
 
 fn call_named(name: &str) -> Option<Call> {
@@ -135,11 +140,25 @@ fn count_of(rt: &HostRuntime, page: &Page, call: Call) -> Option<usize> {
         Call::Text => Some(document.text().ok()?.len()),
         Call::Formatted => Some(document.formatted_text().ok()?.len()),
         Call::Md => Some(document.md(None).ok()?.len()),
+        Call::Clone => Some(document.try_clone().ok()?.tree.len()),
+        Call::Append => append_to_all(page),
         _ => {
             let found = select_below(&document.tree, &NodeId::root(), &page.matcher).ok()?;
             Some(found.len())
         }
     }
+}
+
+/// Copies the document, and puts markup behind the children of each node that is selected; tells how
+/// many those were.
+fn append_to_all(page: &Page) -> Option<usize> {
+    let mut document = page.document.try_clone().ok()?;
+    let found = select_below(&document.tree, &NodeId::root(), &page.matcher).ok()?;
+    for id in &found {
+        let mut node = document.tree.node_mut(id)?;
+        node.append_html("<i>x</i>").ok()?;
+    }
+    Some(found.len())
 }
 
 /// Where the last token ends.
