@@ -157,7 +157,11 @@ document-shown forest good are root values r =
 -- documents that stand for the same trees
 pub documents_same : (one other : Forest) → IsForest one → IsForest other → AreTrees one → AreTrees other → slice_get one.content 0 ≡ Some Document → slice_get other.content 0 ≡ Some Document →
     (values : ValueTrees) → Represents one (children_of one 0) values → Represents other (children_of other 0) values → SameTree one 0 other 0
-documents_same one other good fine are also root base values r s = document-shown one good are root values r ∙ sym (document-shown other fine also base values s)
+documents_same one other good fine are also root base values r s = record {
+  known = good.rooted;
+  other_known = fine.rooted;
+  same = document-shown one good are root values r ∙ sym (document-shown other fine also base values s);
+}
 
 -- a plain document is the document of the trees that its HTML spells
 pub plain_same : (forest : Forest) → IsForest forest → AreTrees forest → ((trees : ValueTrees) → AreTrees (document_of trees)) → (plain : IsPlain forest) → SameTree forest 0 (document_of plain.trees) 0

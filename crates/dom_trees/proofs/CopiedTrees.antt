@@ -1,13 +1,14 @@
 -- Copies are the same trees.
-use Rattle.std.proofs.Common.{ℕ, ◌≡◌, ◌+◌, Some, refl, sym, ap, ◌∙◌}
+use Rattle.std.proofs.Common.{ℕ, ◌≡◌, ◌+◌, List, [], ◌∷◌, Some, refl, sym, ap, ◌∙◌}
+use Rattle.std.proofs.lemmas.Option.{slice_get_within}
 use Rattle.std.specs.Option.{option_map}
 use Rattle.dom_nodes.specs.declared.node_data.NodeData.{NodeData}
 use Rattle.dom_nodes.specs.declared.node_data.NodeData.TheVariants.{Document, Fragment, Doctype, Text, Comment, Element, ProcessingInstruction}
-use Rattle.dom_links.specs.Copies.{copied_data, data_at, size}
+use Rattle.dom_links.specs.Copies.{MayCopy, copied_data, data_at, root_numbers, size}
 use Rattle.dom_links.specs.CopiedTrees.{HoldCopies, renumbered}
 use Rattle.dom_links.specs.Forest.{Forest}
 use Rattle.dom_links.specs.Trees.{NoTrees, Tree, Trees}
-use Rattle.dom_trees.specs.SameTree.{compared, shown}
+use Rattle.dom_trees.specs.SameTree.{AreNodesOf, compared, shown}
 
 compared-copied : (k : ℕ) (content : NodeData) → compared (copied_data k content) ≡ compared content
 compared-copied k Document = refl
@@ -27,3 +28,14 @@ same_shown source forest (Tree n contents children later) k hold =
     let three = same_shown source forest children (k + 1 + size contents) hold.3 in
     let four = same_shown source forest later (k + size (Tree n contents children NoTrees)) hold.4 in
     cc
+
+-- the copies are nodes of the forest
+pub copies_known : (source forest : Forest) (ts : Trees) (k : ℕ) → HoldCopies source ts k forest → AreNodesOf forest (root_numbers k ts)
+copies_known source forest NoTrees k hold = tt
+copies_known source forest (Tree n contents children later) k hold =
+    (slice_get_within forest.content k (copied_data k (data_at source n)) hold.1, copies_known source forest later (k + size (Tree n contents children NoTrees)) hold.4)
+
+-- what may be copied is known
+pub sources_known : (source : Forest) (ns : List ℕ) → MayCopy source ns → AreNodesOf source ns
+sources_known source [] may = tt
+sources_known source (n ∷ ns) may = (may.0.known, sources_known source ns may.1)

@@ -1,5 +1,6 @@
 -- When two nodes, of one forest or of two, are the same tree.
-use Rattle.std.specs.Prelude.{◌≡◌, ℕ, false, List, [], ◌∷◌, Option, None, map, slice_get}
+use Rattle.std.specs.Prelude.{◌≡◌, ◌<◌, ℕ, false, List, [], ◌∷◌, Option, None, length, map, slice_get}
+use Rattle.std.specs.List.{AllByRecursion}
 use Rattle.std.specs.Option.{option_map}
 use Rattle.dom_nodes.specs.declared.name.Attr.{Attr}
 use Rattle.dom_nodes.specs.declared.node_data.NodeData.{NodeData}
@@ -31,11 +32,19 @@ shown forest NoTrees = nothing
 shown forest (Tree n contents children later) =
     shown_tree (option_map compared (slice_get forest.content n)) (shown forest contents) (shown forest children) (shown forest later)
 
--- n and m are the same tree: what is reached from them by children and contents, they too, can be paired so that each pair
--- is compared equal, and so are the orders of their children
-abbrev pub SameTree : Forest → ℕ → Forest → ℕ → Type 0
-SameTree one n other m = shown one (trees one (n ∷ [])) ≡ shown other (trees other (m ∷ []))
+-- n and m are known, and the same tree: what is reached from them by children and contents, they too, can be paired so that each
+-- pair is compared equal, and so are the orders of their children
+pub record SameTree (one : Forest) (n : ℕ) (other : Forest) (m : ℕ) : Type 0 where
+  pub known : n < length one.content
+  pub other_known : m < length other.content
+  pub same : shown one (trees one (n ∷ [])) ≡ shown other (trees other (m ∷ []))
+
+-- the forest has nodes of these numbers
+abbrev pub AreNodesOf : Forest → List ℕ → Type 0
+AreNodesOf forest ns = AllByRecursion (λ n. n < length forest.content) ns
 
 -- some nodes of one forest and some of another are the same trees, in their order
-abbrev pub SameTrees : Forest → List ℕ → Forest → List ℕ → Type 0
-SameTrees one ns other ms = shown one (trees one ns) ≡ shown other (trees other ms)
+pub record SameTrees (one : Forest) (ns : List ℕ) (other : Forest) (ms : List ℕ) : Type 0 where
+  pub known : AreNodesOf one ns
+  pub other_known : AreNodesOf other ms
+  pub same : shown one (trees one ns) ≡ shown other (trees other ms)
