@@ -8,3 +8,4 @@ pub mod OrderLemmas
 pub mod PickLemmas
 pub mod PlaceLemmas
 pub mod PositionLemmas
+pub mod SweepLemmas

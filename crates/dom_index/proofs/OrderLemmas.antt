@@ -252,6 +252,17 @@ module _ (forest : Forest) (good : IsForest forest) (lines : AreLines forest) (l
       let a = run_under h.0 x (starts h.0 known h.2) h.3 in
       under_inside forest a.0 x good (good.once.in_run h.0 a.0 a.1).0 a.2
 
+  -- a node in the walks of earlier runs starts none
+  pub met_starts_none : (n : ℕ) → n < length forest.content → stands_in n (preorder_to forest n) ≡ true → starts_run forest n ≡ false
+  met_starts_none n known s = elim (cases_Bool (starts_run forest n)) [
+    | inl t ↦ (let h = in_preorder n n (omega arith) s in
+        let less = h.1 in
+        let here : stands_in n (walk_from forest n) ≡ true = ap (stands_in n) (from_is n known) ∙ ap (λ b. b || stands_in n (walk_below forest n ++ walk (trees forest (later forest false n)))) (eq-eqb n n refl) in
+        let same : h.0 ≡ n = runs_apart h.0 n n (starts h.0 (omega arith) h.2) (starts n known t) h.3 here in
+        absurd (omega arith))
+    | inr f ↦ f
+  ]
+
   run_in_preorder : (c n x : ℕ) → n < c → starts_run forest n ≡ true → stands_in x (walk_from forest n) ≡ true → stands_in x (preorder_to forest c) ≡ true
   run_in_preorder zero n x less st s = absurd (omega arith)
   run_in_preorder (suc c) n x less st s = stands_in-append (preorder_to forest c) (cond (starts_run forest c) (walk_from forest c) []) x ∙ (elim (cases_lt n c) [

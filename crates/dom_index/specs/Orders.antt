@@ -1,11 +1,19 @@
 -- What an index has written down of an order.
-use Rattle.std.specs.Prelude.{ℕ, ◌≡◌, ◌<◌, ◌+◌, List, Option, Some, None, length, slice_index_or, slice_range}
-use Rattle.dom_links.specs.Forest.{Forest, parent, siblings}
-use Rattle.dom_links.specs.Lists.{before}
+use Rattle.std.specs.Prelude.{ℕ, ◌≡◌, ◌<◌, ◌+◌, false, map, List, Option, Some, None, length, slice_index_or, slice_range}
+use Rattle.dom_links.specs.Forest.{Forest, children_of, parent, siblings}
+use Rattle.dom_links.specs.Lists.{before, last, stands_in}
 use Rattle.dom_links.specs.Trees.{walk_below}
+use Rattle.dom_index.specs.declared.ground.Sweep.{Sweep}
 
 abbrev pub number_at : List ℕ → ℕ → ℕ
 number_at numbers i = slice_index_or numbers i 0
+
+-- What a sweep has written down: of each node that was met its parent and its last child, and at each number whether it was met
+pub record IsSwept (forest : Forest) (sweep : Sweep) : Type 0 where
+  pub above : sweep.above.items ≡ map (parent forest) sweep.order.items
+  pub ends : sweep.ends.items ≡ map (λ n. last (children_of forest n)) sweep.order.items
+  pub long : length sweep.marks.items ≡ length forest.content
+  pub marked : (n : ℕ) → n < length forest.content → slice_index_or sweep.marks.items n false ≡ stands_in n sweep.order.items
 
 -- the number at each place of the order has that place
 abbrev pub ArePlaces : Forest → List ℕ → List ℕ → Type 0

@@ -1,29 +1,33 @@
 //! The order of a tree's nodes.
 
-ghost use Rattle.std.specs.Prelude.{◌≡◌, ◌<◌, ◌≤◌, ◌++◌, ℕ, List, [], length, true, IfOk, OnOk};
-ghost use Rattle.dom_links.specs.Forest.{children_of};
+ghost use Rattle.std.specs.Prelude.{◌≡◌, ◌<◌, ◌≤◌, ◌++◌, ◌∷◌, ℕ, List, [], length, map, true};
+ghost use Rattle.std.specs.Prelude.{false, IfOk, OnOk, Some};
+ghost use Rattle.dom_links.specs.Forest.{children_of, parent};
 ghost use Rattle.dom_links.specs.Laws.{AreLines, AreTrees};
 ghost use Rattle.dom_links.specs.Lists.{IsDistinct, last, stands_in};
 ghost use Rattle.dom_links.specs.Sound.{IsForest};
 ghost use Rattle.dom_links.specs.Trees.{walk_below};
-ghost use Rattle.dom_index.specs.Orders.{AreSpans, IsOrder, ArePlaces, last_from, number_at};
-ghost use Rattle.dom_index.specs.Preorder.{preorder, starts_run, walk_from};
+ghost use Rattle.dom_index.specs.Orders.{ArePlaces, AreSpans, IsOrder, IsSwept, last_from};
+ghost use Rattle.dom_index.specs.Orders.{number_at};
+ghost use Rattle.dom_index.specs.Preorder.{preorder, preorder_to, starts_run, walk_from};
 
-use dom_links::iters::{last_child_id, next_sibling_id, parent_id, prev_sibling_id};
+use dom_links::iters::{next_sibling_id, node_at, parent_id, prev_sibling_id};
 use dom_links::laws::{lines_of_a_forest, trees_of_a_forest};
 use dom_nodes::fault::OutOfMemory;
 use dom_nodes::node_id::NodeId;
 use dom_trees::tree::Tree;
 
-/// A tree, its nodes in order, the place of each in it, and the place of the last node at or below
-/// each.
+/// A tree, its nodes in order and the parent of each in that order, and by number the place of each
+/// and that of the last node at or below it.
 #[derive(Drop)]
 pub(crate) struct Ground<'a> {
     pub(crate) tree: &'a Tree,
     pub(crate) order: Vec<NodeId>,
+    pub(crate) above: Vec<Option<NodeId>>,
     pub(crate) places: Vec<usize>,
     pub(crate) lasts: Vec<usize>,
     ghost is_preorder: { order.items ≡ preorder tree.now },
+    ghost above_told: { above.items ≡ map (parent tree.now) order.items },
     ghost ordered: { IsOrder tree.now order.items places.items },
     ghost spans: { AreSpans tree.now order.items places.items lasts.items },
 }
@@ -48,18 +52,73 @@ fn starts_run(tree: &Tree, id: NodeId) -> bool
     parent_id(nodes, &id).is_none() && prev_sibling_id(nodes, &id).is_none()
 }
 
-/// The nodes in order.
-fn preorder(tree: &Tree) -> Result<Vec<NodeId>, OutOfMemory>
-    ensures { IfOk result (λ order. order.items ≡ preorder tree.now) }
+/// What one sweep over the nodes writes down: each that was met, its parent, its last child, and a
+/// mark at its number.
+#[derive(Drop)]
+struct Sweep {
+    order: Vec<NodeId>,
+    above: Vec<Option<NodeId>>,
+    ends: Vec<Option<NodeId>>,
+    marks: Vec<bool>,
+}
+
+impl Sweep {
+    /// A sweep that has met no node of the tree.
+    fn new(tree: &Tree) -> Result<Sweep, OutOfMemory>
+        ensures none { IfOk result (λ sweep. sweep.order.items ≡ []) }
+        ensures swept { IfOk result (IsSwept tree.now) }
+    {
+        let alloc = tree.allocator();
+        Ok(Sweep {
+            order: Vec::with_capacity(alloc, tree.len())?,
+            above: Vec::with_capacity(alloc, tree.len())?,
+            ends: Vec::with_capacity(alloc, tree.len())?,
+            marks: vec![in alloc; false; tree.len()]?,
+        })
+    }
+
+    /// Meets a node.
+    fn push(&mut self, tree: &Tree, id: NodeId) -> Result<(), OutOfMemory>
+        requires known { id < length tree.now.content }
+        requires swept { IsSwept tree.now self.old }
+        ensures order { OnOk result (self.new.order.items ≡ self.old.order.items ++ id ∷ []) }
+        ensures swept { OnOk result (IsSwept tree.now self.new) }
+    {
+        let node = node_at(tree.nodes(), id);
+        self.order.push(id)?;
+        self.above.push(node.parent)?;
+        self.ends.push(node.last_child)?;
+        self.marks[id.value()] = true;
+        Ok(())
+    }
+}
+
+/// The sweep over all nodes in order. A node that was met starts no run, so each is looked at once,
+/// but for those of a run that comes before its first node by number.
+fn swept(tree: &Tree) -> Result<Sweep, OutOfMemory>
+    ensures order { IfOk result (λ sweep. sweep.order.items ≡ preorder tree.now) }
+    ensures swept { IfOk result (IsSwept tree.now) }
 {
-    let mut order = Vec::with_capacity(tree.allocator(), tree.len())?;
+    know_started(tree);
+    let mut sweep = Sweep::new(tree)?;
     for n in 0..tree.len() {
+        if sweep.marks[n] {
+            continue;
+        }
         let id = numbered(tree, n);
         if starts_run(tree, id) {
-            push_from(tree, id, &mut order)?;
+            push_from(tree, id, &mut sweep)?;
         }
     }
-    Ok(order)
+    Ok(sweep)
+}
+
+/// Tells that a node that stands in the walks of earlier runs starts none. It does nothing.
+fn know_started(tree: &Tree)
+    ensures { (n : ℕ) → n < length tree.now.content
+        → stands_in n (preorder_to tree.now n) ≡ true → starts_run tree.now n ≡ false }
+{
+    know_forest(tree);
 }
 
 /// The number as a node's.
@@ -74,27 +133,34 @@ pub(crate) fn numbered(tree: &Tree, n: usize) -> NodeId
     }
 }
 
-/// Adds a node, those below it, and so for each sibling after it.
-fn push_from(tree: &Tree, id: NodeId, order: &mut Vec<NodeId>) -> Result<(), OutOfMemory>
-    requires { id < length tree.now.content }
-    ensures { OnOk result (order.new.items ≡ order.old.items ++ walk_from tree.now id) }
+/// Meets a node, those below it, and so for each sibling after it.
+fn push_from(tree: &Tree, id: NodeId, sweep: &mut Sweep) -> Result<(), OutOfMemory>
+    requires known { id < length tree.now.content }
+    requires swept { IsSwept tree.now sweep.old }
+    ensures order { OnOk result
+        (sweep.new.order.items ≡ sweep.old.order.items ++ walk_from tree.now id) }
+    ensures swept { OnOk result (IsSwept tree.now sweep.new) }
 {
     know_forest(tree);
     let mut next = Some(id);
     while let Some(at) = next {
-        order.push(at)?;
-        push_below(tree, at, order)?;
+        sweep.push(tree, at)?;
+        push_below(tree, at, sweep)?;
         next = next_sibling_id(tree.nodes(), &at);
     }
     Ok(())
 }
 
-/// Adds the nodes below a node.
-fn push_below(tree: &Tree, id: NodeId, order: &mut Vec<NodeId>) -> Result<(), OutOfMemory>
-    ensures { OnOk result (order.new.items ≡ order.old.items ++ walk_below tree.now id) }
+/// Meets the nodes below a node.
+fn push_below(tree: &Tree, id: NodeId, sweep: &mut Sweep) -> Result<(), OutOfMemory>
+    requires { IsSwept tree.now sweep.old }
+    ensures order { OnOk result
+        (sweep.new.order.items ≡ sweep.old.order.items ++ walk_below tree.now id) }
+    ensures swept { OnOk result (IsSwept tree.now sweep.new) }
 {
+    know_forest(tree);
     for below in tree.descendant_ids_of_it(&id) {
-        order.push(below)?;
+        sweep.push(tree, below)?;
     }
     Ok(())
 }
@@ -114,33 +180,35 @@ fn places_of(tree: &Tree, order: &[NodeId]) -> Result<Vec<usize>, OutOfMemory>
 }
 
 /// The place of the last node at or below each node, the last nodes first.
-fn lasts_of(tree: &Tree, order: &[NodeId], places: &[usize]) -> Result<Vec<usize>, OutOfMemory>
+fn lasts_of(
+    tree: &Tree,
+    order: &[NodeId],
+    ends: &[Option<NodeId>],
+    places: &[usize],
+) -> Result<Vec<usize>, OutOfMemory>
     requires is_preorder { order.now ≡ preorder tree.now }
+    requires ends { ends.now ≡ map (λ n. last (children_of tree.now n)) order.now }
     requires good { IsOrder tree.now order.now places.now }
     ensures { IfOk result (λ lasts. AreSpans tree.now order.now places.now lasts.items) }
 {
     know_forest(tree);
     let mut lasts = vec![in tree.allocator(); 0; order.len()]?;
     for i in 0..order.len() {
-        let id = order[order.len() - 1 - i];
-        let n = id.value();
-        lasts[n] = last_of(tree, places, &lasts, id);
+        let at = order.len() - 1 - i;
+        let n = order[at].value();
+        lasts[n] = last_of(&lasts, ends[at], at);
     }
     Ok(lasts)
 }
 
-/// The place of the last node at or below a node, where that of its last child is told.
-fn last_of(tree: &Tree, places: &[usize], lasts: &[usize], id: NodeId) -> usize
-    requires known { id < length tree.now.content }
-    requires places_long { length places.now ≡ length tree.now.content }
-    requires lasts_long { length lasts.now ≡ length tree.now.content }
-    ensures { result ≡ last_from (number_at lasts.now) (number_at places.now id)
-        (last (children_of tree.now id)) }
+/// The place of the last node at or below one with this place and this last child.
+fn last_of(lasts: &[usize], end: Option<NodeId>, place: usize) -> usize
+    requires { (child : ℕ) → end ≡ Some child → child < length lasts.now }
+    ensures { result ≡ last_from (number_at lasts.now) place end }
 {
-    know_forest(tree);
-    match last_child_id(tree.nodes(), &id) {
+    match end {
         Some(child) => lasts[child.value()],
-        None => places[id.value()],
+        None => place,
     }
 }
 
@@ -150,12 +218,14 @@ impl<'a> Ground<'a> {
         ensures { IfOk result (λ ground. ground.tree ≡ tree.entry) }
     {
         know_order(tree);
-        let order = preorder(tree)?;
-        let places = places_of(tree, &order)?;
-        let lasts = lasts_of(tree, &order, &places)?;
+        let sweep = swept(tree)?;
+        let places = places_of(tree, &sweep.order)?;
+        let lasts = lasts_of(tree, &sweep.order, &sweep.ends, &places)?;
+        let Sweep { order, above, .. } = sweep;
         Ok(Ground {
             tree,
             order,
+            above,
             places,
             lasts,
         })

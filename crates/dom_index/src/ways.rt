@@ -4,10 +4,11 @@
 ghost use Rattle.std.specs.Prelude.{◌≡◌, ◌<◌, length, IfOk};
 ghost use Rattle.dom_links.specs.ListMoves.{element_at};
 ghost use Rattle.dom_select.specs.Leftward.{left_of};
+ghost use Rattle.dom_index.specs.Orders.{number_at};
 ghost use Rattle.dom_index.specs.Tables.{AreTold, IsLeading, IsLed, is_led, passes_on, told_too};
 
 use crate::ground::{Ground, know_forest};
-use dom_links::iters::{node_at, parent_id, prev_sibling_id};
+use dom_links::iters::{node_at, prev_sibling_id};
 use dom_nodes::fault::OutOfMemory;
 use dom_nodes::node_id::NodeId;
 use dom_selectors::syntax::Combinator;
@@ -21,13 +22,17 @@ pub(crate) fn is_element(tree: &Tree, id: NodeId) -> bool
     node_at(tree.nodes(), id).content.as_element().is_some()
 }
 
-/// The next node on the way to the left: the parent, or the sibling before.
-fn left_of(tree: &Tree, combinator: Combinator, id: NodeId) -> Option<NodeId>
-    ensures { result ≡ left_of tree.now combinator id }
+/// The next node on the way to the left of the node at a place: the parent, or the sibling before.
+fn left_at(ground: &Ground<'_>, combinator: Combinator, place: usize) -> Option<NodeId>
+    requires { place < length ground.now.tree.now.content }
+    ensures { result
+        ≡ left_of ground.now.tree.now combinator (number_at ground.now.order.items place) }
 {
     match combinator {
-        Combinator::Descendant | Combinator::Child => parent_id(tree.nodes(), &id),
-        Combinator::Adjacent | Combinator::Sibling => prev_sibling_id(tree.nodes(), &id),
+        Combinator::Descendant | Combinator::Child => ground.above[place],
+        Combinator::Adjacent | Combinator::Sibling => {
+            prev_sibling_id(ground.tree.nodes(), &ground.order[place])
+        }
     }
 }
 
@@ -62,20 +67,21 @@ fn passes_on(
     }
 }
 
-/// Whether the node is led to, where the flags tell that of the next one on its left.
+/// Whether the node at a place is led to, where the flags tell that of the next one on its left.
 fn is_led(
     ground: &Ground<'_>,
     combinator: Combinator,
     table: &[bool],
     flags: &[bool],
-    id: NodeId,
+    place: usize,
 ) -> bool
-    requires known { id < length ground.now.tree.now.content }
+    requires known { place < length ground.now.tree.now.content }
     requires table_long { length table.now ≡ length ground.now.tree.now.content }
     requires flags_long { length flags.now ≡ length ground.now.tree.now.content }
-    ensures { result ≡ is_led ground.now.tree.now combinator table.now flags.now id }
+    ensures { result ≡ is_led ground.now.tree.now combinator table.now flags.now
+        (number_at ground.now.order.items place) }
 {
-    match left_of(ground.tree, combinator, id) {
+    match left_at(ground, combinator, place) {
         Some(left) => passes_on(ground.tree, combinator, table, flags, left),
         None => false,
     }
@@ -95,8 +101,8 @@ pub(crate) fn led(
     know_forest(ground.tree);
     let mut flags = vec![in ground.tree.allocator(); false; table.len()]?;
     for i in 0..ground.order.len() {
-        let id = ground.order[i];
-        flags[id.value()] = is_led(ground, combinator, table, &flags, id);
+        let n = ground.order[i].value();
+        flags[n] = is_led(ground, combinator, table, &flags, i);
     }
     Ok(flags)
 }
@@ -115,9 +121,9 @@ pub(crate) fn leading(
     know_forest(ground.tree);
     let mut flags = vec![in ground.tree.allocator(); false; table.len()]?;
     for i in 0..ground.order.len() {
-        let id = ground.order[ground.order.len() - 1 - i];
-        if passes_on(ground.tree, combinator, table, &flags, id) {
-            tell(&mut flags, left_of(ground.tree, combinator, id));
+        let place = ground.order.len() - 1 - i;
+        if passes_on(ground.tree, combinator, table, &flags, ground.order[place]) {
+            tell(&mut flags, left_at(ground, combinator, place));
         }
     }
     Ok(flags)

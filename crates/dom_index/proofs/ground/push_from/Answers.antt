@@ -19,5 +19,6 @@ loop-next-preserved c =
     let known = subst (IsWithin forest) c.in-Some.is c.loop-next.invariant.within in
     record {
       within = next_within forest c.know_forest.ensures.lines at c.loop-next.next c.next_sibling_id-next.result c.in-Some.is link;
-      all = next_pushed forest c.know_forest.ensures.lines at c.loop-next.next c.next_sibling_id-next.result c.in-Some.is link known c.loop-next.order.items c.push.new.self.items c.push_below.new.order.items _ c.in_ok-push.ensures.items c.in_ok-push_below.ensures c.loop-next.invariant.all;
+      all = next_pushed forest c.know_forest.ensures.lines at c.loop-next.next c.next_sibling_id-next.result c.in-Some.is link known c.loop-next.sweep.order.items c.push.new.self.order.items c.push_below.new.sweep.order.items _ c.in_ok-push.ensures.order c.in_ok-push_below.ensures.order c.loop-next.invariant.all;
+      swept = c.in_ok-push_below.ensures.swept;
     }

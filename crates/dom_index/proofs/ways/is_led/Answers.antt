@@ -1,8 +1,9 @@
 use Rattle.std.proofs.Common.{◌∙◌, sym}
+use Rattle.dom_index.specs.Orders.{number_at}
 use Rattle.dom_index.proofs.LedLemmas.{behind_left}
 use Rattle.dom_index.proofs.ways.is_led.Goals as goal
 
 pub passes_on-requires-clause-known : goal.passes_on-requires-clause-known
 passes_on-requires-clause-known c =
     let ground = c.args.ground.now in
-    (behind_left ground.tree.now ground.order.items ground.places.items ground.ordered c.args.combinator c.args.id c.in-Some.left c.requires.known (sym c.left_of.ensures ∙ c.in-Some.is)).0
+    (behind_left ground.tree.now ground.order.items ground.places.items ground.ordered c.args.combinator (number_at ground.order.items c.args.place) c.in-Some.left (ground.ordered.known c.args.place c.requires.known) (sym c.left_at.ensures ∙ c.in-Some.is)).0
