@@ -2,6 +2,7 @@ pub mod CellLemmas
 pub mod ChunkLemmas
 pub mod FenceLemmas
 pub mod ReadLemmas
+pub mod SimpleLemmas
 pub mod SolidLemmas
 pub mod StackLemmas
 pub mod StepLemmas

@@ -118,13 +118,13 @@ joined-more b (c ∷ text) = elim (cases_Bool (is_ascii_whitespace c)) [
       ∙ ap (λ w. b ∷ spaced (not (not w)) (words_of (c ∷ text))) (sym dark)
 ]
 
-gap-kept : (b : ℕ) (text : List ℕ) → is_ascii_whitespace b ≡ true → begins_word text ≡ true → written false (b ∷ text) ≡ space ∷ written false text
+pub gap-kept : (b : ℕ) (text : List ℕ) → is_ascii_whitespace b ≡ true → begins_word text ≡ true → written false (b ∷ text) ≡ space ∷ written false text
 gap-kept b text white some = elim (cases_Bool (b == space)) [
   | inl same ↦ (let here : written false (b ∷ text) ≡ b ∷ written false text = rw (white, same, some) refl in here ∙ ap (λ n. n ∷ written false text) (eqb-true b space same))
   | inr other ↦ rw (white, other, some) refl
 ]
 
-gap-gone : (b : ℕ) (text : List ℕ) → is_ascii_whitespace b ≡ true → begins_word text ≡ false → written false (b ∷ text) ≡ written false text
+pub gap-gone : (b : ℕ) (text : List ℕ) → is_ascii_whitespace b ≡ true → begins_word text ≡ false → written false (b ∷ text) ≡ written false text
 gap-gone b text white none = elim (cases_Bool (b == space)) [
   | inl same ↦ rw (white, same, none) refl
   | inr other ↦ rw (white, other, none) refl

@@ -8,6 +8,7 @@ pub mod Marks
 pub mod Options
 pub mod Resolved
 pub mod Scopes
+pub mod Simple
 pub mod Solid
 pub mod Words
 pub mod Written

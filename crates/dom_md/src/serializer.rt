@@ -18,7 +18,7 @@ mod tables;
 mod tasks;
 mod texts;
 mod urls;
-mod words;
+pub(crate) mod words;
 
 use crate::context::FormatOpts;
 use crate::serializer::names::is_default_skipped;

@@ -1,14 +1,18 @@
 //! The steps of formatting, each on the text so far.
 
-ghost use Rattle.std.specs.Prelude.{◌≡◌, IfOk, OnOk, encode_utf8_all, false, string_bytes};
+ghost use Rattle.std.specs.Prelude.{◌≡◌, ◌==◌, IfOk, OnOk, encode_utf8_all, false, length};
+ghost use Rattle.std.specs.Prelude.{string_bytes, true};
 ghost use Rattle.std.specs.List.{list_any};
-ghost use Rattle.std.specs.Str.{bytes_eq, chars};
+ghost use Rattle.std.specs.Str.{bytes_eq, chars, trim_start};
 ghost use Rattle.dom_nodes.specs.Words.{is_among};
 ghost use Rattle.dom_md.specs.Formatted.{block_names, cell_names, drop_spaces, ends_with};
 ghost use Rattle.dom_md.specs.Formatted.{ends_with_whitespace, is_fresh, is_parted};
 ghost use Rattle.dom_md.specs.Formatted.{joined_words, line_names, spaced_on, with_close};
 ghost use Rattle.dom_md.specs.Formatted.{with_gap, with_open, with_text};
+ghost use Rattle.dom_md.specs.Simple.{is_simple, is_simple_byte};
+ghost use Rattle.dom_md.specs.Written.{written};
 
+use crate::serializer::words::push_written;
 use std::alloc::{AllocError, Global};
 
 /// An element opens.
@@ -52,6 +56,9 @@ pub(super) fn close_element(text: &mut String, name: &str) -> Result<(), AllocEr
 pub(super) fn add_text(text: &mut String, added: &str) -> Result<(), AllocError>
     ensures { OnOk result (string_bytes text.new ≡ with_text (string_bytes text.old) added.now) }
 {
+    if is_simple(added.as_bytes()) {
+        return add_simple(text, added);
+    }
     let words = joined_words(*text.allocator(), added)?;
     let fresh = is_fresh(text.as_str());
     if words.is_empty() {
@@ -65,6 +72,55 @@ pub(super) fn add_text(text: &mut String, added: &str) -> Result<(), AllocError>
         text.push_str(words.as_str())?;
     }
     add_gap(text, added)
+}
+
+/// Whether ASCII whitespace is all the whitespace that the text may have: ASCII bytes alone, without
+/// the vertical tab.
+fn is_simple(bytes: &[u8]) -> bool
+    ensures { result ≡ is_simple bytes.now }
+{
+    for byte in bytes {
+        if !is_simple_byte(*byte) {
+            return false;
+        }
+    }
+    true
+}
+
+fn is_simple_byte(byte: u8) -> bool
+    ensures { result ≡ is_simple_byte byte }
+{
+    byte < 128 && byte != 11
+}
+
+/// Adds the words of such a text.
+fn add_simple(text: &mut String, added: &str) -> Result<(), AllocError>
+    requires { is_simple added.now ≡ true }
+    ensures { OnOk result (string_bytes text.new ≡ with_text (string_bytes text.old) added.now) }
+{
+    let row = simple_row(added);
+    let fresh = is_fresh(text.as_str());
+    if row.is_empty() {
+        if fresh {
+            return Ok(());
+        }
+    } else {
+        if !fresh && row.len() < added.len() {
+            text.push_str(" ")?;
+        }
+        push_written(text, row, false)?;
+    }
+    add_gap(text, added)
+}
+
+/// Such a text from its first word on.
+fn simple_row(added: &str) -> &str
+    requires { is_simple added.now ≡ true }
+    ensures row { result.now ≡ trim_start added.now }
+    ensures words { joined_words added.now ≡ written false result.now }
+    ensures empty { (length (joined_words added.now) == 0) ≡ (length result.now == 0) }
+{
+    added.trim_start()
 }
 
 /// Adds a space where the added text ends in whitespace and the text so far does not.

@@ -35,14 +35,13 @@ impl<'a> Writer<'a> {
 
     /// Writes a link of which the text is not empty.
     fn write_text_link(&mut self, id: NodeId, text: &str) -> Result<(), OutOfMemory> {
-        let words = text.trim_ascii_start();
         // A link with only whitespace to show still parts the words round it.
-        if words.is_empty() {
+        if text.trim_ascii().is_empty() {
             return push_text(&mut self.text, text, FormatOpts::new());
         }
         escape_trailing_bang(&mut self.text)?;
         self.text.push('[')?;
-        push_text(&mut self.text, words, FormatOpts::new())?;
+        push_text(&mut self.text, text, FormatOpts::new())?;
         self.push_link_target(id)
     }
 
@@ -72,7 +71,8 @@ impl<'a> Writer<'a> {
     }
 }
 
-/// The contents of the node's child, where it has one alone and that is a text that isn't empty.
+/// The words of the node's text, where it has one text alone that isn't empty; a space where that
+/// has none.
 fn only_text<'a>(node: &NodeRef<'a>) -> Option<&'a str> {
     let first = node.tree.get(&node.id)?.first_child?;
     let child = node.tree.get(&first)?;
@@ -80,7 +80,10 @@ fn only_text<'a>(node: &NodeRef<'a>) -> Option<&'a str> {
         return None;
     }
     match &child.content {
-        NodeData::Text { contents } if !contents.as_str().is_empty() => Some(contents.as_str()),
+        NodeData::Text { contents } if !contents.as_str().is_empty() => {
+            let words = contents.as_str().trim_ascii_start();
+            Some(if words.is_empty() { " " } else { words })
+        }
         _ => None,
     }
 }

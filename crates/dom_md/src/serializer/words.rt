@@ -13,6 +13,7 @@ use crate::chunks::{is_marked, push_escaped_chunk};
 use crate::context::FormatOpts;
 use crate::serializer::texts::{begins_line, ends_in_marker_digits};
 use dom_nodes::fault::OutOfMemory;
+use std::alloc::AllocError;
 
 /// Adds the words of a text, one space between any two, and one before them if they are `parted`.
 pub(super) fn push_words(
@@ -43,9 +44,9 @@ fn push_row(text: &mut String, row: &str, escape: bool, line_start: bool) -> Res
     if escape && (line_start || begins_with_stop(row)) {
         let end = word_len(row.as_bytes());
         push_first_word(text, &row[..end], line_start)?;
-        return push_written(text, &row[end..], true);
+        return Ok(push_written(text, &row[end..], true)?);
     }
-    push_written(text, row, escape)
+    Ok(push_written(text, row, escape)?)
 }
 
 fn begins_with_stop(row: &str) -> bool {
@@ -89,7 +90,7 @@ fn is_stop_word(word: &str) -> bool
 
 /// Adds a text with one space for whitespace before a word and none at its end; with `escape`, a
 /// backslash stands before each mark.
-fn push_written(text: &mut String, added: &str, escape: bool) -> Result<(), OutOfMemory>
+pub(crate) fn push_written(text: &mut String, added: &str, escape: bool) -> Result<(), AllocError>
     ensures { OnOk result (string_bytes text.new
         ≡ string_bytes text.old ++ written escape added.now) }
 {
@@ -99,7 +100,7 @@ fn push_written(text: &mut String, added: &str, escape: bool) -> Result<(), OutO
         push_change(text, cut.changed, cut.after)?;
         rest = cut.after;
     }
-    Ok(text.push_str(rest)?)
+    text.push_str(rest)
 }
 
 /// A byte that isn't written as it is, the text before it and the text after it.
@@ -168,13 +169,13 @@ fn begins_word(bytes: &[u8]) -> bool
 }
 
 /// Adds what is written for such a byte.
-fn push_change(text: &mut String, changed: &str, after: &str) -> Result<(), OutOfMemory>
+fn push_change(text: &mut String, changed: &str, after: &str) -> Result<(), AllocError>
     ensures { OnOk result (string_bytes text.new
         ≡ string_bytes text.old ++ change_of changed.now after.now) }
 {
     if begins_word(changed.as_bytes()) {
         text.push('\\')?;
-        return Ok(text.push_str(changed)?);
+        return text.push_str(changed);
     }
     if begins_word(after.as_bytes()) {
         text.push(' ')?;
