@@ -1,16 +1,35 @@
 -- What is done at a node, and at each node of a list.
-use Rattle.std.specs.Prelude.{◌≡◌, ℕ, List, [], ◌∷◌, Result, Some, IfErr, OnOk, map, slice_get, take}
+use Rattle.std.specs.Prelude.{◌≡◌, ◌≤◌, ℕ, List, [], ◌∷◌, Result, Some, IfErr, OnOk, length, map, slice_get, take}
+use Rattle.dom_nodes.specs.declared.fault.EditFault.{EditFault}
+use Rattle.dom_nodes.specs.declared.fault.EditFault.TheVariants.{UnknownNode}
 use Rattle.dom_links.specs.Forest.{Forest}
+use Rattle.dom_links.specs.Insertions.{inserted}
+use Rattle.dom_links.specs.declared.gap.Place.{Place}
 use Rattle.dom_links.specs.Stripped.{stripped}
 use Rattle.dom_trees.specs.Edits.{IsKnown, TreeEdit, changing, normalizing, removing, texting, unwrapping}
 use Rattle.dom_trees.specs.Refusals.{KnownCause}
+use Rattle.dom_markup.specs.Fragments.{top_nodes}
+use Rattle.dom_markup.specs.Setters.{IsOpenAt, PutCause}
 use Rattle.dom_edits.specs.declared.edit.Edit.{Edit}
-use Rattle.dom_edits.specs.declared.edit.Edit.TheVariants.{Change, SetText, Remove, Unwrap, Strip, Normalize}
+use Rattle.dom_edits.specs.declared.edit.Edit.TheVariants.{Change, SetText, Remove, Unwrap, Strip, Normalize, Put}
 use Rattle.dom_edits.specs.declared.edit.SelectionFault.{SelectionFault}
 
 -- the elements below x of these local names are replaced by their children
 abbrev pub stripping : List (List ℕ) → ℕ → TreeEdit
 stripping names x = record { after = stripped names x; Allowed = IsKnown x; Cause = KnownCause x }
+
+-- why what was read isn't put at a place: x is unknown, or it is known, and this is the cause there
+abbrev pub PutKnownCause : Place → ℕ → Forest → Forest → EditFault → Type 0
+PutKnownCause place x read forest UnknownNode = length forest.content ≤ x
+PutKnownCause place x read forest fault = IsKnown x forest × PutCause place x read forest fault
+
+-- the nodes at the top of what was read go to a place at x
+abbrev pub putting_known : Place → Forest → ℕ → TreeEdit
+putting_known place read x = record {
+  after = inserted read (top_nodes read) place x;
+  Allowed = IsOpenAt place x;
+  Cause = PutKnownCause place x read;
+}
 
 -- what is done at the node
 abbrev pub edit_at : Edit → ℕ → TreeEdit
@@ -20,6 +39,7 @@ edit_at Remove n = removing n
 edit_at Unwrap n = unwrapping n
 edit_at (Strip names) n = stripping (map (λ name. name.now) names.now) n
 edit_at Normalize n = normalizing n
+edit_at (Put place snippet) n = putting_known place snippet.now n
 
 -- it is done at each of the nodes, one after the other, and was allowed there
 abbrev pub Each : (ℕ → TreeEdit) → List ℕ → Forest → Forest → Type 0

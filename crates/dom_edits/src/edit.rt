@@ -2,8 +2,10 @@
 
 ghost use Rattle.std.specs.Prelude.{map};
 ghost use Rattle.dom_trees.specs.Edits.{Edits};
-ghost use Rattle.dom_edits.specs.Edits.{EditsEach, edit_at, stripping};
+ghost use Rattle.dom_edits.specs.Edits.{EditsEach, edit_at, putting_known, stripping};
 
+use dom_links::gap::Place;
+use dom_markup::document::snippet::Snippet;
 use dom_nodes::fault::EditFault;
 use dom_nodes::node_data::Change;
 use dom_nodes::node_id::NodeId;
@@ -24,6 +26,8 @@ pub enum Edit<'a> {
     Strip(&'a [&'a str]),
     /// Each row of texts below it is joined.
     Normalize,
+    /// Copies of the nodes that markup spells go to a place that it tells.
+    Put(Place, &'a Snippet),
 }
 
 /// Why an edit of several nodes ended early. Exactly the first `done` nodes are done; the next one,
@@ -46,7 +50,18 @@ pub fn edit_node(tree: &mut Tree, id: NodeId, edit: Edit) -> Result<(), EditFaul
         Edit::Unwrap => tree.unwrap_node(&id),
         Edit::Strip(names) => strip_known(tree, id, names),
         Edit::Normalize => tree.normalize_of(&id),
+        Edit::Put(place, snippet) => put_known(tree, id, place, snippet),
     }
+}
+
+/// Puts what was read at a place that a node tells, if there is one of that number.
+fn put_known(tree: &mut Tree, id: NodeId, place: Place, snippet: &Snippet) -> Result<(), EditFault>
+    ensures { Edits result tree.old tree.new (putting_known place snippet.now id) }
+{
+    if id.value() >= tree.len() {
+        return Err(EditFault::UnknownNode);
+    }
+    snippet.put_at(tree, &id, place)
 }
 
 /// Strips below a node, if there is one of that number.

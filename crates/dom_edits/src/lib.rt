@@ -2,4 +2,5 @@
 #![tactic(auto)]
 
 pub mod edit;
+mod html;
 pub mod selection_mut;

@@ -116,7 +116,7 @@ fn read_html(node: &NodeMut<'_>, html: &str) -> Result<Snippet, EditFault>
 }
 
 /// What a fault of reading is called where a tree was to be edited.
-fn edit_fault(fault: MarkupFault) -> EditFault
+pub fn edit_fault(fault: MarkupFault) -> EditFault
     ensures { result ≡ named_edit fault.kind fault }
 {
     match fault.kind {
