@@ -4,7 +4,7 @@
 #![tactic(auto)]
 
 use dom_query::{
-    Document, DocumentMd, EditFault, Matcher, NodeId, NodeMarkup, NodeMd, Tokens, Tree,
+    Document, DocumentMd, EditFault, Matcher, MiniSelect, NodeId, NodeMarkup, NodeMd, Tokens, Tree,
 };
 use dom_select::matcher::descendants::select_below;
 use std::env;
@@ -24,10 +24,11 @@ enum Call {
     Formatted,
     Md,
     Select,
+    Find,
     Edits,
 }
 
-const CALLS: [(&str, Call); 10] = [
+const CALLS: [(&str, Call); 11] = [
     ("parse", Call::Parse),
     ("drop", Call::Drop),
     ("tokens", Call::Tokens),
@@ -37,6 +38,7 @@ const CALLS: [(&str, Call); 10] = [
     ("formatted", Call::Formatted),
     ("md", Call::Md),
     ("select", Call::Select),
+    ("find", Call::Find),
     ("edits", Call::Edits),
 ];
 
@@ -62,6 +64,8 @@ struct Page {
     source: String,
     document: Document,
     matcher: Matcher,
+    /// The selector as a path of mini selectors.
+    path: String,
 }
 
 impl Page {
@@ -71,10 +75,12 @@ impl Page {
         rt.stdin().read_to_string(&mut source).ok()?;
         let document = Document::parse(rt.alloc(), source.as_str()).ok()?;
         let matcher = Matcher::new(rt.alloc(), selector).ok()?;
+        let path = String::from_str(rt.alloc(), selector).ok()?;
         Some(Page {
             source,
             document,
             matcher,
+            path,
         })
     }
 }
@@ -135,6 +141,10 @@ fn count_of(rt: &HostRuntime, page: &Page, call: Call) -> Option<usize> {
         Call::Text => Some(document.text().ok()?.len()),
         Call::Formatted => Some(document.formatted_text().ok()?.len()),
         Call::Md => Some(document.md(None).ok()?.len()),
+        Call::Find => {
+            let found = document.root().find_descendants(page.path.as_str()).ok()?;
+            Some(found.len())
+        }
         _ => {
             let found = select_below(&document.tree, &NodeId::root(), &page.matcher).ok()?;
             Some(found.len())
