@@ -1,6 +1,6 @@
-//! `paths PATH` follows a path of mini selectors through the markup on standard input, and prints the
-//! id of each node that it finds, in order, or `-` where a node has none. `check` asks it the rows of
-//! cases/paths.
+//! `paths PATH` follows a path of mini selectors through the markup on standard input, and prints
+//! the id of each node that it finds, in order, or `-` where a node has none. `check` asks it the
+//! rows of cases/paths.
 #![tactic(auto)]
 
 use dom_query::{Document, MiniFault, MiniSelect};

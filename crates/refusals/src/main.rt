@@ -1,8 +1,8 @@
 //! Calls that memory is refused to. `refusals` does each call once, with ample memory. `refusals
-//! limited`, in an address space of some hundred megabytes, takes what memory there is, leaves so many
-//! bytes and does the call, with more bytes each time, until it was refused and was done. It tells of
-//! each call that it was refused and then done, where each refusal was told as one, and what was handed
-//! in was then as before.
+//! limited`, in an address space of some hundred megabytes, takes what memory there is, leaves so
+//! many bytes and does the call, with more bytes each time, until it was refused and was done. It
+//! tells of each call that it was refused and then done, where each refusal was told as one, and
+//! what was handed in was then as before.
 #![tactic(auto)]
 
 mod calls;
