@@ -7,6 +7,11 @@ A case is a line of a file cases/*.jsonl: `markup` is standard input and `script
 arguments in its place; `markup_hex` and `script_hex` give bytes that are no text), `output` and `error` are what must
 stand on standard output and standard error, and `status` is the exit status, 0 if not given.
 
+A case of cases/paths is a `path` of mini selectors, the `markup` that it is followed through, and the `output` of the
+built crate `paths`.
+
+The built crate `refusals` does each call that takes memory with ever more of it, in an address space of LIMITED bytes.
+
 A snippet is a block of README.md, docs/API.md or docs/SINK.md: one of rust stands in a file of crates/tour/src, line for line but for
 its indentation, and one of text in crates/tour/stdout, which the gate compares with what `tour` prints.
 
@@ -15,6 +20,7 @@ line of it ends in '// refused: WORDS': with that line the compiler refuses the 
 import json
 import pathlib
 import re
+import resource
 import shutil
 import subprocess
 import sys
@@ -24,6 +30,7 @@ import textwrap
 ROOT = pathlib.Path(__file__).resolve().parent.parent
 PROGRAM = ROOT / "crates" / "dq" / "out" / "dq"
 SECONDS = 60
+LIMITED = 256 * 1024 * 1024
 
 
 def gate():
@@ -78,6 +85,52 @@ def table():
                 print(f"cases/{file.name}:{number}: {fault}")
     print(f"the program's cases: {passed} passed, {failed} failed")
     return passed, failed if passed else failed + 1
+
+
+def path_fault(case):
+    """What is wrong with what the program `paths` prints, or None."""
+    program = ROOT / "crates" / "paths" / "out" / "paths"
+    try:
+        ran = subprocess.run([program, case["path"]], input=case["markup"].encode(), capture_output=True, timeout=SECONDS)
+    except (OSError, subprocess.TimeoutExpired) as stopped:
+        return str(stopped)
+    wanted = case["output"].encode(), 0
+    got = ran.stdout, ran.returncode
+    return None if got == wanted else f"wanted {wanted}, got {got}"
+
+
+def paths():
+    """Runs the program `paths` on its cases, and returns how many passed and failed."""
+    passed = failed = 0
+    for file in sorted((ROOT / "cases" / "paths").glob("*.jsonl")):
+        for number, line in enumerate(file.read_text(encoding="utf-8").splitlines(), 1):
+            fault = path_fault(json.loads(line))
+            if fault is None:
+                passed += 1
+            else:
+                failed += 1
+                print(f"cases/paths/{file.name}:{number}: {fault}")
+    print(f"cases of paths: {passed} passed, {failed} failed")
+    return passed, failed if passed else failed + 1
+
+
+def refusals():
+    """Runs the program `refusals` in a small address space, and returns how many calls were refused memory as they must
+    be and then done, and how many weren't."""
+    program = ROOT / "crates" / "refusals" / "out" / "refusals"
+    limit = lambda: resource.setrlimit(resource.RLIMIT_AS, (LIMITED, LIMITED))
+    try:
+        ran = subprocess.run([program, "limited"], capture_output=True, text=True, timeout=SECONDS, preexec_fn=limit)
+    except (OSError, subprocess.SubprocessError) as stopped:
+        print(f"refusals: {stopped}")
+        return 0, 1
+    lines = ran.stdout.splitlines()
+    wrong = [line for line in lines if not line.endswith(": refused, then done")]
+    for line in wrong:
+        print(f"refusals: {line}")
+    passed, failed = len(lines) - len(wrong), len(wrong)
+    print(f"calls that memory is refused to: {passed} passed, {failed} failed")
+    return passed, failed if passed and ran.returncode == 0 else failed + 1
 
 
 def full_device():
@@ -186,7 +239,7 @@ def refused_callers():
 def main():
     cases_alone = sys.argv[1:] == ["--cases"]
     counts = [] if cases_alone else [gate()]
-    counts += [table(), full_device(), snippets(), refused_callers()]
+    counts += [table(), paths(), refusals(), full_device(), snippets(), refused_callers()]
     passed, failed = (sum(column) for column in zip(*counts))
     print(f"{passed} passed, {failed} failed")
     return 1 if failed else 0

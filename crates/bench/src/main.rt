@@ -4,8 +4,8 @@
 #![tactic(auto)]
 
 use dom_query::{
-    Document, DocumentMd, EditFault, Matcher, NodeId, NodeMarkup, NodeMd, NodeMutMarkup, Tokens,
-    Tree,
+    Document, DocumentMd, EditFault, Matcher, MiniSelect, NodeId, NodeMarkup, NodeMd,
+    NodeMutMarkup, Tokens, Tree,
 };
 use dom_select::matcher::descendants::select_below;
 use std::env;
@@ -25,12 +25,13 @@ enum Call {
     Formatted,
     Md,
     Select,
+    Find,
     Edits,
     Clone,
     Append,
 }
 
-const CALLS: [(&str, Call); 12] = [
+const CALLS: [(&str, Call); 13] = [
     ("parse", Call::Parse),
     ("drop", Call::Drop),
     ("tokens", Call::Tokens),
@@ -40,6 +41,7 @@ const CALLS: [(&str, Call); 12] = [
     ("formatted", Call::Formatted),
     ("md", Call::Md),
     ("select", Call::Select),
+    ("find", Call::Find),
     ("edits", Call::Edits),
     ("clone", Call::Clone),
     ("append", Call::Append),
@@ -67,6 +69,8 @@ struct Page {
     source: String,
     document: Document,
     matcher: Matcher,
+    /// The selector as a path of mini selectors.
+    path: String,
 }
 
 impl Page {
@@ -76,10 +80,12 @@ impl Page {
         rt.stdin().read_to_string(&mut source).ok()?;
         let document = Document::parse(rt.alloc(), source.as_str()).ok()?;
         let matcher = Matcher::new(rt.alloc(), selector).ok()?;
+        let path = String::from_str(rt.alloc(), selector).ok()?;
         Some(Page {
             source,
             document,
             matcher,
+            path,
         })
     }
 }
@@ -142,6 +148,10 @@ fn count_of(rt: &HostRuntime, page: &Page, call: Call) -> Option<usize> {
         Call::Md => Some(document.md(None).ok()?.len()),
         Call::Clone => Some(document.try_clone().ok()?.tree.len()),
         Call::Append => append_to_all(page),
+        Call::Find => {
+            let found = document.root().find_descendants(page.path.as_str()).ok()?;
+            Some(found.len())
+        }
         _ => {
             let found = select_below(&document.tree, &NodeId::root(), &page.matcher).ok()?;
             Some(found.len())
