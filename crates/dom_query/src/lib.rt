@@ -11,12 +11,16 @@ mod telling;
 #[cfg(test)]
 mod tests;
 
+pub use dom_edits::edit::SelectionFault;
+pub use dom_edits::selection_mut::SelectionMut;
 pub use dom_links::iters::{AncestorNodes, ChildNodes, DescendantNodes};
 pub use dom_links::ops::TreeNodeOps;
 pub use dom_links::validation::ValidateFault;
 pub use dom_markup::document::fragments::NodeFragment;
+pub use dom_markup::document::snippet::Snippet;
 pub use dom_markup::document::{Document, QuirksMode, Token, TokenKind, Tokens};
 pub use dom_markup::serializing::{NodeMarkup, SerializableNodeRef, TraversalScope, WriteFault};
+pub use dom_markup::setters::NodeMutMarkup;
 pub use dom_md::cells::escape_table_cell_inplace;
 pub use dom_md::chunks::push_escaped_chunk;
 pub use dom_md::context::{EmphasisScope, FormatOpts, ListContext, ListKind};
