@@ -1,5 +1,5 @@
 -- What an edit does as a line tells it.
-use Rattle.std.proofs.Common.{◌≡◌, ◌<◌, ◌≤◌, ℕ, zero, suc, List, [], ◌∷◌, Some, Result, Ok, Err, refl, sym, ◌∙◌, subst, take, length, arith}
+use Rattle.std.proofs.Common.{◌≡◌, ◌<◌, ◌≤◌, ◌⊎◌, inl, inr, ap, false, not, ℕ, zero, suc, List, [], ◌∷◌, Some, Result, Ok, Err, refl, sym, ◌∙◌, subst, take, length, arith}
 use Rattle.std.specs.Prelude.{slice_get}
 use Rattle.std.proofs.lemmas.Option.{none-some, same_Some}
 use Rattle.dom_nodes.specs.Change.{changed}
@@ -9,10 +9,16 @@ use Rattle.dom_nodes.specs.declared.node_data.NodeData.{NodeData}
 use Rattle.dom_nodes.specs.declared.node_data.changing.Change.{Change}
 use Rattle.dom_links.specs.Forest.{Forest}
 use Rattle.dom_trees.specs.Edits.{TreeEdit, changing}
-use Rattle.dom_trees.specs.Refusals.{ChangeCause, JoinCause, KnownCause, SetCause}
-use Rattle.dom_edits.specs.Edits.{Each}
+use Rattle.dom_trees.specs.Refusals.{ChangeCause, JoinCause, KnownCause, LacksChildren, LacksSiblings, SetCause}
+use Rattle.dom_markup.specs.Setters.{IsOpenAt}
+use Rattle.std.proofs.lemmas.Bool.{false≢true}
+use Rattle.dom_links.specs.Insertions.{gap_at}
+use Rattle.dom_links.specs.Sound.{is_open}
+use Rattle.dom_links.specs.declared.gap.Place.{Place}
+use Rattle.dom_links.specs.declared.gap.Place.TheVariants.{After, Around, AtEnd, AtFront, Before, InsteadOfChildren, InsteadOfNode}
+use Rattle.dom_edits.specs.Edits.{Each, PutKnownCause, putting_known}
 use Rattle.dom_query.specs.declared.script.edit_line.EditLine.{EditLine}
-use Rattle.dom_query.specs.declared.script.edit_line.EditLine.TheVariants.{SetAttr, RemoveAttr, Rename, AddClass, RemoveClass, SetText, Strip, Remove, Unwrap, Normalize}
+use Rattle.dom_query.specs.declared.script.edit_line.EditLine.TheVariants.{SetAttr, RemoveAttr, Rename, AddClass, RemoveClass, SetText, Strip, Put, Remove, Unwrap, Normalize}
 use Rattle.dom_query.specs.Editing.{EditsOrFails, FailsAtOne, IsRefusal, RewriteCause, line_edit, rewriting}
 
 -- ---- changes of data
@@ -94,41 +100,92 @@ set-unknown n forest TooManyNodes is told = absurd is
 set-unknown n forest BadContents is told = absurd told
 set-unknown n forest (Markup fault) is told = absurd told
 
--- a line is refused only at an unknown node
-refused-unknown : (edit : EditLine) (n : ℕ) (forest : Forest) (fault : EditFault) → IsRefusal fault → (line_edit edit n).Cause forest fault → (fault ≡ UnknownNode) × (length forest.content ≤ n)
-refused-unknown (SetAttr name value) n forest fault is told = rewrite-unknown n forest fault is told
-refused-unknown (RemoveAttr name) n forest fault is told = rewrite-unknown n forest fault is told
-refused-unknown (Rename name) n forest fault is told = rewrite-unknown n forest fault is told
-refused-unknown (AddClass classes) n forest fault is told = rewrite-unknown n forest fault is told
-refused-unknown (RemoveClass classes) n forest fault is told = rewrite-unknown n forest fault is told
-refused-unknown (SetText text) n forest fault is told = set-unknown n forest fault is told
-refused-unknown (Strip names) n forest fault is told = known-unknown n forest fault told
-refused-unknown Remove n forest fault is told = known-unknown n forest fault told
-refused-unknown Unwrap n forest fault is told = known-unknown n forest fault told
-refused-unknown Normalize n forest fault is told = join-unknown n forest fault is told
-
-allowed-known : (edit : EditLine) (n : ℕ) (forest : Forest) → (line_edit edit n).Allowed forest → n < length forest.content
-allowed-known (SetAttr name value) n forest may = may
-allowed-known (RemoveAttr name) n forest may = may
-allowed-known (Rename name) n forest may = may
-allowed-known (AddClass classes) n forest may = may
-allowed-known (RemoveClass classes) n forest may = may
-allowed-known (SetText text) n forest may = may
-allowed-known (Strip names) n forest may = may
-allowed-known Remove n forest may = may
-allowed-known Unwrap n forest may = may
-allowed-known Normalize n forest may = may
+-- ---- one refusal
 
 -- where an edit is allowed it is refused by a limit alone, and it has one refusal at most
 record HasOneRefusal (edit : ℕ → TreeEdit) : Type 0 where
   apart : (n : ℕ) (forest : Forest) (fault : EditFault) → (edit n).Allowed forest → (edit n).Cause forest fault → IsRefusal fault → ⊥
   once : (n : ℕ) (forest : Forest) (fault other : EditFault) → (edit n).Cause forest fault → (edit n).Cause forest other → IsRefusal fault → IsRefusal other → fault ≡ other
 
-line-refusal : (edit : EditLine) → HasOneRefusal (line_edit edit)
-line-refusal edit = record {
-  apart = λ n forest fault may told is. omega (arith, allowed-known edit n forest may, (refused-unknown edit n forest fault is told).1);
-  once = λ n forest fault other told tells is so. (refused-unknown edit n forest fault is told).0 ∙ sym (refused-unknown edit n forest other so tells).0;
+-- an edit that is refused only at an unknown node
+record IsRefusedUnknown (edit : ℕ → TreeEdit) : Type 0 where
+  known : (n : ℕ) (forest : Forest) → (edit n).Allowed forest → n < length forest.content
+  unknown : (n : ℕ) (forest : Forest) (fault : EditFault) → IsRefusal fault → (edit n).Cause forest fault → (fault ≡ UnknownNode) × (length forest.content ≤ n)
+
+unknown-once : (edit : ℕ → TreeEdit) → IsRefusedUnknown edit → HasOneRefusal edit
+unknown-once edit only = record {
+  apart = λ n forest fault may told is. omega (arith, only.known n forest may, (only.unknown n forest fault is told).1);
+  once = λ n forest fault other told tells is so. (only.unknown n forest fault is told).0 ∙ sym (only.unknown n forest other so tells).0;
 }
+
+-- why what was read isn't put at a place, as a fault
+abbrev fault_for : Place → EditFault
+fault_for AtEnd = NoChildrenHere
+fault_for AtFront = NoChildrenHere
+fault_for InsteadOfChildren = NoChildrenHere
+fault_for _ = RootOrFragment
+
+lacks-children : (place : Place) (n : ℕ) (forest : Forest) → LacksChildren forest (gap_at place n) → (NoChildrenHere ≡ fault_for place) × (is_open (gap_at place n) forest ≡ false)
+lacks-children AtEnd n forest lacks = (refl, lacks)
+lacks-children AtFront n forest lacks = (refl, lacks)
+lacks-children InsteadOfChildren n forest lacks = (refl, lacks)
+lacks-children Before n forest lacks = absurd lacks
+lacks-children After n forest lacks = absurd lacks
+lacks-children InsteadOfNode n forest lacks = absurd lacks
+lacks-children Around n forest lacks = absurd lacks
+
+lacks-siblings : (place : Place) (n : ℕ) (forest : Forest) → LacksSiblings forest (gap_at place n) → (RootOrFragment ≡ fault_for place) × (is_open (gap_at place n) forest ≡ false)
+lacks-siblings AtEnd n forest lacks = absurd lacks
+lacks-siblings AtFront n forest lacks = absurd lacks
+lacks-siblings InsteadOfChildren n forest lacks = absurd lacks
+lacks-siblings Before n forest lacks = (refl, ap not lacks)
+lacks-siblings After n forest lacks = (refl, ap not lacks)
+lacks-siblings InsteadOfNode n forest lacks = (refl, ap not lacks)
+lacks-siblings Around n forest lacks = (refl, ap not lacks)
+
+-- x is unknown, or known and closed there
+abbrev PutRefusal : Place → ℕ → Forest → EditFault → Type 0
+PutRefusal place n forest fault =
+    ((fault ≡ UnknownNode) × (length forest.content ≤ n)) ⊎ ((fault ≡ fault_for place) × (n < length forest.content) × (is_open (gap_at place n) forest ≡ false))
+
+put-cause : (place : Place) (read : Forest) (n : ℕ) (forest : Forest) (fault : EditFault) → IsRefusal fault → PutKnownCause place n read forest fault → PutRefusal place n forest fault
+put-cause place read n forest UnknownNode is told = inl (refl, told)
+put-cause place read n forest NoChildrenHere is told = let lacks = lacks-children place n forest told.1 in inr (lacks.0, told.0, lacks.1)
+put-cause place read n forest RootOrFragment is told = let lacks = lacks-siblings place n forest told.1 in inr (lacks.0, told.0, lacks.1)
+put-cause place read n forest Cycle is told = absurd told.1
+put-cause place read n forest TooManyNodes is told = absurd is
+put-cause place read n forest Memory is told = absurd is
+put-cause place read n forest BadContents is told = absurd told.1
+put-cause place read n forest (Markup fault) is told = absurd told.1
+
+put-apart : (place : Place) (n : ℕ) (forest : Forest) (fault : EditFault) → IsOpenAt place n forest → PutRefusal place n forest fault → ⊥
+put-apart place n forest fault may (inl p) = let no : ⊥ = omega (arith, may.0, p.1) in no
+put-apart place n forest fault may (inr p) = false≢true (sym p.2 ∙ may.1)
+
+put-same : (place : Place) (n : ℕ) (forest : Forest) (fault other : EditFault) → PutRefusal place n forest fault → PutRefusal place n forest other → fault ≡ other
+put-same place n forest fault other (inl p) (inl q) = p.0 ∙ sym q.0
+put-same place n forest fault other (inl p) (inr q) = let no : ⊥ = omega (arith, p.1, q.1) in absurd no
+put-same place n forest fault other (inr p) (inl q) = let no : ⊥ = omega (arith, p.1, q.1) in absurd no
+put-same place n forest fault other (inr p) (inr q) = p.0 ∙ sym q.0
+
+puts-once : (place : Place) (read : Forest) → HasOneRefusal (putting_known place read)
+puts-once place read = record {
+  apart = λ n forest fault may told is. put-apart place n forest fault may (put-cause place read n forest fault is told);
+  once = λ n forest fault other told tells is so. put-same place n forest fault other (put-cause place read n forest fault is told) (put-cause place read n forest other so tells);
+}
+
+line-refusal : (edit : EditLine) → HasOneRefusal (line_edit edit)
+line-refusal (SetAttr name value) = unknown-once _ (record { known = λ n forest may. may; unknown = rewrite-unknown })
+line-refusal (RemoveAttr name) = unknown-once _ (record { known = λ n forest may. may; unknown = rewrite-unknown })
+line-refusal (Rename name) = unknown-once _ (record { known = λ n forest may. may; unknown = rewrite-unknown })
+line-refusal (AddClass classes) = unknown-once _ (record { known = λ n forest may. may; unknown = rewrite-unknown })
+line-refusal (RemoveClass classes) = unknown-once _ (record { known = λ n forest may. may; unknown = rewrite-unknown })
+line-refusal (SetText text) = unknown-once _ (record { known = λ n forest may. may; unknown = set-unknown })
+line-refusal (Strip names) = unknown-once _ (record { known = λ n forest may. may; unknown = λ n forest fault is told. known-unknown n forest fault told })
+line-refusal (Put place read) = puts-once place read
+line-refusal Remove = unknown-once _ (record { known = λ n forest may. may; unknown = λ n forest fault is told. known-unknown n forest fault told })
+line-refusal Unwrap = unknown-once _ (record { known = λ n forest may. may; unknown = λ n forest fault is told. known-unknown n forest fault told })
+line-refusal Normalize = unknown-once _ (record { known = λ n forest may. may; unknown = join-unknown })
 
 -- what is done at each of the nodes leaves one forest
 pub each-once : (edit : ℕ → TreeEdit) (ns : List ℕ) (old a b : Forest) → Each edit ns old a → Each edit ns old b → a ≡ b

@@ -4,9 +4,16 @@ use Rattle.std.specs.List.{list_all}
 use Rattle.std.specs.Prelude.{◌&&◌}
 use Rattle.std.proofs.lemmas.Bool.{false≢true}
 use Rattle.dom_query.specs.declared.script.edit_line.EditLine.{EditLine}
-use Rattle.dom_query.specs.declared.script.edit_line.EditLine.TheVariants.{SetAttr, RemoveAttr, Rename, AddClass, RemoveClass, SetText, Strip, Remove, Unwrap, Normalize}
-use Rattle.dom_query.specs.EditLine.{HasNoPair, HasPair, IsEdit, IsNoBareEdit, IsNoEdit, IsNoNamedEdit, IsNoSetAttr, IsNoStrip, IsNoTextEdit, names_in}
+use Rattle.dom_query.specs.declared.script.edit_line.EditLine.TheVariants.{SetAttr, RemoveAttr, Rename, AddClass, RemoveClass, SetText, Strip, Put, Remove, Unwrap, Normalize}
+use Rattle.dom_query.specs.EditLine.{HasNoPair, HasPair, IsEdit, IsNoBareEdit, IsNoEdit, IsNoNamedEdit, IsNoPut, IsNoSetAttr, IsNoStrip, IsNoTextEdit, HasMarkup, HasNoMarkup, names_in}
 use Rattle.dom_query.specs.Words.{HasArgument, is_name}
+use Rattle.dom_links.specs.Forest.{Forest}
+use Rattle.dom_links.specs.declared.gap.Place.TheVariants.{After, Around, AtEnd, AtFront, Before, InsteadOfChildren, InsteadOfNode}
+use Rattle.dom_markup.specs.Documents.{IsSpelled}
+use Rattle.dom_markup.specs.Markup.{Spells, SpellsNothing}
+use Rattle.dom_query.specs.Faults.{LineRefused, MarkupLimit}
+use Rattle.dom_query.specs.declared.script.ScriptFault.{ScriptFault}
+use Rattle.dom_query.specs.declared.script.ScriptFault.TheVariants.{BadLine, Memory as NoMemory, TooManyNodes as NoNumbers}
 use Rattle.dom_query.proofs.Lines.{argument-once}
 
 -- one of them doesn't pass
@@ -27,21 +34,42 @@ pub no-strip : (line names : List ℕ) → HasArgument line (codes "strip") name
 no-strip line names is none other h =
     false≢true (sym none ∙ ap (λ text. list_all is_name (names_in text)) (argument-once line (codes "strip") names other is h.0) ∙ h.1)
 
-no-edit : (line : List ℕ) → IsNoBareEdit line → IsNoNamedEdit line → IsNoTextEdit line → IsNoSetAttr line → IsNoStrip line → IsNoEdit line
-no-edit line bare named text set strip (SetAttr name value) h = set name value h
-no-edit line bare named text set strip (RemoveAttr name) h = named.0 name h
-no-edit line bare named text set strip (Rename name) h = named.1 name h
-no-edit line bare named text set strip (AddClass classes) h = text.0 classes h
-no-edit line bare named text set strip (RemoveClass classes) h = text.1 classes h
-no-edit line bare named text set strip (SetText contents) h = text.2 contents h
-no-edit line bare named text set strip (Strip names) h = strip names h
-no-edit line bare named text set strip Remove h = bare.0 h
-no-edit line bare named text set strip Unwrap h = bare.1 h
-no-edit line bare named text set strip Normalize h = bare.2 h
+pub no-edit : (line : List ℕ) → IsNoBareEdit line → IsNoNamedEdit line → IsNoTextEdit line → IsNoSetAttr line → IsNoStrip line → IsNoPut line → IsNoEdit line
+no-edit line bare named text set strip put (SetAttr name value) h = set name value h
+no-edit line bare named text set strip put (RemoveAttr name) h = named.0 name h
+no-edit line bare named text set strip put (Rename name) h = named.1 name h
+no-edit line bare named text set strip put (AddClass classes) h = text.0 classes h
+no-edit line bare named text set strip put (RemoveClass classes) h = text.1 classes h
+no-edit line bare named text set strip put (SetText contents) h = text.2 contents h
+no-edit line bare named text set strip put (Strip names) h = strip names h
+no-edit line bare named text set strip put (Put place read) h = put place read h
+no-edit line bare named text set strip put Remove h = bare.0 h
+no-edit line bare named text set strip put Unwrap h = bare.1 h
+no-edit line bare named text set strip put Normalize h = bare.2 h
 
--- the last kind decides
-pub edit-read : {E : Type 0} (line : List ℕ) (r : Result (Option EditLine) E) → IsNoBareEdit line → IsNoNamedEdit line → IsNoTextEdit line → IsNoSetAttr line
-    → IfOk r (λ found. MatchOption found (IsNoStrip line) (IsEdit line)) → IfOk r (λ found. MatchOption found (IsNoEdit line) (IsEdit line))
-edit-read line (Ok (Some edit)) bare named text set is = is
-edit-read line (Ok None) bare named text set strip = no-edit line bare named text set strip
-edit-read line (Err e) bare named text set told = tt
+-- nothing is put
+pub puts-nothing : (line : List ℕ) → HasNoMarkup line (codes "set-html") → HasNoMarkup line (codes "append-html") → HasNoMarkup line (codes "prepend-html")
+    → HasNoMarkup line (codes "before-html") → HasNoMarkup line (codes "after-html") → HasNoMarkup line (codes "replace-html") → IsNoPut line
+puts-nothing line set append prepend before after replace InsteadOfChildren = set
+puts-nothing line set append prepend before after replace AtEnd = append
+puts-nothing line set append prepend before after replace AtFront = prepend
+puts-nothing line set append prepend before after replace Before = before
+puts-nothing line set append prepend before after replace After = after
+puts-nothing line set append prepend before after replace InsteadOfNode = replace
+puts-nothing line set append prepend before after replace Around = λ read no. no
+
+-- what stands behind the word was read as markup, or it is none, or a limit was met
+pub no-markup : (line word argument : List ℕ) → HasArgument line word argument → SpellsNothing argument → HasNoMarkup line word
+no-markup line word argument is none read h =
+    none h.2.0 (subst (λ text. Spells text h.2.0) (argument-once line word h.0 argument h.1 is) h.2.1)
+
+pub markup-read : {E : Type 0} (line word argument : List ℕ) (r : Result (Option Forest) E) → HasArgument line word argument
+    → IfOk r (λ found. MatchOption found (SpellsNothing argument) (IsSpelled argument)) → IfOk r (λ found. MatchOption found (HasNoMarkup line word) (HasMarkup line word))
+markup-read line word argument (Ok (Some read)) is spelled = (argument, is, spelled)
+markup-read line word argument (Ok None) is none = no-markup line word argument is none
+markup-read line word argument (Err e) is told = tt
+
+pub line-limit : (line word argument : List ℕ) (fault : ScriptFault) → HasArgument line word argument → MarkupLimit argument fault → LineRefused line fault
+line-limit line word argument NoNumbers is told = (word, argument, is, told)
+line-limit line word argument NoMemory is told = tt
+line-limit line word argument (BadLine number) is told = told

@@ -8,6 +8,7 @@ pub mod Writing
 pub mod Doing
 pub mod Scripts
 pub mod Outputs
+pub mod ReadBacks
 pub mod Refusals
 pub mod Failing
 pub mod Driving

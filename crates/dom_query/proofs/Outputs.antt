@@ -11,12 +11,8 @@ use Rattle.dom_query.specs.Out.Ending.{done, refused, bad_script, bad_markup}
 use Rattle.dom_query.specs.Runs.{Began, DidAllBegin, IsEnding}
 use Rattle.dom_query.specs.Script.{IsScript}
 use Rattle.dom_query.proofs.Doing.{OneSelection, does-all-once}
-use Rattle.dom_query.proofs.Scripts.{OneSelector, no-script-none, no-script-once, script-once}
+use Rattle.dom_query.proofs.Scripts.{OneReading, OneSelector, no-script-none, no-script-once, script-once}
 use Rattle.dom_markup.proofs.WritingLemmas.{nothing-begun}
-
--- a text spells one list of trees at most
-abbrev pub OneReading : Type 0
-OneReading = (text : List ℕ) (trees others : ValueTrees) → Spells text trees → Spells text others → trees ≡ others
 
 markup-none : (markup : List ℕ) (trees : ValueTrees) → IsUtf8 markup → Spells markup trees → IsNoMarkup markup → ⊥
 markup-none markup trees utf8 spells (inl none) = none utf8
@@ -28,7 +24,7 @@ ran-does : OneReading → OneSelector → (markup script : List ℕ) (commands :
     → DoesAll (document_of trees) (0 ∷ []) 1 commands text ending
 ran-does reading selector markup script commands trees is spells text ending (others, forest, so, u, spelled, does) =
     subst (λ t. DoesAll (document_of t) (0 ∷ []) 1 commands text ending) (reading markup forest trees spelled spells)
-    (subst (λ cs. DoesAll (document_of forest) (0 ∷ []) 1 cs text ending) (script-once selector script others commands so is) does)
+    (subst (λ cs. DoesAll (document_of forest) (0 ∷ []) 1 cs text ending) (script-once reading selector script others commands so is) does)
 
 -- the commands and the trees that were read are those of every output, and no limit ends it
 pub output-does : OneReading → OneSelector → (markup script : List ℕ) (commands : List Command) (trees : ValueTrees)

@@ -1,8 +1,13 @@
 -- The commands of the lines that were read so far.
-use Rattle.std.proofs.Common.{◌≡◌, ◌+◌, ◌<◌, ℕ, zero, suc, List, [], ◌∷◌, ◌++◌, sym, ◌∙◌, ap, take, drop, length, get_or, arith, length-take, append_assoc, Bor, map, subst}
+use Rattle.std.proofs.Common.{◌≡◌, ◌+◌, ◌<◌, ℕ, zero, suc, List, [], ◌∷◌, ◌++◌, sym, ◌∙◌, ap, take, drop, length, get_or, arith, length-take, append_assoc, Bor, map, subst, Some}
+use Rattle.std.specs.Prelude.{slice_get}
+use Rattle.std.proofs.lemmas.Option.{slice_get-get_or}
 use Rattle.std.specs.Str.{IsUtf8}
 use Rattle.std.proofs.lemmas.List.{take-append-drop, take_more, map-append}
 use Rattle.dom_query.specs.declared.script.Command.{Command}
+use Rattle.dom_query.specs.declared.script.ScriptFault.{ScriptFault}
+use Rattle.dom_query.specs.declared.script.ScriptFault.TheVariants.{BadLine, Memory as NoMemory, TooManyNodes as NoNumbers}
+use Rattle.dom_query.specs.Faults.{LineRefused, ScriptRefused}
 use Rattle.dom_query.specs.Script.{AreCommands, FirstBad, IsBad, IsCommand, IsNoScript, lines_of}
 
 -- one more line
@@ -41,3 +46,11 @@ no-script-at script (suc n) utf8 bad = (utf8, bad)
 pub no-script : (script text : List ℕ) (n m : ℕ) → text ≡ script → IsUtf8 script → m ≡ n → FirstBad (lines_of text) (n + 1) → IsNoScript script (m + 1)
 no-script script text n m same utf8 counted bad =
     no-script-at script (m + 1) utf8 (subst (λ k. FirstBad (lines_of script) (k + 1)) (sym counted) (subst (λ t. FirstBad (lines_of t) (n + 1)) same bad))
+
+-- a limit was met in a line
+pub line-refused : (script text : List ℕ) (n : ℕ) (line : List ℕ) (fault : ScriptFault) → text ≡ script → n < length (lines_of text) → line ≡ get_or (lines_of text) n line
+    → LineRefused line fault → ScriptRefused script fault
+line-refused script text n line NoNumbers same within is told =
+    (line, (n, subst (λ t. slice_get (lines_of t) n ≡ Some line) same (slice_get-get_or (lines_of text) n line within ∙ ap Some (sym is))), told)
+line-refused script text n line NoMemory same within is told = tt
+line-refused script text n line (BadLine number) same within is told = absurd told

@@ -6,13 +6,20 @@ use Rattle.dom_selectors.specs.Syntax.{SelectorList}
 use Rattle.dom_selectors.specs.Grammar.{StandsFor}
 use Rattle.dom_query.specs.declared.script.Command.{Command}
 use Rattle.dom_query.specs.declared.script.Command.TheVariants.{Nothing, Pick, Go, Show, Attr, Edit}
-use Rattle.dom_query.specs.declared.script.edit_line.EditLine.TheVariants.{SetAttr, RemoveAttr, Rename, AddClass, RemoveClass, SetText, Strip, Remove, Unwrap, Normalize}
+use Rattle.dom_query.specs.declared.script.edit_line.EditLine.TheVariants.{SetAttr, RemoveAttr, Rename, AddClass, RemoveClass, SetText, Strip, Put, Remove, Unwrap, Normalize}
 use Rattle.dom_query.specs.declared.script.Going.TheVariants.{Parent, Children, Ancestors, Next, Prev, First, Last}
 use Rattle.dom_query.specs.declared.script.Picking.{Picking}
 use Rattle.dom_query.specs.declared.script.Picking.TheVariants.{Select, Find, Filter, Add}
 use Rattle.dom_query.specs.declared.script.Showing.TheVariants.{Count, Text, Formatted, Html, InnerHtml, Document}
 use Rattle.dom_query.specs.Script.{AreCommands, FirstBad, HasSelector, IsBad, IsCommand, IsNoScript, IsScript, lines_of, picking_word}
-use Rattle.dom_query.specs.EditLine.{HasPair}
+use Rattle.dom_links.specs.Forest.{Forest}
+use Rattle.dom_links.specs.declared.gap.Place.{Place}
+use Rattle.dom_links.specs.declared.gap.Place.TheVariants.{After, Around, AtEnd, AtFront, Before, InsteadOfChildren, InsteadOfNode}
+use Rattle.dom_markup.specs.Documents.{IsSpelled}
+use Rattle.dom_markup.specs.Markup.{Spells}
+use Rattle.dom_markup.specs.Numbered.{document_of}
+use Rattle.dom_markup.specs.ValueTrees.{ValueTrees}
+use Rattle.dom_query.specs.EditLine.{HasMarkup, HasPair}
 use Rattle.dom_query.specs.Words.{HasArgument}
 use Rattle.dom_query.proofs.Lines.{argument-once}
 use Rattle.dom_query.proofs.Names.{pair-once, word_in}
@@ -20,6 +27,10 @@ use Rattle.dom_query.proofs.Names.{pair-once, word_in}
 -- a text stands for one selector at most
 abbrev pub OneSelector : Type 0
 OneSelector = (text : List ℕ) (a b : SelectorList) → StandsFor text a → StandsFor text b → a ≡ b
+
+-- a text spells one list of trees at most
+abbrev pub OneReading : Type 0
+OneReading = (text : List ℕ) (trees others : ValueTrees) → Spells text trees → Spells text others → trees ≡ others
 
 -- what a word asks for: a command alone, one with a selector behind the word, one that is made of what stands behind it, or
 -- that sets an attribute
@@ -29,6 +40,7 @@ data Reading : Type 0 where
   picking : Picking → Reading
   taking : List ℕ → (List ℕ → Command) → Reading
   setting : Reading
+  putting : List ℕ → Place → Reading
 
 -- the table of words
 abbrev reading : List ℕ → Reading
@@ -59,6 +71,12 @@ reading word =
     else if bytes_eq word (codes "remove-class") then taking (codes "remove-class") (λ text. Edit (RemoveClass text))
     else if bytes_eq word (codes "set-text") then taking (codes "set-text") (λ text. Edit (SetText text))
     else if bytes_eq word (codes "strip") then taking (codes "strip") (λ names. Edit (Strip names))
+    else if bytes_eq word (codes "set-html") then putting (codes "set-html") InsteadOfChildren
+    else if bytes_eq word (codes "append-html") then putting (codes "append-html") AtEnd
+    else if bytes_eq word (codes "prepend-html") then putting (codes "prepend-html") AtFront
+    else if bytes_eq word (codes "before-html") then putting (codes "before-html") Before
+    else if bytes_eq word (codes "after-html") then putting (codes "after-html") After
+    else if bytes_eq word (codes "replace-html") then putting (codes "replace-html") InsteadOfNode
     else if bytes_eq word (codes "remove") then alone (Edit Remove)
     else if bytes_eq word (codes "unwrap") then alone (Edit Unwrap)
     else if bytes_eq word (codes "normalize") then alone (Edit Normalize)
@@ -85,12 +103,19 @@ record IsSet (line : List ℕ) (command : Command) : Type 0 where
   pair : HasPair argument name value
   is : command ≡ Edit (SetAttr name value)
 
+-- markup stands behind the word
+record IsPutIn (line word : List ℕ) (place : Place) (command : Command) : Type 0 where
+  read : Forest
+  has : HasMarkup line word read
+  is : command ≡ Edit (Put place read)
+
 abbrev IsReadAs : Reading → List ℕ → Command → Type 0
 IsReadAs nothing line command = ⊥
 IsReadAs (alone known) line command = command ≡ known
 IsReadAs (picking how) line command = IsPicked line how command
 IsReadAs (taking word make) line command = IsTaken line word make command
 IsReadAs setting line command = IsSet line command
+IsReadAs (putting word place) line command = IsPutIn line word place command
 
 -- a line that is the word and what the table has for it
 at_word : (line word : List ℕ) (command : Command) → line ≡ word → IsReadAs (reading (word_in word)) word command → IsReadAs (reading (word_in line)) line command
@@ -111,6 +136,10 @@ taken line word argument make h = record { argument = argument; has = h; is = re
 with_text : (line word text : List ℕ) (make : List ℕ → Command) → HasArgument line word text
     → reading (word_in (word ++ 32 ∷ text)) ≡ taking word make → reading (word_in word) ≡ taking word make → IsReadAs (reading (word_in line)) line (make text)
 with_text line word text make has spaced bare = with_argument line word text (taking word make) (make text) has spaced bare (taken line word text make has)
+
+with_markup : (line word : List ℕ) (place : Place) (read : Forest) (h : HasMarkup line word read)
+    → reading (word_in (word ++ 32 ∷ h.0)) ≡ putting word place → reading (word_in word) ≡ putting word place → IsReadAs (reading (word_in line)) line (Edit (Put place read))
+with_markup line word place read h spaced bare = with_argument line word h.0 (putting word place) (Edit (Put place read)) h.1 spaced bare (record { read = read; has = h; is = refl })
 
 -- each command is what the table has for its word
 is_read : (line : List ℕ) (command : Command) → IsCommand line command → IsReadAs (reading (word_in line)) line command
@@ -141,37 +170,51 @@ is_read line (Edit (AddClass classes)) p = with_text line (codes "add-class") cl
 is_read line (Edit (RemoveClass classes)) p = with_text line (codes "remove-class") classes (λ t. Edit (RemoveClass t)) p refl refl
 is_read line (Edit (SetText text)) p = with_text line (codes "set-text") text (λ t. Edit (SetText t)) p refl refl
 is_read line (Edit (Strip names)) p = with_text line (codes "strip") names (λ t. Edit (Strip t)) p.0 refl refl
+is_read line (Edit (Put InsteadOfChildren read)) p = with_markup line (codes "set-html") InsteadOfChildren read p refl refl
+is_read line (Edit (Put AtEnd read)) p = with_markup line (codes "append-html") AtEnd read p refl refl
+is_read line (Edit (Put AtFront read)) p = with_markup line (codes "prepend-html") AtFront read p refl refl
+is_read line (Edit (Put Before read)) p = with_markup line (codes "before-html") Before read p refl refl
+is_read line (Edit (Put After read)) p = with_markup line (codes "after-html") After read p refl refl
+is_read line (Edit (Put InsteadOfNode read)) p = with_markup line (codes "replace-html") InsteadOfNode read p refl refl
+is_read line (Edit (Put Around read)) p = absurd p
 is_read line (Edit Remove) p = at_word line (codes "remove") (Edit Remove) p refl
 is_read line (Edit Unwrap) p = at_word line (codes "unwrap") (Edit Unwrap) p refl
 is_read line (Edit Normalize) p = at_word line (codes "normalize") (Edit Normalize) p refl
 
-reading-once : OneSelector → (r : Reading) (line : List ℕ) (a b : Command) → IsReadAs r line a → IsReadAs r line b → a ≡ b
-reading-once one nothing line a b p q = absurd p
-reading-once one (alone known) line a b p q = p ∙ sym q
-reading-once one (picking how) line a b p q =
+-- of a text one forest is read at most
+read-once : OneReading → (text : List ℕ) (a b : Forest) → IsSpelled text a → IsSpelled text b → a ≡ b
+read-once unique text a b (trees, p, is) (others, q, so) = is ∙ ap document_of (unique text trees others p q) ∙ sym so
+
+reading-once : OneReading → OneSelector → (r : Reading) (line : List ℕ) (a b : Command) → IsReadAs r line a → IsReadAs r line b → a ≡ b
+reading-once unique one nothing line a b p q = absurd p
+reading-once unique one (alone known) line a b p q = p ∙ sym q
+reading-once unique one (picking how) line a b p q =
     let same = argument-once line (picking_word how) p.has.0 q.has.0 p.has.1 q.has.1 in
     p.is ∙ ap (Pick how) (one (chars q.has.0) p.selector q.selector (subst (λ text. StandsFor (chars text) p.selector) same p.has.2) q.has.2) ∙ sym q.is
-reading-once one setting line a b p q =
+reading-once unique one (putting word place) line a b p q =
+    let same = argument-once line word p.has.0 q.has.0 p.has.1 q.has.1 in
+    p.is ∙ ap (λ read. Edit (Put place read)) (read-once unique q.has.0 p.read q.read (subst (λ text. IsSpelled text p.read) same p.has.2) q.has.2) ∙ sym q.is
+reading-once unique one setting line a b p q =
     let same = argument-once line (codes "set-attr") p.argument q.argument p.has q.has in
     let parts = pair-once q.argument p.name q.name p.value q.value (subst (λ text. HasPair text p.name p.value) same p.pair) q.pair in
     p.is ∙ (ap (λ n. Edit (SetAttr n p.value)) parts.0 ∙ ap (λ v. Edit (SetAttr q.name v)) parts.1) ∙ sym q.is
-reading-once one (taking word make) line a b p q = p.is ∙ ap make (argument-once line word p.argument q.argument p.has q.has) ∙ sym q.is
+reading-once unique one (taking word make) line a b p q = p.is ∙ ap make (argument-once line word p.argument q.argument p.has q.has) ∙ sym q.is
 
 -- a line asks for one command at most
-pub command-once : OneSelector → (line : List ℕ) (a b : Command) → IsCommand line a → IsCommand line b → a ≡ b
-command-once one line a b p q = reading-once one (reading (word_in line)) line a b (is_read line a p) (is_read line b q)
+pub command-once : OneReading → OneSelector → (line : List ℕ) (a b : Command) → IsCommand line a → IsCommand line b → a ≡ b
+command-once unique one line a b p q = reading-once unique one (reading (word_in line)) line a b (is_read line a p) (is_read line b q)
 
-pub commands-once : OneSelector → (lines : List (List ℕ)) (a b : List Command) → AreCommands lines a → AreCommands lines b → a ≡ b
-commands-once one [] [] [] p q = refl
-commands-once one [] [] (d ∷ ds) p q = absurd q
-commands-once one [] (c ∷ cs) b p q = absurd p
-commands-once one (line ∷ lines) [] b p q = absurd p
-commands-once one (line ∷ lines) (c ∷ cs) [] p q = absurd q
-commands-once one (line ∷ lines) (c ∷ cs) (d ∷ ds) p q =
-    ap (λ x. x ∷ cs) (command-once one line c d p.0 q.0) ∙ ap (λ xs. d ∷ xs) (commands-once one lines cs ds p.1 q.1)
+pub commands-once : OneReading → OneSelector → (lines : List (List ℕ)) (a b : List Command) → AreCommands lines a → AreCommands lines b → a ≡ b
+commands-once unique one [] [] [] p q = refl
+commands-once unique one [] [] (d ∷ ds) p q = absurd q
+commands-once unique one [] (c ∷ cs) b p q = absurd p
+commands-once unique one (line ∷ lines) [] b p q = absurd p
+commands-once unique one (line ∷ lines) (c ∷ cs) [] p q = absurd q
+commands-once unique one (line ∷ lines) (c ∷ cs) (d ∷ ds) p q =
+    ap (λ x. x ∷ cs) (command-once unique one line c d p.0 q.0) ∙ ap (λ xs. d ∷ xs) (commands-once unique one lines cs ds p.1 q.1)
 
-pub script-once : OneSelector → (script : List ℕ) (a b : List Command) → IsScript script a → IsScript script b → a ≡ b
-script-once one script a b p q = commands-once one (lines_of script) a b p.are_commands q.are_commands
+pub script-once : OneReading → OneSelector → (script : List ℕ) (a b : List Command) → IsScript script a → IsScript script b → a ≡ b
+script-once unique one script a b p q = commands-once unique one (lines_of script) a b p.are_commands q.are_commands
 
 -- one of the lines asks for no command
 good-line : (good later : List (List ℕ)) (bad : List ℕ) (commands : List Command) → AreCommands (good ++ bad ∷ later) commands → IsBad bad → ⊥

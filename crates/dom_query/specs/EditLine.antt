@@ -1,8 +1,13 @@
 -- The lines that change the tree.
 use Rattle.std.specs.Prelude.{◌≡◌, ◌≢◌, ◌==◌, ℕ, true, List, codes}
 use Rattle.std.specs.List.{list_all, slice_split}
+use Rattle.dom_links.specs.Forest.{Forest}
+use Rattle.dom_links.specs.declared.gap.Place.{Place}
+use Rattle.dom_links.specs.declared.gap.Place.TheVariants.{After, Around, AtEnd, AtFront, Before, InsteadOfChildren, InsteadOfNode}
+use Rattle.dom_markup.specs.Documents.{IsSpelled}
+use Rattle.dom_markup.specs.Refusals.{BeginsTooManyNodes}
 use Rattle.dom_query.specs.declared.script.edit_line.EditLine.{EditLine}
-use Rattle.dom_query.specs.declared.script.edit_line.EditLine.TheVariants.{SetAttr, RemoveAttr, Rename, AddClass, RemoveClass, SetText, Strip, Remove, Unwrap, Normalize}
+use Rattle.dom_query.specs.declared.script.edit_line.EditLine.TheVariants.{SetAttr, RemoveAttr, Rename, AddClass, RemoveClass, SetText, Strip, Put, Remove, Unwrap, Normalize}
 use Rattle.dom_query.specs.Words.{HasArgument, HasName, HasNoArgument, HasNoName, is_name}
 
 -- the text is a name, one space and the value, or a name alone, whose value is empty
@@ -16,6 +21,30 @@ HasNoPair text = (name value : List ℕ) → HasPair text name value → ⊥
 abbrev pub names_in : List ℕ → List (List ℕ)
 names_in text = slice_split (λ b. b == 32) text
 
+-- the line is the word and markup, of which this was read
+abbrev pub HasMarkup : List ℕ → List ℕ → Forest → Type 0
+HasMarkup line word read = (argument : List ℕ) × HasArgument line word argument × IsSpelled argument read
+
+abbrev pub HasNoMarkup : List ℕ → List ℕ → Type 0
+HasNoMarkup line word = (read : Forest) → HasMarkup line word read → ⊥
+
+-- behind the word stands markup of more nodes than there are numbers
+abbrev pub HasLargeMarkup : List ℕ → Type 0
+HasLargeMarkup line = (word : List ℕ) × (argument : List ℕ) × HasArgument line word argument × BeginsTooManyNodes argument
+
+-- the line puts what was read there
+abbrev pub IsPut : List ℕ → Place → Forest → Type 0
+IsPut line InsteadOfChildren read = HasMarkup line (codes "set-html") read
+IsPut line AtEnd read = HasMarkup line (codes "append-html") read
+IsPut line AtFront read = HasMarkup line (codes "prepend-html") read
+IsPut line Before read = HasMarkup line (codes "before-html") read
+IsPut line After read = HasMarkup line (codes "after-html") read
+IsPut line InsteadOfNode read = HasMarkup line (codes "replace-html") read
+IsPut line Around read = ⊥
+
+abbrev pub IsNoPut : List ℕ → Type 0
+IsNoPut line = (place : Place) (read : Forest) → IsPut line place read → ⊥
+
 -- the line is this edit
 abbrev pub IsEdit : List ℕ → EditLine → Type 0
 IsEdit line (SetAttr name value) = (argument : List ℕ) × HasArgument line (codes "set-attr") argument × HasPair argument name value
@@ -25,6 +54,7 @@ IsEdit line (AddClass classes) = HasArgument line (codes "add-class") classes
 IsEdit line (RemoveClass classes) = HasArgument line (codes "remove-class") classes
 IsEdit line (SetText text) = HasArgument line (codes "set-text") text
 IsEdit line (Strip names) = HasArgument line (codes "strip") names × (list_all is_name (names_in names) ≡ true)
+IsEdit line (Put place read) = IsPut line place read
 IsEdit line Remove = line ≡ codes "remove"
 IsEdit line Unwrap = line ≡ codes "unwrap"
 IsEdit line Normalize = line ≡ codes "normalize"

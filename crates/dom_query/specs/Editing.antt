@@ -8,9 +8,9 @@ use Rattle.dom_nodes.specs.declared.node_data.NodeData.{NodeData}
 use Rattle.dom_links.specs.Contents.{with_content}
 use Rattle.dom_links.specs.Forest.{Forest}
 use Rattle.dom_trees.specs.Edits.{IsKnown, TreeEdit, normalizing, removing, texting, unwrapping}
-use Rattle.dom_edits.specs.Edits.{Each, Stops, stripping}
+use Rattle.dom_edits.specs.Edits.{Each, Stops, putting_known, stripping}
 use Rattle.dom_query.specs.declared.script.edit_line.EditLine.{EditLine}
-use Rattle.dom_query.specs.declared.script.edit_line.EditLine.TheVariants.{SetAttr, RemoveAttr, Rename, AddClass, RemoveClass, SetText, Strip, Remove, Unwrap, Normalize}
+use Rattle.dom_query.specs.declared.script.edit_line.EditLine.TheVariants.{SetAttr, RemoveAttr, Rename, AddClass, RemoveClass, SetText, Strip, Put, Remove, Unwrap, Normalize}
 use Rattle.dom_query.specs.EditLine.{names_in}
 
 -- the data of x could not be changed: x is unknown, or memory was refused
@@ -32,6 +32,7 @@ line_edit (AddClass classes) n = rewriting (with_attrs (with_classes classes)) n
 line_edit (RemoveClass classes) n = rewriting (with_attrs (without_classes classes)) n
 line_edit (SetText text) n = texting n text
 line_edit (Strip names) n = stripping (names_in names) n
+line_edit (Put place read) n = putting_known place read n
 line_edit Remove n = removing n
 line_edit Unwrap n = unwrapping n
 line_edit Normalize n = normalizing n

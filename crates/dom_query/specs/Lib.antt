@@ -7,6 +7,7 @@ pub mod Editing
 pub mod Out
 pub mod Faults
 pub mod Runs
+pub mod ReadBack
 pub mod Markdown
 pub mod Telling
 pub mod Drive

@@ -12,7 +12,7 @@ use Rattle.dom_query.specs.declared.script.Command.{Command}
 use Rattle.dom_query.specs.Editing.{IsRefusal}
 use Rattle.dom_query.specs.Out.{Does, DoesAll, Ending, Fails, Out, Ran}
 use Rattle.dom_query.specs.Out.Ending.{refused, bad_script, bad_markup}
-use Rattle.dom_query.specs.Script.{IsScript}
+use Rattle.dom_query.specs.Script.{HasLargeLine, IsScript}
 
 -- the command was done with this selection, what it writes was written, and then the forest is `after`, and those nodes are
 -- selected
@@ -73,11 +73,12 @@ Ended markup script old new ending = (text : List ℕ) × Out markup script text
 abbrev pub Began : List ℕ → List ℕ → Option (List ℕ) → Option (List ℕ) → Type 0
 Began markup script old new = (text : List ℕ) (ending : Ending) → Out markup script text ending → AppendsBeginning old new text
 
--- numbers gave out: the markup has too many nodes, and nothing was written; or the lines before an edit were done and
--- written, and it asks for a number too many
+-- numbers gave out: the markup of a line, or of a script's document, has too many nodes, and nothing was written; or the
+-- lines before an edit were done and written, and it asks for a number too many
 abbrev pub RanOut : List ℕ → List ℕ → Option (List ℕ) → Option (List ℕ) → Type 0
 RanOut markup script old new =
-    (((commands : List Command) × IsScript script commands) × BeginsTooManyNodes markup × Appends old new [])
+    (HasLargeLine script × Appends old new [])
+    ⊎ (((commands : List Command) × IsScript script commands) × BeginsTooManyNodes markup × Appends old new [])
     ⊎ ((line : ℕ) × (text : List ℕ) × Ran markup script text (refused line TooMany) × Appends old new text)
 
 -- what a fault tells

@@ -1,5 +1,5 @@
 -- The grammar of scripts.
-use Rattle.std.specs.Prelude.{◌≡◌, ◌+◌, ◌==◌, ℕ, zero, suc, List, [], ◌∷◌, ◌++◌, codes, length}
+use Rattle.std.specs.Prelude.{◌≡◌, ◌+◌, ◌==◌, ℕ, zero, suc, List, [], ◌∷◌, ◌++◌, Some, codes, length, slice_get}
 use Rattle.std.specs.List.{slice_split}
 use Rattle.std.specs.Str.{IsUtf8, chars}
 use Rattle.dom_selectors.specs.Grammar.{StandsFor}
@@ -12,7 +12,7 @@ use Rattle.dom_query.specs.declared.script.Picking.{Picking}
 use Rattle.dom_query.specs.declared.script.Picking.TheVariants.{Select, Find, Filter, Add}
 use Rattle.dom_query.specs.declared.script.Showing.{Showing}
 use Rattle.dom_query.specs.declared.script.Showing.TheVariants.{Count, Text, Formatted, Html, InnerHtml, Document}
-use Rattle.dom_query.specs.EditLine.{IsEdit}
+use Rattle.dom_query.specs.EditLine.{HasLargeMarkup, IsEdit}
 use Rattle.dom_query.specs.Words.{HasArgument, HasName}
 
 -- the text stands for no selector
@@ -101,3 +101,7 @@ pub record IsScript (script : List ℕ) (commands : List Command) : Type 0 where
 abbrev pub IsNoScript : List ℕ → ℕ → Type 0
 IsNoScript script zero = IsUtf8 script → ⊥
 IsNoScript script (suc n) = IsUtf8 script × FirstBad (lines_of script) (suc n)
+
+-- a line of the script has markup of more nodes than there are numbers
+abbrev pub HasLargeLine : List ℕ → Type 0
+HasLargeLine script = (line : List ℕ) × ((n : ℕ) × (slice_get (lines_of script) n ≡ Some line)) × HasLargeMarkup line

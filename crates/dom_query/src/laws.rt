@@ -3,6 +3,7 @@
 ghost use Rattle.std.specs.Prelude.{ℕ, List, Option};
 ghost use Rattle.dom_query.specs.Drive.{Drove, StatusTells};
 ghost use Rattle.dom_query.specs.Out.{HasOneOutput};
+ghost use Rattle.dom_query.specs.ReadBack.{ReadsBack};
 
 /// A run has one text and one ending at most.
 pub fn one_output()
@@ -11,6 +12,17 @@ pub fn one_output()
     dom_markup::laws::one_reading();
     dom_select::laws::one_reading();
     dom_select::laws::one_selection();
+}
+
+/// Where the script is the one line `document` and the document of the markup is plain, what a run
+/// writes that is done is a text that spells the same tree, and a line feed.
+pub fn document_reads_back()
+    ensures { (markup text : List ℕ) → ReadsBack markup text }
+{
+    dom_markup::laws::one_reading();
+    dom_select::laws::one_reading();
+    dom_markup::laws::plain::documents_are_forests();
+    dom_markup::laws::plain::plain_documents_are_spelled();
 }
 
 /// The status of a drive tells how it ended: 0 that its job was done, 2 that the script was

@@ -11,6 +11,8 @@ mod telling;
 #[cfg(test)]
 mod tests;
 
+pub use dom_edits::edit::SelectionFault;
+pub use dom_edits::selection_mut::SelectionMut;
 pub use dom_links::gap::Place;
 pub use dom_links::iters::{AncestorNodes, ChildNodes, DescendantNodes};
 pub use dom_links::ops::TreeNodeOps;

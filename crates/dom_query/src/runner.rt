@@ -34,7 +34,7 @@ pub enum RunFault {
     /// An edit was refused, at that line.
     #[error("edit refused at line {0}: {1}")]
     Edit(usize, EditFault),
-    /// The markup, or an edit of what it spells, asks for more nodes than there are numbers.
+    /// Markup, or an edit, asks for more nodes than there are numbers.
     #[error("too many nodes")]
     TooManyNodes,
     /// Memory was refused.
@@ -86,6 +86,7 @@ impl From<ScriptFault> for RunFault {
     fn from(fault: ScriptFault) -> RunFault {
         match fault {
             ScriptFault::BadLine(line) => RunFault::BadScript(line),
+            ScriptFault::TooManyNodes => RunFault::TooManyNodes,
             ScriptFault::Memory => RunFault::Memory,
         }
     }

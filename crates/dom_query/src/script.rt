@@ -1,7 +1,7 @@
 //! The lines of a script, and the commands that they ask for.
 
 ghost use Rattle.std.specs.Prelude.{◌≡◌, ◌∷◌, ◌++◌, [], IfErr, IfOk, OnOk, MatchOption};
-ghost use Rattle.dom_query.specs.Faults.{ScriptRefused};
+ghost use Rattle.dom_query.specs.Faults.{LineRefused, ScriptRefused};
 ghost use Rattle.dom_query.specs.Script.{IsBad, IsCommand, IsNoPick, IsPick, IsScript};
 
 mod arguments;
@@ -87,6 +87,8 @@ pub enum Command {
 pub enum ScriptFault {
     /// The first bad line, counted from 1; 0 where the text isn't UTF-8.
     BadLine(usize),
+    /// The markup of a line has more nodes than there are numbers.
+    TooManyNodes,
     /// Memory was refused.
     Memory,
 }
@@ -122,8 +124,9 @@ fn pick_of(alloc: Global, line: &str) -> Result<Option<(Picking, Matcher)>, OutO
 }
 
 /// What the line asks for, if it asks for a command.
-fn command_of(alloc: Global, line: &str) -> Result<Option<Command>, OutOfMemory>
-    ensures { IfOk result (λ found. MatchOption found (IsBad line.now) (IsCommand line.now)) }
+fn command_of(alloc: Global, line: &str) -> Result<Option<Command>, ScriptFault>
+    ensures ok { IfOk result (λ found. MatchOption found (IsBad line.now) (IsCommand line.now)) }
+    ensures refused { IfErr result (LineRefused line.now) }
 {
     if line.is_empty() {
         return Ok(Some(Command::Nothing));

@@ -74,6 +74,7 @@ fn do_edit(tree: &mut Tree, nodes: &[NodeId], edit: &EditLine) -> Result<(), Edi
         }
         EditLine::SetText(text) => do_each(tree, nodes, Edit::SetText(text.as_str())),
         EditLine::Strip(names) => strip_each(tree, nodes, names.as_str()),
+        EditLine::Put(place, snippet) => do_each(tree, nodes, Edit::Put(*place, snippet)),
         EditLine::Remove => do_each(tree, nodes, Edit::Remove),
         EditLine::Unwrap => do_each(tree, nodes, Edit::Unwrap),
         EditLine::Normalize => do_each(tree, nodes, Edit::Normalize),

@@ -1,14 +1,21 @@
 //! The lines that change the tree.
 
-ghost use Rattle.std.specs.Prelude.{◌≡◌, map, IfOk, MatchOption};
+ghost use Rattle.std.specs.Prelude.{◌≡◌, map, IfErr, IfOk, MatchOption};
 ghost use Rattle.std.specs.List.{list_all};
 ghost use Rattle.dom_query.specs.EditLine.{HasNoPair, HasPair, IsEdit, IsNoBareEdit};
-ghost use Rattle.dom_query.specs.EditLine.{IsNoEdit, IsNoNamedEdit, IsNoSetAttr, IsNoStrip};
-ghost use Rattle.dom_query.specs.EditLine.{IsNoTextEdit, names_in};
+ghost use Rattle.dom_markup.specs.Documents.{IsSpelled};
+ghost use Rattle.dom_markup.specs.Markup.{SpellsNothing};
+ghost use Rattle.dom_query.specs.EditLine.{HasMarkup, HasNoMarkup, IsNoEdit, IsNoNamedEdit};
+ghost use Rattle.dom_query.specs.EditLine.{IsNoPut, IsNoSetAttr, IsNoStrip, IsNoTextEdit, IsPut};
+ghost use Rattle.dom_query.specs.EditLine.{names_in};
+ghost use Rattle.dom_query.specs.Faults.{LineRefused, MarkupLimit};
 ghost use Rattle.dom_query.specs.Words.{HasArgument, HasNoArgument, is_name};
 
+use crate::script::ScriptFault;
 use crate::script::arguments::{argument_of, is_name, name_behind};
-use dom_nodes::fault::OutOfMemory;
+use dom_links::gap::Place;
+use dom_markup::document::snippet::Snippet;
+use dom_nodes::fault::{MarkupFaultKind, OutOfMemory};
 use dom_nodes::text::Text;
 use std::alloc::Global;
 
@@ -30,6 +37,8 @@ pub enum EditLine {
     /// The elements below of these local names, which a space parts, are replaced by their
     /// children.
     Strip(Text),
+    /// Copies of the nodes that markup spells go to a place that the node tells.
+    Put(Place, Snippet),
     /// The node is cut out.
     Remove,
     /// The parent's children take the parent's place.
@@ -166,9 +175,65 @@ fn strip_of(alloc: Global, line: &str) -> Result<Option<EditLine>, OutOfMemory>
     Ok(Some(EditLine::Strip(Text::new(alloc, names)?)))
 }
 
+/// What was read of the text, if it is markup.
+fn snippet_of(alloc: Global, text: &str) -> Result<Option<Snippet>, ScriptFault>
+    ensures ok { IfOk result (λ found.
+        MatchOption found (SpellsNothing text.now) (IsSpelled text.now)) }
+    ensures refused { IfErr result (MarkupLimit text.now) }
+{
+    match Snippet::read(alloc, text) {
+        Ok(snippet) => Ok(Some(snippet)),
+        Err(fault) => match fault.kind {
+            MarkupFaultKind::TooManyNodes => Err(ScriptFault::TooManyNodes),
+            MarkupFaultKind::Memory => Err(ScriptFault::Memory),
+            _ => Ok(None),
+        },
+    }
+}
+
+/// What was read of the markup behind the word, if the line is these.
+fn snippet_behind(alloc: Global, line: &str, word: &str) -> Result<Option<Snippet>, ScriptFault>
+    ensures ok { IfOk result (λ found.
+        MatchOption found (HasNoMarkup line.now word.now) (HasMarkup line.now word.now)) }
+    ensures refused { IfErr result (LineRefused line.now) }
+{
+    match argument_of(line, word) {
+        Some(argument) => snippet_of(alloc, argument),
+        None => Ok(None),
+    }
+}
+
+/// What the line puts where, if it puts markup.
+fn put_of(alloc: Global, line: &str) -> Result<Option<(Place, Snippet)>, ScriptFault>
+    ensures ok { IfOk result (λ found. MatchOption found (IsNoPut line.now)
+        (λ put. IsPut line.now put.0 put.1)) }
+    ensures refused { IfErr result (LineRefused line.now) }
+{
+    if let Some(snippet) = snippet_behind(alloc, line, "set-html")? {
+        return Ok(Some((Place::InsteadOfChildren, snippet)));
+    }
+    if let Some(snippet) = snippet_behind(alloc, line, "append-html")? {
+        return Ok(Some((Place::AtEnd, snippet)));
+    }
+    if let Some(snippet) = snippet_behind(alloc, line, "prepend-html")? {
+        return Ok(Some((Place::AtFront, snippet)));
+    }
+    if let Some(snippet) = snippet_behind(alloc, line, "before-html")? {
+        return Ok(Some((Place::Before, snippet)));
+    }
+    if let Some(snippet) = snippet_behind(alloc, line, "after-html")? {
+        return Ok(Some((Place::After, snippet)));
+    }
+    if let Some(snippet) = snippet_behind(alloc, line, "replace-html")? {
+        return Ok(Some((Place::InsteadOfNode, snippet)));
+    }
+    Ok(None)
+}
+
 /// The edit that the line is, if it is one.
-pub fn edit_of(alloc: Global, line: &str) -> Result<Option<EditLine>, OutOfMemory>
-    ensures { IfOk result (λ found. MatchOption found (IsNoEdit line.now) (IsEdit line.now)) }
+pub fn edit_of(alloc: Global, line: &str) -> Result<Option<EditLine>, ScriptFault>
+    ensures ok { IfOk result (λ found. MatchOption found (IsNoEdit line.now) (IsEdit line.now)) }
+    ensures refused { IfErr result (LineRefused line.now) }
 {
     if let Some(edit) = bare_edit_of(line) {
         return Ok(Some(edit));
@@ -182,5 +247,11 @@ pub fn edit_of(alloc: Global, line: &str) -> Result<Option<EditLine>, OutOfMemor
     if let Some(edit) = set_attr_of(alloc, line)? {
         return Ok(Some(edit));
     }
-    strip_of(alloc, line)
+    if let Some(edit) = strip_of(alloc, line)? {
+        return Ok(Some(edit));
+    }
+    match put_of(alloc, line)? {
+        Some((place, snippet)) => Ok(Some(EditLine::Put(place, snippet))),
+        None => Ok(None),
+    }
 }

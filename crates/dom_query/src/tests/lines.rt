@@ -1,6 +1,6 @@
 //! What the lines of scripts select, show and change.
 
-use crate::{RunFault, run};
+use crate::{EditFault, RunFault, run};
 use std::test::Fail;
 
 const LIST: &str = "<ul><li>1</li>x<li class=\"b\">2<i>3</i></li></ul>";
@@ -32,10 +32,26 @@ fn selects_and_shows(rt: HostRuntime) -> Result<(), Fail> {
             "select b\nadd *\ncount\nhtml",
             "2\n<b></b>\n",
         ),
-        (LIST, "select i\nparent\nprev\ntext\nnext\nattr class", "1\nb\n"),
-        (LIST, "select ul\nchildren\nlast\ninner-html\nattr id", "2<i>3</i>\n\n"),
-        (LIST, "select li\nfirst\nhtml\nselect p\nfirst\nhtml\nattr a", "<li>1</li>\n\n\n"),
-        (LIST, "select i\nfilter b\nfind *\nparent\ncount\ninner-html", "0\n\n"),
+        (
+            LIST,
+            "select i\nparent\nprev\ntext\nnext\nattr class",
+            "1\nb\n",
+        ),
+        (
+            LIST,
+            "select ul\nchildren\nlast\ninner-html\nattr id",
+            "2<i>3</i>\n\n",
+        ),
+        (
+            LIST,
+            "select li\nfirst\nhtml\nselect p\nfirst\nhtml\nattr a",
+            "<li>1</li>\n\n\n",
+        ),
+        (
+            LIST,
+            "select i\nfilter b\nfind *\nparent\ncount\ninner-html",
+            "0\n\n",
+        ),
     ] {
         let mut out: Vec<u8> = Vec::new(alloc);
         assert_eq!(rt;
@@ -140,8 +156,64 @@ fn refuses_lines(rt: HostRuntime) -> Result<(), Fail> {
             Err(RunFault::BadScript(3))
         };
         let mut out: Vec<u8> = Vec::new(alloc);
-        assert_eq!(rt; run(alloc, b"<p>a</p>", script.as_bytes(), &mut out), want, "{line}");
+        assert_eq!(rt;
+            run(alloc, b"<p>a</p>", script.as_bytes(), &mut out),
+            want,
+            "{line}"
+        );
         assert!(rt; out.is_empty() != good, "{line}");
+    }
+    Ok(())
+}
+
+#[test]
+fn puts_markup(rt: HostRuntime) -> Result<(), Fail> {
+    let alloc = rt.alloc();
+    for (markup, script, want, end) in [
+        (
+            "<p>a</p><p>b</p>",
+            "select p\nappend-html <i>x</i>\nset-attr id k\ndocument",
+            "<p id=\"k\">a<i>x</i></p><p id=\"k\">b<i>x</i></p>\n",
+            Ok(()),
+        ),
+        (
+            "<p>a</p><b>c</b>",
+            "select p\nreplace-html\ndocument",
+            "<b>c</b>\n",
+            Ok(()),
+        ),
+        (
+            "<p>a</p>",
+            "select p\nbefore-html 1<!doctype x>\nafter-html 2<b></b>\nprepend-html 3\ndocument\nset-html &lt;\nhtml",
+            "1<p>3a</p>2<b></b>\n<p>&lt;</p>\n",
+            Ok(()),
+        ),
+        (
+            "<p>a</p>",
+            "count\nbefore-html <b></b>\ncount",
+            "1\n",
+            Err(RunFault::Edit(2, EditFault::RootOrFragment)),
+        ),
+        (
+            "<br>",
+            "\n\nselect br\nset-html\ndocument\nselect br\nset-text a\nchildren\nparent",
+            "<br>\n",
+            Ok(()),
+        ),
+        ("<p>", "append-html <p>", "", Err(RunFault::BadScript(1))),
+        (
+            "<p>",
+            "append-html </p>x\nfrob",
+            "",
+            Err(RunFault::BadScript(1)),
+        ),
+    ] {
+        let mut out: Vec<u8> = Vec::new(alloc);
+        assert_eq!(rt;
+            run(alloc, markup.as_bytes(), script.as_bytes(), &mut out),
+            end
+        );
+        assert_eq!(rt; out.as_slice(), want.as_bytes());
     }
     Ok(())
 }

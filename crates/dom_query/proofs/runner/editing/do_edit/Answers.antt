@@ -28,6 +28,9 @@ returns-in-SetText c =
     rw c.in-SetText.is (subst (λ t. EditsOrFails c.do_each-in-SetText.result c.args.tree.now c.do_each-in-SetText.new.tree c.args.nodes.now (λ n. texting n t))
     c.as_str-in-SetText.ensures c.do_each-in-SetText.ensures)
 
+pub returns-in-Put : goal.returns-in-Put
+returns-in-Put c = rw c.in-Put.is c.do_each-in-Put.ensures
+
 pub returns-in-Remove : goal.returns-in-Remove
 returns-in-Remove c = rw c.in-Remove.is c.do_each-in-Remove.ensures
 
