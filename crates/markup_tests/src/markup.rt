@@ -3,3 +3,4 @@
 mod document;
 mod document_fragment;
 mod serializing;
+mod setters;
