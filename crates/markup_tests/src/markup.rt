@@ -3,4 +3,5 @@
 mod document;
 mod document_fragment;
 mod serializing;
+mod setters;
 mod sink;

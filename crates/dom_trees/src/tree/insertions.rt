@@ -27,7 +27,7 @@ impl Tree {
         insertions::merge_at(&mut self.nodes, *id, place, &other.nodes, ids)
     }
 
-    /// Makes copies of nodes of this tree and puts them at a place, as `merge_at` does of another's.
+    /// Makes copies of this tree's nodes and puts them at a place, as `merge_at` does another's.
     pub fn copy_at(&mut self, id: &NodeId, place: Place, ids: &[NodeId]) -> Result<(), EditFault>
         ensures { Edits result self.old self.new (inserting self.old ids.now place id.now) }
     {
