@@ -1,16 +1,20 @@
 -- A node whose text was changed, and lists without some nodes.
-use Rattle.std.proofs.Common.{ℕ, zero, suc, ◌≡◌, ◌+◌, Bool, true, false, List, [], ◌∷◌, ◌++◌, Option, Some, None, refl, sym, ap, ◌∙◌, arith, length, append-nil, reverse}
-use Rattle.std.specs.Prelude.{slice_get}
+use Rattle.std.proofs.Common.{ℕ, zero, suc, ◌≡◌, ◌+◌, Bool, true, false, List, [], ◌∷◌, ◌++◌, Option, Some, None, refl, sym, ap, ◌∙◌, arith, length, append_assoc, append-nil, cond, reverse}
+use Rattle.std.specs.Prelude.{◌==◌, ◌&&◌, slice_get}
+use Rattle.std.specs.List.{flat_map}
 use Rattle.std.specs.Option.{option_map, option_map_or}
-use Rattle.std.proofs.lemmas.Bool.{true≢false}
+use Rattle.std.proofs.lemmas.Bool.{eqb-true, true≢false}
+use Rattle.std.proofs.lemmas.List.Concat.{flat_map-append}
 use Rattle.dom_nodes.specs.Kinds.{is_text, may_bear}
 use Rattle.dom_nodes.specs.declared.node_data.NodeData.{NodeData}
 use Rattle.dom_nodes.specs.declared.node_data.NodeData.TheVariants.{Document, Fragment, Doctype, Text, Comment, Element, ProcessingInstruction}
 use Rattle.dom_links.specs.Lists.{stands_in, map_from, without}
 use Rattle.dom_links.specs.Forest.{Forest, children_of}
+use Rattle.dom_links.specs.Readings.{JoinsTexts, Reading, read_as}
 use Rattle.dom_links.specs.SetTexts.{is_text_at, retexted}
-use Rattle.dom_links.specs.Sound.{IsForest}
+use Rattle.dom_links.specs.Sound.{IsForest, bears}
 use Rattle.dom_links.specs.Texts.{text_at, text_in}
+use Rattle.dom_links.specs.Trees.{contents_list, trees, trees_to, walk}
 use Rattle.dom_links.proofs.Depth.{here_stands}
 use Rattle.dom_links.proofs.Neighbours.{reverse_cons, without-append}
 
@@ -89,3 +93,83 @@ without_reverse out (n ∷ ns) =
     last_part : (b : Bool) → stands_in n out ≡ b → reverse (without out ns) ++ without out (n ∷ []) ≡ reverse (without out (n ∷ ns))
     last_part true is = rw is (append-nil (reverse (without out ns)))
     last_part false is = rw is (sym (reverse_cons n (without out ns)))
+
+pub bearing_kept : (text : List ℕ) (content : NodeData) → may_bear (retexted text content) ≡ may_bear content
+bearing_kept text Document = refl
+bearing_kept text Fragment = refl
+bearing_kept text (Doctype a b c) = refl
+bearing_kept text (Text a) = refl
+bearing_kept text (Comment a) = refl
+bearing_kept text (Element a) = refl
+bearing_kept text (ProcessingInstruction a b) = refl
+
+-- ---- Bools and lists
+
+pub and-false : (a : Bool) → (a && false) ≡ false
+and-false true = refl
+and-false false = refl
+
+pub either : (b c d : Bool) → c ≡ true → d ≡ true → cond b c d ≡ true
+either true c d p q = p
+either false c d p q = q
+
+pub no_bytes : (ts : List ℕ) → (length ts == 0) ≡ true → ts ≡ []
+no_bytes [] h = refl
+no_bytes (c ∷ ts) h = (let e : length (c ∷ ts) ≡ 0 = eqb-true (length (c ∷ ts)) 0 h in absurd (omega (arith, e)))
+
+-- ---- texts as a reading of trees
+
+-- who bears no children has none
+abbrev pub Leaves : Forest → Type 0
+Leaves forest = (n : ℕ) → bears forest n ≡ false → children_of forest n ≡ []
+
+pub leaves : (forest : Forest) → IsForest forest → Leaves forest
+leaves forest good n none = go (children_of forest n) refl
+  where
+    go : (ks : List ℕ) → children_of forest n ≡ ks → ks ≡ []
+    go [] is = refl
+    go (k ∷ ks) is =
+        let up = (good.once.in_children n k (ap (stands_in k) is ∙ here_stands k ks)).1 in
+        absurd (true≢false (sym (good.bearing n k up) ∙ none))
+
+-- what a text holds, and what is read of the children of another node
+abbrev text_in_trees : NodeData → Bool → List ℕ → List ℕ → List ℕ
+text_in_trees (Text text) place contents children = text
+text_in_trees content place contents children = children
+
+pub text_reading : Reading
+text_reading = record { node = text_in_trees; below = λ content. false }
+
+pub text_joins : (forest : Forest) → JoinsTexts text_reading forest
+unfolding text_reading
+text_joins forest = record { leaf = λ text place contents children. refl; none = λ place. refl; joins = λ n more place. refl }
+
+-- the texts of a walk are what is read of its trees
+walked_to : (forest : Forest) → Leaves forest → (most : ℕ) (place : Bool) (ns : List ℕ) → flat_map (text_at forest) (walk (trees_to forest most ns)) ≡ read_as text_reading forest place (trees_to forest most ns)
+unfolding text_reading
+walked_to forest leaf most place [] = refl
+walked_to forest leaf zero place (n ∷ ns) = refl
+walked_to forest leaf (suc most) place (n ∷ ns) =
+    let kids = trees_to forest most (children_of forest n) in
+    let rest = trees_to forest (suc most) ns in
+    ap (λ ts. text_at forest n ++ ts) (flat_map-append (text_at forest) (walk kids) (walk rest))
+    ∙ ap (λ ts. text_at forest n ++ (ts ++ flat_map (text_at forest) (walk rest))) (walked_to forest leaf most false (children_of forest n))
+    ∙ ap (λ ts. text_at forest n ++ (read_as text_reading forest false kids ++ ts)) (walked_to forest leaf (suc most) place ns)
+    ∙ sym (append_assoc (text_at forest n) (read_as text_reading forest false kids) (read_as text_reading forest place rest))
+    ∙ ap (λ ts. ts ++ read_as text_reading forest place rest) (one place (read_as text_reading forest false (trees_to forest most (contents_list forest n))) (read_as text_reading forest false kids) (slice_get forest.content n)
+    (λ none. ap (λ ks. read_as text_reading forest false (trees_to forest most ks)) (leaf n none)))
+  where
+    one : (place : Bool) (inner below : List ℕ) (o : Option NodeData) → (option_map_or may_bear o false ≡ false → below ≡ []) →
+        option_map_or text_in o [] ++ below ≡ option_map_or (λ content. text_in_trees content place inner below) o []
+    one place inner below None none = none refl
+    one place inner below (Some Document) none = refl
+    one place inner below (Some Fragment) none = refl
+    one place inner below (Some (Doctype a b c)) none = refl
+    one place inner below (Some (Text a)) none = ap (λ ts. a ++ ts) (none refl) ∙ append-nil a
+    one place inner below (Some (Comment a)) none = refl
+    one place inner below (Some (Element a)) none = refl
+    one place inner below (Some (ProcessingInstruction a b)) none = refl
+
+pub text_walked : (forest : Forest) → Leaves forest → (place : Bool) (ns : List ℕ) → flat_map (text_at forest) (walk (trees forest ns)) ≡ read_as text_reading forest place (trees forest ns)
+unfolding trees
+text_walked forest leaf place ns = walked_to forest leaf (length forest.content) place ns

@@ -4,8 +4,7 @@ use Rattle.std.specs.Prelude.{◌==◌, ◌<◌, ◌&&◌, ◌||◌, find, not, 
 use Rattle.std.specs.List.{flat_map}
 use Rattle.std.specs.Option.{option_map, option_map_or}
 use Rattle.std.proofs.lemmas.Bool.{cases_Bool, eqb-true, false≢true, ne_eqb}
-use Rattle.std.proofs.lemmas.List.Concat.{flat_map-append}
-use Rattle.dom_nodes.specs.Kinds.{contents_named, is_fragment, is_text, is_top}
+use Rattle.dom_nodes.specs.Kinds.{contents_named, is_fragment, is_text, is_top, may_bear}
 use Rattle.dom_nodes.specs.declared.node_data.NodeData.{NodeData}
 use Rattle.dom_nodes.specs.declared.node_data.NodeData.TheVariants.{Document, Fragment, Doctype, Text, Comment, Element, ProcessingInstruction}
 use Rattle.dom_links.specs.Lists.{stands_in, IsDistinct, map_from, without}
@@ -13,7 +12,7 @@ use Rattle.dom_links.specs.Forest.{Forest, children_of, owner_from, parent, sibl
 use Rattle.dom_links.specs.Normalized.{dropped, front_texts, is_empty_text, joined, leads, nearest_before, normalized}
 use Rattle.dom_links.specs.Readings.{JoinsTexts, Reading, ReadsAlike, read_as}
 use Rattle.dom_links.specs.SetTexts.{is_text_at, retexted}
-use Rattle.dom_links.specs.Sound.{IsForest, contents_at, stays}
+use Rattle.dom_links.specs.Sound.{IsForest, bears, contents_at, stays}
 use Rattle.dom_links.specs.Texts.{text_at, text_in, text_of}
 use Rattle.dom_links.specs.Trees.{ancestors, contents_list, Trees, NoTrees, Tree, trees, trees_to, upward, walk, walk_below}
 use Rattle.dom_links.specs.Walk.{later, rest_after}
@@ -23,7 +22,7 @@ use Rattle.dom_links.proofs.Cuts.{one-stands}
 use Rattle.dom_links.proofs.Depth.{here_stands, later_stands, parent_inside, trees-none, trees-some, upward-none}
 use Rattle.dom_links.proofs.DownUp.{below_or_above}
 use Rattle.dom_links.proofs.Grown.{within}
-use Rattle.dom_links.proofs.JoinedNodes.{got_held, length_held, no_text_at, text_kept, text_leaf, text_put, without_reverse}
+use Rattle.dom_links.proofs.JoinedNodes.{Leaves, and-false, bearing_kept, either, leaves, no_bytes, text_joins, text_reading, text_walked, got_held, length_held, text_kept, text_leaf, text_put, without_reverse}
 use Rattle.dom_links.proofs.Later.{ancestors-parent, ancestors-same, not_above_itself}
 use Rattle.dom_links.proofs.Neighbours.{around, reverse_around, stands_in-append, stands_in-reverse, stands_in-without, without-append}
 use Rattle.dom_links.proofs.Places.{children_mapped, owner-without, siblings_child}
@@ -154,120 +153,14 @@ module _ (forest : Forest) (x : ℕ) (good : IsForest forest) where
 
   out_other : (n : ℕ) → is_text_at forest n ≡ false → stands_in n out ≡ false
   out_other n other = is_out n ∙ ap (λ b. stands_in n nodes && (b && not (leads forest n))) other ∙ and-false (stands_in n nodes)
-    where
-      and-false : (a : Bool) → (a && false) ≡ false
-      and-false true = refl
-      and-false false = refl
 
-  child_in : (n k : ℕ) → stands_in n nodes ≡ true → stands_in k (children_of forest n) ≡ true → stands_in k nodes ≡ true
-  child_in n k s child =
-      let up = (good.once.in_children n k child).1 in
-      let above = ancestors-parent forest k n good up (parent_inside forest k n good up) in
-      below_or_above forest good x k ∙ ap (stands_in x) above ∙ later_stands n x (ancestors forest n) (sym (below_or_above forest good x n) ∙ s)
+  -- ---- what is read then
 
-  -- ---- the text then
-
-  abbrev old_text : List ℕ → List ℕ
-  old_text ns = flat_map (text_at forest) (walk (trees forest ns))
-
-  abbrev new_text : List ℕ → List ℕ
-  new_text ns = flat_map (text_at after_it) (without out (walk (trees forest ns)))
-
-  record SameText (before behind : List ℕ) : Type 0 where
-    within : inside before ≡ true → front_texts forest behind ++ new_text behind ≡ old_text behind
-    apart : inside before ≡ false → new_text behind ≡ old_text behind
-
-  texts_then : (t : Trees) (p : ℕ) (before behind : List ℕ) → t ≡ trees forest behind → children_of forest p ≡ before ++ behind → ((m : ℕ) → stands_in m behind ≡ true → stands_in m nodes ≡ true) → SameText before behind
-  texts_then t p before [] e row in_it =
-      let none = trees-none forest in
-      let old : old_text [] ≡ [] = ap (λ ts. flat_map (text_at forest) (walk ts)) none in
-      let new : new_text [] ≡ [] = ap (λ ts. flat_map (text_at after_it) (without out (walk ts))) none in
-      record { within = λ h. new ∙ sym old; apart = λ h. new ∙ sym old }
-  texts_then NoTrees p before (n ∷ behind) e row in_it = (let no = e ∙ trees-some forest n behind good (λ m s. walk-inside forest x m good (in_it m s)) in cc)
-  texts_then (Tree r c k l) p before (n ∷ behind) e row in_it =
-      let whole = trees-some forest n behind good (λ m s. walk-inside forest x m good (in_it m s)) in
-      let same = e ∙ whole in
-      let kids_are : k ≡ trees forest (children_of forest n) = cc in
-      let rest_are : l ≡ trees forest behind = cc in
-      let here = in_it n (here_stands n behind) in
-      let kids = texts_then k n [] (children_of forest n) kids_are refl (λ m s. child_in n m here s) in
-      let rest = texts_then l p (before ++ n ∷ []) behind rest_are (row ∙ sym (append_assoc before (n ∷ []) behind)) (λ m s. in_it m (later_stands n m behind s)) in
-      let there = stands_there p n before behind row in
-      let inner = walk_below forest n in
-      let outer = walk (trees forest behind) in
-      let old : old_text (n ∷ behind) ≡ text_at forest n ++ (old_text (children_of forest n) ++ old_text behind) =
-      ap (λ ts. flat_map (text_at forest) (walk ts)) whole ∙ ap (λ ms. text_at forest n ++ ms) (flat_map-append (text_at forest) inner outer) in
-      let left : new_text (n ∷ behind) ≡ flat_map (text_at after_it) (without out (n ∷ (inner ++ outer))) = ap (λ ts. flat_map (text_at after_it) (without out (walk ts))) whole in
-      let both : flat_map (text_at after_it) (without out (inner ++ outer)) ≡ new_text (children_of forest n) ++ new_text behind =
-      ap (flat_map (text_at after_it)) (without-append out inner outer) ∙ flat_map-append (text_at after_it) (without out inner) (without out outer) in
-      let gone : stands_in n out ≡ true → new_text (n ∷ behind) ≡ new_text (children_of forest n) ++ new_text behind = λ t. left ∙ ap (λ b. flat_map (text_at after_it) (cond b (without out (inner ++ outer)) (n ∷ without out (inner ++ outer)))) t ∙ both in
-      let kept : stands_in n out ≡ false → new_text (n ∷ behind) ≡ text_at after_it n ++ (new_text (children_of forest n) ++ new_text behind) = λ f. left ∙ ap (λ b. flat_map (text_at after_it) (cond b (without out (inner ++ outer)) (n ∷ without out (inner ++ outer)))) f ∙ ap (λ ms. text_at after_it n ++ ms) both in
-      elim (cases_Bool (is_text_at forest n)) [
-        | inr other ↦ (let empty : is_empty_text forest n ≡ false = ap (λ b. b && length (text_at forest n) == 0) other in
-            let outside : inside (before ++ n ∷ []) ≡ false = inside_next before n ∙ ap (λ b. cond (not b) (is_text_at forest n) (inside before)) empty ∙ other in
-            let new : new_text (n ∷ behind) ≡ old_text (n ∷ behind) =
-            kept (out_other n other) ∙ ap (λ ms. ms ++ (new_text (children_of forest n) ++ new_text behind)) (no_text_at after_it n (kind n ∙ other))
-            ∙ ap (λ ms. ms ++ new_text behind) (kids.apart refl) ∙ ap (λ ms. old_text (children_of forest n) ++ ms) (rest.apart outside)
-            ∙ sym (old ∙ ap (λ ms. ms ++ (old_text (children_of forest n) ++ old_text behind)) (no_text_at forest n other)) in
-            record {
-              within = λ h. ap (λ b. cond b (text_at forest n ++ front_texts forest behind) [] ++ new_text (n ∷ behind)) other ∙ new;
-              apart = λ h. new;
-            })
-        | inl text ↦ (let leaf = text_leaf forest n good text in
-            let old_none : old_text (children_of forest n) ≡ [] = ap old_text leaf ∙ ap (λ ts. flat_map (text_at forest) (walk ts)) (trees-none forest) in
-            let new_none : new_text (children_of forest n) ≡ [] = ap new_text leaf ∙ ap (λ ts. flat_map (text_at after_it) (without out (walk ts))) (trees-none forest) in
-            let old_is : old_text (n ∷ behind) ≡ text_at forest n ++ old_text behind = old ∙ ap (λ ms. text_at forest n ++ (ms ++ old_text behind)) old_none in
-            let front : front_texts forest (n ∷ behind) ≡ text_at forest n ++ front_texts forest behind = ap (λ b. cond b (text_at forest n ++ front_texts forest behind) []) text in
-            let leading = leads_is p n before behind there text in
-            let then_gone : leads forest n ≡ false → new_text (n ∷ behind) ≡ new_text behind = λ f. gone (out_text n here text ∙ ap not f) ∙ ap (λ ms. ms ++ new_text behind) new_none in
-            record {
-              within = λ h. (let f : leads forest n ≡ false = leading ∙ ap (λ b. not (is_empty_text forest n) && not b) h ∙ and-false (not (is_empty_text forest n)) in
-                  let more : inside (before ++ n ∷ []) ≡ true = inside_next before n ∙ either (not (is_empty_text forest n)) (is_text_at forest n) (inside before) text h in
-                  ap (λ ms. ms ++ new_text (n ∷ behind)) front ∙ ap (λ ms. (text_at forest n ++ front_texts forest behind) ++ ms) (then_gone f)
-                  ∙ append_assoc (text_at forest n) (front_texts forest behind) (new_text behind) ∙ ap (λ ms. text_at forest n ++ ms) (rest.within more) ∙ sym old_is);
-              apart = λ h. elim (cases_Bool (is_empty_text forest n)) [
-                | inl nothing ↦ (let f : leads forest n ≡ false = leading ∙ ap (λ b. not b && not (inside before)) nothing in
-                    let less : inside (before ++ n ∷ []) ≡ false = inside_next before n ∙ ap (λ b. cond (not b) (is_text_at forest n) (inside before)) nothing ∙ h in
-                    let no : text_at forest n ≡ [] = no_bytes (text_at forest n) (sym (ap (λ b. b && length (text_at forest n) == 0) text) ∙ nothing) in
-                    then_gone f ∙ rest.apart less ∙ sym (old_is ∙ ap (λ ms. ms ++ old_text behind) no))
-                | inr full ↦ (let t : leads forest n ≡ true = leading ∙ ap (λ b. not b && not (inside before)) full ∙ ap not h in
-                    let more : inside (before ++ n ∷ []) ≡ true = inside_next before n ∙ ap (λ b. cond (not b) (is_text_at forest n) (inside before)) full ∙ text in
-                    let held_now : text_at after_it n ≡ text_at forest n ++ front_texts forest behind = text_joined n here text ∙ ap (λ b. cond b (text_at forest n ++ front_texts forest (later forest false n)) []) t ∙ ap (λ ms. text_at forest n ++ front_texts forest ms) there.on in
-                    kept (out_text n here text ∙ ap not t) ∙ ap (λ ms. ms ++ (new_text (children_of forest n) ++ new_text behind)) held_now
-                    ∙ ap (λ ms. (text_at forest n ++ front_texts forest behind) ++ (ms ++ new_text behind)) new_none
-                    ∙ append_assoc (text_at forest n) (front_texts forest behind) (new_text behind) ∙ ap (λ ms. text_at forest n ++ ms) (rest.within more) ∙ sym old_is)
-              ];
-            })
-      ]
-    where
-      and-false : (a : Bool) → (a && false) ≡ false
-      and-false true = refl
-      and-false false = refl
-
-      either : (b c d : Bool) → c ≡ true → d ≡ true → cond b c d ≡ true
-      either true c d p q = p
-      either false c d p q = q
-
-      no_bytes : (ts : List ℕ) → (length ts == 0) ≡ true → ts ≡ []
-      no_bytes [] h = refl
-      no_bytes (c ∷ ts) h = (let e : length (c ∷ ts) ≡ 0 = eqb-true (length (c ∷ ts)) 0 h in absurd (omega (arith, e)))
-
-  pub text_stays : text_of after_it x ≡ text_of forest x
-  text_stays =
-      let rest = texts_then (trees forest (children_of forest x)) x [] (children_of forest x) refl refl (λ m s. child_of_x m s) in
-      let top : text_at after_it x ≡ text_at forest x = text_same x not_itself in
-      ap (λ ms. text_at after_it x ++ flat_map (text_at after_it) ms) walk_then ∙ ap (λ ms. ms ++ new_text (children_of forest x)) top ∙ ap (λ ms. text_at forest x ++ ms) (rest.apart refl)
-    where
-      child_of_x : (m : ℕ) → stands_in m (children_of forest x) ≡ true → stands_in m nodes ≡ true
-      child_of_x m s =
-          let up = (good.once.in_children x m s).1 in
-          below_or_above forest good x m ∙ ap (stands_in x) (ancestors-parent forest m x good up (parent_inside forest m x good up)) ∙ here_stands x (ancestors forest x)
-
-      not_itself : stands_in x nodes ≡ false
-      not_itself = elim (cases_Bool (stands_in x nodes)) [
-        | inr f ↦ f
-        | inl t ↦ absurd (not_above_itself forest x x good (sym (below_or_above forest good x x) ∙ t) refl)
-      ]
+  not_itself : stands_in x nodes ≡ false
+  not_itself = elim (cases_Bool (stands_in x nodes)) [
+    | inr f ↦ f
+    | inl t ↦ absurd (not_above_itself forest x x good (sym (below_or_above forest good x x) ∙ t) refl)
+  ]
 
   -- a child stands below x where its parent is x or stands below it
   child_stands : (n m : ℕ) → stands_in m (children_of forest n) ≡ true → stands_in m nodes ≡ ((n == x) || stands_in x (ancestors forest n))
@@ -308,8 +201,6 @@ module _ (forest : Forest) (x : ℕ) (good : IsForest forest) where
 
       top_stays : (m : ℕ) → option_map_or is_fragment (slice_get forest.content m) false ≡ true → stays forest m ≡ true
       top_stays m h = or-true (m == 0) _ (tops (slice_get forest.content m) h)
-
-  -- ---- what is read then
 
   -- the trees without the nodes that are cut out
   abbrev pruned : Trees → Trees
@@ -511,18 +402,6 @@ module _ (forest : Forest) (x : ℕ) (good : IsForest forest) where
               })
         ]
       ]
-    where
-      and-false : (a : Bool) → (a && false) ≡ false
-      and-false true = refl
-      and-false false = refl
-
-      either : (b c d : Bool) → c ≡ true → d ≡ true → cond b c d ≡ true
-      either true c d p q = p
-      either false c d p q = q
-
-      no_bytes : (ts : List ℕ) → (length ts == 0) ≡ true → ts ≡ []
-      no_bytes [] h = refl
-      no_bytes (c ∷ ts) h = (let e : length (c ∷ ts) ≡ 0 = eqb-true (length (c ∷ ts)) 0 h in absurd (omega (arith, e)))
 
   -- ---- the rows then
 
@@ -587,14 +466,6 @@ module _ (forest : Forest) (x : ℕ) (good : IsForest forest) where
     | inr other ↦ ap (λ b. front_texts after_it (cond b (without out behind) (m ∷ without out behind))) (out_other m other)
         ∙ ap (λ b. cond b (text_at after_it m ++ front_texts after_it (without out behind)) []) (kind m ∙ other)
   ]
-    where
-      and-false : (a : Bool) → (a && false) ≡ false
-      and-false true = refl
-      and-false false = refl
-
-      either : (b c d : Bool) → c ≡ true → d ≡ true → cond b c d ≡ true
-      either true c d p q = p
-      either false c d p q = q
 
   record Settled (n : ℕ) : Type 0 where
     first_one : leads after_it n ≡ true
@@ -664,10 +535,6 @@ module _ (forest : Forest) (x : ℕ) (good : IsForest forest) where
         | inr other ↦ ap (λ b. b && not (leads after_it n)) (kind n ∙ other)
       ] in
       ap (λ b. cond b (n ∷ dropped after_it ns) (dropped after_it ns)) stays ∙ rest
-    where
-      and-false : (a : Bool) → (a && false) ≡ false
-      and-false true = refl
-      and-false false = refl
 
   same_held : (n : ℕ) (content : NodeData) → slice_get after_it.content n ≡ Some content → held after_it (walk_below after_it x) (0 + n) content ≡ content
   same_held n content is =
@@ -703,23 +570,41 @@ module _ (forest : Forest) (x : ℕ) (good : IsForest forest) where
       ∙ ap (λ ls. forest_with after_it.content ls (map_from 0 (left_run []) after_it.runs)) (map_nothing after_it.children)
       ∙ ap (λ ls. forest_with after_it.content after_it.children ls) (runs_nothing 0 after_it.runs)
 
+  -- the children of x are read as before
+  children_alike : (reading : Reading) → JoinsTexts reading forest → (place : Bool) → read_as reading after_it place (trees after_it (children_of after_it x)) ≡ read_as reading forest place (trees forest (children_of forest x))
+  children_alike reading joins place =
+      let kids = readings_then reading joins (trees forest (children_of forest x)) x ((x == x) || stands_in x (ancestors forest x)) [] (children_of forest x) refl (λ _. refl) (λ m s. child_stands x m s) (λ m s. (good.once.in_children x m s).0) in
+      ap (read_as reading after_it place) (ap (trees after_it) (children_then x) ∙ trees_then (children_of forest x)) ∙ kids.apart (λ _. refl) place
+
   pub read_alike_then : (reading : Reading) → JoinsTexts reading forest → x < length forest.content → ReadsAlike reading x after_it forest
   read_alike_then reading joins known =
       let alone : stands_in x nodes ≡ false = not_itself in
       let left : without out (x ∷ []) ≡ x ∷ [] = ap (λ b. cond b [] (x ∷ [])) (is_out x ∙ ap (λ b. b && (is_text_at forest x && not (leads forest x))) alone) in
       let one : (m : ℕ) → stands_in m (x ∷ []) ≡ true → m ≡ x = λ m s. sym (eqb-true x m (sym (one-stands x m) ∙ s)) in
       let top = readings_then reading joins (trees forest (x ∷ [])) x false [] (x ∷ []) refl (λ no. absurd (false≢true no)) (λ m s. ap (λ k. stands_in k nodes) (one m s) ∙ alone) (λ m s. subst (λ (k : ℕ). k < length forest.content) (sym (one m s)) known) in
-      let kids = readings_then reading joins (trees forest (children_of forest x)) x ((x == x) || stands_in x (ancestors forest x)) [] (children_of forest x) refl (λ _. refl) (λ m s. child_stands x m s) (λ m s. (good.once.in_children x m s).0) in
       record {
         node = λ place. ap (read_as reading after_it place) (ap (trees after_it) (sym left) ∙ trees_then (x ∷ [])) ∙ top.apart (λ no. absurd (false≢true no)) place;
-        children = λ place. ap (read_as reading after_it place) (ap (trees after_it) (children_then x) ∙ trees_then (children_of forest x)) ∙ kids.apart (λ _. refl) place;
+        children = children_alike reading joins;
         above = owner-without 0 out forest.children x ∙ ap (λ b. cond b None (owner_from 0 forest.children x)) (is_out x ∙ ap (λ b. b && (is_text_at forest x && not (leads forest x))) alone);
         others = same_other;
         texts = kind;
       }
+
+  -- who bears no children has none then either
+  leaves_then : Leaves after_it
+  leaves_then n none = children_then n ∙ ap (without out) (leaves forest good n (bears_too n none))
     where
-      not_itself : stands_in x nodes ≡ false
-      not_itself = elim (cases_Bool (stands_in x nodes)) [
-        | inr f ↦ f
-        | inl t ↦ absurd (not_above_itself forest x x good (sym (below_or_above forest good x x) ∙ t) refl)
-      ]
+      bears_too : (n : ℕ) → bears after_it n ≡ false → bears forest n ≡ false
+      bears_too n none = go (slice_get forest.content n) (ap (λ o. option_map_or may_bear o false) (sym (got n)) ∙ none)
+        where
+          go : (o : Option NodeData) → option_map_or may_bear (option_map (held forest nodes n) o) false ≡ false → option_map_or may_bear o false ≡ false
+          go None h = refl
+          go (Some c) h = elim (cases_Bool (stands_in n nodes)) [
+            | inl t ↦ sym (bearing_kept (joined forest n) c) ∙ (sym (ap (λ b. may_bear (cond b (retexted (joined forest n) c) c)) t) ∙ h)
+            | inr f ↦ sym (ap (λ b. may_bear (cond b (retexted (joined forest n) c) c)) f) ∙ h
+          ]
+
+  pub text_stays : text_of after_it x ≡ text_of forest x
+  text_stays =
+      ap (λ ts. text_at after_it x ++ ts) (text_walked after_it leaves_then false (children_of after_it x) ∙ children_alike text_reading (text_joins forest) false ∙ sym (text_walked forest (leaves forest good) false (children_of forest x)))
+      ∙ ap (λ ts. ts ++ flat_map (text_at forest) (walk_below forest x)) (text_same x not_itself)
