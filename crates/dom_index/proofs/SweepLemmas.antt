@@ -6,7 +6,7 @@ use Rattle.std.proofs.lemmas.List.{get_or-map, get_or-set_other, get_or-set_same
 use Rattle.dom_links.specs.Forest.{Forest, children_of, parent}
 use Rattle.dom_links.specs.Lists.{last, stands_in}
 use Rattle.dom_links.proofs.Neighbours.{stands_in-append}
-use Rattle.dom_index.specs.declared.ground.Sweep.{Sweep}
+use Rattle.dom_index.specs.declared.layout.Sweep.{Sweep}
 use Rattle.dom_index.specs.Orders.{IsSwept, number_at}
 use Rattle.dom_index.specs.Preorder.{preorder_to, starts_run, walk_from}
 use Rattle.dom_index.proofs.PlaceLemmas.{same_or_not}

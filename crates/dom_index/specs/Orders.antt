@@ -3,7 +3,7 @@ use Rattle.std.specs.Prelude.{ℕ, ◌≡◌, ◌<◌, ◌+◌, false, map, List
 use Rattle.dom_links.specs.Forest.{Forest, children_of, parent, siblings}
 use Rattle.dom_links.specs.Lists.{before, last, stands_in}
 use Rattle.dom_links.specs.Trees.{walk_below}
-use Rattle.dom_index.specs.declared.ground.Sweep.{Sweep}
+use Rattle.dom_index.specs.declared.layout.Sweep.{Sweep}
 
 abbrev pub number_at : List ℕ → ℕ → ℕ
 number_at numbers i = slice_index_or numbers i 0

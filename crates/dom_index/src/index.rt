@@ -8,7 +8,7 @@ ghost use Rattle.dom_index.specs.Counts.{selectors_count};
 ghost use Rattle.dom_index.specs.Index.{Finds, IsLastBelow};
 ghost use Rattle.dom_index.specs.Preorder.{position};
 
-use crate::ground::{Ground, below, know_forest};
+use crate::layout::{Layout, below, know_forest};
 use crate::picking::{know_walks, picked};
 use crate::tables::list_table;
 use dom_nodes::fault::OutOfMemory;
@@ -23,7 +23,7 @@ use std::marker::Model;
 /// tree, and how many tests the last selection has asked.
 #[derive(Drop)]
 pub struct TreeIndex<'a> {
-    ground: Ground<'a>,
+    layout: Layout<'a>,
     tests: u128,
 }
 
@@ -32,7 +32,7 @@ impl<'a> Model for TreeIndex<'a> {
 
     ghost Value = { Indexed };
 
-    ghost view = { λ it. record { tree = it.ground.tree; tests = it.tests } };
+    ghost view = { λ it. record { tree = it.layout.tree; tests = it.tests } };
 }
 
 impl<'a> TreeIndex<'a> {
@@ -41,7 +41,7 @@ impl<'a> TreeIndex<'a> {
         ensures { IfOk result (λ index. index ≡ record { tree = tree.entry; tests = 0 }) }
     {
         Ok(TreeIndex {
-            ground: Ground::new(tree)?,
+            layout: Layout::new(tree)?,
             tests: 0,
         })
     }
@@ -68,16 +68,16 @@ impl<'a> TreeIndex<'a> {
         ensures kept { self.new.tree ≡ self.old.tree }
     {
         self.tests = 0;
-        know_walks(self.ground.tree);
-        let table = list_table(&self.ground, matcher.selectors(), &mut self.tests)?;
-        picked(&self.ground, roots, table)
+        know_walks(self.layout.tree);
+        let table = list_table(&self.layout, matcher.selectors(), &mut self.tests)?;
+        picked(&self.layout, roots, table)
     }
 
     /// The place of a node in the order, counted from 0; None for an unknown number.
     pub fn position(&self, id: &NodeId) -> Option<usize>
         ensures { result ≡ position self.now.tree.now id.now }
     {
-        place_at(&self.ground, id.value())
+        place_at(&self.layout, id.value())
     }
 
     /// The greatest position at or below a node; None for an unknown number.
@@ -85,14 +85,14 @@ impl<'a> TreeIndex<'a> {
         ensures { MatchOption result (length self.now.tree.now.content ≤ id.now)
             (λ last. IsLastBelow self.now.tree.now id.now last) }
     {
-        last_at(&self.ground, id.value())
+        last_at(&self.layout, id.value())
     }
 
     /// Whether y is below x.
     pub fn is_below(&self, x: &NodeId, y: &NodeId) -> bool
         ensures { result ≡ stands_in y.now (walk_below self.now.tree.now x.now) }
     {
-        is_within(&self.ground, x.value(), y.value())
+        is_within(&self.layout, x.value(), y.value())
     }
 
     /// The nodes below a node, each before what is below it. It takes no memory.
@@ -100,24 +100,24 @@ impl<'a> TreeIndex<'a> {
         ensures { result ≡ walk_below self.now.tree.now id.now }
     {
         IndexedNodes {
-            ids: below(&self.ground, *id),
+            ids: below(&self.layout, *id),
         }
     }
 }
 
 /// The place of the node of that number.
-fn place_at(ground: &Ground<'_>, n: usize) -> Option<usize>
-    ensures { result ≡ position ground.now.tree.now n }
+fn place_at(layout: &Layout<'_>, n: usize) -> Option<usize>
+    ensures { result ≡ position layout.now.tree.now n }
 {
-    written(&ground.places, n)
+    written(&layout.places, n)
 }
 
 /// The place of the last node at or below the one of that number.
-fn last_at(ground: &Ground<'_>, n: usize) -> Option<usize>
-    ensures { MatchOption result (length ground.now.tree.now.content ≤ n)
-        (λ last. IsLastBelow ground.now.tree.now n last) }
+fn last_at(layout: &Layout<'_>, n: usize) -> Option<usize>
+    ensures { MatchOption result (length layout.now.tree.now.content ≤ n)
+        (λ last. IsLastBelow layout.now.tree.now n last) }
 {
-    written(&ground.lasts, n)
+    written(&layout.lasts, n)
 }
 
 /// What is written of the node of that number.
@@ -128,19 +128,19 @@ fn written(places: &[usize], n: usize) -> Option<usize>
 }
 
 /// Whether y is below x, by their places.
-fn is_within(ground: &Ground<'_>, x: usize, y: usize) -> bool
-    ensures { result ≡ stands_in y (walk_below ground.now.tree.now x) }
+fn is_within(layout: &Layout<'_>, x: usize, y: usize) -> bool
+    ensures { result ≡ stands_in y (walk_below layout.now.tree.now x) }
 {
-    know_forest(ground.tree);
-    let count = ground.order.len();
+    know_forest(layout.tree);
+    let count = layout.order.len();
     if x >= count || y >= count {
         return false;
     }
-    let place = ground.places[y];
-    if place <= ground.places[x] {
+    let place = layout.places[y];
+    if place <= layout.places[x] {
         return false;
     }
-    place <= ground.lasts[x]
+    place <= layout.lasts[x]
 }
 
 /// The numbers of nodes that follow each other in the order of an index.

@@ -9,7 +9,7 @@ ghost use Rattle.dom_trees.specs.Views.{refs_to};
 ghost use Rattle.dom_index.specs.Picking.{picks, table_left};
 ghost use Rattle.dom_index.specs.Tables.{truth_at};
 
-use crate::ground::{Ground, below};
+use crate::layout::{Layout, below};
 use crate::ways::is_element;
 use dom_links::laws::trees_of_a_forest;
 use dom_nodes::fault::OutOfMemory;
@@ -19,19 +19,19 @@ use dom_trees::tree::Tree;
 
 /// The elements below the roots of which the table tells the truth, each once.
 pub(crate) fn picked<'a>(
-    ground: &Ground<'a>,
+    layout: &Layout<'a>,
     roots: &[NodeId],
     table: Vec<bool>,
 ) -> Result<Vec<NodeRef<'a>>, OutOfMemory>
-    requires { length table.items ≡ length ground.now.tree.now.content }
-    ensures { IfOk result (λ found. found.items ≡ refs_to ground.now.tree
-        (picks ground.now.tree.now table.items
-        (flat_map (walk_below ground.now.tree.now) roots.now))) }
+    requires { length table.items ≡ length layout.now.tree.now.content }
+    ensures { IfOk result (λ found. found.items ≡ refs_to layout.now.tree
+        (picks layout.now.tree.now table.items
+        (flat_map (walk_below layout.now.tree.now) roots.now))) }
 {
     let mut table = table;
-    let mut found = Vec::new(ground.tree.allocator());
+    let mut found = Vec::new(layout.tree.allocator());
     for root in roots {
-        pick_below(ground, *root, &mut table, &mut found)?;
+        pick_below(layout, *root, &mut table, &mut found)?;
     }
     Ok(found)
 }
@@ -39,27 +39,27 @@ pub(crate) fn picked<'a>(
 /// Picks the elements below a node of which the table tells the truth, which it then no longer
 /// tells.
 fn pick_below<'a>(
-    ground: &Ground<'a>,
+    layout: &Layout<'a>,
     root: NodeId,
     table: &mut Vec<bool>,
     found: &mut Vec<NodeRef<'a>>,
 ) -> Result<(), OutOfMemory>
-    requires { length table.old.items ≡ length ground.now.tree.now.content }
+    requires { length table.old.items ≡ length layout.now.tree.now.content }
     ensures long { length table.new.items ≡ length table.old.items }
-    ensures picked { OnOk result (found.new.items ≡ found.old.items ++ refs_to ground.now.tree
-        (picks ground.now.tree.now table.old.items (walk_below ground.now.tree.now root))) }
+    ensures picked { OnOk result (found.new.items ≡ found.old.items ++ refs_to layout.now.tree
+        (picks layout.now.tree.now table.old.items (walk_below layout.now.tree.now root))) }
     ensures left { OnOk result (table.new.items
-        ≡ table_left ground.now.tree.now table.old.items (walk_below ground.now.tree.now root)) }
+        ≡ table_left layout.now.tree.now table.old.items (walk_below layout.now.tree.now root)) }
 {
-    know_walks(ground.tree);
-    let row = below(ground, root);
+    know_walks(layout.tree);
+    let row = below(layout, root);
     for i in 0..row.len() {
         let id = row[i];
-        if !is_chosen(ground.tree, table, id) {
+        if !is_chosen(layout.tree, table, id) {
             continue;
         }
         table[id.value()] = false;
-        push_node(found, &NodeRef::new(id, ground.tree))?;
+        push_node(found, &NodeRef::new(id, layout.tree))?;
     }
     Ok(())
 }

@@ -11,7 +11,7 @@ ghost use Rattle.dom_index.specs.Counts.{selectors_count, steps_count};
 ghost use Rattle.dom_index.specs.Onward.{Onward};
 ghost use Rattle.dom_index.specs.Tables.{AreTold, truth_at};
 
-use crate::ground::{Ground, know_forest};
+use crate::layout::{Layout, know_forest};
 use crate::truths::{elements, narrow, narrow_beside, tested, turn, widen};
 use crate::ways::{leading, led};
 use dom_nodes::fault::OutOfMemory;
@@ -20,41 +20,41 @@ use dom_selectors::syntax::{Combinator, Compound, Nested, Selector, Step};
 /// Where the table tells the truth and the compound holds.
 #[cycle(tables)]
 fn compound_table(
-    ground: &Ground<'_>,
+    layout: &Layout<'_>,
     compound: &Compound,
     wanted: Vec<bool>,
     tests: &mut u128,
 ) -> Result<Vec<bool>, OutOfMemory>
-    requires { length wanted.items ≡ length ground.now.tree.now.content }
-    ensures table { IfOk result (λ table. AreTold table.items (length ground.now.tree.now.content)
+    requires { length wanted.items ≡ length layout.now.tree.now.content }
+    ensures table { IfOk result (λ table. AreTold table.items (length layout.now.tree.now.content)
         (λ n. (truth_at wanted.items n ≡ true)
-        × Holds (read_compound compound.now) ground.now.tree.now n)) }
+        × Holds (read_compound compound.now) layout.now.tree.now n)) }
     ensures tests { tests.new ≤ tests.old
-        + compound_count (read_compound compound.now) * length ground.now.tree.now.content }
+        + compound_count (read_compound compound.now) * length layout.now.tree.now.content }
 {
-    let narrowed = narrowed_table(ground, &compound.nested, wanted, tests)?;
-    tested(ground, compound, narrowed, tests)
+    let narrowed = narrowed_table(layout, &compound.nested, wanted, tests)?;
+    tested(layout, compound, narrowed, tests)
 }
 
 /// Where the table tells the truth and each of the lists in a compound holds.
 #[cycle(tables)]
 fn narrowed_table(
-    ground: &Ground<'_>,
+    layout: &Layout<'_>,
     lists: &[Nested],
     wanted: Vec<bool>,
     tests: &mut u128,
 ) -> Result<Vec<bool>, OutOfMemory>
-    requires { length wanted.items ≡ length ground.now.tree.now.content }
-    ensures table { IfOk result (λ table. AreTold table.items (length ground.now.tree.now.content)
+    requires { length wanted.items ≡ length layout.now.tree.now.content }
+    ensures table { IfOk result (λ table. AreTold table.items (length layout.now.tree.now.content)
         (λ n. (truth_at wanted.items n ≡ true)
-        × ListsHold (lists_of (map read_nested lists.now)) ground.now.tree.now n)) }
+        × ListsHold (lists_of (map read_nested lists.now)) layout.now.tree.now n)) }
     ensures tests { tests.new ≤ tests.old
         + lists_count (lists_of (map read_nested lists.now))
-        * length ground.now.tree.now.content }
+        * length layout.now.tree.now.content }
 {
     let mut table = wanted;
     for list in lists {
-        let told = nested_table(ground, list, tests)?;
+        let told = nested_table(layout, list, tests)?;
         narrow(&mut table, &told);
     }
     Ok(table)
@@ -63,41 +63,41 @@ fn narrowed_table(
 /// Where a list in a compound holds.
 #[cycle(tables)]
 fn nested_table(
-    ground: &Ground<'_>,
+    layout: &Layout<'_>,
     list: &Nested,
     tests: &mut u128,
 ) -> Result<Vec<bool>, OutOfMemory>
-    ensures table { IfOk result (λ table. AreTold table.items (length ground.now.tree.now.content)
-        (ListHolds (read_nested list.now) ground.now.tree.now)) }
+    ensures table { IfOk result (λ table. AreTold table.items (length layout.now.tree.now.content)
+        (ListHolds (read_nested list.now) layout.now.tree.now)) }
     ensures tests { tests.new ≤ tests.old
-        + list_count (read_nested list.now) * length ground.now.tree.now.content }
+        + list_count (read_nested list.now) * length layout.now.tree.now.content }
 {
     match list {
-        Nested::Is(selectors) => list_table(ground, selectors, tests),
+        Nested::Is(selectors) => list_table(layout, selectors, tests),
         Nested::Not(selectors) => {
-            let mut table = list_table(ground, selectors, tests)?;
+            let mut table = list_table(layout, selectors, tests)?;
             turn(&mut table);
             Ok(table)
         }
-        Nested::Has(selectors) => has_table(ground, selectors, tests),
+        Nested::Has(selectors) => has_table(layout, selectors, tests),
     }
 }
 
 /// Which nodes one of the selectors means.
 #[cycle(tables)]
 pub(crate) fn list_table(
-    ground: &Ground<'_>,
+    layout: &Layout<'_>,
     selectors: &[Selector],
     tests: &mut u128,
 ) -> Result<Vec<bool>, OutOfMemory>
-    ensures table { IfOk result (λ table. AreTold table.items (length ground.now.tree.now.content)
-        (Means (read_list selectors.now) ground.now.tree.now)) }
+    ensures table { IfOk result (λ table. AreTold table.items (length layout.now.tree.now.content)
+        (Means (read_list selectors.now) layout.now.tree.now)) }
     ensures tests { tests.new ≤ tests.old
-        + selectors_count (read_list selectors.now) * length ground.now.tree.now.content }
+        + selectors_count (read_list selectors.now) * length layout.now.tree.now.content }
 {
-    let mut table = vec![in ground.tree.allocator(); false; ground.order.len()]?;
+    let mut table = vec![in layout.tree.allocator(); false; layout.order.len()]?;
     for selector in selectors {
-        let told = selector_table(ground, &selector.first, &selector.rest, tests)?;
+        let told = selector_table(layout, &selector.first, &selector.rest, tests)?;
         widen(&mut table, &told);
     }
     Ok(table)
@@ -106,25 +106,25 @@ pub(crate) fn list_table(
 /// Which nodes the compounds lead to, from the first to the last.
 #[cycle(tables)]
 fn selector_table(
-    ground: &Ground<'_>,
+    layout: &Layout<'_>,
     first: &Compound,
     steps: &[Step],
     tests: &mut u128,
 ) -> Result<Vec<bool>, OutOfMemory>
-    ensures table { IfOk result (λ table. AreTold table.items (length ground.now.tree.now.content)
-        (λ n. Reaches (Holds (read_compound first.now) ground.now.tree.now)
-        (steps_of (map read_step steps.now)) ground.now.tree.now n n)) }
+    ensures table { IfOk result (λ table. AreTold table.items (length layout.now.tree.now.content)
+        (λ n. Reaches (Holds (read_compound first.now) layout.now.tree.now)
+        (steps_of (map read_step steps.now)) layout.now.tree.now n n)) }
     ensures tests { tests.new ≤ tests.old
         + (compound_count (read_compound first.now)
         + steps_count (steps_of (map read_step steps.now)))
-        * length ground.now.tree.now.content }
+        * length layout.now.tree.now.content }
 {
-    know_forest(ground.tree);
-    let all = vec![in ground.tree.allocator(); true; ground.order.len()]?;
-    let mut table = compound_table(ground, first, all, tests)?;
+    know_forest(layout.tree);
+    let all = vec![in layout.tree.allocator(); true; layout.order.len()]?;
+    let mut table = compound_table(layout, first, all, tests)?;
     for step in steps {
-        let wanted = led(ground, step.combinator, &table)?;
-        table = compound_table(ground, &step.compound, wanted, tests)?;
+        let wanted = led(layout, step.combinator, &table)?;
+        table = compound_table(layout, &step.compound, wanted, tests)?;
     }
     Ok(table)
 }
@@ -132,19 +132,19 @@ fn selector_table(
 /// From which nodes one of the selectors leads to an element.
 #[cycle(tables)]
 fn has_table(
-    ground: &Ground<'_>,
+    layout: &Layout<'_>,
     selectors: &[Selector],
     tests: &mut u128,
 ) -> Result<Vec<bool>, OutOfMemory>
-    ensures table { IfOk result (λ table. AreTold table.items (length ground.now.tree.now.content)
-        (LeadsOn (read_list selectors.now) ground.now.tree.now)) }
+    ensures table { IfOk result (λ table. AreTold table.items (length layout.now.tree.now.content)
+        (LeadsOn (read_list selectors.now) layout.now.tree.now)) }
     ensures tests { tests.new ≤ tests.old
-        + selectors_count (read_list selectors.now) * length ground.now.tree.now.content }
+        + selectors_count (read_list selectors.now) * length layout.now.tree.now.content }
 {
-    let mut table = vec![in ground.tree.allocator(); false; ground.order.len()]?;
+    let mut table = vec![in layout.tree.allocator(); false; layout.order.len()]?;
     for selector in selectors {
         let told = leading_table(
-            ground,
+            layout,
             selector.lead,
             &selector.first,
             &selector.rest,
@@ -158,45 +158,45 @@ fn has_table(
 /// From which nodes the compounds lead to an element, from the last to the first.
 #[cycle(tables)]
 fn leading_table(
-    ground: &Ground<'_>,
+    layout: &Layout<'_>,
     lead: Combinator,
     first: &Compound,
     steps: &[Step],
     tests: &mut u128,
 ) -> Result<Vec<bool>, OutOfMemory>
-    ensures table { IfOk result (λ table. AreTold table.items (length ground.now.tree.now.content)
+    ensures table { IfOk result (λ table. AreTold table.items (length layout.now.tree.now.content)
         (LeadsToSome lead (read_compound first.now) (steps_of (map read_step steps.now))
-        ground.now.tree.now)) }
+        layout.now.tree.now)) }
     ensures tests { tests.new ≤ tests.old
         + (compound_count (read_compound first.now)
         + steps_count (steps_of (map read_step steps.now)))
-        * length ground.now.tree.now.content }
+        * length layout.now.tree.now.content }
 {
-    know_forest(ground.tree);
-    let wanted = onward_table(ground, steps, tests)?;
-    let held = compound_table(ground, first, wanted, tests)?;
-    leading(ground, lead, &held)
+    know_forest(layout.tree);
+    let wanted = onward_table(layout, steps, tests)?;
+    let held = compound_table(layout, first, wanted, tests)?;
+    leading(layout, lead, &held)
 }
 
 /// From which nodes the steps lead to an element.
 #[cycle(tables)]
 fn onward_table(
-    ground: &Ground<'_>,
+    layout: &Layout<'_>,
     steps: &[Step],
     tests: &mut u128,
 ) -> Result<Vec<bool>, OutOfMemory>
-    ensures table { IfOk result (λ table. AreTold table.items (length ground.now.tree.now.content)
-        (Onward (steps_of (map read_step steps.now)) ground.now.tree.now)) }
+    ensures table { IfOk result (λ table. AreTold table.items (length layout.now.tree.now.content)
+        (Onward (steps_of (map read_step steps.now)) layout.now.tree.now)) }
     ensures tests { tests.new ≤ tests.old
         + steps_count (steps_of (map read_step steps.now))
-        * length ground.now.tree.now.content }
+        * length layout.now.tree.now.content }
 {
-    let mut table = elements(ground)?;
+    let mut table = elements(layout)?;
     let mut left = steps;
     while let Some((step, before)) = left.split_last() {
-        let held = compound_table(ground, &step.compound, table, tests)?;
-        table = leading(ground, step.combinator, &held)?;
-        narrow_beside(ground, step.combinator, &mut table);
+        let held = compound_table(layout, &step.compound, table, tests)?;
+        table = leading(layout, step.combinator, &held)?;
+        narrow_beside(layout, step.combinator, &mut table);
         left = before;
     }
     Ok(table)

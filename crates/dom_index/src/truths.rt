@@ -8,7 +8,7 @@ ghost use Rattle.dom_links.specs.ListMoves.{element_at};
 ghost use Rattle.dom_select.specs.Meaning.{Holds, ListsHold};
 ghost use Rattle.dom_index.specs.Tables.{AreBoth, AreEither, AreTold, AreTurned, AreServing, truth_at};
 
-use crate::ground::{Ground, numbered};
+use crate::layout::{Layout, numbered};
 use crate::ways::is_element;
 use dom_nodes::fault::OutOfMemory;
 use dom_select::matcher::caches::SelectorCaches;
@@ -18,27 +18,27 @@ use dom_trees::node_ref::NodeRef;
 
 /// Asks the compound at the nodes of which the table tells the truth, where its lists hold.
 pub(crate) fn tested(
-    ground: &Ground<'_>,
+    layout: &Layout<'_>,
     compound: &Compound,
     wanted: Vec<bool>,
     tests: &mut u128,
 ) -> Result<Vec<bool>, OutOfMemory>
-    requires wanted { length wanted.items ≡ length ground.now.tree.now.content }
-    requires lists { (n : ℕ) → n < length ground.now.tree.now.content
+    requires wanted { length wanted.items ≡ length layout.now.tree.now.content }
+    requires lists { (n : ℕ) → n < length layout.now.tree.now.content
         → truth_at wanted.items n ≡ true →
-        ListsHold (lists_of (map read_nested compound.now.nested.items)) ground.now.tree.now n }
-    ensures table { IfOk result (λ table. AreTold table.items (length ground.now.tree.now.content)
+        ListsHold (lists_of (map read_nested compound.now.nested.items)) layout.now.tree.now n }
+    ensures table { IfOk result (λ table. AreTold table.items (length layout.now.tree.now.content)
         (λ n. (truth_at wanted.items n ≡ true)
-        × Holds (read_compound compound.now) ground.now.tree.now n)) }
-    ensures tests { tests.new ≤ tests.old + length ground.now.tree.now.content }
+        × Holds (read_compound compound.now) layout.now.tree.now n)) }
+    ensures tests { tests.new ≤ tests.old + length layout.now.tree.now.content }
 {
-    let answers = vec![in ground.tree.allocator(); true; compound.nested.len()]?;
-    let mut caches = SelectorCaches::new(ground.tree);
+    let answers = vec![in layout.tree.allocator(); true; compound.nested.len()]?;
+    let mut caches = SelectorCaches::new(layout.tree);
     let mut table = wanted;
     let mut asked = 0;
     for n in 0..table.len() {
         if table[n] {
-            let node = NodeRef::new(numbered(ground.tree, n), ground.tree);
+            let node = NodeRef::new(numbered(layout.tree, n), layout.tree);
             table[n] = test_compound(compound, &node, &answers, &mut caches, &mut asked);
         }
     }
@@ -47,13 +47,13 @@ pub(crate) fn tested(
 }
 
 /// Which nodes are elements.
-pub(crate) fn elements(ground: &Ground<'_>) -> Result<Vec<bool>, OutOfMemory>
-    ensures { IfOk result (λ table. AreTold table.items (length ground.now.tree.now.content)
-        (λ n. element_at ground.now.tree.now n ≡ true)) }
+pub(crate) fn elements(layout: &Layout<'_>) -> Result<Vec<bool>, OutOfMemory>
+    ensures { IfOk result (λ table. AreTold table.items (length layout.now.tree.now.content)
+        (λ n. element_at layout.now.tree.now n ≡ true)) }
 {
-    let mut table = vec![in ground.tree.allocator(); false; ground.order.len()]?;
-    for n in 0..ground.tree.len() {
-        table[n] = is_element(ground.tree, numbered(ground.tree, n));
+    let mut table = vec![in layout.tree.allocator(); false; layout.order.len()]?;
+    for n in 0..layout.tree.len() {
+        table[n] = is_element(layout.tree, numbered(layout.tree, n));
     }
     Ok(table)
 }
@@ -88,24 +88,24 @@ pub(crate) fn turn(table: &mut Vec<bool>)
 }
 
 /// Keeps the truths of the nodes that may stand beside the combinator.
-pub(crate) fn narrow_beside(ground: &Ground<'_>, combinator: Combinator, table: &mut Vec<bool>)
-    requires { length table.old.items ≡ length ground.now.tree.now.content }
-    ensures { AreServing ground.now.tree.now combinator table.new.items table.old.items }
+pub(crate) fn narrow_beside(layout: &Layout<'_>, combinator: Combinator, table: &mut Vec<bool>)
+    requires { length table.old.items ≡ length layout.now.tree.now.content }
+    ensures { AreServing layout.now.tree.now combinator table.new.items table.old.items }
 {
     match combinator {
         Combinator::Descendant | Combinator::Child => {}
-        Combinator::Adjacent | Combinator::Sibling => narrow_to_elements(ground, table),
+        Combinator::Adjacent | Combinator::Sibling => narrow_to_elements(layout, table),
     }
 }
 
 /// Keeps the truths of elements.
-fn narrow_to_elements(ground: &Ground<'_>, table: &mut Vec<bool>)
-    requires { length table.old.items ≡ length ground.now.tree.now.content }
-    ensures { AreServing ground.now.tree.now Sibling table.new.items table.old.items }
+fn narrow_to_elements(layout: &Layout<'_>, table: &mut Vec<bool>)
+    requires { length table.old.items ≡ length layout.now.tree.now.content }
+    ensures { AreServing layout.now.tree.now Sibling table.new.items table.old.items }
 {
     for n in 0..table.len() {
         if table[n] {
-            table[n] = is_element(ground.tree, numbered(ground.tree, n));
+            table[n] = is_element(layout.tree, numbered(layout.tree, n));
         }
     }
 }

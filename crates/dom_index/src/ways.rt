@@ -7,7 +7,7 @@ ghost use Rattle.dom_select.specs.Leftward.{left_of};
 ghost use Rattle.dom_index.specs.Orders.{number_at};
 ghost use Rattle.dom_index.specs.Tables.{AreTold, IsLeading, IsLed, is_led, passes_on, told_too};
 
-use crate::ground::{Ground, know_forest};
+use crate::layout::{Layout, know_forest};
 use dom_links::iters::{node_at, prev_sibling_id};
 use dom_nodes::fault::OutOfMemory;
 use dom_nodes::node_id::NodeId;
@@ -23,15 +23,15 @@ pub(crate) fn is_element(tree: &Tree, id: NodeId) -> bool
 }
 
 /// The next node on the way to the left of the node at a place: the parent, or the sibling before.
-fn left_at(ground: &Ground<'_>, combinator: Combinator, place: usize) -> Option<NodeId>
-    requires { place < length ground.now.tree.now.content }
+fn left_at(layout: &Layout<'_>, combinator: Combinator, place: usize) -> Option<NodeId>
+    requires { place < length layout.now.tree.now.content }
     ensures { result
-        ≡ left_of ground.now.tree.now combinator (number_at ground.now.order.items place) }
+        ≡ left_of layout.now.tree.now combinator (number_at layout.now.order.items place) }
 {
     match combinator {
-        Combinator::Descendant | Combinator::Child => ground.above[place],
+        Combinator::Descendant | Combinator::Child => layout.above[place],
         Combinator::Adjacent | Combinator::Sibling => {
-            prev_sibling_id(ground.tree.nodes(), &ground.order[place])
+            prev_sibling_id(layout.tree.nodes(), &layout.order[place])
         }
     }
 }
@@ -69,20 +69,20 @@ fn passes_on(
 
 /// Whether the node at a place is led to, where the flags tell that of the next one on its left.
 fn is_led(
-    ground: &Ground<'_>,
+    layout: &Layout<'_>,
     combinator: Combinator,
     table: &[bool],
     flags: &[bool],
     place: usize,
 ) -> bool
-    requires known { place < length ground.now.tree.now.content }
-    requires table_long { length table.now ≡ length ground.now.tree.now.content }
-    requires flags_long { length flags.now ≡ length ground.now.tree.now.content }
-    ensures { result ≡ is_led ground.now.tree.now combinator table.now flags.now
-        (number_at ground.now.order.items place) }
+    requires known { place < length layout.now.tree.now.content }
+    requires table_long { length table.now ≡ length layout.now.tree.now.content }
+    requires flags_long { length flags.now ≡ length layout.now.tree.now.content }
+    ensures { result ≡ is_led layout.now.tree.now combinator table.now flags.now
+        (number_at layout.now.order.items place) }
 {
-    match left_at(ground, combinator, place) {
-        Some(left) => passes_on(ground.tree, combinator, table, flags, left),
+    match left_at(layout, combinator, place) {
+        Some(left) => passes_on(layout.tree, combinator, table, flags, left),
         None => false,
     }
 }
@@ -90,19 +90,19 @@ fn is_led(
 /// For each node whether some node that the table tells stands to it as the combinator says: first
 /// to last, each from the next one on its left.
 pub(crate) fn led(
-    ground: &Ground<'_>,
+    layout: &Layout<'_>,
     combinator: Combinator,
     table: &[bool],
 ) -> Result<Vec<bool>, OutOfMemory>
-    requires { length table.now ≡ length ground.now.tree.now.content }
-    ensures { IfOk result (λ flags. AreTold flags.items (length ground.now.tree.now.content)
-        (IsLed ground.now.tree.now combinator table.now)) }
+    requires { length table.now ≡ length layout.now.tree.now.content }
+    ensures { IfOk result (λ flags. AreTold flags.items (length layout.now.tree.now.content)
+        (IsLed layout.now.tree.now combinator table.now)) }
 {
-    know_forest(ground.tree);
-    let mut flags = vec![in ground.tree.allocator(); false; table.len()]?;
-    for i in 0..ground.order.len() {
-        let n = ground.order[i].value();
-        flags[n] = is_led(ground, combinator, table, &flags, i);
+    know_forest(layout.tree);
+    let mut flags = vec![in layout.tree.allocator(); false; table.len()]?;
+    for i in 0..layout.order.len() {
+        let n = layout.order[i].value();
+        flags[n] = is_led(layout, combinator, table, &flags, i);
     }
     Ok(flags)
 }
@@ -110,20 +110,20 @@ pub(crate) fn led(
 /// For each node whether it stands as the combinator says to some node that the table tells: last
 /// to first, each told by those whose next one on the left it is.
 pub(crate) fn leading(
-    ground: &Ground<'_>,
+    layout: &Layout<'_>,
     combinator: Combinator,
     table: &[bool],
 ) -> Result<Vec<bool>, OutOfMemory>
-    requires { length table.now ≡ length ground.now.tree.now.content }
-    ensures { IfOk result (λ flags. AreTold flags.items (length ground.now.tree.now.content)
-        (IsLeading ground.now.tree.now combinator table.now)) }
+    requires { length table.now ≡ length layout.now.tree.now.content }
+    ensures { IfOk result (λ flags. AreTold flags.items (length layout.now.tree.now.content)
+        (IsLeading layout.now.tree.now combinator table.now)) }
 {
-    know_forest(ground.tree);
-    let mut flags = vec![in ground.tree.allocator(); false; table.len()]?;
-    for i in 0..ground.order.len() {
-        let place = ground.order.len() - 1 - i;
-        if passes_on(ground.tree, combinator, table, &flags, ground.order[place]) {
-            tell(&mut flags, left_at(ground, combinator, place));
+    know_forest(layout.tree);
+    let mut flags = vec![in layout.tree.allocator(); false; table.len()]?;
+    for i in 0..layout.order.len() {
+        let place = layout.order.len() - 1 - i;
+        if passes_on(layout.tree, combinator, table, &flags, layout.order[place]) {
+            tell(&mut flags, left_at(layout, combinator, place));
         }
     }
     Ok(flags)

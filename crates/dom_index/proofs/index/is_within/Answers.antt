@@ -7,7 +7,7 @@ use Rattle.dom_index.proofs.index.is_within.Goals as goal
 
 pub returns-then-place-index : goal.returns-then-place-index
 returns-then-place-index c =
-    let g = c.args.ground.now in
+    let g = c.args.layout.now in
     let x_known : c.args.x < length g.tree.now.content = omega (arith, g.ordered.long) in
     let at_y = get_or_read g.places.items c.args.y _ (omega (arith, g.ordered.places_long)) c.index-place.ensures 0 in
     let at_x = get_or_read g.places.items c.args.x _ (omega (arith, g.ordered.places_long)) c.index.ensures 0 in
@@ -15,7 +15,7 @@ returns-then-place-index c =
 
 pub returns : goal.returns
 returns c =
-    let g = c.args.ground.now in
+    let g = c.args.layout.now in
     let x_known : c.args.x < length g.tree.now.content = omega (arith, g.ordered.long) in
     let y_known : c.args.y < length g.tree.now.content = omega (arith, g.ordered.long) in
     let at_y = get_or_read g.places.items c.args.y _ (omega (arith, g.ordered.places_long)) c.index-place.ensures 0 in

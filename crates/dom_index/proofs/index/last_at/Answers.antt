@@ -4,6 +4,6 @@ use Rattle.dom_index.proofs.index.last_at.Goals as goal
 
 pub returns : goal.returns
 returns c =
-    let g = c.args.ground.now in
+    let g = c.args.layout.now in
     last_told g.tree.now g.order.items g.places.items g.ordered g.is_preorder g.lasts.items g.spans c.args.n c.written.result
     (c.written.ensures ∙ ap (λ ns. slice_get ns c.args.n) c.deref.ensures.value)

@@ -4,5 +4,5 @@ use Rattle.dom_index.proofs.index.place_at.Goals as goal
 
 pub returns : goal.returns
 returns c =
-    let g = c.args.ground.now in
+    let g = c.args.layout.now in
     c.written.ensures ∙ (ap (λ ns. slice_get ns c.args.n) c.deref.ensures.value ∙ position_told g.tree.now g.order.items g.places.items g.ordered g.is_preorder c.args.n)

@@ -9,11 +9,11 @@ use Rattle.dom_index.proofs.picking.pick_below.Goals as goal
 pub is_chosen-requires-clause-known : goal.is_chosen-requires-clause-known
 is_chosen-requires-clause-known c =
     let step = row_cut c.loop-i.i c.below-row.result.now c.index-row-i.result (omega arith) c.index-row-i.is in
-    next_inside c.args.ground.now.tree _ _ _ _ c.index-row-i.result _ _ c.loop-i.invariant step
+    next_inside c.args.layout.now.tree _ _ _ _ c.index-row-i.result _ _ c.loop-i.invariant step
 
 pub loop-i-preserved : goal.loop-i-preserved
 loop-i-preserved c =
-    let tree = c.args.ground.now.tree in
+    let tree = c.args.layout.now.tree in
     let table = c.loop-i.table.items in
     let id = c.index-row-i.result in
     let step = row_cut c.loop-i.i c.below-row.result.now id (omega arith) c.index-row-i.is in
@@ -22,7 +22,7 @@ loop-i-preserved c =
 
 pub loop-i-preserved-then-not-is_chosen : goal.loop-i-preserved-then-not-is_chosen
 loop-i-preserved-then-not-is_chosen c =
-    let tree = c.args.ground.now.tree in
+    let tree = c.args.layout.now.tree in
     let table = c.loop-i.table.items in
     let id = c.index-row-i.result in
     let step = row_cut c.loop-i.i c.below-row.result.now id (omega arith) c.index-row-i.is in

@@ -8,6 +8,6 @@ use Rattle.dom_index.proofs.picking.pick_below.Given as goal
 -- what was picked and what is still to be picked
 abbrev pub invariant-loop-i : goal.invariant-loop-i
 invariant-loop-i l =
-    let tree = l.ground.tree in
+    let tree = l.layout.tree in
     let walk = walk_below tree.now l.fn.root in
     Picking tree l.found.items l.table.items (drop l.i l.row) (l.fn.found.items ++ refs_to tree (picks tree.now l.fn.table.items walk)) (table_left tree.now l.fn.table.items walk)

@@ -8,7 +8,7 @@ use Rattle.dom_index.proofs.picking.picked.Goals as goal
 
 pub loop-root-preserved : goal.loop-root-preserved
 loop-root-preserved c =
-    let tree = c.args.ground.now.tree in
+    let tree = c.args.layout.now.tree in
     let roots = c.args.roots.now in
     let i = c.loop-root.root-index in
     let r = c.root-item.result in

@@ -8,7 +8,7 @@ use Rattle.dom_index.proofs.picking.picked.Given as goal
 -- what was picked and what is still to be picked
 abbrev pub invariant-loop-root : goal.invariant-loop-root
 invariant-loop-root l =
-    let tree = l.ground.tree in
+    let tree = l.layout.tree in
     record {
       long : length l.table.items ≡ length tree.now.content;
       all : l.found.items ++ refs_to tree (picks tree.now l.table.items (flat_map (walk_below tree.now) (drop l.root-index l.roots))) ≡ refs_to tree (picks tree.now l.fn.table.items (flat_map (walk_below tree.now) l.roots));

@@ -17,7 +17,7 @@ use Rattle.dom_index.proofs.tables.+tables.Goals as goal
 pub list_table-returns-in_err-told-clause-tests : goal.list_table-returns-in_err-told-clause-tests
 list_table-returns-in_err-told-clause-tests t c =
     let selectors = c.args.selectors.now in
-    let m = length c.args.ground.now.tree.now.content in
+    let m = length c.args.layout.now.tree.now.content in
     let s = out-Selector c.selector-item.result in
     let i = c.loop-selector.selector-index in
     let top : ℕ = c.args.tests.now + selectors_count (read_list selectors) * m in
@@ -30,7 +30,7 @@ list_table-returns-in_err-told-clause-tests t c =
 pub list_table-loop-selector-preserved : goal.list_table-loop-selector-preserved
 list_table-loop-selector-preserved t c =
     let selectors = c.args.selectors.now in
-    let forest = c.args.ground.now.tree.now in
+    let forest = c.args.layout.now.tree.now in
     let m = length forest.content in
     let s = out-Selector c.selector-item.result in
     let i = c.loop-selector.selector-index in
@@ -52,7 +52,7 @@ list_table-loop-selector-preserved t c =
 pub has_table-returns-in_err-told-clause-tests : goal.has_table-returns-in_err-told-clause-tests
 has_table-returns-in_err-told-clause-tests t c =
     let selectors = c.args.selectors.now in
-    let m = length c.args.ground.now.tree.now.content in
+    let m = length c.args.layout.now.tree.now.content in
     let s = out-Selector c.selector-item.result in
     let i = c.loop-selector.selector-index in
     let top : ℕ = c.args.tests.now + selectors_count (read_list selectors) * m in
@@ -65,7 +65,7 @@ has_table-returns-in_err-told-clause-tests t c =
 pub has_table-loop-selector-preserved : goal.has_table-loop-selector-preserved
 has_table-loop-selector-preserved t c =
     let selectors = c.args.selectors.now in
-    let forest = c.args.ground.now.tree.now in
+    let forest = c.args.layout.now.tree.now in
     let m = length forest.content in
     let s = out-Selector c.selector-item.result in
     let i = c.loop-selector.selector-index in
@@ -88,7 +88,7 @@ pub narrowed_table-loop-list-preserved : goal.narrowed_table-loop-list-preserved
 narrowed_table-loop-list-preserved t c =
     let lists = c.args.lists.now in
     let all = lists_of (map read_nested lists) in
-    let forest = c.args.ground.now.tree.now in
+    let forest = c.args.layout.now.tree.now in
     let m = length forest.content in
     let l = c.list-item.result in
     let i = c.loop-list.list-index in
@@ -110,7 +110,7 @@ pub selector_table-loop-step-preserved : goal.selector_table-loop-step-preserved
 selector_table-loop-step-preserved t c =
     let steps = c.args.steps.now in
     let first = read_compound c.args.first.now in
-    let forest = c.args.ground.now.tree.now in
+    let forest = c.args.layout.now.tree.now in
     let m = length forest.content in
     let s = c.step-item.result in
     let i = c.loop-step.step-index in
@@ -130,7 +130,7 @@ selector_table-loop-step-preserved t c =
 
 pub selector_table-returns-clause-table : goal.selector_table-returns-clause-table
 selector_table-returns-clause-table t c =
-    let forest = c.args.ground.now.tree.now in
+    let forest = c.args.layout.now.tree.now in
     subst (λ (ss : List Step). AreTold c.loop-step.table.items (length forest.content) (λ n. Reaches (Holds (read_compound c.args.first.now) forest) (steps_of (map read_step ss)) forest n n)) (take_all c.loop-step.step-index c.args.steps.now (omega arith)) c.loop-step.invariant.table
 
 pub onward_table-compound_table-requires : goal.onward_table-compound_table-requires
@@ -144,17 +144,17 @@ onward_table-compound_table-requires t c =
 
 pub onward_table-returns-in_err-held-clause-tests : goal.onward_table-returns-in_err-held-clause-tests
 onward_table-returns-in_err-held-clause-tests t c =
-    enough (steps_count (steps_of (map read_step c.in-Some.before.now))) (length c.args.ground.now.tree.now.content) c.compound_table.new.tests _
-    (steps_asked (length c.args.ground.now.tree.now.content) c.args.tests.now c.loop-step.tests c.compound_table.new.tests c.args.steps.now c.loop-step.left.now c.in-Some.before.now c.in-Some.step.now c.in-Some.ensures.cases.0 c.loop-step.invariant.tests c.compound_table.ensures.tests)
+    enough (steps_count (steps_of (map read_step c.in-Some.before.now))) (length c.args.layout.now.tree.now.content) c.compound_table.new.tests _
+    (steps_asked (length c.args.layout.now.tree.now.content) c.args.tests.now c.loop-step.tests c.compound_table.new.tests c.args.steps.now c.loop-step.left.now c.in-Some.before.now c.in-Some.step.now c.in-Some.ensures.cases.0 c.loop-step.invariant.tests c.compound_table.ensures.tests)
 
 pub onward_table-returns-in_err-table-2-clause-tests : goal.onward_table-returns-in_err-table-2-clause-tests
 onward_table-returns-in_err-table-2-clause-tests t c =
-    enough (steps_count (steps_of (map read_step c.in-Some.before.now))) (length c.args.ground.now.tree.now.content) c.compound_table.new.tests _
-    (steps_asked (length c.args.ground.now.tree.now.content) c.args.tests.now c.loop-step.tests c.compound_table.new.tests c.args.steps.now c.loop-step.left.now c.in-Some.before.now c.in-Some.step.now c.in-Some.ensures.cases.0 c.loop-step.invariant.tests c.compound_table.ensures.tests)
+    enough (steps_count (steps_of (map read_step c.in-Some.before.now))) (length c.args.layout.now.tree.now.content) c.compound_table.new.tests _
+    (steps_asked (length c.args.layout.now.tree.now.content) c.args.tests.now c.loop-step.tests c.compound_table.new.tests c.args.steps.now c.loop-step.left.now c.in-Some.before.now c.in-Some.step.now c.in-Some.ensures.cases.0 c.loop-step.invariant.tests c.compound_table.ensures.tests)
 
 pub onward_table-loop-step-preserved : goal.onward_table-loop-step-preserved
 onward_table-loop-step-preserved t c =
-    let forest = c.args.ground.now.tree.now in
+    let forest = c.args.layout.now.tree.now in
     let m = length forest.content in
     let left = c.loop-step.left.now in
     let before = c.in-Some.before.now in
@@ -167,13 +167,13 @@ onward_table-loop-step-preserved t c =
     record {
       going = going_on forest m refl (map read_step c.args.steps.now) (map read_step left) (map read_step before) s.combinator (read_compound s.compound) c.loop-step.table.items held flags c.narrow_beside.new.table.items
           c.loop-step.invariant.going cut c.in_ok-held.ensures.table (subst (λ table. AreTold flags m (IsLeading forest s.combinator table)) c.deref.ensures.value c.in_ok-table-2.ensures) c.narrow_beside.ensures;
-      tests = steps_asked (length c.args.ground.now.tree.now.content) c.args.tests.now c.loop-step.tests c.compound_table.new.tests c.args.steps.now c.loop-step.left.now c.in-Some.before.now c.in-Some.step.now c.in-Some.ensures.cases.0 c.loop-step.invariant.tests c.compound_table.ensures.tests;
+      tests = steps_asked (length c.args.layout.now.tree.now.content) c.args.tests.now c.loop-step.tests c.compound_table.new.tests c.args.steps.now c.loop-step.left.now c.in-Some.before.now c.in-Some.step.now c.in-Some.ensures.cases.0 c.loop-step.invariant.tests c.compound_table.ensures.tests;
       light = omega arith;
     }
 
 pub leading_table-returns-clause-table : goal.leading_table-returns-clause-table
 leading_table-returns-clause-table t c =
-    let forest = c.args.ground.now.tree.now in
+    let forest = c.args.layout.now.tree.now in
     let m = length forest.content in
     let lead = c.args.lead in
     let first = read_compound c.args.first.now in

@@ -37,9 +37,9 @@ abbrev pub invariant-list_table-loop-selector : goal.invariant-list_table-loop-s
 invariant-list_table-loop-selector l =
     let all = read_list l.selectors in
     let left = read_list (drop l.selector-index l.selectors) in
-    let count = length l.ground.tree.now.content in
+    let count = length l.layout.tree.now.content in
     record {
-      table : Widened count l.table.items (Means all l.ground.tree.now) (Means left l.ground.tree.now);
+      table : Widened count l.table.items (Means all l.layout.tree.now) (Means left l.layout.tree.now);
       tests : l.tests + selectors_count left * count ≤ l.fn.tests + selectors_count all * count;
       light : selectors_weight left ≤ selectors_weight all;
     }
@@ -48,9 +48,9 @@ abbrev pub invariant-has_table-loop-selector : goal.invariant-has_table-loop-sel
 invariant-has_table-loop-selector l =
     let all = read_list l.selectors in
     let left = read_list (drop l.selector-index l.selectors) in
-    let count = length l.ground.tree.now.content in
+    let count = length l.layout.tree.now.content in
     record {
-      table : Widened count l.table.items (LeadsOn all l.ground.tree.now) (LeadsOn left l.ground.tree.now);
+      table : Widened count l.table.items (LeadsOn all l.layout.tree.now) (LeadsOn left l.layout.tree.now);
       tests : l.tests + selectors_count left * count ≤ l.fn.tests + selectors_count all * count;
       light : selectors_weight left ≤ selectors_weight all;
     }
@@ -60,9 +60,9 @@ abbrev pub invariant-onward_table-loop-step : goal.invariant-onward_table-loop-s
 invariant-onward_table-loop-step l =
     let all = map read_step l.steps in
     let left = map read_step l.left in
-    let count = length l.ground.tree.now.content in
+    let count = length l.layout.tree.now.content in
     record {
-      going : Going l.ground.tree.now count all left l.table.items;
+      going : Going l.layout.tree.now count all left l.table.items;
       tests : l.tests + steps_count (steps_of left) * count ≤ l.fn.tests + steps_count (steps_of all) * count;
       light : steps_weight (steps_of left) ≤ steps_weight (steps_of all);
     }
@@ -74,9 +74,9 @@ abbrev pub invariant-narrowed_table-loop-list : goal.invariant-narrowed_table-lo
 invariant-narrowed_table-loop-list l =
     let all = lists_of (map read_nested l.lists) in
     let left = lists_of (map read_nested (drop l.list-index l.lists)) in
-    let count = length l.ground.tree.now.content in
+    let count = length l.layout.tree.now.content in
     record {
-      table : Narrowed l.ground.tree.now count l.fn.wanted.items l.table.items all left;
+      table : Narrowed l.layout.tree.now count l.fn.wanted.items l.table.items all left;
       tests : l.tests + lists_count left * count ≤ l.fn.tests + lists_count all * count;
       light : lists_weight left ≤ lists_weight all;
     }
@@ -85,9 +85,9 @@ abbrev pub invariant-selector_table-loop-step : goal.invariant-selector_table-lo
 invariant-selector_table-loop-step l =
     let all = steps_of (map read_step l.steps) in
     let left = steps_of (map read_step (drop l.step-index l.steps)) in
-    let count = length l.ground.tree.now.content in
+    let count = length l.layout.tree.now.content in
     record {
-      table : AreTold l.table.items count (λ n. Reaches (Holds (read_compound l.first) l.ground.tree.now) (steps_of (map read_step (take l.step-index l.steps))) l.ground.tree.now n n);
+      table : AreTold l.table.items count (λ n. Reaches (Holds (read_compound l.first) l.layout.tree.now) (steps_of (map read_step (take l.step-index l.steps))) l.layout.tree.now n n);
       tests : l.tests + steps_count left * count ≤ l.fn.tests + (compound_count (read_compound l.first) + steps_count all) * count;
       light : steps_weight left ≤ steps_weight all;
     }

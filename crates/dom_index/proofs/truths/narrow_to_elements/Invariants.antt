@@ -5,4 +5,4 @@ use Rattle.dom_index.proofs.FillLemmas.{Filled}
 use Rattle.dom_index.proofs.truths.narrow_to_elements.Given as goal
 
 abbrev pub invariant-loop-n : goal.invariant-loop-n
-invariant-loop-n l = Filled (λ m. truth_at l.fn.table.items m && element_at l.ground.tree.now m) l.fn.table.items l.table.items l.n
+invariant-loop-n l = Filled (λ m. truth_at l.fn.table.items m && element_at l.layout.tree.now m) l.fn.table.items l.table.items l.n

@@ -8,9 +8,9 @@ use Rattle.dom_index.proofs.truths.tested.Given as goal
 -- the nodes up to here are told, the others stand as they did
 abbrev pub invariant-loop-n : goal.invariant-loop-n
 invariant-loop-n l = record {
-  long : length l.table.items ≡ length l.ground.tree.now.content;
+  long : length l.table.items ≡ length l.layout.tree.now.content;
   few : l.asked ≤ l.n;
-  kept : l.caches ≡ l.ground.tree.now;
-  told : (m : ℕ) → m < l.n → Decides (truth_at l.table.items m) ((truth_at l.fn.wanted.items m ≡ true) × Holds (read_compound l.compound) l.ground.tree.now m);
+  kept : l.caches ≡ l.layout.tree.now;
+  told : (m : ℕ) → m < l.n → Decides (truth_at l.table.items m) ((truth_at l.fn.wanted.items m ≡ true) × Holds (read_compound l.compound) l.layout.tree.now m);
   left : (m : ℕ) → l.n ≤ m → truth_at l.table.items m ≡ truth_at l.fn.wanted.items m;
 }

@@ -5,5 +5,5 @@ use Rattle.dom_index.proofs.ways.is_led.Goals as goal
 
 pub passes_on-requires-clause-known : goal.passes_on-requires-clause-known
 passes_on-requires-clause-known c =
-    let ground = c.args.ground.now in
-    (behind_left ground.tree.now ground.order.items ground.places.items ground.ordered c.args.combinator (number_at ground.order.items c.args.place) c.in-Some.left (ground.ordered.known c.args.place c.requires.known) (sym c.left_at.ensures ∙ c.in-Some.is)).0
+    let layout = c.args.layout.now in
+    (behind_left layout.tree.now layout.order.items layout.places.items layout.ordered c.args.combinator (number_at layout.order.items c.args.place) c.in-Some.left (layout.ordered.known c.args.place c.requires.known) (sym c.left_at.ensures ∙ c.in-Some.is)).0

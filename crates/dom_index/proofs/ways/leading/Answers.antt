@@ -10,11 +10,11 @@ use Rattle.dom_index.proofs.ways.leading.Goals.{then-passes_on, else-passes_on}
 
 pub loop-i-preserved : goal.loop-i-preserved
 loop-i-preserved c =
-    let ground = c.args.ground.now in
-    let forest = ground.tree.now in
-    let order = ground.order.items in
-    let places = ground.places.items in
-    let good = ground.ordered in
+    let layout = c.args.layout.now in
+    let forest = layout.tree.now in
+    let order = layout.order.items in
+    let places = layout.places.items in
+    let good = layout.ordered in
     let lines = c.know_forest.ensures.lines in
     let k = c.args.combinator in
     let table = c.args.table.now in
@@ -47,9 +47,9 @@ loop-i-preserved c =
 
 pub returns : goal.returns
 returns c =
-    let ground = c.args.ground.now in
-    let forest = ground.tree.now in
+    let layout = c.args.layout.now in
+    let forest = layout.tree.now in
     record {
       long = c.loop-i.invariant.long;
-      each = told_all forest c.know_forest.ensures.lines c.args.combinator c.args.table.now ground.order.items ground.places.items ground.ordered c.loop-i.flags.items (λ m known. subst (λ j. Decides (truth_at c.loop-i.flags.items m) (ToldBy forest c.args.combinator c.args.table.now ground.places.items j m)) (omega (arith, ground.ordered.long)) (c.loop-i.invariant.told m known));
+      each = told_all forest c.know_forest.ensures.lines c.args.combinator c.args.table.now layout.order.items layout.places.items layout.ordered c.loop-i.flags.items (λ m known. subst (λ j. Decides (truth_at c.loop-i.flags.items m) (ToldBy forest c.args.combinator c.args.table.now layout.places.items j m)) (omega (arith, layout.ordered.long)) (c.loop-i.invariant.told m known));
     }

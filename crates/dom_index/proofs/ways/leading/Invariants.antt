@@ -7,8 +7,8 @@ use Rattle.dom_index.proofs.ways.leading.Given as goal
 -- each node is told by the last so many in the order
 abbrev pub invariant-loop-i : goal.invariant-loop-i
 invariant-loop-i l =
-    let forest = l.ground.tree.now in
+    let forest = l.layout.tree.now in
     record {
       long : length l.flags.items ≡ length forest.content;
-      told : (m : ℕ) → m < length forest.content → Decides (truth_at l.flags.items m) (ToldBy forest l.combinator l.table l.ground.places.items l.i m);
+      told : (m : ℕ) → m < length forest.content → Decides (truth_at l.flags.items m) (ToldBy forest l.combinator l.table l.layout.places.items l.i m);
     }

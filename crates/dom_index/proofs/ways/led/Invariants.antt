@@ -7,6 +7,6 @@ use Rattle.dom_index.proofs.ways.led.Given as goal
 -- the nodes whose places are behind are told
 abbrev pub invariant-loop-i : goal.invariant-loop-i
 invariant-loop-i l = record {
-  long : length l.flags.items ≡ length l.ground.tree.now.content;
-  told : (n : ℕ) → n < length l.ground.tree.now.content → number_at l.ground.places.items n < l.i → Decides (truth_at l.flags.items n) (IsLed l.ground.tree.now l.combinator l.table n);
+  long : length l.flags.items ≡ length l.layout.tree.now.content;
+  told : (n : ℕ) → n < length l.layout.tree.now.content → number_at l.layout.places.items n < l.i → Decides (truth_at l.flags.items n) (IsLed l.layout.tree.now l.combinator l.table n);
 }

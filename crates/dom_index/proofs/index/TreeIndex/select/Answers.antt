@@ -12,7 +12,7 @@ use Rattle.dom_index.proofs.index.TreeIndex.select.Goals as goal
 
 pub returns-clause-found : goal.returns-clause-found
 returns-clause-found c =
-    let forest = c.self.inside.ground.tree.now in
+    let forest = c.self.inside.layout.tree.now in
     let table = c.in_ok-table.table.items in
     let told = subst (λ list. AreTold table (length forest.content) (Means list forest)) c.selectors.ensures c.in_ok-table.ensures.table in
     let ids = picks forest table (flat_map (walk_below forest) c.args.roots.now) in

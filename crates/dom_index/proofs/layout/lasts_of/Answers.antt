@@ -7,7 +7,7 @@ use Rattle.dom_index.specs.Preorder.{preorder}
 use Rattle.dom_index.proofs.OrderLemmas.{are_spans, lasts_more}
 use Rattle.dom_links.proofs.Neighbours.{last-stands}
 use Rattle.dom_index.proofs.SweepLemmas.{link_at}
-use Rattle.dom_index.proofs.ground.lasts_of.Goals as goal
+use Rattle.dom_index.proofs.layout.lasts_of.Goals as goal
 
 pub last_of-requires : goal.last_of-requires
 last_of-requires c = λ child e.

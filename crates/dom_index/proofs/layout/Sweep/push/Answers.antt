@@ -2,7 +2,7 @@ use Rattle.std.proofs.Common.{◌++◌, ◌∷◌, [], ◌∙◌, true, ap, set}
 use Rattle.dom_links.specs.Forest.{children_of, parent}
 use Rattle.dom_links.specs.Lists.{last}
 use Rattle.dom_index.proofs.SweepLemmas.{swept_more}
-use Rattle.dom_index.proofs.ground.Sweep.push.Goals as goal
+use Rattle.dom_index.proofs.layout.Sweep.push.Goals as goal
 
 pub returns-clause-swept : goal.returns-clause-swept
 returns-clause-swept c =

@@ -1,6 +1,6 @@
 use Rattle.std.proofs.Common.{length}
 use Rattle.dom_index.proofs.SweepLemmas.{first_inside, met_more, rest_inside}
-use Rattle.dom_index.proofs.ground.push_below.Goals as goal
+use Rattle.dom_index.proofs.layout.push_below.Goals as goal
 
 pub push-requires-clause-known : goal.push-requires-clause-known
 push-requires-clause-known c = first_inside c.loop-below.below-iterator.left c.next.new.self.left c.in-Some.below c.in-Some.ensures.steps (length c.args.tree.now.content) c.loop-below.invariant.inside

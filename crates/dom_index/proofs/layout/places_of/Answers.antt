@@ -2,7 +2,7 @@ use Rattle.std.proofs.Common.{◌<◌, ◌∙◌, length, arith}
 use Rattle.std.proofs.lemmas.List.{length-set, get_or_read}
 use Rattle.dom_index.proofs.PlaceLemmas.{in_place, placed_more}
 use Rattle.dom_index.specs.Orders.{number_at}
-use Rattle.dom_index.proofs.ground.places_of.Goals as goal
+use Rattle.dom_index.proofs.layout.places_of.Goals as goal
 
 pub index_mut-requires : goal.index_mut-requires
 index_mut-requires c =

@@ -1,6 +1,6 @@
 use Rattle.std.proofs.Common.{◌≡◌, ◌<◌, ℕ, length}
 use Rattle.dom_index.specs.Orders.{number_at}
-use Rattle.dom_index.proofs.ground.places_of.Given as goal
+use Rattle.dom_index.proofs.layout.places_of.Given as goal
 
 abbrev pub invariant-loop-i : goal.invariant-loop-i
 invariant-loop-i l = record {

@@ -3,7 +3,7 @@ use Rattle.dom_links.specs.Trees.{trees, walk}
 use Rattle.dom_links.specs.Walk.{IsWithin, row_on}
 use Rattle.dom_index.specs.Orders.{IsSwept}
 use Rattle.dom_index.specs.Preorder.{walk_from}
-use Rattle.dom_index.proofs.ground.push_from.Given as goal
+use Rattle.dom_index.proofs.layout.push_from.Given as goal
 
 abbrev pub invariant-loop-next : goal.invariant-loop-next
 invariant-loop-next l = record {

@@ -20,7 +20,7 @@ use dom_trees::tree::Tree;
 /// A tree, its nodes in order and the parent of each in that order, and by number the place of each
 /// and that of the last node at or below it.
 #[derive(Drop)]
-pub(crate) struct Ground<'a> {
+pub(crate) struct Layout<'a> {
     pub(crate) tree: &'a Tree,
     pub(crate) order: Vec<NodeId>,
     pub(crate) above: Vec<Option<NodeId>>,
@@ -212,17 +212,17 @@ fn last_of(lasts: &[usize], end: Option<NodeId>, place: usize) -> usize
     }
 }
 
-impl<'a> Ground<'a> {
-    /// The ground of a tree.
-    pub(crate) fn new(tree: &'a Tree) -> Result<Ground<'a>, OutOfMemory>
-        ensures { IfOk result (λ ground. ground.tree ≡ tree.entry) }
+impl<'a> Layout<'a> {
+    /// The layout of a tree.
+    pub(crate) fn new(tree: &'a Tree) -> Result<Layout<'a>, OutOfMemory>
+        ensures { IfOk result (λ layout. layout.tree ≡ tree.entry) }
     {
         know_order(tree);
         let sweep = swept(tree)?;
         let places = places_of(tree, &sweep.order)?;
         let lasts = lasts_of(tree, &sweep.order, &sweep.ends, &places)?;
         let Sweep { order, above, .. } = sweep;
-        Ok(Ground {
+        Ok(Layout {
             tree,
             order,
             above,
@@ -236,7 +236,8 @@ impl<'a> Ground<'a> {
 fn know_order(tree: &Tree)
     ensures long { length (preorder tree.now) ≡ length tree.now.content }
     ensures once { IsDistinct (preorder tree.now) }
-    ensures inside { (n : ℕ) → stands_in n (preorder tree.now) ≡ true → n < length tree.now.content }
+    ensures inside { (n : ℕ) → stands_in n (preorder tree.now) ≡ true
+        → n < length tree.now.content }
     ensures order { (places : List ℕ) → ArePlaces tree.now (preorder tree.now) places
         → IsOrder tree.now (preorder tree.now) places }
 {
@@ -244,15 +245,15 @@ fn know_order(tree: &Tree)
 }
 
 /// The nodes below a node, in order.
-pub(crate) fn below<'i>(ground: &'i Ground<'_>, id: NodeId) -> &'i [NodeId]
-    ensures { result.now ≡ walk_below ground.now.tree.now id }
+pub(crate) fn below<'i>(layout: &'i Layout<'_>, id: NodeId) -> &'i [NodeId]
+    ensures { result.now ≡ walk_below layout.now.tree.now id }
 {
-    know_none_below(ground.tree, id);
+    know_none_below(layout.tree, id);
     let n = id.value();
-    if n >= ground.order.len() {
+    if n >= layout.order.len() {
         return &[];
     }
-    &ground.order[ground.places[n] + 1..ground.lasts[n] + 1]
+    &layout.order[layout.places[n] + 1..layout.lasts[n] + 1]
 }
 
 /// Tells that nothing is below an unknown number. It does nothing.

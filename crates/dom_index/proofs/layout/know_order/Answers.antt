@@ -2,7 +2,7 @@ use Rattle.std.proofs.Common.{◌≤◌, length, arith}
 use Rattle.dom_index.proofs.OrderLemmas.{is_order, preorder_all, preorder_inside, preorder_once}
 use Rattle.dom_index.proofs.PlaceLemmas.{all_counted}
 use Rattle.dom_index.specs.Preorder.{preorder}
-use Rattle.dom_index.proofs.ground.know_order.Goals as goal
+use Rattle.dom_index.proofs.layout.know_order.Goals as goal
 
 pub returns-clause-long : goal.returns-clause-long
 returns-clause-long c =

@@ -1,6 +1,6 @@
 use Rattle.std.proofs.Common.{◌≡◌, ◌<◌, ◌∙◌, ℕ, List, length, sym, subst}
 use Rattle.dom_index.specs.Orders.{AreSpans, IsOrder, number_at}
-use Rattle.dom_index.proofs.ground.Ground.new.Goals as goal
+use Rattle.dom_index.proofs.layout.Layout.new.Goals as goal
 
 pub invariant_of-result-clause-ordered : goal.invariant_of-result-clause-ordered
 invariant_of-result-clause-ordered c =

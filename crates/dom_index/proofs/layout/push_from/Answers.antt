@@ -3,7 +3,7 @@ use Rattle.dom_links.specs.Forest.{siblings}
 use Rattle.dom_links.specs.Lists.{after}
 use Rattle.dom_links.specs.Walk.{IsWithin}
 use Rattle.dom_index.proofs.OrderLemmas.{next_pushed, next_shorter, next_within}
-use Rattle.dom_index.proofs.ground.push_from.Goals as goal
+use Rattle.dom_index.proofs.layout.push_from.Goals as goal
 
 pub loop-next-smaller : goal.loop-next-smaller
 loop-next-smaller c =

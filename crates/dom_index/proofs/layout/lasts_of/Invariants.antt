@@ -1,7 +1,7 @@
 use Rattle.std.proofs.Common.{◌≡◌, ◌<◌, ◌≤◌, ◌+◌, ℕ, length}
 use Rattle.dom_links.specs.Trees.{walk_below}
 use Rattle.dom_index.specs.Orders.{number_at}
-use Rattle.dom_index.proofs.ground.lasts_of.Given as goal
+use Rattle.dom_index.proofs.layout.lasts_of.Given as goal
 
 -- the nodes at the last places are told
 abbrev pub invariant-loop-i : goal.invariant-loop-i

@@ -2,7 +2,7 @@ use Rattle.std.proofs.Common.{◌≡◌, ◌<◌, ◌++◌, ℕ, true, length}
 use Rattle.dom_links.specs.Lists.{stands_in}
 use Rattle.dom_links.specs.Trees.{walk_below}
 use Rattle.dom_index.specs.Orders.{IsSwept}
-use Rattle.dom_index.proofs.ground.push_below.Given as goal
+use Rattle.dom_index.proofs.layout.push_below.Given as goal
 
 abbrev pub invariant-loop-below : goal.invariant-loop-below
 invariant-loop-below l = record {

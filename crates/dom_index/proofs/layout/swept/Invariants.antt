@@ -1,7 +1,7 @@
 use Rattle.std.proofs.Common.{◌≡◌}
 use Rattle.dom_index.specs.Orders.{IsSwept}
 use Rattle.dom_index.specs.Preorder.{preorder_to}
-use Rattle.dom_index.proofs.ground.swept.Given as goal
+use Rattle.dom_index.proofs.layout.swept.Given as goal
 
 abbrev pub invariant-loop-n : goal.invariant-loop-n
 invariant-loop-n l = record {

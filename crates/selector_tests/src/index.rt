@@ -1,0 +1,4 @@
+//! Tests of `dom_index`.
+
+mod places;
+mod tables;
