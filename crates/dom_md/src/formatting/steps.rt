@@ -74,8 +74,8 @@ pub(super) fn add_text(text: &mut String, added: &str) -> Result<(), AllocError>
     add_gap(text, added)
 }
 
-/// Whether ASCII whitespace is all the whitespace that the text may have: ASCII bytes alone, without
-/// the vertical tab.
+/// Whether ASCII whitespace is all the whitespace that the text may have: ASCII bytes alone, and no
+/// vertical tab.
 fn is_simple(bytes: &[u8]) -> bool
     ensures { result ≡ is_simple bytes.now }
 {

@@ -44,8 +44,8 @@ fn are_plain(address: &str) -> bool {
     true
 }
 
-/// A bit for each of the bytes 0 to 63 that addresses have, and that stand for themselves or are `&`:
-/// digits and `#`, `%`, `&`, `+`, `,`, `-`, `.`, `/`, `:`, `=`, `?`.
+/// A bit for each of the bytes 0 to 63 that stand for themselves in an address, and for `&`: digits
+/// and `#`, `%`, `&`, `+`, `,`, `-`, `.`, `/`, `:`, `=`, `?`.
 const PLAIN_LOW: u64 = 0xa7ff_f868_0000_0000;
 /// The same for the bytes 64 to 127: letters and `@`, `_`, `~`.
 const PLAIN_HIGH: u64 = 0x47ff_fffe_87ff_ffff;

@@ -71,7 +71,8 @@ fn word_len(bytes: &[u8]) -> usize
     bytes.len()
 }
 
-/// Adds a word; a backslash stands before one that would make a list's mark of the digits before it.
+/// Adds a word; a backslash stands before one that would make a list's mark of the digits before
+/// it.
 fn push_first_word(text: &mut String, word: &str, line_start: bool) -> Result<(), OutOfMemory>
     ensures { OnOk result (Reads (string_bytes text.old) (string_bytes text.new) word.now) }
 {

@@ -304,5 +304,7 @@ fn tells_of_the_whole_document(rt: HostRuntime) -> Result<(), Fail> {
     assert!(rt; document.base_uri().is_none());
     let based = "<html><head><base href=\"a/\"><base href=\"b/\"></head></html>";
     assert!(rt; Document::parse(alloc, based)?.base_uri() == Some("a/"));
+    let behind = "<html><head></head><head><base href=\"/x\"></head></html>";
+    assert!(rt; Document::parse(alloc, behind)?.base_uri().is_none());
     Ok(())
 }

@@ -41,6 +41,8 @@ fn formats_a_node(rt: HostRuntime) -> Result<(), Fail> {
     let div = NodeRef::new(NodeId::new(1).ok_or("id")?, &document.tree);
     assert!(rt; formatted_node(&div)?.as_str() == "a b\n\nc\n\n");
     assert!(rt; document.formatted_text()?.as_str() == "a b\n\nc");
+    let kept = Document::fragment(rt.alloc(), "<pre>a&nbsp;\n</pre>")?;
+    assert!(rt; kept.formatted_text()?.as_str() == "a");
     Ok(())
 }
 

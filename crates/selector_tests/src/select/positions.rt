@@ -125,6 +125,32 @@ fn counts_siblings(rt: HostRuntime) -> Result<(), Fail> {
 }
 
 #[test]
+fn counts_items(rt: HostRuntime) -> Result<(), Fail> {
+    let alloc = rt.alloc();
+    let items = [
+        (0, Named("ul")),
+        (1, Named("li")),
+        (1, Named("li")),
+        (1, Named("li")),
+        (1, Named("li")),
+        (1, Named("li")),
+    ];
+    let mixed = [(0, Named("div")), (1, Named("b")), (1, Named("p"))];
+    let cases: [(&[Row<'_>], &str, usize); 6] = [
+        (&items, "ul li:nth-child(2)", 1),
+        (&items, "li:nth-child(2n+1)", 3),
+        (&items, "li:nth-child(-n+2)", 2),
+        (&items, "li:nth-last-child(2)", 1),
+        (&items, "li:nth-child(0)", 0),
+        (&mixed, "p:nth-child(2):nth-of-type(1)", 1),
+    ];
+    for (rows, selector, wanted) in cases {
+        assert_eq!(rt; count(alloc, rows, selector)?, wanted);
+    }
+    Ok(())
+}
+
+#[test]
 fn leads_on(rt: HostRuntime) -> Result<(), Fail> {
     let alloc = rt.alloc();
     let beside = [(0, Named("i")), (0, Named("p")), (0, Named("p"))];
@@ -134,7 +160,13 @@ fn leads_on(rt: HostRuntime) -> Result<(), Fail> {
         (2, Named("a")),
         (1, Named("b")),
     ];
-    let cases: [(&[Row<'_>], &str, usize); 9] = [
+    let nested = [(0, Named("p")), (1, Named("div")), (2, Named("a"))];
+    let cases: [(&[Row<'_>], &str, usize); 14] = [
+        (&nested, "div:has(p a)", 0),
+        (&nested, "div:has(a)", 1),
+        (&nested, "div:has(> a)", 1),
+        (&nested, "a:not(p > a)", 1),
+        (&nested, "a:not(div > a)", 0),
         (&beside, ":has(+ p)", 2),
         (&beside, ":has(~ p)", 2),
         (&beside, "i:has(+ p + p)", 1),
