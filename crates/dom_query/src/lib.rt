@@ -13,6 +13,7 @@ mod tests;
 
 pub use dom_edits::edit::SelectionFault;
 pub use dom_edits::selection_mut::SelectionMut;
+pub use dom_index::index::{IndexedNodes, TreeIndex};
 pub use dom_links::gap::Place;
 pub use dom_links::iters::{AncestorNodes, ChildNodes, DescendantNodes};
 pub use dom_links::ops::TreeNodeOps;
