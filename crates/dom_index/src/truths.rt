@@ -6,7 +6,8 @@ ghost use Rattle.dom_selectors.specs.ListsAsTrees.{lists_of};
 ghost use Rattle.dom_selectors.specs.ValuesAsTrees.{read_compound, read_nested};
 ghost use Rattle.dom_links.specs.ListMoves.{element_at};
 ghost use Rattle.dom_select.specs.Meaning.{Holds, ListsHold};
-ghost use Rattle.dom_index.specs.Tables.{AreBoth, AreEither, AreTold, AreTurned, AreServing, truth_at};
+ghost use Rattle.dom_index.specs.Tables.{AreBoth, AreEither, AreServing, AreTold, AreTurned};
+ghost use Rattle.dom_index.specs.Tables.{truth_at};
 
 use crate::layout::{Layout, numbered};
 use crate::ways::is_element;
