@@ -25,13 +25,15 @@ enum Call {
     Formatted,
     Md,
     Select,
+    Index,
+    Tables,
     Find,
     Edits,
     Clone,
     Append,
 }
 
-const CALLS: [(&str, Call); 13] = [
+const CALLS: [(&str, Call); 15] = [
     ("parse", Call::Parse),
     ("drop", Call::Drop),
     ("tokens", Call::Tokens),
@@ -41,6 +43,8 @@ const CALLS: [(&str, Call); 13] = [
     ("formatted", Call::Formatted),
     ("md", Call::Md),
     ("select", Call::Select),
+    ("index", Call::Index),
+    ("tables", Call::Tables),
     ("find", Call::Find),
     ("edits", Call::Edits),
     ("clone", Call::Clone),
@@ -148,6 +152,14 @@ fn count_of(rt: &HostRuntime, page: &Page, call: Call) -> Option<usize> {
         Call::Md => Some(document.md(None).ok()?.len()),
         Call::Clone => Some(document.try_clone().ok()?.tree.len()),
         Call::Append => append_to_all(page),
+        Call::Index => TreeIndex::new(&document.tree)
+            .ok()?
+            .last_below(&NodeId::root()),
+        Call::Tables => {
+            let mut index = TreeIndex::new(&document.tree).ok()?;
+            let found = index.select(&page.matcher, &[NodeId::root()]).ok()?;
+            Some(found.len())
+        }
         Call::Find => {
             let found = document.root().find_descendants(page.path.as_str()).ok()?;
             Some(found.len())
