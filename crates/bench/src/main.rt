@@ -5,7 +5,7 @@
 
 use dom_query::{
     Document, DocumentMd, EditFault, Matcher, MiniSelect, NodeId, NodeMarkup, NodeMd,
-    NodeMutMarkup, Tokens, Tree,
+    NodeMutMarkup, Tokens, Tree, TreeIndex,
 };
 use dom_select::matcher::descendants::select_below;
 use std::env;
