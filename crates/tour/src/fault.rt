@@ -1,6 +1,6 @@
 //! What can go wrong.
 
-use dom_query::{EditFault, MarkupFault, OutOfMemory, SelectorFault, WriteFault};
+use dom_query::{EditFault, MarkupFault, OutOfMemory, SelectionFault, SelectorFault, WriteFault};
 use std::io;
 
 #[derive(Debug, Drop, thiserror::Error)]
@@ -11,6 +11,8 @@ pub enum TourFault {
     Selector(#[from] SelectorFault),
     #[error("edit: {0}")]
     Edit(#[from] EditFault),
+    #[error("{0}")]
+    Selection(#[from] SelectionFault),
     #[error("out of memory")]
     Memory(#[from] OutOfMemory),
     #[error("{0}")]

@@ -6,6 +6,7 @@ mod changing;
 mod fault;
 mod finding;
 mod links;
+mod many;
 mod parens;
 mod reading;
 mod walking;
@@ -21,6 +22,7 @@ fn main(rt: HostRuntime) -> Result<(), TourFault> {
     finding::print_found(alloc, &mut out)?;
     walking::print_list(alloc, &mut out)?;
     changing::print_changed(alloc, &mut out)?;
+    many::print_marked(alloc, &mut out)?;
     writing::print_written(alloc, &mut out)?;
     parens::print_read(alloc, &mut out)
 }
