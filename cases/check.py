@@ -1,6 +1,6 @@
 """The test command. It runs the gate, `rt ci`, which proves every crate from nothing, tries the must-fail edits and runs
 every test, and then the program that the gate built on the table of cases in cases/ and on a device that is full. It
-compares the snippets of the documents with the crate `tour`, and tries the callers that must not compile. Its last line
+compares the snippets of the documents with the crates `tour` and `uses`, and tries the callers that must not compile. Its last line
 counts all, and its status is 0 where nothing failed. `check --cases` leaves the gate out.
 
 A case is a line of a file cases/*.jsonl: `markup` is standard input and `script` the argument (`args` a list of
@@ -12,8 +12,8 @@ built crate `paths`.
 
 The built crate `refusals` does each call that takes memory with ever more of it, in an address space of LIMITED bytes.
 
-A snippet is a block of README.md, docs/API.md or docs/SINK.md: one of rust stands in a file of crates/tour/src, line for line but for
-its indentation, and one of text in crates/tour/stdout, which the gate compares with what `tour` prints.
+A snippet is a block of README.md, docs/API.md or docs/SINK.md: one of rust stands in a file of crates/tour/src or crates/uses/src, line
+for line but for its indentation, and one of text in the stdout of one of the two, which the gate compares with what it prints.
 
 A caller that must not compile is a file cases/must-not-compile/NAME-WHAT.txt, a program that uses the crate NAME alone. One
 line of it ends in '// refused: WORDS': with that line the compiler refuses the program with those words, without it it runs."""
@@ -171,11 +171,12 @@ def stands_in(block, text):
 
 
 def snippets():
-    """Compares the documents' snippets with the crate `tour`, and returns how many stand there and how many don't."""
-    tour = ROOT / "crates" / "tour"
+    """Compares the documents' snippets with the crates `tour` and `uses`, and returns how many stand there and how many
+    don't."""
+    crates = [ROOT / "crates" / name for name in ("tour", "uses")]
     known = {
-        "rust": [file.read_text(encoding="utf-8") for file in sorted((tour / "src").glob("**/*.rt"))],
-        "text": [(tour / "stdout").read_text(encoding="utf-8")],
+        "rust": [file.read_text(encoding="utf-8") for crate in crates for file in sorted((crate / "src").glob("**/*.rt"))],
+        "text": [(crate / "stdout").read_text(encoding="utf-8") for crate in crates],
     }
     passed = failed = 0
     for document in (ROOT / "README.md", ROOT / "docs" / "API.md", ROOT / "docs" / "SINK.md"):
@@ -184,7 +185,7 @@ def snippets():
                 passed += 1
             else:
                 failed += 1
-                print(f"{document.name}:{start}: this {kind or 'plain'} block isn't in crates/tour")
+                print(f"{document.name}:{start}: this {kind or 'plain'} block isn't in crates/tour or crates/uses")
     print(f"snippets: {passed} passed, {failed} failed")
     return passed, failed if passed else failed + 1
 

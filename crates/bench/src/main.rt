@@ -4,8 +4,8 @@
 #![tactic(auto)]
 
 use dom_query::{
-    Document, DocumentMd, EditFault, Matcher, MiniSelect, NodeId, NodeMarkup, NodeMd,
-    NodeMutMarkup, Tokens, Tree, TreeIndex,
+    Document, DocumentMd, DocumentSelect, EditFault, Matcher, MiniSelect, NodeId, NodeMarkup,
+    NodeMd, NodeMutMarkup, Tokens, Tree, TreeIndex,
 };
 use dom_select::matcher::descendants::select_below;
 use std::env;
@@ -165,8 +165,8 @@ fn count_of(rt: &HostRuntime, page: &Page, call: Call) -> Option<usize> {
             Some(found.len())
         }
         _ => {
-            let found = select_below(&document.tree, &NodeId::root(), &page.matcher).ok()?;
-            Some(found.len())
+            let found = document.select_matcher(&page.matcher).ok()?;
+            Some(found.length())
         }
     }
 }

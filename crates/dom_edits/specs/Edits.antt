@@ -3,15 +3,15 @@ use Rattle.std.specs.Prelude.{◌≡◌, ◌≤◌, ℕ, List, [], ◌∷◌, Re
 use Rattle.dom_nodes.specs.declared.fault.EditFault.{EditFault}
 use Rattle.dom_nodes.specs.declared.fault.EditFault.TheVariants.{UnknownNode}
 use Rattle.dom_links.specs.Forest.{Forest}
-use Rattle.dom_links.specs.Insertions.{inserted}
+use Rattle.dom_links.specs.Insertions.{MayInsert, inserted}
 use Rattle.dom_links.specs.declared.gap.Place.{Place}
 use Rattle.dom_links.specs.Stripped.{stripped}
 use Rattle.dom_trees.specs.Edits.{IsKnown, TreeEdit, changing, normalizing, removing, texting, unwrapping}
-use Rattle.dom_trees.specs.Refusals.{KnownCause}
+use Rattle.dom_trees.specs.Refusals.{InsertCause, KnownCause}
 use Rattle.dom_markup.specs.Fragments.{top_nodes}
 use Rattle.dom_markup.specs.Setters.{IsOpenAt, PutCause}
 use Rattle.dom_edits.specs.declared.edit.Edit.{Edit}
-use Rattle.dom_edits.specs.declared.edit.Edit.TheVariants.{Change, SetText, Remove, Unwrap, Strip, Normalize, Put}
+use Rattle.dom_edits.specs.declared.edit.Edit.TheVariants.{Change, SetText, Remove, Unwrap, Strip, Normalize, Put, Copy}
 use Rattle.dom_edits.specs.declared.edit.SelectionFault.{SelectionFault}
 
 -- the elements below x of these local names are replaced by their children
@@ -31,6 +31,14 @@ putting_known place read x = record {
   Cause = PutKnownCause place x read;
 }
 
+-- copies of nodes of the same forest go to a place at x
+abbrev pub copying_to : Place → List ℕ → ℕ → TreeEdit
+copying_to place ns x = record {
+  after = λ forest. inserted forest ns place x forest;
+  Allowed = λ forest. MayInsert forest ns place x forest;
+  Cause = λ forest. InsertCause forest ns place x forest;
+}
+
 -- what is done at the node
 abbrev pub edit_at : Edit → ℕ → TreeEdit
 edit_at (Change change) n = changing n change
@@ -40,6 +48,7 @@ edit_at Unwrap n = unwrapping n
 edit_at (Strip names) n = stripping (map (λ name. name.now) names.now) n
 edit_at Normalize n = normalizing n
 edit_at (Put place snippet) n = putting_known place snippet.now n
+edit_at (Copy place ids) n = copying_to place ids.now n
 
 -- it is done at each of the nodes, one after the other, and was allowed there
 abbrev pub Each : (ℕ → TreeEdit) → List ℕ → Forest → Forest → Type 0

@@ -28,6 +28,8 @@ pub enum Edit<'a> {
     Normalize,
     /// Copies of the nodes that markup spells go to a place that it tells.
     Put(Place, &'a Snippet),
+    /// Copies of nodes of its tree go to a place that it tells.
+    Copy(Place, &'a [NodeId]),
 }
 
 /// Why an edit of several nodes ended early. Exactly the first `done` nodes are done; the next one,
@@ -51,6 +53,7 @@ pub fn edit_node(tree: &mut Tree, id: NodeId, edit: Edit) -> Result<(), EditFaul
         Edit::Strip(names) => strip_known(tree, id, names),
         Edit::Normalize => tree.normalize_of(&id),
         Edit::Put(place, snippet) => put_known(tree, id, place, snippet),
+        Edit::Copy(place, ids) => tree.copy_at(&id, place, ids),
     }
 }
 

@@ -3,6 +3,7 @@ pub mod FillLemmas
 pub mod LeadLemmas
 pub mod LedLemmas
 pub mod ListLemmas
+pub mod NameLemmas
 pub mod OnwardLemmas
 pub mod OrderLemmas
 pub mod PickLemmas

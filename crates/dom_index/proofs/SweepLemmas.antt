@@ -1,11 +1,14 @@
 -- What a sweep has written down, node by node.
-use Rattle.std.proofs.Common.{◌≡◌, ◌≢◌, ◌<◌, ℕ, List, [], ◌∷◌, ◌++◌, Bool, true, false, true≢false, Option, None, inl, inr, refl, sym, ap, ◌∙◌, length, map, set, get_or, arith, append_assoc, append-nil, cond, suc, ◌+◌}
+use Rattle.std.proofs.Common.{◌≡◌, ◌≢◌, ◌<◌, ℕ, List, [], ◌∷◌, ◌++◌, Bool, true, false, true≢false, Option, None, Some, slice_get, ◌⊎◌, inl, inr, refl, sym, ap, ◌∙◌, length, map, set, get_or, arith, append_assoc, append-nil, cond, suc, ◌+◌}
 use Rattle.std.specs.Prelude.{◌==◌, ◌||◌}
 use Rattle.std.proofs.lemmas.Bool.{cases_Bool, eq-eqb, eqb-true, or_right}
 use Rattle.std.proofs.lemmas.List.{get_or-map, get_or-set_other, get_or-set_same, length-set, map-append}
 use Rattle.dom_links.specs.Forest.{Forest, children_of, parent}
 use Rattle.dom_links.specs.Lists.{last, stands_in}
 use Rattle.dom_links.proofs.Neighbours.{stands_in-append}
+use Rattle.std.proofs.lemmas.Option.{same_Some}
+use Rattle.dom_nodes.specs.declared.node_data.NodeData.{NodeData}
+use Rattle.dom_index.specs.Names.{byte_at, tells_name}
 use Rattle.dom_index.specs.declared.layout.Sweep.{Sweep}
 use Rattle.dom_index.specs.Orders.{IsSwept, number_at}
 use Rattle.dom_index.specs.Preorder.{preorder_to, starts_run, walk_from}
@@ -15,6 +18,11 @@ or_none : (a b : Bool) → b ≡ false → (a || (b || false)) ≡ a
 or_none true b e = refl
 or_none false true e = absurd (true≢false e)
 or_none false false e = refl
+
+or_none_back : (a b : Bool) → (b ≡ true → ⊥) → (a || (b || false)) ≡ true → a ≡ true
+or_none_back true b none s = refl
+or_none_back false true none s = absurd (none refl)
+or_none_back false false none s = s
 
 module _ (forest : Forest) (old new : Sweep) (n : ℕ) (known : n < length forest.content) (swept : IsSwept forest old) (order : new.order.items ≡ old.order.items ++ n ∷ []) where
   marked_now : (marks : List Bool) → marks ≡ set old.marks.items n true → (m : ℕ) → m < length forest.content → get_or marks m false ≡ stands_in m new.order.items
@@ -33,12 +41,25 @@ module _ (forest : Forest) (old new : Sweep) (n : ℕ) (known : n < length fores
             | inr f ↦ f
           ]
 
-  pub swept_more : new.above.items ≡ old.above.items ++ parent forest n ∷ [] → new.ends.items ≡ old.ends.items ++ last (children_of forest n) ∷ [] → new.marks.items ≡ set old.marks.items n true → IsSwept forest new
-  swept_more above ends marks = record {
+  named_now : (byte : ℕ) (node : NodeData) → slice_get forest.content n ≡ Some node → tells_name node byte ≡ true → new.names.items ≡ set old.names.items n byte → (m : ℕ) (other : NodeData) → stands_in m new.order.items ≡ true →
+      slice_get forest.content m ≡ Some other → (m ≡ n) ⊎ (m ≢ n) → tells_name other (byte_at new.names.items m) ≡ true
+  named_now byte node found told names m other s is (inl same) =
+      let here : byte_at new.names.items m ≡ byte = ap (λ bs. get_or bs m 0) names ∙ (ap (λ k. get_or (set old.names.items n byte) k 0) same ∙ get_or-set_same old.names.items n byte 0 (let long = swept.names_long in omega arith)) in
+      let one : node ≡ other = same_Some node other (sym found ∙ (ap (slice_get forest.content) (sym same) ∙ is)) in
+      ap (tells_name other) here ∙ (ap (λ x. tells_name x byte) (sym one) ∙ told)
+  named_now byte node found told names m other s is (inr apart) =
+      let there : byte_at new.names.items m ≡ byte_at old.names.items m = ap (λ bs. get_or bs m 0) names ∙ get_or-set_other old.names.items n m byte 0 apart in
+      let before : stands_in m old.order.items ≡ true = or_none_back (stands_in m old.order.items) (n == m) (λ t. apart (sym (eqb-true n m t))) (sym (stands_in-append old.order.items (n ∷ []) m) ∙ (ap (stands_in m) (sym order) ∙ s)) in
+      ap (tells_name other) there ∙ swept.named m other before is
+
+  pub swept_more : (byte : ℕ) (node : NodeData) → slice_get forest.content n ≡ Some node → tells_name node byte ≡ true → new.names.items ≡ set old.names.items n byte → new.above.items ≡ old.above.items ++ parent forest n ∷ [] → new.ends.items ≡ old.ends.items ++ last (children_of forest n) ∷ [] → new.marks.items ≡ set old.marks.items n true → IsSwept forest new
+  swept_more byte node found told names above ends marks = record {
     above = above ∙ (ap (λ ns. ns ++ parent forest n ∷ []) swept.above ∙ (sym (map-append (parent forest) old.order.items (n ∷ [])) ∙ ap (map (parent forest)) (sym order)));
     ends = ends ∙ (ap (λ ns. ns ++ last (children_of forest n) ∷ []) swept.ends ∙ (sym (map-append (λ m. last (children_of forest m)) old.order.items (n ∷ [])) ∙ ap (map (λ m. last (children_of forest m))) (sym order)));
     long = ap length marks ∙ (length-set old.marks.items n true ∙ swept.long);
     marked = marked_now new.marks.items marks;
+    names_long = ap length names ∙ (length-set old.names.items n byte ∙ swept.names_long);
+    named = λ m other s is. named_now byte node found told names m other s is (same_or_not m n);
   }
 
 pub link_at : (f : ℕ → Option ℕ) (links : List (Option ℕ)) (order : List ℕ) (i : ℕ) → links ≡ map f order → i < length order → get_or links i None ≡ f (number_at order i)

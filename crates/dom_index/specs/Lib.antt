@@ -1,5 +1,6 @@
 pub mod Counts
 pub mod Index
+pub mod Names
 pub mod Onward
 pub mod Orders
 pub mod Picking

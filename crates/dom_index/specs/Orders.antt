@@ -1,19 +1,24 @@
 -- What an index has written down of an order.
-use Rattle.std.specs.Prelude.{ℕ, ◌≡◌, ◌<◌, ◌+◌, false, map, List, Option, Some, None, length, slice_index_or, slice_range}
+use Rattle.std.specs.Prelude.{ℕ, ◌≡◌, ◌<◌, ◌+◌, false, true, map, List, Option, Some, None, length, slice_get, slice_index_or, slice_range}
+use Rattle.dom_nodes.specs.declared.node_data.NodeData.{NodeData}
 use Rattle.dom_links.specs.Forest.{Forest, children_of, parent, siblings}
 use Rattle.dom_links.specs.Lists.{before, last, stands_in}
 use Rattle.dom_links.specs.Trees.{walk_below}
 use Rattle.dom_index.specs.declared.layout.Sweep.{Sweep}
+use Rattle.dom_index.specs.Names.{byte_at, tells_name}
 
 abbrev pub number_at : List ℕ → ℕ → ℕ
 number_at numbers i = slice_index_or numbers i 0
 
--- What a sweep has written down: of each node that was met its parent and its last child, and at each number whether it was met
+-- what a sweep has written down: of each node that was met its parent and its last child, and at its number what tells its name and
+-- that it was met
 pub record IsSwept (forest : Forest) (sweep : Sweep) : Type 0 where
   pub above : sweep.above.items ≡ map (parent forest) sweep.order.items
   pub ends : sweep.ends.items ≡ map (λ n. last (children_of forest n)) sweep.order.items
   pub long : length sweep.marks.items ≡ length forest.content
   pub marked : (n : ℕ) → n < length forest.content → slice_index_or sweep.marks.items n false ≡ stands_in n sweep.order.items
+  pub names_long : length sweep.names.items ≡ length forest.content
+  pub named : (n : ℕ) (node : NodeData) → stands_in n sweep.order.items ≡ true → slice_get forest.content n ≡ Some node → tells_name node (byte_at sweep.names.items n) ≡ true
 
 -- the number at each place of the order has that place
 abbrev pub ArePlaces : Forest → List ℕ → List ℕ → Type 0

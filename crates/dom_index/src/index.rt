@@ -2,6 +2,7 @@
 
 ghost use Rattle.std.specs.Prelude.{◌≡◌, ◌≤◌, ◌*◌, [], length, slice_get, IfOk, MatchOption};
 ghost use Rattle.std.specs.Iterator.{YieldsFirst, item_count};
+ghost use Rattle.dom_links.specs.Indexes.{index_at};
 ghost use Rattle.dom_links.specs.Lists.{stands_in};
 ghost use Rattle.dom_links.specs.Trees.{walk_below};
 ghost use Rattle.dom_index.specs.Counts.{selectors_count};
@@ -11,28 +12,34 @@ ghost use Rattle.dom_index.specs.Preorder.{position};
 use crate::layout::{Layout, below, know_forest};
 use crate::picking::{know_walks, picked};
 use crate::tables::list_table;
+use dom_links::indexes::IndexKind;
 use dom_nodes::fault::OutOfMemory;
 use dom_nodes::node_id::NodeId;
 use dom_select::matcher::Matcher;
+use dom_select::matcher::caches::SelectorCaches;
 use dom_trees::node_ref::NodeRef;
 use dom_trees::tree::Tree;
 use std::marker::Model;
 
 /// The nodes of a tree in order: the runs by the numbers of their first nodes, each node before its
-/// children. It borrows the tree, so that no edit comes between two questions. A contract sees the
-/// tree, and how many tests the last selection has asked.
+/// children, and where they stand among their siblings. It borrows the tree, so that no edit comes
+/// between two questions. A contract sees the tree, and how many tests the last selection has asked.
 #[derive(Drop)]
 pub struct TreeIndex<'a> {
     layout: Layout<'a>,
+    siblings: SelectorCaches<'a>,
     tests: u128,
 }
 
 impl<'a> Model for TreeIndex<'a> {
+    ghost use Rattle.std.specs.Prelude.{◌≡◌};
     ghost use Rattle.dom_index.specs.Index.{Indexed};
 
     ghost Value = { Indexed };
 
     ghost view = { λ it. record { tree = it.layout.tree; tests = it.tests } };
+
+    ghost invariant = { λ it. it.siblings ≡ it.layout.tree.now };
 }
 
 impl<'a> TreeIndex<'a> {
@@ -42,6 +49,7 @@ impl<'a> TreeIndex<'a> {
     {
         Ok(TreeIndex {
             layout: Layout::new(tree)?,
+            siblings: SelectorCaches::new(tree),
             tests: 0,
         })
     }
@@ -93,6 +101,15 @@ impl<'a> TreeIndex<'a> {
         ensures { result ≡ stands_in y.now (walk_below self.now.tree.now x.now) }
     {
         is_within(&self.layout, x.value(), y.value())
+    }
+
+    /// The index of a node among its siblings; 1 for an unknown number. The first question of a kind
+    /// makes a table of that kind, if memory isn't refused, and each writes there what it counts.
+    pub fn index_at(&mut self, id: &NodeId, kind: IndexKind) -> u64
+        ensures is { result ≡ index_at kind self.old.tree.now id.now }
+        ensures kept { self.new ≡ self.old }
+    {
+        self.siblings.index_at(id, kind)
     }
 
     /// The nodes below a node, each before what is below it. It takes no memory.

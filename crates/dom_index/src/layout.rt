@@ -8,17 +8,19 @@ ghost use Rattle.dom_links.specs.Lists.{IsDistinct, last, stands_in};
 ghost use Rattle.dom_links.specs.Sound.{IsForest};
 ghost use Rattle.dom_links.specs.Trees.{walk_below};
 ghost use Rattle.dom_index.specs.Orders.{ArePlaces, AreSpans, IsOrder, IsSwept, last_from};
+ghost use Rattle.dom_index.specs.Names.{AreNames};
 ghost use Rattle.dom_index.specs.Orders.{number_at};
 ghost use Rattle.dom_index.specs.Preorder.{preorder, preorder_to, starts_run, walk_from};
 
+use crate::names::{NO_ELEMENT, name_byte};
 use dom_links::iters::{next_sibling_id, node_at, parent_id, prev_sibling_id};
 use dom_links::laws::{lines_of_a_forest, trees_of_a_forest};
 use dom_nodes::fault::OutOfMemory;
 use dom_nodes::node_id::NodeId;
 use dom_trees::tree::Tree;
 
-/// A tree, its nodes in order and the parent of each in that order, and by number the place of each
-/// and that of the last node at or below it.
+/// A tree, its nodes in order and the parent of each in that order, and by number the place of each,
+/// that of the last node at or below it, and what tells its name.
 #[derive(Drop)]
 pub(crate) struct Layout<'a> {
     pub(crate) tree: &'a Tree,
@@ -26,10 +28,12 @@ pub(crate) struct Layout<'a> {
     pub(crate) above: Vec<Option<NodeId>>,
     pub(crate) places: Vec<usize>,
     pub(crate) lasts: Vec<usize>,
+    pub(crate) names: Vec<u8>,
     ghost is_preorder: { order.items ≡ preorder tree.now },
     ghost above_told: { above.items ≡ map (parent tree.now) order.items },
     ghost ordered: { IsOrder tree.now order.items places.items },
     ghost spans: { AreSpans tree.now order.items places.items lasts.items },
+    ghost named: { AreNames tree.now names.items },
 }
 
 /// Tells that a tree is a forest, of no more nodes than can be numbered. It does nothing.
@@ -52,14 +56,15 @@ fn starts_run(tree: &Tree, id: NodeId) -> bool
     parent_id(nodes, &id).is_none() && prev_sibling_id(nodes, &id).is_none()
 }
 
-/// What one sweep over the nodes writes down: each that was met, its parent, its last child, and a
-/// mark at its number.
+/// What one sweep over the nodes writes down: each that was met, its parent, its last child, and at
+/// its number a mark and what tells its name.
 #[derive(Drop)]
 struct Sweep {
     order: Vec<NodeId>,
     above: Vec<Option<NodeId>>,
     ends: Vec<Option<NodeId>>,
     marks: Vec<bool>,
+    names: Vec<u8>,
 }
 
 impl Sweep {
@@ -74,6 +79,7 @@ impl Sweep {
             above: Vec::with_capacity(alloc, tree.len())?,
             ends: Vec::with_capacity(alloc, tree.len())?,
             marks: vec![in alloc; false; tree.len()]?,
+            names: vec![in alloc; NO_ELEMENT; tree.len()]?,
         })
     }
 
@@ -86,9 +92,10 @@ impl Sweep {
     {
         let node = node_at(tree.nodes(), id);
         self.order.push(id)?;
-        self.above.push(node.parent)?;
-        self.ends.push(node.last_child)?;
+        self.above.push(node.parent.get())?;
+        self.ends.push(node.last_child.get())?;
         self.marks[id.value()] = true;
+        self.names[id.value()] = name_byte(&node.content);
         Ok(())
     }
 }
@@ -221,13 +228,19 @@ impl<'a> Layout<'a> {
         let sweep = swept(tree)?;
         let places = places_of(tree, &sweep.order)?;
         let lasts = lasts_of(tree, &sweep.order, &sweep.ends, &places)?;
-        let Sweep { order, above, .. } = sweep;
+        let Sweep {
+            order,
+            above,
+            names,
+            ..
+        } = sweep;
         Ok(Layout {
             tree,
             order,
             above,
             places,
             lasts,
+            names,
         })
     }
 }
@@ -238,6 +251,8 @@ fn know_order(tree: &Tree)
     ensures once { IsDistinct (preorder tree.now) }
     ensures inside { (n : ℕ) → stands_in n (preorder tree.now) ≡ true
         → n < length tree.now.content }
+    ensures all { (n : ℕ) → n < length tree.now.content
+        → stands_in n (preorder tree.now) ≡ true }
     ensures order { (places : List ℕ) → ArePlaces tree.now (preorder tree.now) places
         → IsOrder tree.now (preorder tree.now) places }
 {

@@ -3,7 +3,9 @@
 
 pub mod index;
 mod layout;
+mod names;
 mod picking;
+pub mod selecting;
 mod tables;
 mod truths;
 mod ways;

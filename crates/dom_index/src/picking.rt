@@ -10,7 +10,7 @@ ghost use Rattle.dom_index.specs.Picking.{picks, table_left};
 ghost use Rattle.dom_index.specs.Tables.{truth_at};
 
 use crate::layout::{Layout, below};
-use crate::ways::is_element;
+use crate::names::is_element_at;
 use dom_links::laws::trees_of_a_forest;
 use dom_nodes::fault::OutOfMemory;
 use dom_nodes::node_id::NodeId;
@@ -55,7 +55,7 @@ fn pick_below<'a>(
     let row = below(layout, root);
     for i in 0..row.len() {
         let id = row[i];
-        if !is_chosen(layout.tree, table, id) {
+        if !is_chosen(layout, table, id) {
             continue;
         }
         table[id.value()] = false;
@@ -65,7 +65,10 @@ fn pick_below<'a>(
 }
 
 /// Adds a node.
-fn push_node<'a>(found: &mut Vec<NodeRef<'a>>, node: &NodeRef<'a>) -> Result<(), OutOfMemory>
+pub(crate) fn push_node<'a>(
+    found: &mut Vec<NodeRef<'a>>,
+    node: &NodeRef<'a>,
+) -> Result<(), OutOfMemory>
     ensures { OnOk result (found.new.items ≡ found.old.items ++ node.now ∷ []) }
 {
     match found.push(NodeRef::new(node.id, node.tree)) {
@@ -75,15 +78,16 @@ fn push_node<'a>(found: &mut Vec<NodeRef<'a>>, node: &NodeRef<'a>) -> Result<(),
 }
 
 /// Whether the node is an element of which the table tells the truth.
-fn is_chosen(tree: &Tree, table: &[bool], id: NodeId) -> bool
-    requires known { id < length tree.now.content }
-    requires table_long { length table.now ≡ length tree.now.content }
-    ensures { result ≡ (truth_at table.now id && element_at tree.now id) }
+fn is_chosen(layout: &Layout<'_>, table: &[bool], id: NodeId) -> bool
+    requires known { id < length layout.now.tree.now.content }
+    requires table_long { length table.now ≡ length layout.now.tree.now.content }
+    ensures { result ≡ (truth_at table.now id && element_at layout.now.tree.now id) }
 {
-    if !table[id.value()] {
+    let n = id.value();
+    if !table[n] {
         return false;
     }
-    is_element(tree, id)
+    is_element_at(layout, n)
 }
 
 /// Tells that the nodes of a walk are the tree's. It does nothing.

@@ -1,16 +1,19 @@
 //! Tables of truth values, taken together or asked of nodes.
 
-ghost use Rattle.std.specs.Prelude.{◌≡◌, ◌<◌, ◌≤◌, ◌+◌, ℕ, true, length, map, IfOk};
+ghost use Rattle.std.specs.Prelude.{◌≡◌, ◌<◌, ◌≤◌, ◌+◌, ◌^◌, ℕ, true, length, map, IfOk, IfSome};
 ghost use Rattle.dom_selectors.specs.declared.syntax.Combinator.TheVariants.{Sibling};
 ghost use Rattle.dom_selectors.specs.ListsAsTrees.{lists_of};
 ghost use Rattle.dom_selectors.specs.ValuesAsTrees.{read_compound, read_nested};
 ghost use Rattle.dom_links.specs.ListMoves.{element_at};
+ghost use Rattle.dom_selectors.specs.Spelling.{Decides};
+ghost use Rattle.dom_select.specs.Answers.{AreAnswers};
 ghost use Rattle.dom_select.specs.Meaning.{Holds, ListsHold};
+ghost use Rattle.dom_index.specs.Names.{IsWanted};
 ghost use Rattle.dom_index.specs.Tables.{AreBoth, AreEither, AreServing, AreTold, AreTurned};
 ghost use Rattle.dom_index.specs.Tables.{truth_at};
 
 use crate::layout::{Layout, numbered};
-use crate::ways::is_element;
+use crate::names::{WantedName, is_element_at, told_by_name, wanted_name};
 use dom_nodes::fault::OutOfMemory;
 use dom_select::matcher::caches::SelectorCaches;
 use dom_select::matcher::compounds::test_compound;
@@ -33,18 +36,56 @@ pub(crate) fn tested(
         × Holds (read_compound compound.now) layout.now.tree.now n)) }
     ensures tests { tests.new ≤ tests.old + length layout.now.tree.now.content }
 {
-    let answers = vec![in layout.tree.allocator(); true; compound.nested.len()]?;
+    let question = Question {
+        compound,
+        name: wanted_name(compound),
+        answers: vec![in layout.tree.allocator(); true; compound.nested.len()]?,
+    };
     let mut caches = SelectorCaches::new(layout.tree);
     let mut table = wanted;
     let mut asked = 0;
     for n in 0..table.len() {
         if table[n] {
-            let node = NodeRef::new(numbered(layout.tree, n), layout.tree);
-            table[n] = test_compound(compound, &node, &answers, &mut caches, &mut asked);
+            table[n] = is_met(layout, &question, n, &mut caches, &mut asked);
         }
     }
     *tests = tests.saturating_add(asked);
     Ok(table)
+}
+
+/// A compound, the name that it begins with, if it has a number, and what its lists answer.
+#[derive(Drop)]
+struct Question<'c> {
+    compound: &'c Compound,
+    name: Option<WantedName>,
+    answers: Vec<bool>,
+}
+
+/// Whether the compound holds of the node. Its name alone may tell that. It adds one to `asked`.
+fn is_met(
+    layout: &Layout<'_>,
+    question: &Question<'_>,
+    n: usize,
+    caches: &mut SelectorCaches<'_>,
+    asked: &mut u128,
+) -> bool
+    requires known { n < length layout.now.tree.now.content }
+    requires name { IfSome question.now.name (IsWanted (read_compound question.now.compound.now)) }
+    requires answers { AreAnswers (lists_of (map read_nested question.now.compound.now.nested.items))
+        layout.now.tree.now n question.now.answers.items }
+    requires caches { caches.old ≡ layout.now.tree.now }
+    requires room { asked.old + 1 < 2 ^ 128 }
+    ensures is { Decides result (Holds (read_compound question.now.compound.now)
+        layout.now.tree.now n) }
+    ensures kept { caches.new ≡ caches.old }
+    ensures counted { asked.new ≡ asked.old + 1 }
+{
+    if let Some(told) = told_by_name(layout, n, question.name) {
+        *asked += 1;
+        return told;
+    }
+    let node = NodeRef::new(numbered(layout.tree, n), layout.tree);
+    test_compound(question.compound, &node, &question.answers, caches, asked)
 }
 
 /// Which nodes are elements.
@@ -54,7 +95,7 @@ pub(crate) fn elements(layout: &Layout<'_>) -> Result<Vec<bool>, OutOfMemory>
 {
     let mut table = vec![in layout.tree.allocator(); false; layout.order.len()]?;
     for n in 0..layout.tree.len() {
-        table[n] = is_element(layout.tree, numbered(layout.tree, n));
+        table[n] = is_element_at(layout, n);
     }
     Ok(table)
 }
@@ -106,7 +147,7 @@ fn narrow_to_elements(layout: &Layout<'_>, table: &mut Vec<bool>)
 {
     for n in 0..table.len() {
         if table[n] {
-            table[n] = is_element(layout.tree, numbered(layout.tree, n));
+            table[n] = is_element_at(layout, n);
         }
     }
 }

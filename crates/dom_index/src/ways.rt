@@ -2,25 +2,16 @@
 //! says.
 
 ghost use Rattle.std.specs.Prelude.{◌≡◌, ◌<◌, length, IfOk};
-ghost use Rattle.dom_links.specs.ListMoves.{element_at};
 ghost use Rattle.dom_select.specs.Leftward.{left_of};
 ghost use Rattle.dom_index.specs.Orders.{number_at};
 ghost use Rattle.dom_index.specs.Tables.{AreTold, IsLeading, IsLed, is_led, passes_on, told_too};
 
 use crate::layout::{Layout, know_forest};
-use dom_links::iters::{node_at, prev_sibling_id};
+use crate::names::is_element_at;
+use dom_links::iters::prev_sibling_id;
 use dom_nodes::fault::OutOfMemory;
 use dom_nodes::node_id::NodeId;
 use dom_selectors::syntax::Combinator;
-use dom_trees::tree::Tree;
-
-/// Whether the node is an element.
-pub(crate) fn is_element(tree: &Tree, id: NodeId) -> bool
-    requires { id < length tree.now.content }
-    ensures { result ≡ element_at tree.now id }
-{
-    node_at(tree.nodes(), id).content.as_element().is_some()
-}
 
 /// The next node on the way to the left of the node at a place: the parent, or the sibling before.
 fn left_at(layout: &Layout<'_>, combinator: Combinator, place: usize) -> Option<NodeId>
@@ -38,30 +29,30 @@ fn left_at(layout: &Layout<'_>, combinator: Combinator, place: usize) -> Option<
 
 /// Whether the node will do beside the combinator, or passes on what the flags tell of it.
 fn passes_on(
-    tree: &Tree,
+    layout: &Layout<'_>,
     combinator: Combinator,
     table: &[bool],
     flags: &[bool],
     id: NodeId,
 ) -> bool
-    requires known { id < length tree.now.content }
-    requires table_long { length table.now ≡ length tree.now.content }
-    requires flags_long { length flags.now ≡ length tree.now.content }
-    ensures { result ≡ passes_on tree.now combinator table.now flags.now id }
+    requires known { id < length layout.now.tree.now.content }
+    requires table_long { length table.now ≡ length layout.now.tree.now.content }
+    requires flags_long { length flags.now ≡ length layout.now.tree.now.content }
+    ensures { result ≡ passes_on layout.now.tree.now combinator table.now flags.now id }
 {
     let v = id.value();
     match combinator {
         Combinator::Descendant => table[v] || flags[v],
         Combinator::Child => table[v],
         Combinator::Adjacent => {
-            if is_element(tree, id) {
+            if is_element_at(layout, v) {
                 table[v]
             } else {
                 flags[v]
             }
         }
         Combinator::Sibling => {
-            let element = is_element(tree, id);
+            let element = is_element_at(layout, v);
             (element && table[v]) || flags[v]
         }
     }
@@ -82,7 +73,7 @@ fn is_led(
         (number_at layout.now.order.items place) }
 {
     match left_at(layout, combinator, place) {
-        Some(left) => passes_on(layout.tree, combinator, table, flags, left),
+        Some(left) => passes_on(layout, combinator, table, flags, left),
         None => false,
     }
 }
@@ -122,7 +113,7 @@ pub(crate) fn leading(
     let mut flags = vec![in layout.tree.allocator(); false; table.len()]?;
     for i in 0..layout.order.len() {
         let place = layout.order.len() - 1 - i;
-        if passes_on(layout.tree, combinator, table, &flags, layout.order[place]) {
+        if passes_on(layout, combinator, table, &flags, layout.order[place]) {
             tell(&mut flags, left_at(layout, combinator, place));
         }
     }

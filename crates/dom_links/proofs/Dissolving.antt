@@ -1,17 +1,17 @@
 -- A node is replaced by its children.
-use Rattle.std.proofs.Common.{ℕ, ◌≡◌, ◌<◌, ◌+◌, get_or, true, false, List, [], ◌∷◌, ◌++◌, Some, refl, sym, ap, ◌∙◌, subst, arith, inl, inr, length, append-nil}
+use Rattle.std.proofs.Common.{ℕ, ◌≡◌, ◌<◌, true, false, List, [], ◌∷◌, ◌++◌, Some, refl, sym, ap, ◌∙◌, subst, arith, inl, inr, length, append-nil}
 use Rattle.std.specs.Prelude.{◌==◌, if◌then◌else◌}
 use Rattle.std.proofs.lemmas.Bool.{cases_Bool, cases_lt, eqb-true, eq-eqb, ne_eqb, or_parts, true≢false}
 use Rattle.std.proofs.lemmas.List.{get_or_past}
 use Rattle.dom_nodes.specs.declared.node_data.TreeNode.{TreeNode}
 use Rattle.dom_links.specs.Lists.{stands_in, IsDistinct, without, put_before}
-use Rattle.dom_links.specs.Forest.{Forest, IsArenaOf, children_of, forest_of, parent, run_of}
+use Rattle.dom_links.specs.Forest.{Forest, IsArenaOf, children_of, forest_of, parent}
 use Rattle.dom_links.specs.ListMoves.{AllowedList, MovedList}
-use Rattle.dom_links.specs.Moves.{before_node, children_with, cut, moved_to, put, run_with}
+use Rattle.dom_links.specs.Moves.{before_node, children_with, cut, moved_to}
 use Rattle.dom_links.specs.Sound.{IsForest, IsSoundArena, Removed, one_step, then_step, stays}
 use Rattle.dom_links.specs.Stripped.{dissolved}
 use Rattle.dom_links.specs.Trees.{Trees, NoTrees, Tree, trees, walk, walk_below}
-use Rattle.dom_links.proofs.BlockKept.{children_are, children_move, forest-moved_list, list_moved}
+use Rattle.dom_links.proofs.BlockKept.{children_are, children_move, forest-moved_list}
 use Rattle.dom_links.proofs.BlockLists.{without_none}
 use Rattle.dom_links.proofs.Cuts.{children-cut, length-contents, one-stands}
 use Rattle.dom_links.proofs.Depth.{trees-none, trees-some, step_inside, later_stands, here_stands}
@@ -19,7 +19,7 @@ use Rattle.dom_links.proofs.Kept.{forest-cut}
 use Rattle.dom_links.proofs.Neighbours.{without-append, without_one-none}
 use Rattle.dom_links.proofs.Places.{get_or-map_all, length-map_from}
 use Rattle.dom_links.proofs.Suffixes.{walk-append}
-use Rattle.dom_links.proofs.TwoSteps.{cut_nothing, map_from_same, wrapper_apart}
+use Rattle.dom_links.proofs.TwoSteps.{wrapper_apart}
 
 -- the list with others in the place of p
 pub spliced : ℕ → List ℕ → List ℕ → List ℕ
@@ -139,21 +139,6 @@ module _ (forest : Forest) (p q : ℕ) (good : IsForest forest) (up : parent for
       ∙ walks (trees forest (children_of forest x)) (children_of forest x) refl (λ m s. step_inside forest x m good (inl (good.once.in_children x m s).1))
 
 -- the same of the nodes of an arena
-
-before_nothing : (t : ℕ) (ns : List ℕ) → put_before t [] ns ≡ ns
-before_nothing t [] = refl
-before_nothing t (n ∷ ns) = elim (cases_Bool (n == t)) [ inl h ↦ rw h refl | inr f ↦ rw f (ap (λ ms. n ∷ ms) (before_nothing t ns)) ]
-
-put_nothing_before : (forest : Forest) (t : ℕ) → put (before_node t) [] forest ≡ forest
-put_nothing_before forest t =
-    let children = map_from_same 0 (children_with (before_node t) []) forest.children (λ n h. before_nothing t (get_or forest.children n [])) in
-    let runs = map_from_same 0 (λ n run. run_with (before_node t) [] forest n) forest.runs (λ n h. before_nothing t (run_of forest (0 + n)) ∙ (let z : 0 + n ≡ n = omega arith in ap (run_of forest) z)) in
-    rw (children, runs) refl
-
-pub none_put_before : (old : List TreeNode) (p : ℕ) → IsArenaOf (forest_of old) old → children_of (forest_of old) p ≡ [] → MovedList old old (before_node p) (children_of (forest_of old) p)
-none_put_before old p arena none =
-    list_moved old old (before_node p) (children_of (forest_of old) p) (children_are (forest_of old) p arena.once)
-    (subst (λ (forest : Forest). IsArenaOf forest old) (sym (ap (λ moved. moved_to moved (before_node p) (forest_of old)) none ∙ ap (put (before_node p) []) (cut_nothing (forest_of old)) ∙ put_nothing_before (forest_of old) p)) arena)
 
 pub known_in : (nodes : List TreeNode) (p q : ℕ) → IsSoundArena nodes → parent (forest_of nodes) p ≡ Some q → p < length nodes
 known_in nodes p q sound up =

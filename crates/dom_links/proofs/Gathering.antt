@@ -2,12 +2,12 @@
 use Rattle.std.proofs.Common.{ℕ, ◌≡◌, ◌<◌, ◌≤◌, ◌+◌, get_or, true, false, List, [], ◌∷◌, ◌++◌, Some, None, refl, sym, ap, ◌∙◌, subst, arith, cond, inl, inr, length, map, take, drop, take-append-drop}
 use Rattle.std.specs.Prelude.{◌==◌, ◌||◌, ◌&&◌}
 use Rattle.std.proofs.lemmas.Bool.{cases_Bool, eq-eqb, ne_eqb, true≢false}
-use Rattle.std.proofs.lemmas.List.{append-nil, get_or_default, same_lists, take_all, take_more}
+use Rattle.std.proofs.lemmas.List.{get_or_default, same_lists, take_all, take_more}
 use Rattle.dom_nodes.specs.declared.node_data.TreeNode.{TreeNode}
 use Rattle.dom_links.specs.Forest.{Forest, IsArenaOf, forest_of, run_of}
 use Rattle.dom_links.specs.ListMoves.{AreNodes, MovedList, Moves}
-use Rattle.dom_links.specs.Lists.{IsDistinct, first, last, map_from, put_after, put_before, stands_in, without}
-use Rattle.dom_links.specs.Moves.{Gap, StartsRun, after_node, before_node, end_of, front_of, children_with, cut, moved_to, put, run_with}
+use Rattle.dom_links.specs.Lists.{IsDistinct, first, last, map_from, put_after, stands_in, without}
+use Rattle.dom_links.specs.Moves.{Gap, StartsRun, after_node, children_with, cut, moved_to, put, run_with}
 use Rattle.dom_links.specs.Sound.{Removed}
 use Rattle.dom_links.specs.declared.gap.Moving.TheVariants.{Node}
 use Rattle.dom_links.proofs.BlockGaps.{after_absent_list}
@@ -16,7 +16,7 @@ use Rattle.dom_links.proofs.Chains.{forest_of-arena}
 use Rattle.dom_links.proofs.Cuts.{length-contents, one-stands, run-cut}
 use Rattle.dom_links.proofs.Neighbours.{distinct_parts, first-stands, last-append, last-cons_cons, last-stands, stands_in-append, stands_in-without, without_one-none}
 use Rattle.dom_links.proofs.Places.{get_or-map_all, length-map_from}
-use Rattle.dom_links.proofs.TwoSteps.{cut_nothing, map_from_same, none_first}
+use Rattle.dom_links.proofs.TwoSteps.{cut_nothing, none_first, nothing_put}
 
 -- behind the last of a list
 put_behind_last : (ns : List ℕ) (l m : ℕ) → IsDistinct ns → last ns ≡ Some l → put_after l (m ∷ []) ns ≡ ns ++ m ∷ []
@@ -204,33 +204,6 @@ run_moved old middle new gap moved x arena are out put_there =
 pub nothing_cut : (old : List TreeNode) (ns : List ℕ) → length ns ≡ 0 → IsArenaOf (forest_of old) old → IsArenaOf (cut ns (forest_of old)) old
 nothing_cut old [] e arena = subst (λ (f : Forest). IsArenaOf f old) (sym (cut_nothing (forest_of old))) arena
 nothing_cut old (n ∷ ns) e arena = absurd (omega (arith, e))
-
-nothing_after : (t : ℕ) (ns : List ℕ) → put_after t [] ns ≡ ns
-nothing_after t [] = refl
-nothing_after t (n ∷ ns) = elim (n == t) as (λ b. cond b (n ∷ ns) (n ∷ put_after t [] ns) ≡ n ∷ ns) [ true ↦ refl | false ↦ ap (λ ks. n ∷ ks) (nothing_after t ns) ]
-
-nothing_before : (t : ℕ) (ns : List ℕ) → put_before t [] ns ≡ ns
-nothing_before t [] = refl
-nothing_before t (n ∷ ns) = elim (n == t) as (λ b. cond b (n ∷ ns) (n ∷ put_before t [] ns) ≡ n ∷ ns) [ true ↦ refl | false ↦ ap (λ ks. n ∷ ks) (nothing_before t ns) ]
-
-nothing_with : (gap : Gap) (p : ℕ) (ns : List ℕ) → children_with gap [] p ns ≡ ns
-nothing_with (end_of t) p ns = elim (p == t) as (λ b. cond b (ns ++ []) ns ≡ ns) [ true ↦ append-nil ns | false ↦ refl ]
-nothing_with (front_of t) p ns = elim (p == t) as (λ b. cond b ns ns ≡ ns) [ true ↦ refl | false ↦ refl ]
-nothing_with (before_node t) p ns = nothing_before t ns
-nothing_with (after_node t) p ns = nothing_after t ns
-
-nothing_in_run : (gap : Gap) (forest : Forest) (n : ℕ) → run_with gap [] forest n ≡ run_of forest n
-nothing_in_run (end_of t) forest n = refl
-nothing_in_run (front_of t) forest n = refl
-nothing_in_run (before_node t) forest n = nothing_before t (run_of forest n)
-nothing_in_run (after_node t) forest n = nothing_after t (run_of forest n)
-
-nothing_put : (gap : Gap) (forest : Forest) → put gap [] forest ≡ forest
-nothing_put gap forest =
-    let children : map_from 0 (children_with gap []) forest.children ≡ forest.children = map_from_same 0 (children_with gap []) forest.children (λ n h. nothing_with gap (0 + n) (get_or forest.children n [])) in
-    let runs : map_from 0 (λ n run. run_with gap [] forest n) forest.runs ≡ forest.runs = map_from_same 0 (λ n run. run_with gap [] forest n) forest.runs (λ n h.
-    (let z : 0 + n ≡ n = omega arith in nothing_in_run gap forest (0 + n) ∙ ap (λ (k : ℕ). get_or forest.runs k []) z)) in
-    rw (children, runs) refl
 
 pub none_moved : (old new : List TreeNode) (gap : Gap) (moved : List ℕ) → AreNodes (forest_of old) moved → first moved ≡ None → IsArenaOf (cut moved (forest_of old)) new → MovedList old new gap moved
 none_moved old new gap moved are none arena =

@@ -4,9 +4,9 @@ use Rattle.std.specs.Prelude.{◌==◌, MatchOption, option_and_then}
 use Rattle.std.proofs.lemmas.List.{append-nil}
 use Rattle.std.proofs.lemmas.Bool.{cases_Bool, not-true}
 use Rattle.dom_nodes.specs.declared.node_data.TreeNode.{TreeNode}
-use Rattle.dom_links.specs.Lists.{stands_in, first, without, map_from}
+use Rattle.dom_links.specs.Lists.{stands_in, first, without, map_from, put_after, put_before}
 use Rattle.dom_links.specs.Forest.{Forest, StandsOnce, IsArenaOf, forest_of, children_of, run_of, parent, siblings}
-use Rattle.dom_links.specs.Moves.{end_of, before_node, children_with, put, cut, moved_to}
+use Rattle.dom_links.specs.Moves.{Gap, after_node, before_node, end_of, front_of, children_with, run_with, put, cut, moved_to}
 use Rattle.dom_links.specs.Sound.{one_step, then_step, Allowed, IsForest, MayPlace, Moved, Removed, stays}
 use Rattle.dom_links.specs.ListMoves.{AllowedList, MovedList, ChildrenRemoved, Reparents, MayWrap, Replaced, Wrapped, Unwrapped, element_at, element_above, wrapper, without_wrapper, with_later}
 use Rattle.dom_links.proofs.Neighbours.{around, first-stands}
@@ -43,11 +43,31 @@ cut_nothing forest =
     let runs : map_from 0 (λ n run. without [] run) forest.runs ≡ forest.runs = map_from_same 0 (λ n run. without [] run) forest.runs (λ n h. without_nothing (get_or forest.runs n [])) in
     rw (map_without_nothing forest.children, runs) refl
 
-pub put_nothing : (forest : Forest) (t : ℕ) → put (end_of t) [] forest ≡ forest
-put_nothing forest t =
-    let children : map_from 0 (children_with (end_of t) []) forest.children ≡ forest.children = map_from_same 0 (children_with (end_of t) []) forest.children (λ n h.
-    elim ((0 + n) == t) as (λ u. cond u (get_or forest.children n [] ++ []) (get_or forest.children n []) ≡ get_or forest.children n []) [ true ↦ append-nil (get_or forest.children n []) | false ↦ refl ]) in
-    let runs : map_from 0 (λ n run. run_of forest n) forest.runs ≡ forest.runs = map_from_same 0 (λ n run. run_of forest n) forest.runs (λ n h. (let z : 0 + n ≡ n = omega arith in ap (λ (k : ℕ). get_or forest.runs k []) z)) in
+nothing_after : (t : ℕ) (ns : List ℕ) → put_after t [] ns ≡ ns
+nothing_after t [] = refl
+nothing_after t (n ∷ ns) = elim (n == t) as (λ b. cond b (n ∷ ns) (n ∷ put_after t [] ns) ≡ n ∷ ns) [ true ↦ refl | false ↦ ap (λ ks. n ∷ ks) (nothing_after t ns) ]
+
+nothing_before : (t : ℕ) (ns : List ℕ) → put_before t [] ns ≡ ns
+nothing_before t [] = refl
+nothing_before t (n ∷ ns) = elim (n == t) as (λ b. cond b (n ∷ ns) (n ∷ put_before t [] ns) ≡ n ∷ ns) [ true ↦ refl | false ↦ ap (λ ks. n ∷ ks) (nothing_before t ns) ]
+
+nothing_with : (gap : Gap) (p : ℕ) (ns : List ℕ) → children_with gap [] p ns ≡ ns
+nothing_with (end_of t) p ns = elim (p == t) as (λ b. cond b (ns ++ []) ns ≡ ns) [ true ↦ append-nil ns | false ↦ refl ]
+nothing_with (front_of t) p ns = elim (p == t) as (λ b. cond b ns ns ≡ ns) [ true ↦ refl | false ↦ refl ]
+nothing_with (before_node t) p ns = nothing_before t ns
+nothing_with (after_node t) p ns = nothing_after t ns
+
+nothing_in_run : (gap : Gap) (forest : Forest) (n : ℕ) → run_with gap [] forest n ≡ run_of forest n
+nothing_in_run (end_of t) forest n = refl
+nothing_in_run (front_of t) forest n = refl
+nothing_in_run (before_node t) forest n = nothing_before t (run_of forest n)
+nothing_in_run (after_node t) forest n = nothing_after t (run_of forest n)
+
+pub nothing_put : (gap : Gap) (forest : Forest) → put gap [] forest ≡ forest
+nothing_put gap forest =
+    let children : map_from 0 (children_with gap []) forest.children ≡ forest.children = map_from_same 0 (children_with gap []) forest.children (λ n h. nothing_with gap (0 + n) (get_or forest.children n [])) in
+    let runs : map_from 0 (λ n run. run_with gap [] forest n) forest.runs ≡ forest.runs = map_from_same 0 (λ n run. run_with gap [] forest n) forest.runs (λ n h.
+    (let z : 0 + n ≡ n = omega arith in nothing_in_run gap forest (0 + n) ∙ ap (λ (k : ℕ). get_or forest.runs k []) z)) in
     rw (children, runs) refl
 
 pub none_first : (ns : List ℕ) → first ns ≡ None → ns ≡ []
@@ -66,12 +86,12 @@ pub first_child_told : (nodes : List TreeNode) (x : ℕ) (o : Option ℕ) → Is
 first_child_told nodes x None arena e = none_first (children_of (forest_of nodes) x) (sym e)
 first_child_told nodes x (Some k) arena e = all_children (forest_of nodes) x k arena.once (sym e) (arena.once.in_children x k (first-stands (children_of (forest_of nodes) x) k (sym e))).1
 
--- the children of a node are moved to the end of those of another
+-- the children of a node are moved
 
-pub no_children_moved : (old : List TreeNode) (x t : ℕ) → IsArenaOf (forest_of old) old → children_of (forest_of old) x ≡ [] → MovedList old old (end_of t) (children_of (forest_of old) x)
-no_children_moved old x t arena none =
-    list_moved old old (end_of t) (children_of (forest_of old) x) (children_are (forest_of old) x arena.once)
-    (subst (λ (forest : Forest). IsArenaOf forest old) (sym (ap (λ moved. moved_to moved (end_of t) (forest_of old)) none ∙ ap (put (end_of t) []) (cut_nothing (forest_of old)) ∙ put_nothing (forest_of old) t)) arena)
+pub no_children_moved : (old : List TreeNode) (x : ℕ) (gap : Gap) → IsArenaOf (forest_of old) old → children_of (forest_of old) x ≡ [] → MovedList old old gap (children_of (forest_of old) x)
+no_children_moved old x gap arena none =
+    list_moved old old gap (children_of (forest_of old) x) (children_are (forest_of old) x arena.once)
+    (subst (λ (forest : Forest). IsArenaOf forest old) (sym (ap (λ moved. moved_to moved gap (forest_of old)) none ∙ ap (put gap []) (cut_nothing (forest_of old)) ∙ nothing_put gap (forest_of old))) arena)
 
 pub reparents_to : (old new : List TreeNode) (x t : ℕ) (p : Option ℕ) → p ≡ Some t → MovedList old new (end_of t) (children_of (forest_of old) x) → Reparents old new x p
 reparents_to old new x t p some moved = subst (Reparents old new x) (sym some) (record { made = moved.made; linked = moved.linked; kept = moved.kept })

@@ -39,5 +39,4 @@ pub mod FaultLemmas
 pub mod RowsForest
 pub mod RowsSound
 pub mod DocumentSound
-pub mod Fragments
 pub mod Putting

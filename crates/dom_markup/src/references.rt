@@ -12,10 +12,10 @@ use std::alloc::Global;
 pub fn decode(alloc: Global, text: &str) -> Result<Text, OutOfMemory>
     ensures { IfOk result (λ read. read ≡ decoded text.now) }
 {
-    if cut_reference(text).is_none() {
+    let Some(_) = memchr(b'&', text.as_bytes()) else {
         return Text::new(alloc, text);
-    }
-    let mut read = String::new(alloc);
+    };
+    let mut read = String::with_capacity(alloc, text.len())?;
     let mut rest = text;
     while let Some(cut) = cut_reference(rest) {
         read.push_str(cut.before)?;

@@ -1,8 +1,7 @@
 -- The words of a text in which ASCII whitespace is all the whitespace.
-use Rattle.std.proofs.Common.{◌≡◌, ℕ, ◌<◌, ◌≤◌, Bool, true, false, List, [], ◌∷◌, ◌++◌, length, refl, sym, ◌∙◌, ap, arith, encode_utf8, encode_utf8_all, inl, inr, ◌⊎◌}
+use Rattle.std.proofs.Common.{◌≡◌, ℕ, ◌<◌, Bool, true, false, List, [], ◌∷◌, ◌++◌, length, refl, sym, ◌∙◌, ap, arith, encode_utf8, encode_utf8_all, inl, inr}
 use Rattle.std.specs.Prelude.{◌==◌, ◌&&◌, nat_lt, not, if◌then◌else◌}
 use Rattle.std.specs.Char.{is_ascii_whitespace, is_whitespace}
-use Rattle.std.specs.List.{list_all}
 use Rattle.std.specs.Str.{IsAscii, chars, skip_leading_whitespace, trim_start}
 use Rattle.std.proofs.lemmas.Bool.{cases_Bool, ne_eqb}
 use Rattle.std.proofs.lemmas.Bool.Decides.{nat_tests}

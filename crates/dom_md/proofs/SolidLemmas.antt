@@ -1,6 +1,6 @@
 -- Formatting adds the words of a text and no others.
-use Rattle.std.proofs.Common.{◌≡◌, ℕ, zero, suc, ◌+◌, ◌-◌, ◌<◌, ◌≤◌, Bool, true, false, List, [], ◌∷◌, ◌++◌, length, take, replicate, refl, sym, ◌∙◌, ap, subst, arith, append-nil, append_assoc, encode_utf8, encode_utf8_all, inl, inr}
-use Rattle.std.specs.Prelude.{◌==◌, ◌&&◌, ◌||◌, not, codes, cond, if◌then◌else◌}
+use Rattle.std.proofs.Common.{◌≡◌, ℕ, zero, suc, Bool, true, false, List, [], ◌∷◌, ◌++◌, length, take, replicate, refl, sym, ◌∙◌, ap, subst, arith, append-nil, append_assoc, encode_utf8, encode_utf8_all, inl, inr}
+use Rattle.std.specs.Prelude.{◌==◌, ◌&&◌, not, codes, cond, if◌then◌else◌}
 use Rattle.std.specs.Char.{is_whitespace}
 use Rattle.std.specs.List.{filter, flat_map}
 use Rattle.std.specs.Str.{IsUtf8, all_scalars, chars, trim_start, trim_end, skip_leading_whitespace, drop_trailing_whitespace}
@@ -19,9 +19,8 @@ use Rattle.dom_nodes.specs.declared.node_data.NodeData.TheVariants.{Document, Fr
 use Rattle.dom_links.specs.Forest.{Forest, children_of}
 use Rattle.dom_links.specs.Texts.{text_at, text_in, text_of}
 use Rattle.dom_links.specs.Trees.{Trees, NoTrees, Tree, trees, walk}
-use Rattle.dom_trees.specs.Views.{node_is}
 use Rattle.dom_nodes.specs.Words.{is_among}
-use Rattle.dom_md.specs.Formatted.{Event, block_names, cell_names, line_names, events, events_below, folded, formatted_below, joined_texts, node_events, step}
+use Rattle.dom_md.specs.Formatted.{Event, block_names, cell_names, line_names, events, events_below, folded, formatted_below, joined_texts, node_events}
 use Rattle.dom_md.specs.Formatted.Event.{opens, closes, has_text, keeps_text}
 use Rattle.dom_md.specs.FormatOps.{AreUtf8, IsFolded}
 

@@ -21,7 +21,7 @@ use Rattle.dom_markup.specs.Pending.{row_weight, trees_weight, weight_below}
 use Rattle.dom_md.specs.declared.formatting.stack.FormatOp.{FormatOp}
 use Rattle.dom_md.specs.declared.formatting.stack.FormatOp.TheVariants.{Open, Close}
 use Rattle.dom_nodes.specs.Kinds.{is_top}
-use Rattle.dom_links.specs.Texts.{text_of, text_at}
+use Rattle.dom_links.specs.Texts.{text_of}
 use Rattle.dom_trees.specs.Views.{node_is}
 use Rattle.dom_md.specs.Formatted.{Event, events, events_below, folded, formatted_node, joined_texts, node_events, step}
 use Rattle.dom_md.specs.Formatted.Event.{opens, closes, has_text, keeps_text}

@@ -1,19 +1,19 @@
 -- What is written for a text: what it resolves to, and its words.
 use Rattle.std.proofs.Common.{◌≡◌, ℕ, zero, suc, ◌+◌, ◌-◌, ◌<◌, ◌≤◌, Bool, true, false, List, [], ◌∷◌, ◌++◌, length, take, drop, get_or, refl, sym, ◌∙◌, ap, subst, arith, append_assoc, append-nil, take_all, cond, inl, inr, ◌⊎◌, length-drop}
-use Rattle.std.specs.Prelude.{◌==◌, ◌&&◌, not, if◌then◌else◌, filter}
+use Rattle.std.specs.Prelude.{◌==◌, ◌&&◌, not, filter}
 use Rattle.std.specs.Char.{is_ascii_lowercase, is_ascii_whitespace}
 use Rattle.std.specs.List.{slice_range}
 use Rattle.std.specs.Str.{IsTrimAsciiStart}
 use Rattle.std.proofs.lemmas.Bool.{cases_Bool, eqb-true, ne_eqb}
 use Rattle.std.proofs.lemmas.Bool.Decides.{nat_tests}
-use Rattle.std.proofs.lemmas.List.{at_drop_more, at_drop_all, take_more, take-append-drop}
+use Rattle.std.proofs.lemmas.List.{at_drop_more, at_drop_all, take_more}
 use Rattle.dom_nodes.specs.Ascii.{asterisk, backslash, backtick, exclamation_mark, left_bracket, less_than, right_bracket, space, tilde, underscore, vertical_bar}
 use Rattle.dom_nodes.specs.Classes.{words_joined}
 use Rattle.dom_nodes.specs.Words.{has_bytes, pieces_of, with_byte, words_of}
 use Rattle.dom_md.specs.Chunks.{is_mark, is_marked}
 use Rattle.dom_md.specs.Resolved.{Reads, resolved}
 use Rattle.dom_md.specs.Words.{spaced}
-use Rattle.dom_md.specs.Written.{CutsChange, IsFirstChange, begins_word, change_of, is_changed, written}
+use Rattle.dom_md.specs.Written.{CutsChange, IsFirstChange, begins_word, is_changed, written}
 use Rattle.dom_md.proofs.ChunkLemmas.{marked_ascii, marked_punctuation, unmarked_plain}
 use Rattle.dom_md.proofs.ReadLemmas.{reads-none, reads-both, reads-space, spaced-first, spaced-none}
 

@@ -195,7 +195,7 @@ impl<'a> Writer<'a> {
         let Some(node) = tree.get(&id) else {
             return Ok(());
         };
-        match node.first_child {
+        match node.first_child.get() {
             Some(first) => self.push(Task::Row { id: first, opts }),
             None => Ok(()),
         }

@@ -53,11 +53,12 @@ impl Attrs {
     pub fn try_clone(&self) -> Result<Attrs, OutOfMemory>
         ensures { IfOk result (λ made. made ≡ self.now) }
     {
-        let mut made = Attrs::new(self.allocator());
-        for attr in self.as_slice() {
+        let attrs = self.as_slice();
+        let mut made = Vec::with_capacity(self.allocator(), attrs.len())?;
+        for attr in attrs {
             made.push(attr.try_clone()?)?;
         }
-        Ok(made)
+        Ok(Attrs::of(made))
     }
 }
 
@@ -129,7 +130,7 @@ fn copied(text: &Option<RareText>) -> Result<Option<RareText>, OutOfMemory>
     }
 }
 
-fn doctype(name: &Text, public_id: &Text, system_id: &Text) -> Result<NodeData, OutOfMemory>
+fn doctype(name: &Text, public_id: &RareText, system_id: &RareText) -> Result<NodeData, OutOfMemory>
     ensures { IfOk result (λ made. made ≡ NodeData.Doctype name.now public_id.now system_id.now) }
 {
     let name = name.try_clone()?;

@@ -11,9 +11,10 @@ mod missing;
 mod node_edit;
 
 use crate::fault::OutOfMemory;
+use crate::link::Link;
 use crate::name::{Attr, QualName};
 use crate::node_id::NodeId;
-use crate::text::Text;
+use crate::text::{RareText, Text};
 use crate::words::has_word;
 pub use changing::Change;
 pub use node_edit::NodeEdit;
@@ -47,10 +48,24 @@ impl Attrs {
         }
     }
 
+    /// The attributes that a vector holds.
+    pub(crate) fn of(items: Vec<Attr>) -> Attrs
+        ensures { result ≡ items.items }
+    {
+        Attrs { items }
+    }
+
     pub fn as_slice(&self) -> &[Attr]
         ensures { result.now ≡ self.now }
     {
         self.items.as_slice()
+    }
+
+    /// Makes room for so many more attributes, where there is memory.
+    pub fn reserve(&mut self, additional: usize)
+        ensures { self.new ≡ self.old }
+    {
+        let _ = self.items.reserve_exact(additional);
     }
 
     /// Gives back the memory past the last attribute.
@@ -81,7 +96,7 @@ impl Attrs {
 pub struct Element {
     pub name: QualName,
     pub attrs: Attrs,
-    template_contents: Option<NodeId>,
+    template_contents: Link,
     pub mathml_annotation_xml_integration_point: bool,
 }
 
@@ -107,7 +122,7 @@ impl Element {
         Element {
             name,
             attrs,
-            template_contents,
+            template_contents: Link::new(template_contents),
             mathml_annotation_xml_integration_point,
         }
     }
@@ -158,7 +173,7 @@ impl Element {
     pub fn template_contents(&self) -> Option<NodeId>
         ensures { result ≡ self.now.template_contents }
     {
-        self.template_contents
+        self.template_contents.get()
     }
 }
 
@@ -169,8 +184,8 @@ pub enum NodeData {
     Fragment,
     Doctype {
         name: Text,
-        public_id: Text,
-        system_id: Text,
+        public_id: RareText,
+        system_id: RareText,
     },
     Text {
         contents: Text,
@@ -189,11 +204,11 @@ pub enum NodeData {
 #[derive(Debug, Drop)]
 pub struct TreeNode {
     pub id: NodeId,
-    pub parent: Option<NodeId>,
-    pub prev_sibling: Option<NodeId>,
-    pub next_sibling: Option<NodeId>,
-    pub first_child: Option<NodeId>,
-    pub last_child: Option<NodeId>,
+    pub parent: Link,
+    pub prev_sibling: Link,
+    pub next_sibling: Link,
+    pub first_child: Link,
+    pub last_child: Link,
     pub content: NodeData,
 }
 

@@ -86,7 +86,14 @@ impl Text {
     pub fn try_clone(&self) -> Result<Text, OutOfMemory>
         ensures { IfOk result (λ made. made ≡ self.now) }
     {
-        Text::new(self.allocator(), self.as_str())
+        let form = match &self.form {
+            Form::Short(short) => Form::Short(short.copied()),
+            Form::Long(letters) => Form::Long(String::from_str(self.alloc, letters.as_str())?),
+        };
+        Ok(Text {
+            form,
+            alloc: self.alloc,
+        })
     }
 
     /// The allocator of the text.

@@ -1,11 +1,11 @@
 -- A compound holds where its parts do and its lists answered so.
-use Rattle.std.proofs.Common.{◌≡◌, ℕ, List, [], ◌∷◌, Bool, true, false, MatchBool, sym, ap, ◌∙◌, subst, true≢false, map}
+use Rattle.std.proofs.Common.{◌≡◌, ℕ, List, [], ◌∷◌, Bool, true, false, MatchBool, sym, ◌∙◌, subst, map}
 use Rattle.std.specs.List.{list_all}
 use Rattle.dom_links.specs.Forest.{Forest}
 use Rattle.dom_selectors.specs.declared.syntax.Compound.{Compound}
 use Rattle.dom_select.specs.Answers.{AreAnswers}
 use Rattle.dom_selectors.specs.ListsAsTrees.{lists_of}
-use Rattle.dom_select.specs.Meaning.{Holds, ListHolds, ListsHold, PartsHold}
+use Rattle.dom_select.specs.Meaning.{Holds, ListsHold, PartsHold}
 use Rattle.dom_selectors.specs.ValuesAsTrees.{read_compound, read_nested}
 use Rattle.dom_selectors.specs.Syntax.{NestedLists, no_lists, nested}
 use Rattle.dom_selectors.proofs.Layers.{read_compound_is}

@@ -138,14 +138,18 @@ selection_of forest roots selector picked h =
       once = picks-distinct P walks picked (first_occurrences-distinct [] found) h;
     }
 
+-- the walk below one root has each node once
+pub one_walk : (forest : Forest) (root : ℕ) → IsDistinct (walk_below forest root) → walk_below forest root ≡ walks_below forest (root ∷ [])
+one_walk forest root once =
+    let one : flat_map (walk_below forest) (root ∷ []) ≡ walk_below forest root = append-nil (walk_below forest root) in
+    sym (ap (first_occurrences []) one ∙ first_occurrences-same [] (walk_below forest root) once (λ n s. refl))
+
 -- what is picked from one root's walk is what is selected below it
 pub selected_below : (forest : Forest) (root : ℕ) (selector : SelectorList) (picked : List ℕ) → IsDistinct (walk_below forest root) →
     Picks (λ n. (element_at forest n ≡ true) × Means selector forest n) (walk_below forest root) picked → Selected forest (root ∷ []) selector picked
 unfolding Selected
 selected_below forest root selector picked once h =
-    let one : flat_map (walk_below forest) (root ∷ []) ≡ walk_below forest root = append-nil (walk_below forest root) in
-    let same : walks_below forest (root ∷ []) ≡ walk_below forest root = ap (first_occurrences []) one ∙ first_occurrences-same [] (walk_below forest root) once (λ n s. refl) in
-    subst (λ ns. Picks (λ n. (element_at forest n ≡ true) × Means selector forest n) ns picked) (sym same) h
+    subst (λ ns. Picks (λ n. (element_at forest n ≡ true) × Means selector forest n) ns picked) (one_walk forest root once) h
 
 pub selected_once : (forest : Forest) (roots : List ℕ) (selector : SelectorList) (a b : List ℕ) → Selected forest roots selector a → Selected forest roots selector b → a ≡ b
 unfolding Selected

@@ -4,3 +4,4 @@ pub mod GatherLemmas
 pub mod SetLemmas
 pub mod SelectLemmas
 pub mod TextLemmas
+pub mod AboveLemmas

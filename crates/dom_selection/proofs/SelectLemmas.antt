@@ -11,11 +11,12 @@ use Rattle.dom_select.specs.Descendants.{GivesMatch, IsFirstMatch, IsMatch, Matc
 use Rattle.dom_select.specs.MatcherIters.{matches_of}
 use Rattle.dom_select.specs.declared.matcher.matcher_iter.MatcherIter.{MatcherIter}
 use Rattle.dom_select.specs.Meaning.{Means}
+use Rattle.dom_index.specs.Index.{Finds}
 use Rattle.dom_links.specs.Lists.{without}
 use Rattle.dom_select.specs.Selected.{Picks, Selected, walks_below}
 use Rattle.dom_select.proofs.MatchLemmas.{come_next}
-use Rattle.dom_selection.specs.Selecting.{Adds, Keeps, PicksFirst, Selects, SelectsFirst}
-use Rattle.dom_selection.specs.Selections.{HasOneTree, added, first_alone, ids_of, refs_in, tree_of}
+use Rattle.dom_selection.specs.Selecting.{Adds, Keeps, Selects, SelectsFirst}
+use Rattle.dom_selection.specs.Selections.{HasOneTree, added, ids_of, refs_in, tree_of}
 use Rattle.dom_selection.proofs.GatherLemmas.{refs-append}
 use Rattle.dom_selection.proofs.SelectionLemmas.{ids_of-refs_to, one_tree_of}
 use Rattle.dom_selection.proofs.SetLemmas.{refs-joined}
@@ -74,73 +75,48 @@ pub kept_tree : (selector : SelectorList) (all kept left : List NodeRef) → Kep
 kept_tree selector [] kept left (ids, refs, on) = subst HasOneTree (sym refs) tt
 kept_tree selector (one ∷ all) kept left (ids, refs, on) = one_tree_of kept one.tree ids refs
 
--- some were found, and the walk goes on
-abbrev pub FoundSoFar : SelectorList → Forest → List ℕ → List NodeRef → Matches → Type 0
-FoundSoFar selector forest roots found walk = (ids : List ℕ) × (found ≡ refs_to walk.tree ids) × ((rest : List ℕ) → ToCome walk rest → Selected forest roots selector (ids ++ rest))
-
-pub found_none : (selector : SelectorList) (forest : Forest) (roots : List ℕ) (walk : Matches) → ((ids : List ℕ) → ToCome walk ids → Selected forest roots selector ids) → FoundSoFar selector forest roots [] walk
-found_none selector forest roots walk on = ([], refl, on)
-
-pub found_start : (selector : SelectorList) (tree : Bor Forest) (roots given : List ℕ) (found : List NodeRef) (it walk : MatcherIter) → found ≡ [] → walk ≡ it → (matches_of it).tree ≡ tree → given ≡ roots
-    → ((ids : List ℕ) → ToCome (matches_of it) ids → Selected tree.now given selector ids) → FoundSoFar selector (matches_of walk).tree.now roots found (matches_of walk)
-found_start selector tree roots given found it walk none same at here on = (
-  [],
-  none,
-  λ rest h. subst (λ (t : Bor Forest). Selected t.now roots selector rest) (sym (ap (λ (w : MatcherIter). (matches_of w).tree) same ∙ at))
-      (subst (λ (ns : List ℕ). Selected tree.now ns selector rest) here (on rest (subst (λ (w : MatcherIter). ToCome (matches_of w) rest) same h))),
-)
-
-pub found_one : (selector : SelectorList) (forest : Forest) (roots : List ℕ) (found : List NodeRef) (walk later : Matches) (node : NodeRef) → GivesMatch walk (Some node) later
-    → FoundSoFar selector forest roots found walk → FoundSoFar selector forest roots (found ++ node ∷ []) later
-found_one selector forest roots found walk later node given (ids, refs, on) =
-    let first : IsFirstMatch walk node later = given.first in
-    let same : node ≡ record { id = node.id; tree = walk.tree } = ap (λ (t : Bor Forest). record { id = node.id; tree = t }) first.tree in (
-      ids ++ node.id ∷ [],
-      ap (λ ns. ns ++ node ∷ []) refs ∙ ap (λ x. refs_to walk.tree ids ++ x ∷ []) same ∙ sym (refs-append walk.tree ids node.id) ∙ ap (λ (t : Bor Forest). refs_to t (ids ++ node.id ∷ [])) (sym given.tree),
-      λ rest h. subst (Selected forest roots selector) (sym (append_assoc ids (node.id ∷ []) rest)) (on (node.id ∷ rest) (come_next walk later node given rest h)),
-    )
-
--- the walk has ended
-pub found_all : (selector : SelectorList) (nodes : List NodeRef) (tree : Bor Forest) (found : List NodeRef) (walk later : Matches) → tree_of nodes ≡ Some tree → walk.tree ≡ tree
-    → GivesMatch walk None later → FoundSoFar selector tree.now (ids_of nodes) found walk → Selects selector nodes found
-found_all selector [] tree found walk later first same given so_far = absurd (none-some tree first)
-found_all selector (one ∷ nodes) tree found walk later first same given (ids, refs, on) =
+-- what is found in the tree of the nodes is what is selected below them
+pub found_selects : (selector : SelectorList) (nodes : List NodeRef) (tree : Bor Forest) (found : List NodeRef) → tree_of nodes ≡ Some tree → Finds tree (ids_of nodes) selector found → Selects selector nodes found
+found_selects selector [] tree found first finds = absurd (none-some tree first)
+found_selects selector (one ∷ nodes) tree found first (ids, selected, is) =
     let here = same_Some one.tree tree first in (
       ids,
-      subst (λ (t : Bor Forest). Selected t.now (ids_of (one ∷ nodes)) selector ids) (sym here)
-          (subst (Selected tree.now (ids_of (one ∷ nodes)) selector) (append-nil ids) (on [] given.first.0)),
-      refs ∙ ap (λ (t : Bor Forest). refs_to t ids) (same ∙ sym here),
+      subst (λ (t : Bor Forest). Selected t.now (ids_of (one ∷ nodes)) selector ids) (sym here) selected,
+      is ∙ ap (λ (t : Bor Forest). refs_to t ids) (sym here),
     )
 
-pub found_tree : (selector : SelectorList) (forest : Forest) (roots : List ℕ) (found : List NodeRef) (walk : Matches) → FoundSoFar selector forest roots found walk → HasOneTree found
-found_tree selector forest roots found walk (ids, refs, on) = one_tree_of found walk.tree ids refs
+pub found_tree : (tree : Bor Forest) (roots : List ℕ) (selector : SelectorList) (found : List NodeRef) → Finds tree roots selector found → HasOneTree found
+found_tree tree roots selector found (ids, selected, is) = one_tree_of found tree ids is
 
-abbrev first_number : List ℕ → List ℕ
-first_number [] = []
-first_number (n ∷ ns) = n ∷ []
+-- nothing is to come
+pub first_none : (selector : SelectorList) (nodes : List NodeRef) (tree : Bor Forest) (ids : List ℕ) (walk later : Matches) → tree_of nodes ≡ Some tree → ids ≡ ids_of nodes → walk.left ≡ walks_below tree.now ids → walk.tree ≡ tree → walk.selector ≡ selector
+    → GivesMatch walk None later → SelectsFirst selector nodes []
+first_none selector [] tree ids walk later first here left same asked given = absurd (none-some tree first)
+first_none selector (one ∷ nodes) tree ids walk later first here left same asked given =
+    let at : walk.tree ≡ one.tree = same ∙ sym (same_Some one.tree tree first) in
+    let all : walk.left ≡ walks_below one.tree.now (ids_of (one ∷ nodes)) = left ∙ ap (λ (t : Bor Forest). walks_below t.now ids) (sym (same_Some one.tree tree first)) ∙ ap (walks_below one.tree.now) here in
+    ([], subst (λ ns. Picks (IsMatch selector one.tree.now) ns []) all (subst (λ (t : Bor Forest). Picks (IsMatch selector t.now) walk.left []) at (subst (λ l. Picks (IsMatch l walk.tree.now) walk.left []) asked given.first.0)), refl)
 
--- the first that is picked has none before it
-picks_first : (P : ℕ → Type 0) (ns ids : List ℕ) → Picks P ns ids → PicksFirst P ns (first_number ids)
-picks_first P [] ids h = subst (λ ms. PicksFirst P [] (first_number ms)) (sym h) refl
-picks_first P (n ∷ ns) ids (inl (p, rest, is, h)) = subst (λ ms. PicksFirst P (n ∷ ns) (first_number ms)) (sym is) (refl, p, [], ns, refl, refl)
-picks_first P (n ∷ ns) ids (inr (out, h)) = behind (first_number ids) (picks_first P ns ids h)
-  where
-    behind : (ms : List ℕ) → PicksFirst P ns ms → PicksFirst P (n ∷ ns) ms
-    behind [] none = inr (out, none)
-    behind (m ∷ ms) (one, meant, passed, later, stands, none) = (one, meant, n ∷ passed, later, ap (λ ks. n ∷ ks) stands, inr (out, none))
-
-selected_first : (forest : Forest) (roots : List ℕ) (selector : SelectorList) (ids : List ℕ) → Selected forest roots selector ids → PicksFirst (IsMatch selector forest) (walks_below forest roots) (first_number ids)
-unfolding Selected
-selected_first forest roots selector ids h = picks_first (IsMatch selector forest) (walks_below forest roots) ids h
-
-first_refs : (tree : Bor Forest) (ids : List ℕ) → first_alone (refs_to tree ids) ≡ refs_to tree (first_number ids)
-first_refs tree [] = refl
-first_refs tree (n ∷ ns) = refl
-
-pub selects_first : (selector : SelectorList) (nodes all : List NodeRef) → Selects selector nodes all → SelectsFirst selector nodes (first_alone all)
-selects_first selector [] all h = ap first_alone h
-selects_first selector (node ∷ nodes) all (ids, selected, is) =
-    (first_number ids, selected_first node.tree.now (ids_of (node ∷ nodes)) selector ids selected, ap first_alone is ∙ first_refs node.tree ids)
+-- the first that is to come
+pub first_some : (selector : SelectorList) (nodes : List NodeRef) (tree : Bor Forest) (ids : List ℕ) (walk later : Matches) (node : NodeRef) → tree_of nodes ≡ Some tree → ids ≡ ids_of nodes → walk.left ≡ walks_below tree.now ids → walk.tree ≡ tree → walk.selector ≡ selector
+    → GivesMatch walk (Some node) later → SelectsFirst selector nodes (node ∷ [])
+first_some selector [] tree ids walk later node first here left same asked given = absurd (none-some tree first)
+first_some selector (one ∷ nodes) tree ids walk later node first here left same asked given =
+    let met : IsFirstMatch walk node later = given.first in
+    let at : walk.tree ≡ one.tree = same ∙ sym (same_Some one.tree tree first) in
+    let all : walk.left ≡ walks_below one.tree.now (ids_of (one ∷ nodes)) = left ∙ ap (λ (t : Bor Forest). walks_below t.now ids) (sym (same_Some one.tree tree first)) ∙ ap (walks_below one.tree.now) here in
+    let Is : SelectorList → Bor Forest → ℕ → Type 0 = λ l t. IsMatch l t.now in (
+      node.id ∷ [],
+      (
+        refl,
+        subst (λ (t : Bor Forest). Is selector t node.id) at (subst (λ l. Is l walk.tree node.id) asked met.meant),
+        met.passed,
+        later.left,
+        sym all ∙ met.stands,
+        subst (λ (t : Bor Forest). Picks (Is selector t) met.passed []) at (subst (λ l. Picks (Is l walk.tree) met.passed []) asked met.none_before),
+      ),
+      ap (λ (t : Bor Forest). record { id = node.id; tree = t } ∷ []) (met.tree ∙ at),
+    )
 
 -- what is added are those that the root's tree selects
 pub adds : (selector : SelectorList) (nodes more all : List NodeRef) (tree : Bor Forest) → tree_of nodes ≡ Some tree → Selects selector (record { id = 0; tree = tree } ∷ []) more → all ≡ added nodes more → HasOneTree nodes

@@ -26,7 +26,8 @@ enum Call {
     BadHtml,
 }
 
-fn numbers(alloc: Global, values: &[usize]) -> Result<Vec<NodeId>, Fail> {
+/// The nodes of these numbers.
+pub(crate) fn numbers(alloc: Global, values: &[usize]) -> Result<Vec<NodeId>, Fail> {
     let mut ids = Vec::new(alloc);
     for value in values {
         ids.push(NodeId::new(*value).ok_or("number")?)?;

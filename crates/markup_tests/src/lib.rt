@@ -4,6 +4,8 @@
 #[cfg(test)]
 mod edits;
 #[cfg(test)]
+mod given;
+#[cfg(test)]
 mod markup;
 #[cfg(test)]
 mod md;

@@ -1,7 +1,8 @@
 //! The calls, and how each ended.
 
+use crate::editing::Edit;
 use crate::memory::Taken;
-use crate::{markdown, mini, selectors};
+use crate::{editing, markdown, mini, selectors};
 use dom_query::{Document, Matcher};
 use std::alloc::Global;
 
@@ -57,9 +58,10 @@ pub enum Call {
     Md,
     Serializer,
     Formatted,
+    Edit(Edit),
 }
 
-pub const CALLS: [(&str, Call); 20] = [
+pub const CALLS: [(&str, Call); 26] = [
     ("Matcher::new", Call::Matcher),
     ("Matcher::try_clone", Call::Clone),
     ("InnerSelector::to_css", Call::Css),
@@ -80,6 +82,15 @@ pub const CALLS: [(&str, Call); 20] = [
     ("md", Call::Md),
     ("MDSerializer::serialize", Call::Serializer),
     ("formatted_text", Call::Formatted),
+    ("SelectionMut::set_attr", Call::Edit(Edit::SetAttr)),
+    ("SelectionMut::set_text", Call::Edit(Edit::SetText)),
+    ("SelectionMut::append_html", Call::Edit(Edit::AppendHtml)),
+    ("append_selection", Call::Edit(Edit::AppendSelection)),
+    ("prepend_selection", Call::Edit(Edit::PrependSelection)),
+    (
+        "replace_with_selection",
+        Call::Edit(Edit::ReplaceWithSelection),
+    ),
 ];
 
 /// What the calls are done on.
@@ -138,5 +149,6 @@ pub fn tried(alloc: Global, page: &Page, call: Call, left: Option<usize>) -> Opt
         Call::Md => markdown::writes(alloc, page, left),
         Call::Serializer => markdown::serializes(alloc, page, left),
         Call::Formatted => markdown::formats(alloc, page, left),
+        Call::Edit(edit) => editing::edits(alloc, edit, left),
     }
 }

@@ -6,6 +6,7 @@
 #![tactic(auto)]
 
 mod calls;
+mod editing;
 mod markdown;
 mod memory;
 mod mini;

@@ -1,4 +1,6 @@
 //! Tests of `dom_index`.
 
+mod growth;
 mod places;
+mod random;
 mod tables;

@@ -241,7 +241,7 @@ fn copy_row(
     ensures cause { IfErr result
         (λ fault. IsTooLarge (with_row at.source row (forest_of nodes.old.items)) fault) }
 {
-    let next = source_node(other, nodes, row.first).next_sibling;
+    let next = source_node(other, nodes, row.first).next_sibling.get();
     push_row(rows, next, row.parent)?;
     copy_node(nodes, other, rows, row.first, Some(row.parent))?;
     Ok(())
@@ -304,7 +304,7 @@ fn copy_alone(
         (λ fault. LacksRoom (vec_len nodes.old) (data_at at.source id) fault) }
 {
     let node = source_node(other, nodes, id);
-    let first = node.first_child;
+    let first = node.first_child.get();
     let content = copy_data(node, nodes.len())?;
     let made = add_below(nodes, parent, content)?;
     push_row(rows, first, made)?;

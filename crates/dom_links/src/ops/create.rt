@@ -15,6 +15,7 @@ use crate::ops::TreeNodeOps;
 use crate::ops::placing::{is_at_or_below, is_free};
 use crate::ops::writes::link_last;
 use dom_nodes::fault::EditFault;
+use dom_nodes::link::Link;
 use dom_nodes::node_data::{NodeData, TreeNode};
 use dom_nodes::node_id::NodeId;
 use std::alloc::Global;
@@ -93,7 +94,7 @@ pub(crate) fn add_child(
     ensures err { OnErr result (nodes.new.items ≡ nodes.old.items) }
     ensures cause { IfErr result (λ fault. NoRoom (vec_len nodes.old) fault) }
 {
-    let left = nodes[t.value()].last_child;
+    let left = nodes[t.value()].last_child.get();
     let before = left;
     let id = push_new(nodes, Some(t), before, content)?;
     link_last(nodes, t, left, id);
@@ -120,11 +121,11 @@ fn push_new(
     };
     let node = TreeNode {
         id,
-        parent,
-        prev_sibling: prev,
-        next_sibling: None,
-        first_child: None,
-        last_child: None,
+        parent: Link::new(parent),
+        prev_sibling: Link::new(prev),
+        next_sibling: Link::new(None),
+        first_child: Link::new(None),
+        last_child: Link::new(None),
         content,
     };
     push_node(nodes, node)?;

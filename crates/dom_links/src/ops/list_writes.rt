@@ -5,6 +5,7 @@ ghost use Rattle.dom_links.specs.Lists.{last};
 ghost use Rattle.dom_links.specs.ListWrites.{NextsKnown, ParentsSet, RunAttached, following};
 
 use crate::ops::writes::join;
+use dom_nodes::link::Link;
 use dom_nodes::node_data::TreeNode;
 use dom_nodes::node_id::NodeId;
 
@@ -24,8 +25,8 @@ pub(crate) fn set_parents(nodes: &mut [TreeNode], x: NodeId, owner: Option<NodeI
             return end;
         };
         let node = &mut nodes[at.value()];
-        node.parent = *owner;
-        next = node.next_sibling;
+        node.parent = Link::new(*owner);
+        next = node.next_sibling.get();
         end = at;
     }
     end

@@ -45,8 +45,8 @@ pub(crate) fn cut_with_later(nodes: &mut [TreeNode], x: NodeId)
     ensures { IsArenaOf (cut (with_later (forest_of nodes.old) x) (forest_of nodes.old)) nodes.new }
 {
     let node = &nodes[x.value()];
-    let parent = node.parent;
-    let prev = node.prev_sibling;
+    let parent = node.parent.get();
+    let prev = node.prev_sibling.get();
     join(nodes, parent, prev, None);
     join(nodes, None, None, Some(x));
     set_parents(nodes, x, None);

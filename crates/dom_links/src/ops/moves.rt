@@ -27,9 +27,9 @@ impl TreeNodeOps {
         ensures removed { Removed nodes.old nodes.new x }
     {
         let node = &nodes[x.value()];
-        let parent = node.parent;
-        let prev = node.prev_sibling;
-        let next = node.next_sibling;
+        let parent = node.parent.get();
+        let prev = node.prev_sibling.get();
+        let next = node.next_sibling.get();
         join(nodes, parent, prev, next);
         place(nodes, x, None, None, None);
     }
@@ -184,23 +184,23 @@ pub(crate) fn room_at(nodes: &[TreeNode], gap: Gap) -> Room
     match gap {
         Gap::EndOf(t) => Room {
             owner: Some(t),
-            left: nodes[t.value()].last_child,
+            left: nodes[t.value()].last_child.get(),
             right: None,
         },
         Gap::FrontOf(t) => Room {
             owner: Some(t),
             left: None,
-            right: nodes[t.value()].first_child,
+            right: nodes[t.value()].first_child.get(),
         },
         Gap::Before(t) => Room {
-            owner: nodes[t.value()].parent,
-            left: nodes[t.value()].prev_sibling,
+            owner: nodes[t.value()].parent.get(),
+            left: nodes[t.value()].prev_sibling.get(),
             right: Some(t),
         },
         Gap::After(t) => Room {
-            owner: nodes[t.value()].parent,
+            owner: nodes[t.value()].parent.get(),
             left: Some(t),
-            right: nodes[t.value()].next_sibling,
+            right: nodes[t.value()].next_sibling.get(),
         },
     }
 }

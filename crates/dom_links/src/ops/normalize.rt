@@ -160,7 +160,7 @@ fn join_after(joined: &mut String, nodes: &[TreeNode], id: NodeId) -> Result<(),
             return Ok(());
         }
         joined.push_str(text_at(nodes, at))?;
-        next = node_at(nodes, at).next_sibling;
+        next = node_at(nodes, at).next_sibling.get();
     }
     Ok(())
 }
@@ -202,7 +202,7 @@ fn nearest_before(nodes: &[TreeNode], id: NodeId) -> Option<NodeId>
         if !is_empty_text(nodes, at) {
             return Some(at);
         }
-        next = node_at(nodes, at).prev_sibling;
+        next = node_at(nodes, at).prev_sibling.get();
     }
     None
 }

@@ -33,7 +33,7 @@ impl TreeNodeOps {
         let mut next = next_sibling_id(nodes, id);
         while let Some(at) = next {
             found = Some(at);
-            next = node_at(nodes, at).next_sibling;
+            next = node_at(nodes, at).next_sibling.get();
         }
         found
     }
@@ -75,7 +75,7 @@ pub fn first_sibling_of(nodes: &[TreeNode], x: NodeId) -> NodeId
     ensures all { with_later (forest_of nodes.now) result ≡ siblings (forest_of nodes.now) x }
 {
     let mut at = x;
-    while let Some(prev) = nodes[at.value()].prev_sibling {
+    while let Some(prev) = nodes[at.value()].prev_sibling.get() {
         at = prev;
     }
     at
@@ -90,7 +90,7 @@ pub fn first_child_of(nodes: &[TreeNode], x: NodeId) -> Option<NodeId>
     ensures all { MatchOption result (children_of (forest_of nodes.now) x ≡ [])
         (λ child. with_later (forest_of nodes.now) child ≡ children_of (forest_of nodes.now) x) }
 {
-    nodes[x.value()].first_child
+    nodes[x.value()].first_child.get()
 }
 
 /// The parent of a node, if it is an element.
@@ -99,7 +99,7 @@ fn element_above_of(nodes: &[TreeNode], n: NodeId) -> Option<NodeId>
     requires known { n < length nodes.now }
     ensures { result ≡ element_above (forest_of nodes.now) n }
 {
-    let parent = nodes[n.value()].parent?;
+    let parent = nodes[n.value()].parent.get()?;
     if nodes[parent.value()].is_element() {
         Some(parent)
     } else {
@@ -141,8 +141,8 @@ pub(crate) fn neighbour(node: &TreeNode, rev: bool) -> Option<NodeId>
     ensures { result ≡ (if rev then node.now.prev_sibling else node.now.next_sibling) }
 {
     if rev {
-        node.prev_sibling
+        node.prev_sibling.get()
     } else {
-        node.next_sibling
+        node.next_sibling.get()
     }
 }

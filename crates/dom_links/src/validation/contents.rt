@@ -65,7 +65,7 @@ fn is_borne(nodes: &[TreeNode], n: usize) -> bool
     requires here { n < length nodes.now }
     ensures { MatchBool result (IsBorne nodes.now n) (IsBorne nodes.now n → ⊥) }
 {
-    let Some(parent) = nodes[n].parent else {
+    let Some(parent) = nodes[n].parent.get() else {
         return true;
     };
     nodes[parent.value()].content.may_have_children()
@@ -94,13 +94,13 @@ fn stays_alone(nodes: &[TreeNode], n: usize) -> bool
     if n != 0 && !node.content.is_top() {
         return true;
     }
-    if node.parent.is_some() {
+    if node.parent.get().is_some() {
         return false;
     }
-    if node.prev_sibling.is_some() {
+    if node.prev_sibling.get().is_some() {
         return false;
     }
-    node.next_sibling.is_none()
+    node.next_sibling.get().is_none()
 }
 
 /// Whether the root, the documents and the fragments stand alone.

@@ -24,7 +24,7 @@ pub(crate) fn check_links(nodes: &[TreeNode]) -> Result<(), ValidateFault>
     let Some(root) = nodes.first() else {
         return Err(ValidateFault::NoRoot);
     };
-    if root.parent.is_some() {
+    if root.parent.get().is_some() {
         return Err(ValidateFault::RootPlaced);
     }
     if !ids_are_places(nodes) {
@@ -71,19 +71,19 @@ fn knows(nodes: &[TreeNode], n: usize) -> bool
     ensures { MatchBool result (LinksKnown nodes.now n) (LinksAstray nodes.now n) }
 {
     let node = &nodes[n];
-    if !is_known(nodes, node.parent) {
+    if !is_known(nodes, node.parent.get()) {
         return false;
     }
-    if !is_known(nodes, node.prev_sibling) {
+    if !is_known(nodes, node.prev_sibling.get()) {
         return false;
     }
-    if !is_known(nodes, node.next_sibling) {
+    if !is_known(nodes, node.next_sibling.get()) {
         return false;
     }
-    if !is_known(nodes, node.first_child) {
+    if !is_known(nodes, node.first_child.get()) {
         return false;
     }
-    is_known(nodes, node.last_child)
+    is_known(nodes, node.last_child.get())
 }
 
 /// Whether each link names a node.
@@ -116,13 +116,13 @@ fn agrees(nodes: &[TreeNode], n: usize) -> bool
     ensures { MatchBool result (Agrees nodes.now n) (Agrees nodes.now n → ⊥) }
 {
     let node = &nodes[n];
-    if let Some(prev) = node.prev_sibling {
-        if !leads_to(nodes[prev.value()].next_sibling, n) {
+    if let Some(prev) = node.prev_sibling.get() {
+        if !leads_to(nodes[prev.value()].next_sibling.get(), n) {
             return false;
         }
     }
-    if let Some(next) = node.next_sibling {
-        if !leads_to(nodes[next.value()].prev_sibling, n) {
+    if let Some(next) = node.next_sibling.get() {
+        if !leads_to(nodes[next.value()].prev_sibling.get(), n) {
             return false;
         }
     }
@@ -153,10 +153,10 @@ fn shares_parent(nodes: &[TreeNode], n: usize) -> bool
         → ⊥) }
 {
     let node = &nodes[n];
-    let Some(prev) = node.prev_sibling else {
+    let Some(prev) = node.prev_sibling.get() else {
         return true;
     };
-    nodes[prev.value()].parent == node.parent
+    nodes[prev.value()].parent.get() == node.parent.get()
 }
 
 /// Whether a link, if there is one, names a node whose parent is n.
@@ -168,7 +168,7 @@ fn is_child(nodes: &[TreeNode], link: Option<NodeId>, n: usize) -> bool
     let Some(child) = link else {
         return true;
     };
-    leads_to(nodes[child.value()].parent, n)
+    leads_to(nodes[child.value()].parent.get(), n)
 }
 
 /// Whether a node that is first or last in its list is so named by its parent.
@@ -184,14 +184,14 @@ fn is_named(nodes: &[TreeNode], n: usize) -> bool
         × (next_link nodes.now n ≡ None → last_link nodes.now p ≡ Some n)) → ⊥) }
 {
     let node = &nodes[n];
-    let Some(parent) = node.parent else {
+    let Some(parent) = node.parent.get() else {
         return true;
     };
     let above = &nodes[parent.value()];
-    if node.prev_sibling.is_none() && !leads_to(above.first_child, n) {
+    if node.prev_sibling.get().is_none() && !leads_to(above.first_child.get(), n) {
         return false;
     }
-    if node.next_sibling.is_none() && !leads_to(above.last_child, n) {
+    if node.next_sibling.get().is_none() && !leads_to(above.last_child.get(), n) {
         return false;
     }
     true
@@ -206,10 +206,10 @@ fn is_linked(nodes: &[TreeNode], n: usize) -> bool
     if !shares_parent(nodes, n) {
         return false;
     }
-    if !is_child(nodes, nodes[n].first_child, n) {
+    if !is_child(nodes, nodes[n].first_child.get(), n) {
         return false;
     }
-    if !is_child(nodes, nodes[n].last_child, n) {
+    if !is_child(nodes, nodes[n].last_child.get(), n) {
         return false;
     }
     is_named(nodes, n)

@@ -57,7 +57,7 @@ fn steps_up(
 {
     let mut ups = Vec::with_capacity(alloc, nodes.len())?;
     for n in 0..nodes.len() {
-        ups.push(nodes[n].parent.or(holders[n]))?;
+        ups.push(nodes[n].parent.get().or(holders[n]))?;
     }
     Ok(ups)
 }
@@ -85,7 +85,7 @@ fn siblings_before(alloc: Global, nodes: &[TreeNode]) -> Result<Vec<Option<NodeI
 {
     let mut prevs = Vec::with_capacity(alloc, nodes.len())?;
     for node in nodes {
-        prevs.push(node.prev_sibling)?;
+        prevs.push(node.prev_sibling.get())?;
     }
     Ok(prevs)
 }

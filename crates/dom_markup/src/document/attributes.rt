@@ -11,7 +11,7 @@ ghost use Rattle.dom_markup.specs.References.{decoded};
 ghost use Rattle.dom_markup.specs.ValueTrees.{Attribute};
 ghost use Rattle.dom_markup.specs.Stretches.{attribute_of, PastAttributes};
 
-use crate::document::scan::{Written, attribute_at};
+use crate::document::scan::{Written, attribute_at, attrs_about};
 use crate::references::decode;
 use dom_nodes::fault::OutOfMemory;
 use dom_nodes::name::{Attr, LocalName, Namespace, QualName};
@@ -49,13 +49,15 @@ struct Kept {
 }
 
 impl Kept {
-    /// No attributes.
-    fn new(alloc: Global) -> Kept
+    /// No attributes, and room for so many.
+    fn new(alloc: Global, room: usize) -> Kept
         ensures none { result.attrs ≡ [] }
         ensures noted { IsNoted result }
     {
+        let mut attrs = Attrs::new(alloc);
+        attrs.reserve(room);
         Kept {
-            attrs: Attrs::new(alloc),
+            attrs,
             noted: 0,
             older: BTreeSet::new(alloc),
         }
@@ -126,7 +128,7 @@ pub fn attrs_of(alloc: Global, text: &str) -> Result<(Attrs, &str), OutOfMemory>
     ensures attrs { IfOk result (λ found. (slash : Bool) (all : List Attribute) (rest : List ℕ)
         → EndsTag slash text.now all rest → found.0 ≡ map read_attr (kept_after [] all)) }
 {
-    let mut kept = Kept::new(alloc);
+    let mut kept = Kept::new(alloc, attrs_about(text));
     let mut rest = text;
     while let Some((written, after)) = attribute_at(rest) {
         kept.add(alloc, written)?;

@@ -2,19 +2,20 @@
 
 ghost use Rattle.std.specs.Prelude.{◌≡◌, ◌≤◌, [], IfErr, IfOk, List, MatchResult, length};
 ghost use Rattle.dom_nodes.specs.declared.fault.EditFault.TheVariants.{Memory};
-ghost use Rattle.dom_nodes.specs.Kinds.{is_doctype, is_top};
+ghost use Rattle.dom_nodes.specs.Kinds.{is_top};
 ghost use Rattle.dom_links.specs.Copies.{FragmentCause};
 ghost use Rattle.dom_links.specs.Growth.{lone};
 ghost use Rattle.dom_trees.specs.NewNodes.{html_element};
 ghost use Rattle.dom_trees.specs.Views.{node_is};
 ghost use Rattle.dom_markup.specs.FaultKinds.{HoldsMark, IsLimitFault, IsNestingFault};
 ghost use Rattle.dom_markup.specs.Fragments.{FragmentRefused, IsFragmentFaultAt, IsFragmentOf};
-ghost use Rattle.dom_markup.specs.Fragments.{fragment_roots, is_whole, node_fragment, top_nodes};
+ghost use Rattle.dom_markup.specs.Fragments.{fragment_roots, is_whole, node_fragment};
 ghost use Rattle.dom_markup.specs.Limits.{limit_kind};
 ghost use Rattle.dom_markup.specs.Markup.{Item, Spells, SpellsItemsUpTo};
 ghost use Rattle.dom_markup.specs.Names.{markup};
 ghost use Rattle.dom_markup.specs.ValueTrees.{ValueTrees};
 
+use crate::document::snippet::Snippet;
 use crate::document::{Document, QuirksMode, whole};
 use crate::laws::faults::kinds_of_faults;
 use dom_nodes::fault::{EditFault, MarkupFault, MarkupFaultKind, OutOfMemory};
@@ -56,14 +57,8 @@ impl Document {
         ensures marks { IfErr result (λ fault. HoldsMark source.now fault.kind) }
     {
         kinds_of_faults();
-        let read = Document::read(alloc, source)?;
-        let Ok(tops) = top_nodes(&read.tree) else {
-            return Err(MarkupFault {
-                kind: MarkupFaultKind::Memory,
-                at: source.len(),
-            });
-        };
-        match Tree::fragment_of(&read.tree, &tops) {
+        let snippet = Snippet::read(alloc, source)?;
+        match snippet.fragment() {
             Ok(tree) => Ok(whole(alloc, tree)),
             Err(fault) => Err(MarkupFault {
                 kind: limit_of(fault),
@@ -71,26 +66,6 @@ impl Document {
             }),
         }
     }
-}
-
-/// The nodes at the top of what was read, but for doctypes.
-pub(super) fn top_nodes(tree: &Tree) -> Result<Vec<NodeId>, OutOfMemory>
-    ensures { IfOk result (λ tops. tops.items ≡ top_nodes tree.now) }
-{
-    let children = tree.child_ids_of(&NodeId::root())?;
-    let mut tops = Vec::new(tree.allocator());
-    for id in children.as_slice() {
-        if !is_doctype(tree, *id) {
-            tops.push(*id)?;
-        }
-    }
-    Ok(tops)
-}
-
-fn is_doctype(tree: &Tree, id: NodeId) -> bool
-    ensures { result ≡ node_is is_doctype tree.now id }
-{
-    NodeRef::new(id, tree).is_doctype()
 }
 
 /// What a limit that copies met is called in markup.

@@ -28,7 +28,7 @@ use dom_nodes::fault::{EditFault, MarkupFaultKind, OutOfMemory};
 use dom_nodes::name::{LocalName, Namespace, QualName};
 use dom_nodes::node_data::{Attrs, Element, NodeData};
 use dom_nodes::node_id::NodeId;
-use dom_nodes::text::Text;
+use dom_nodes::text::{RareText, Text};
 use dom_trees::tree::Tree;
 use std::alloc::Global;
 
@@ -86,8 +86,8 @@ fn doctype_of(alloc: Global, written: Doctype) -> Result<NodeData, OutOfMemory>
     ensures plain { IfOk result (λ content. IsPlainData content) }
 {
     let name = folded_name(alloc, written.name)?;
-    let public_id = Text::new(alloc, written.public)?;
-    let system_id = Text::new(alloc, written.system)?;
+    let public_id = RareText::new(alloc, written.public)?;
+    let system_id = RareText::new(alloc, written.system)?;
     Ok(NodeData::Doctype {
         name,
         public_id,
@@ -279,6 +279,9 @@ impl<'a> Reader<'a> {
         let Some(innermost) = self.stack.pop() else {
             return Err(MarkupFaultKind::StrayEnd);
         };
+        if innermost.name == name {
+            return Ok(());
+        }
         if !innermost.name.eq_ignore_ascii_case(name) {
             return Err(MarkupFaultKind::MismatchedEnd);
         }

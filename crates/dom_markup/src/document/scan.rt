@@ -24,10 +24,14 @@ pub enum Stretch {
     Bare,
 }
 
-/// Tab, line feed, form feed, carriage return and space.
+/// Tab, line feed, form feed, carriage return and space. All above a space are told first.
+#[inline(always)]
 fn is_whitespace(byte: u8) -> bool
     ensures { result ≡ is_whitespace byte }
 {
+    if byte > b' ' {
+        return false;
+    }
     matches!(byte, b'\t' | b'\n' | 0x0c | b'\r' | b' ')
 }
 
@@ -157,6 +161,28 @@ pub fn nodes_about(text: &str) -> usize {
         at += 32;
     }
     count
+}
+
+/// About how many attributes stand before the end of a tag: as many as the next 64 bytes have `=`
+/// before a `>`. Nothing but room for attributes hangs on it.
+pub fn attrs_about(text: &str) -> usize {
+    let bytes = text.as_bytes();
+    if bytes.len() < 64 {
+        return 0;
+    }
+    let ends = places_of(bytes, b'>');
+    let below = ends.wrapping_sub(1) & !ends;
+    (places_of(bytes, b'=') & below).count_ones() as usize
+}
+
+/// At which of the first 64 bytes that byte stands, a bit for each.
+fn places_of(bytes: &[u8], byte: u8) -> u64
+    requires { 64 ≤ length bytes.now }
+{
+    let wanted = u8x32::splat(byte);
+    let low = u8x32::from_slice(bytes).simd_eq(wanted).to_bitmask();
+    let high = u8x32::from_slice(&bytes[32..]).simd_eq(wanted).to_bitmask();
+    low | high << 32
 }
 
 // ---- comments

@@ -1,18 +1,22 @@
 //! Markup that was read to be put into trees.
 
 ghost use Rattle.std.specs.Prelude.{◌≡◌, ◌≤◌, ◌∷◌, [], IfErr, IfOk, length};
+ghost use Rattle.dom_nodes.specs.Kinds.{is_doctype};
+ghost use Rattle.dom_links.specs.Copies.{FragmentCause};
 ghost use Rattle.dom_links.specs.Forest.{Forest};
 ghost use Rattle.dom_trees.specs.Edits.{Edits};
+ghost use Rattle.dom_trees.specs.NewNodes.{html_element};
+ghost use Rattle.dom_trees.specs.Views.{node_is};
 ghost use Rattle.dom_markup.specs.Documents.{IsSpelled};
-ghost use Rattle.dom_markup.specs.Fragments.{top_nodes};
+ghost use Rattle.dom_markup.specs.Fragments.{fragment_read, top_nodes};
 ghost use Rattle.dom_markup.specs.Refusals.{IsFaultAt, Refused};
 ghost use Rattle.dom_markup.specs.Setters.{putting, replacing};
 
 use crate::document::Document;
-use crate::document::fragments::top_nodes;
 use dom_links::gap::Place;
-use dom_nodes::fault::{EditFault, MarkupFault, MarkupFaultKind};
+use dom_nodes::fault::{EditFault, MarkupFault, MarkupFaultKind, OutOfMemory};
 use dom_nodes::node_id::NodeId;
+use dom_trees::node_ref::NodeRef;
 use dom_trees::tree::Tree;
 use std::alloc::Global;
 use std::marker::Model;
@@ -80,4 +84,32 @@ impl Snippet {
             Place::InsteadOfNode
         }
     }
+    /// The fragment that holds copies of the nodes at the top, but for doctypes, with all that is
+    /// below them. Refused as `TooManyNodes` or `Memory`.
+    pub(super) fn fragment(&self) -> Result<Tree, EditFault>
+        ensures ok { IfOk result (λ tree. tree ≡ fragment_read self.now) }
+        ensures cause { IfErr result
+            (λ fault. FragmentCause html_element self.now (top_nodes self.now) fault) }
+    {
+        Tree::fragment_of(&self.tree, &self.tops)
+    }
+}
+
+/// The nodes at the top of what was read, but for doctypes.
+fn top_nodes(tree: &Tree) -> Result<Vec<NodeId>, OutOfMemory>
+    ensures { IfOk result (λ tops. tops.items ≡ top_nodes tree.now) }
+{
+    let mut tops = Vec::new(tree.allocator());
+    for id in tree.child_ids_of_it(&NodeId::root(), false) {
+        if !is_doctype(tree, id) {
+            tops.push(id)?;
+        }
+    }
+    Ok(tops)
+}
+
+fn is_doctype(tree: &Tree, id: NodeId) -> bool
+    ensures { result ≡ node_is is_doctype tree.now id }
+{
+    NodeRef::new(id, tree).is_doctype()
 }

@@ -110,7 +110,7 @@ pub(super) fn put_children<P: PutText<W>, W>(
     let mut ops = Stack::new(tree.allocator());
     push_open(
         nodes,
-        node.first_child,
+        node.first_child.get(),
         keeps_texts(&node.content),
         &mut ops,
     )?;
@@ -188,7 +188,7 @@ fn put_open<P: PutText<W>, W>(
 {
     lines_of_a_forest();
     let node = node_at(nodes, id);
-    push_open(nodes, node.next_sibling, raw, ops)?;
+    push_open(nodes, node.next_sibling.get(), raw, ops)?;
     push_following(nodes, id, node, ops)?;
     put_opening::<P, W>(w, escaper, &node.content, raw)
 }
@@ -209,11 +209,12 @@ fn push_following(
         (weight_following forest id node.now.content) }
 {
     lines_of_a_forest();
+    let first = node.first_child.get();
     match &node.content {
-        NodeData::Document | NodeData::Fragment => push_open(nodes, node.first_child, false, ops),
+        NodeData::Document | NodeData::Fragment => push_open(nodes, first, false, ops),
         NodeData::Element(element) if !is_void_node(&node.content) => {
             ops.push(SerializeOp::Close { id })?;
-            push_open(nodes, node.first_child, keeps_texts(&node.content), ops)?;
+            push_open(nodes, first, keeps_texts(&node.content), ops)?;
             push_open(nodes, element.template_contents(), false, ops)
         }
         _ => Ok(()),

@@ -42,7 +42,7 @@ pub(super) fn format_children(tree: &Tree, id: NodeId) -> Result<String, OutOfMe
         return Ok(text);
     };
     let mut ops = Vec::new(tree.allocator());
-    push_open(nodes, node.first_child, &mut ops)?;
+    push_open(nodes, node.first_child.get(), &mut ops)?;
     format_ops(nodes, ops, &mut text)?;
     Ok(text)
 }
@@ -135,7 +135,7 @@ fn open_node(
         < row_weight (forest_of nodes.now) (Some id) + weight (forest_of nodes.now) ops.old.items) }
 {
     let node = node_at(nodes, id);
-    push_open(nodes, node.next_sibling, ops)?;
+    push_open(nodes, node.next_sibling.get(), ops)?;
     begin_node(nodes, id, node, ops, text)
 }
 
@@ -159,10 +159,11 @@ fn begin_node(
     ensures weight { OnOk result (weight (forest_of nodes.now) ops.new.items
         ≤ 1 + weight_below (forest_of nodes.now) id + weight (forest_of nodes.now) ops.old.items) }
 {
+    let first = node.first_child.get();
     match &node.content {
         NodeData::Text { contents } => {
             add_text(text, contents.as_str())?;
-            push_open(nodes, node.first_child, ops)
+            push_open(nodes, first, ops)
         }
         NodeData::Element(element) => {
             open_element(text, element.node_name())?;
@@ -170,9 +171,9 @@ fn begin_node(
             if element.node_name() == "pre" {
                 return keep_text(nodes, id, text);
             }
-            push_open(nodes, node.first_child, ops)
+            push_open(nodes, first, ops)
         }
-        _ => push_open(nodes, node.first_child, ops),
+        _ => push_open(nodes, first, ops),
     }
 }
 

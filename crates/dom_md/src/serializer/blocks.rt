@@ -24,13 +24,13 @@ impl<'a> Writer<'a> {
                 return Ok(());
             };
             let NodeData::Text { contents } = &node.content else {
-                if let Some(next) = node.next_sibling {
+                if let Some(next) = node.next_sibling.get() {
                     self.push(Task::Row { id: next, opts })?;
                 }
                 return self.open_node(at, opts);
             };
             push_text(&mut self.text, contents.as_str(), opts)?;
-            let Some(next) = node.next_sibling else {
+            let Some(next) = node.next_sibling.get() else {
                 return Ok(());
             };
             at = next;

@@ -74,9 +74,9 @@ impl<'a> Writer<'a> {
 /// The words of the node's text, where it has one text alone that isn't empty; a space where that
 /// has none.
 fn only_text<'a>(node: &NodeRef<'a>) -> Option<&'a str> {
-    let first = node.tree.get(&node.id)?.first_child?;
+    let first = node.tree.get(&node.id)?.first_child.get()?;
     let child = node.tree.get(&first)?;
-    if child.next_sibling.is_some() {
+    if child.next_sibling.get().is_some() {
         return None;
     }
     match &child.content {

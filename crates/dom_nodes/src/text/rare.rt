@@ -8,9 +8,16 @@ use std::alloc::Global;
 use std::marker::Model;
 
 /// A text behind a pointer. A contract sees it as the list of its bytes.
-#[derive(Drop)]
 pub struct RareText {
     text: Box<Text>,
+}
+
+/// Written out, so that what drops such a text has one step for it.
+impl Drop for RareText {
+    fn drop(self) {
+        let RareText { text } = self;
+        drop(text);
+    }
 }
 
 impl Model for RareText {

@@ -40,6 +40,17 @@ impl ShortText {
         })
     }
 
+    /// The same text.
+    #[inline(always)]
+    pub(crate) fn copied(&self) -> ShortText
+        ensures { result ≡ self.now }
+    {
+        ShortText {
+            length: self.length,
+            bytes: self.bytes,
+        }
+    }
+
     /// The text with more behind it; None where that has more than 30 bytes.
     pub(crate) fn lengthened(&self, more: &str) -> Option<ShortText>
         ensures { MatchOption result (30 < length self.now + length more.now)

@@ -10,7 +10,6 @@ use crate::script::{Going, Picking};
 use dom_nodes::fault::OutOfMemory;
 use dom_nodes::node_id::NodeId;
 use dom_select::matcher::Matcher;
-use dom_select::matcher::descendants::select_below;
 use dom_selection::selection::Selection;
 use dom_trees::tree::Tree;
 
@@ -25,7 +24,7 @@ pub fn pick(
         Picked tree.now selection.now picking matcher.now found.items) }
 {
     match picking {
-        Picking::Select => select_below(tree, &NodeId::root(), matcher),
+        Picking::Select => find(tree, &[NodeId::root()], matcher),
         Picking::Find => find(tree, selection, matcher),
         Picking::Filter => filter(tree, selection, matcher),
         Picking::Add => add(tree, selection, matcher),

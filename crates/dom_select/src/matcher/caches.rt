@@ -20,6 +20,7 @@ pub struct SelectorCaches<'t> {
     of_type: Vec<u32>,
     last_of_type: Vec<u32>,
     hits: u64,
+    steps: u64,
 }
 
 impl<'t> Model for SelectorCaches<'t> {
@@ -73,6 +74,7 @@ impl<'t> SelectorCaches<'t> {
             of_type: Vec::new(tree.allocator()),
             last_of_type: Vec::new(tree.allocator()),
             hits: 0,
+            steps: 0,
         }
     }
 
@@ -86,6 +88,18 @@ impl<'t> SelectorCaches<'t> {
     /// How many indexes were taken from the caches. No clause: nothing else depends on it.
     pub fn hits(&self) -> u64 {
         self.hits
+    }
+
+    /// Notes a step from a node to the next one on its left, or to one where `:has` could lead.
+    pub(crate) fn note_step(&mut self)
+        ensures { self.new ≡ self.old }
+    {
+        self.steps = self.steps.saturating_add(1);
+    }
+
+    /// How many such steps were noted. No clause: nothing else depends on it.
+    pub(crate) fn steps(&self) -> u64 {
+        self.steps
     }
 
     /// Whether the next index is kept.
@@ -102,8 +116,9 @@ impl<'t> SelectorCaches<'t> {
         false
     }
 
-    /// An index of a node.
-    pub(crate) fn index_at(&mut self, id: &NodeId, kind: IndexKind) -> u64
+    /// An index of a node among its siblings; 1 for an unknown number. Where it is kept, so is that
+    /// of each sibling that was counted.
+    pub fn index_at(&mut self, id: &NodeId, kind: IndexKind) -> u64
         ensures is { result ≡ index_at kind self.old id.now }
         ensures few { result ≤ 4294967295 }
         ensures same { self.new ≡ self.old }

@@ -5,7 +5,7 @@ ghost use Rattle.std.specs.Iterator.{at_most};
 ghost use Rattle.dom_links.specs.Trees.{walk_below};
 ghost use Rattle.dom_select.specs.Descendants.{GivesMatch, IsMatch, ToCome};
 ghost use Rattle.dom_select.specs.Meaning.{MeansType};
-ghost use Rattle.dom_select.specs.Selected.{Selected};
+ghost use Rattle.dom_select.specs.Selected.{Selected, walks_below};
 ghost use Rattle.dom_selectors.specs.Spelling.{Decides};
 
 use crate::matcher::Matcher;
@@ -54,6 +54,7 @@ impl<'a, 'b> DescendantMatches<'a, 'b> {
     /// What is to come is what the selector selects below the node.
     pub fn new(node: NodeRef<'a>, matcher: &'b Matcher) -> Self
         ensures all { result.left ≡ walk_below node.entry.tree.now node.entry.id }
+        ensures once { result.left ≡ walks_below node.entry.tree.now (node.entry.id ∷ []) }
         ensures tree { result.tree ≡ node.entry.tree }
         ensures selector { result.selector ≡ matcher.now }
         ensures selected { (ids : List ℕ) → ToCome result ids →
@@ -101,6 +102,30 @@ pub fn select_below(
         picked.push(node.id)?;
     }
     Ok(picked)
+}
+
+/// The same, or None where more than so many steps were taken.
+pub(crate) fn select_below_within(
+    tree: &Tree,
+    root: &NodeId,
+    matcher: &Matcher,
+    steps: u64,
+) -> Result<Option<Vec<NodeId>>, OutOfMemory>
+    ensures { IfOk result (λ found. IfSome found
+        (λ ids. Selected tree.now (root.now ∷ []) matcher.now ids.items)) }
+{
+    let mut caches = SelectorCaches::late(tree);
+    let mut picked = Vec::new(tree.allocator());
+    for id in tree.descendant_ids_of_it(root) {
+        if caches.steps() > steps {
+            return Ok(None);
+        }
+        if !is_selected_with(matcher, &mut caches, id) {
+            continue;
+        }
+        picked.push(id)?;
+    }
+    Ok(Some(picked))
 }
 
 /// Whether the node is an element that the selector means; where the selector is a type alone, that

@@ -3,7 +3,7 @@
 ghost use Rattle.std.specs.Prelude.{◌≡◌, ℕ, List, length, IfOk};
 ghost use Rattle.std.specs.Iterator.{at_most};
 ghost use Rattle.dom_select.specs.Descendants.{ToCome};
-ghost use Rattle.dom_select.specs.Selected.{Selected};
+ghost use Rattle.dom_select.specs.Selected.{Selected, walks_below};
 ghost use Rattle.dom_select.specs.MatcherIters.{gives_match, matches_of};
 
 use crate::matcher::Matcher;
@@ -33,6 +33,8 @@ impl<'a, 'b, 'r> MatcherIter<'a, 'b, 'r> {
         roots: &'r [NodeId],
         matcher: &'b Matcher,
     ) -> Result<MatcherIter<'a, 'b, 'r>, OutOfMemory>
+        ensures all { IfOk result
+            (λ it. (matches_of it).left ≡ walks_below tree.entry.now roots.entry.now) }
         ensures tree { IfOk result (λ it. (matches_of it).tree ≡ tree.entry) }
         ensures selector { IfOk result (λ it. (matches_of it).selector ≡ matcher.now) }
         ensures selected { IfOk result

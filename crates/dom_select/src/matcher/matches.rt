@@ -226,6 +226,7 @@ fn leads_within(
         return true;
     }
     for y in tree.descendant_ids_of_it(&top) {
+        caches.note_step();
         if reaches(start, first, steps, tree, caches, y) {
             return true;
         }
@@ -422,6 +423,7 @@ fn follow_from<'a>(
 {
     let mut at = id;
     while let Some(v) = on_the_left(tree, combinator, at) {
+        caches.note_step();
         if may_follow(start, first, steps, combinator, tree, spared, v) {
             let level = looseness(combinator);
             if let Some(place) = follow(level, start, first, steps, tree, caches, spared, v) {

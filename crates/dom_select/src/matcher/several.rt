@@ -1,7 +1,7 @@
 //! What a selector means below several nodes, each node once.
 
 ghost use Rattle.std.specs.Prelude.{◌≡◌, ◌∷◌, [], ℕ, Bool, List, length, false, true, slice_set};
-ghost use Rattle.std.specs.Prelude.{slice_index_or, IfOk, MatchBool, MatchOption};
+ghost use Rattle.std.specs.Prelude.{slice_index_or, IfOk, IfSome, MatchBool, MatchOption};
 ghost use Rattle.std.specs.Iterator.{YieldsFirst, at_most, item_count};
 ghost use Rattle.dom_links.specs.Laws.{AreTrees};
 ghost use Rattle.dom_select.specs.Descendants.{GivesMatch, ToCome};
@@ -10,7 +10,7 @@ ghost use Rattle.dom_select.specs.Selected.{Selected, walks_below};
 
 use crate::matcher::Matcher;
 use crate::matcher::caches::SelectorCaches;
-use crate::matcher::descendants::is_selected_with;
+use crate::matcher::descendants::{is_selected_with, select_below_within};
 use dom_links::iters::DescendantNodes;
 use dom_links::laws::trees_of_a_forest;
 use dom_nodes::fault::OutOfMemory;
@@ -161,16 +161,8 @@ impl<'a, 'b, 'r> Matches<'a, 'b, 'r> {
             (λ it. (ids : List ℕ) → ToCome it ids
             → Selected tree.entry.now roots.entry.now matcher.now ids) }
     {
-        know_trees(tree);
-        let marks = vec![in tree.allocator(); false; tree.len()]?;
-        let walks = Walks {
-            tree,
-            walk: None,
-            roots,
-        };
-        let ids = FirstMet { walks, marks };
         Ok(Matches {
-            ids,
+            ids: first_met(tree, roots)?,
             tree,
             caches: SelectorCaches::late(tree),
             matcher,
@@ -216,4 +208,59 @@ pub fn select_below_all(
         picked.push(node.id)?;
     }
     Ok(picked)
+}
+
+/// The same, or None where more than so many steps were taken: to the left of nodes, and to those
+/// that `:has` looks at. That is asked after each node, so that what takes many is given up early.
+pub fn select_within(
+    tree: &Tree,
+    roots: &[NodeId],
+    matcher: &Matcher,
+    steps: u64,
+) -> Result<Option<Vec<NodeId>>, OutOfMemory>
+    ensures { IfOk result (λ found. IfSome found
+        (λ ids. Selected tree.now roots.now matcher.now ids.items)) }
+{
+    match roots {
+        [root] => select_below_within(tree, root, matcher, steps),
+        _ => select_all_within(tree, roots, matcher, steps),
+    }
+}
+
+/// The same, with marks.
+fn select_all_within(
+    tree: &Tree,
+    roots: &[NodeId],
+    matcher: &Matcher,
+    steps: u64,
+) -> Result<Option<Vec<NodeId>>, OutOfMemory>
+    ensures { IfOk result (λ found. IfSome found
+        (λ ids. Selected tree.now roots.now matcher.now ids.items)) }
+{
+    let mut caches = SelectorCaches::late(tree);
+    let mut picked = Vec::new(tree.allocator());
+    for id in first_met(tree, roots)? {
+        if caches.steps() > steps {
+            return Ok(None);
+        }
+        if !is_selected_with(matcher, &mut caches, id) {
+            continue;
+        }
+        picked.push(id)?;
+    }
+    Ok(Some(picked))
+}
+
+/// The nodes below the roots, each once, in the order of the walks.
+fn first_met<'a, 'r>(tree: &'a Tree, roots: &'r [NodeId]) -> Result<FirstMet<'a, 'r>, OutOfMemory>
+    ensures { IfOk result (λ ids. ids ≡ walks_below tree.entry.now roots.entry.now) }
+{
+    know_trees(tree);
+    let marks = vec![in tree.allocator(); false; tree.len()]?;
+    let walks = Walks {
+        tree,
+        walk: None,
+        roots,
+    };
+    Ok(FirstMet { walks, marks })
 }

@@ -1,9 +1,9 @@
 //! Nodes that are gathered from where some nodes lead, each once.
 
-ghost use Rattle.std.specs.Prelude.{◌≡◌, ◌∷◌, [], not, filter, OnOk};
+ghost use Rattle.std.specs.Prelude.{◌≡◌, ◌∷◌, [], None, not, filter, OnOk};
 ghost use Rattle.dom_links.specs.ListMoves.{element_at};
 ghost use Rattle.dom_links.specs.Trees.{ancestors, limited};
-ghost use Rattle.dom_selection.specs.Gathering.{HasMet, Meets};
+ghost use Rattle.dom_selection.specs.Gathering.{HasMet, IsClosed, IsClosedFor, Meets};
 ghost use Rattle.dom_selection.specs.Selections.{Lists, child_elements, element_after};
 ghost use Rattle.dom_selection.specs.Selections.{element_before, elements_above, gathered};
 ghost use Rattle.dom_selection.specs.Selections.{one_or_none, parent_node};
@@ -24,6 +24,7 @@ enum Step {
     Parent,
     Children,
     Ancestors(Option<usize>),
+    Above,
     Next,
     Prev,
 }
@@ -103,8 +104,26 @@ impl<'a> Gathered<'a> {
         Ok(())
     }
 
+    /// Meets all ancestors of a node that are elements. Above a node that was met all were met, so
+    /// the climb ends there.
+    fn climb(&mut self, id: NodeId) -> Result<(), OutOfMemory>
+        requires { IsClosed self.old.tree.now self.old.seen }
+        ensures { OnOk result (Meets self.old self.new (elements_above None self.old.tree.now id)) }
+    {
+        let tree = self.tree;
+        let _nodes = tree.nodes();
+        for above in tree.ancestor_ids_of_it(&id, None) {
+            if self.seen.has(above) {
+                return Ok(());
+            }
+            self.meet_element(above)?;
+        }
+        Ok(())
+    }
+
     /// Meets where the step leads from a node.
     fn meet_from(&mut self, step: Step, id: NodeId) -> Result<(), OutOfMemory>
+        requires { IsClosedFor step self.old }
         ensures { OnOk result (Meets self.old self.new (step_of step self.old.tree.now id)) }
     {
         let nodes = self.tree.nodes();
@@ -112,6 +131,7 @@ impl<'a> Gathered<'a> {
             Step::Parent => self.meet_some(parent_id(nodes, &id)),
             Step::Children => self.meet_children(id),
             Step::Ancestors(most) => self.meet_ancestors(id, most),
+            Step::Above => self.climb(id),
             Step::Next => self.meet_some(TreeNodeOps::next_element_sibling_of(nodes, &id)),
             Step::Prev => self.meet_some(TreeNodeOps::prev_element_sibling_of(nodes, &id)),
         }
@@ -126,6 +146,7 @@ impl<'a> Selection<'a> {
         let Some(tree) = self.tree() else {
             return Ok(Selection::new(self.allocator()));
         };
+        let _nodes = tree.nodes();
         let mut gathered = Gathered::new(tree);
         for node in self.nodes() {
             gathered.meet_from(step, node.id)?;
@@ -152,7 +173,10 @@ impl<'a> Selection<'a> {
     pub fn ancestors(&self, max_depth: Option<usize>) -> Result<Selection<'a>, OutOfMemory>
         ensures { Lists result (gathered (elements_above max_depth) self.now) }
     {
-        self.gather(Step::Ancestors(max_depth))
+        match max_depth {
+            None | Some(0) => self.gather(Step::Above),
+            Some(_) => self.gather(Step::Ancestors(max_depth)),
+        }
     }
 
     /// The nearest elements after the nodes in their lists, each once.

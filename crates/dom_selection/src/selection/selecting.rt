@@ -5,8 +5,9 @@ ghost use Rattle.dom_selectors.specs.Grammar.{Refused};
 ghost use Rattle.dom_selection.specs.Selecting.{Adds, ByText, Selects, SelectsFirst};
 ghost use Rattle.dom_selection.specs.Selecting.{SelectsNothing, StandsForNothing};
 
+use crate::selection::Selection;
 use crate::selection::asking::matcher_of;
-use crate::selection::{Selection, push_node};
+use dom_index::selecting::select_nodes;
 use dom_nodes::fault::OutOfMemory;
 use dom_select::matcher::Matcher;
 use dom_select::matcher::matcher_iter::MatcherIter;
@@ -14,7 +15,8 @@ use dom_selectors::fault::SelectorFault;
 
 impl<'a> Selection<'a> {
     /// The elements below the nodes that one of the matcher's selectors means, each once, in the
-    /// order of the walks.
+    /// order of the walks. Nodes are asked one by one, or an index of the tree is made where that
+    /// takes less.
     pub fn select_matcher(&self, matcher: &Matcher) -> Result<Selection<'a>, OutOfMemory>
         ensures { IfOk result (Selects matcher.now self.now) }
     {
@@ -22,10 +24,7 @@ impl<'a> Selection<'a> {
             return Ok(Selection::new(self.allocator()));
         };
         let roots = self.ids()?;
-        let mut found = Vec::new(self.allocator());
-        for node in MatcherIter::new(tree, &roots, matcher)? {
-            push_node(&mut found, &node)?;
-        }
+        let found = select_nodes(tree, &roots, matcher)?;
         Ok(Selection::of_one_tree(found))
     }
 
@@ -67,12 +66,19 @@ impl<'a> Selection<'a> {
         Ok(Some(found))
     }
 
-    /// The first of what `select_matcher` gives, alone; none of none.
+    /// The first of what `select_matcher` gives, alone; none of none. Nothing is asked behind it.
     pub fn select_single_matcher(&self, matcher: &Matcher) -> Result<Selection<'a>, OutOfMemory>
         ensures { IfOk result (SelectsFirst matcher.now self.now) }
     {
-        let all = self.select_matcher(matcher)?;
-        Ok(all.first())
+        let Some(tree) = self.tree() else {
+            return Ok(Selection::new(self.allocator()));
+        };
+        let roots = self.ids()?;
+        let mut matches = MatcherIter::new(tree, &roots, matcher)?;
+        match matches.next() {
+            Some(node) => Ok(Selection::from(node)),
+            None => Ok(Selection::new(self.allocator())),
+        }
     }
 
     /// The first of what `select` gives, alone; none of none.

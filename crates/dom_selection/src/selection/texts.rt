@@ -2,7 +2,7 @@
 
 ghost use Rattle.std.specs.Prelude.{◌≡◌, ◌++◌, IfOk, OnOk, string_bytes};
 ghost use Rattle.dom_nodes.specs.Words.{class_words, is_among};
-ghost use Rattle.dom_links.specs.Texts.{text_of};
+ghost use Rattle.dom_links.specs.Texts.{immediate_text_of, text_of};
 ghost use Rattle.dom_trees.specs.Views.{node_attrs};
 ghost use Rattle.dom_md.specs.Formatted.{formatted_node};
 ghost use Rattle.dom_selection.specs.Selections.{joined, some_node};
@@ -27,6 +27,19 @@ impl<'a> Selection<'a> {
         let mut joined = String::new(self.allocator());
         for node in self.nodes() {
             let text = node.text()?;
+            joined.push_str(&text)?;
+        }
+        Ok(joined)
+    }
+
+    /// The texts of the nodes and their children alone, joined.
+    pub fn immediate_text(&self) -> Result<String, OutOfMemory>
+        ensures { IfOk result
+            (λ text. string_bytes text ≡ joined immediate_text_of self.now) }
+    {
+        let mut joined = String::new(self.allocator());
+        for node in self.nodes() {
+            let text = node.immediate_text()?;
             joined.push_str(&text)?;
         }
         Ok(joined)

@@ -13,7 +13,7 @@ use dom_nodes::fault::EditFault;
 use dom_nodes::name::{LocalName, QualName};
 use dom_nodes::node_data::{Attrs, Element, NodeData};
 use dom_nodes::node_id::NodeId;
-use dom_nodes::text::Text;
+use dom_nodes::text::{RareText, Text};
 use std::alloc::Global;
 
 impl Tree {
@@ -83,6 +83,16 @@ pub(crate) fn owned_text(alloc: Global, text: &str) -> Result<Text, EditFault>
     ensures { MatchResult result (λ made. made ≡ text.now) (λ fault. fault ≡ Memory) }
 {
     match Text::new(alloc, text) {
+        Ok(made) => Ok(made),
+        Err(_) => Err(EditFault::Memory),
+    }
+}
+
+/// Such a text behind a pointer.
+pub(crate) fn rare_text(alloc: Global, text: &str) -> Result<RareText, EditFault>
+    ensures { MatchResult result (λ made. made ≡ text.now) (λ fault. fault ≡ Memory) }
+{
+    match RareText::new(alloc, text) {
         Ok(made) => Ok(made),
         Err(_) => Err(EditFault::Memory),
     }

@@ -7,7 +7,7 @@ ghost use Rattle.dom_trees.specs.NewNodes.{comment_node, doctype_node, instructi
 
 use crate::checks::{check_known, check_open, check_room, target_of};
 use crate::tree::Tree;
-use crate::tree::creation::owned_text;
+use crate::tree::creation::{owned_text, rare_text};
 use dom_links::gap::Gap;
 use dom_links::ops::{add_text, changes, templates};
 use dom_nodes::fault::EditFault;
@@ -81,8 +81,8 @@ impl Tree {
     {
         check_room(&self.nodes)?;
         let name = owned_text(self.allocator(), name)?;
-        let public_id = owned_text(self.allocator(), public_id)?;
-        let system_id = owned_text(self.allocator(), system_id)?;
+        let public_id = rare_text(self.allocator(), public_id)?;
+        let system_id = rare_text(self.allocator(), system_id)?;
         self.append_child_data_of(
             id,
             NodeData::Doctype {

@@ -36,6 +36,37 @@ fn reads_fragments(rt: HostRuntime) -> Result<(), Fail> {
 }
 
 #[test]
+fn numbers_what_fragments_hold(rt: HostRuntime) -> Result<(), Fail> {
+    let fragment = Document::fragment(rt.alloc(), "<p>x</p>")?;
+    let tree = &fragment.tree;
+    assert!(rt; NodeRef::new(node(1)?, tree).has_name("html"));
+    assert!(rt; NodeRef::new(node(2)?, tree).has_name("p"));
+    assert!(rt; NodeRef::new(node(3)?, tree).is_text());
+    let two = Document::fragment(rt.alloc(), "a<!doctype html>b")?;
+    assert!(rt; two.tree.child_ids_of(&node(1)?)?.as_slice() == [node(2)?, node(3)?].as_slice());
+    for (number, text) in [(2, "a"), (3, "b")] {
+        let held = NodeRef::new(node(number)?, &two.tree);
+        assert!(rt; held.is_text() && held.text()?.as_str() == text);
+    }
+    Ok(())
+}
+
+#[test]
+fn copies_contents_of_templates(rt: HostRuntime) -> Result<(), Fail> {
+    let document = Document::parse(rt.alloc(), "<div><template><u></u></template></div>")?;
+    let fragment = NodeRef::new(node(1)?, &document.tree).to_fragment()?;
+    for (tree, template, inside) in [(&fragment.tree, 3, 4), (&document.tree, 2, 3)] {
+        let held = NodeRef::new(node(template)?, tree);
+        assert!(rt; held.has_name("template"));
+        let contents = held.query(|told| told.content.template_contents());
+        assert!(rt; contents.flatten() == Some(node(inside)?));
+        assert!(rt; NodeRef::new(node(inside)?, tree).is_fragment());
+    }
+    assert!(rt; fragment.tree.len() == 6 && document.tree.len() == 5);
+    Ok(())
+}
+
+#[test]
 fn makes_fragments_of_nodes(rt: HostRuntime) -> Result<(), Fail> {
     let markup = "<div><template><u></u></template></div><html></html>";
     let document = Document::parse(rt.alloc(), markup)?;

@@ -4,7 +4,7 @@ use dom_markup::serializing::{NodeMarkup, SerializableNodeRef, TraversalScope, W
 use dom_nodes::name::{Attr, LocalName, Namespace, QualName};
 use dom_nodes::node_data::{Attrs, Element, NodeData};
 use dom_nodes::node_id::NodeId;
-use dom_nodes::text::Text;
+use dom_nodes::text::{RareText, Text};
 use dom_trees::node_ref::NodeRef;
 use dom_trees::tree::Tree;
 use std::alloc::Global;
@@ -43,8 +43,8 @@ fn page(alloc: Global) -> Result<Tree, Fail> {
     let mut tree = Tree::new(alloc, NodeData::Document)?;
     let doctype = NodeData::Doctype {
         name: Text::new(alloc, "html")?,
-        public_id: Text::new(alloc, "-//W3C")?,
-        system_id: Text::new(alloc, "about:legacy-compat")?,
+        public_id: RareText::new(alloc, "-//W3C")?,
+        system_id: RareText::new(alloc, "about:legacy-compat")?,
     };
     tree.append_child_data_of(&root, doctype)?;
     let mut attrs = Attrs::new(alloc);

@@ -71,6 +71,7 @@ fn leaves_what_wraps_nothing(rt: HostRuntime) -> Result<(), Fail> {
     let mut document = Document::parse(alloc, "<p>a</p>")?;
     let mut paragraph = document.tree.node_mut(&node(1)?).ok_or("node")?;
     paragraph.wrap_html("<div></div><s></s>")?;
+    assert!(rt; document.html()?.as_str() == "<div><p>a</p></div>");
     let unused = NodeRef::new(node(4)?, &document.tree);
     assert!(rt; unused.has_name("s") && unused.parent().is_none());
     assert!(rt; unused.prev_sibling().is_none() && unused.next_sibling().is_none());
@@ -78,6 +79,7 @@ fn leaves_what_wraps_nothing(rt: HostRuntime) -> Result<(), Fail> {
     let mut document = Document::parse(alloc, "<p>a</p>")?;
     let mut paragraph = document.tree.node_mut(&node(1)?).ok_or("node")?;
     paragraph.wrap_html("x<div></div>")?;
+    assert!(rt; document.html()?.as_str() == "<p>a</p>");
     let text = NodeRef::new(node(3)?, &document.tree);
     assert!(rt; text.is_text() && text.parent().is_none() && document.tree.len() == 5);
     assert!(rt; matches!(text.next_sibling(), Some(other) if other.has_name("div")));

@@ -55,6 +55,18 @@ fn is(document: &Document, html: &str) -> Result<bool, Fail> {
 }
 
 #[test]
+fn joins_two_texts(rt: HostRuntime) -> Result<(), Fail> {
+    let mut document = Document::new(rt.alloc())?;
+    let p = element(&mut document, "p")?;
+    say(&mut document, p, "a")?;
+    say(&mut document, p, "b")?;
+    let texts = document.tree.child_ids_of(&p)?;
+    assert!(rt; texts.as_slice() == [NodeId::new(2).ok_or("number")?].as_slice());
+    assert!(rt; document.tree.get_unchecked(&p).text()?.as_str() == "ab");
+    Ok(())
+}
+
+#[test]
 fn joins_texts(rt: HostRuntime) -> Result<(), Fail> {
     let mut document = Document::new(rt.alloc())?;
     let root = document.get_document();

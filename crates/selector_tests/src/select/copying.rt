@@ -136,7 +136,7 @@ fn finds_by_a_test(rt: HostRuntime) -> Result<(), Fail> {
     let alloc = rt.alloc();
     let tree = page(alloc)?;
     let root = NodeId::root();
-    let is_filled = |node: &TreeNode| node.first_child.is_none();
+    let is_filled = |node: &TreeNode| node.first_child.get().is_none();
     let found = Traversal::find_child_element(tree.nodes(), root, is_filled);
     assert!(rt; found == NodeId::new(5));
     let none = |_node: &TreeNode| false;

@@ -1,6 +1,7 @@
 //! Worked values, and that calls succeed where there is memory.
 
 use dom_nodes::case_sensitivity::CaseSensitivity;
+use dom_nodes::link::Link;
 use dom_nodes::name::{Attr, LocalName, Namespace, QualName};
 use dom_nodes::node_data::{Attrs, Change, Element, NodeData, NodeEdit, TreeNode};
 use dom_nodes::node_id::NodeId;
@@ -117,11 +118,11 @@ fn classes_of_an_element_without_any(rt: HostRuntime) -> Result<(), Fail> {
 fn node(content: NodeData) -> TreeNode {
     TreeNode {
         id: NodeId::root(),
-        parent: None,
-        prev_sibling: None,
-        next_sibling: None,
-        first_child: None,
-        last_child: None,
+        parent: Link::new(None),
+        prev_sibling: Link::new(None),
+        next_sibling: Link::new(None),
+        first_child: Link::new(None),
+        last_child: Link::new(None),
         content,
     }
 }

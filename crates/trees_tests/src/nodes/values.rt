@@ -1,6 +1,7 @@
 //! Worked values, and that calls succeed where there is memory.
 
 use dom_nodes::fault::{EditFault, MarkupFault, MarkupFaultKind, OutOfMemory};
+use dom_nodes::link::Link;
 use dom_nodes::name::{Attr, LocalName, Namespace, QualName};
 use dom_nodes::node_data::{Attrs, Element, NodeData};
 use dom_nodes::node_id::NodeId;
@@ -151,8 +152,8 @@ fn kinds(alloc: Global) -> Result<Vec<NodeData>, Fail> {
     kinds.push(NodeData::Fragment)?;
     kinds.push(NodeData::Doctype {
         name: Text::new(alloc, "html")?,
-        public_id: Text::new(alloc, "p")?,
-        system_id: Text::new(alloc, "s")?,
+        public_id: RareText::new(alloc, "p")?,
+        system_id: RareText::new(alloc, "s")?,
     })?;
     kinds.push(NodeData::Text {
         contents: Text::new(alloc, "a text of more than thirty bytes in all")?,
@@ -191,6 +192,12 @@ fn values_print_for_a_programmer(rt: HostRuntime) -> Result<(), Fail> {
     assert_eq!(rt;
         shown.as_str(),
         "Attr { name: QualName { prefix: None, ns: Html, local: \"id\" }, value: \"a\\\"b\" }"
+    );
+    let links = [Link::new(NodeId::new(4294967294)), Link::new(None)];
+    let shown = format!(in alloc; "{links:?}")?;
+    assert_eq!(rt;
+        shown.as_str(),
+        "[Some(NodeId { value: 4294967294 }), None]"
     );
     Ok(())
 }

@@ -130,6 +130,29 @@ fn rows_of_texts_are_joined(rt: HostRuntime) -> Result<(), Fail> {
     Ok(())
 }
 
+/// Root 0 has 1, a `div`, that has the texts as children from 2 on.
+fn texts_of_a_div(alloc: Global, texts: &[&str]) -> Result<Tree, Fail> {
+    let mut tree = Tree::new(alloc, NodeData::Document)?;
+    add_element(&mut tree, 0, "div")?;
+    for text in texts {
+        add_text(&mut tree, 1, text)?;
+    }
+    Ok(tree)
+}
+
+#[test]
+fn empty_texts_are_joined_and_count_nothing(rt: HostRuntime) -> Result<(), Fail> {
+    let mut tree = texts_of_a_div(rt.alloc(), &["a", "", "b"])?;
+    add_element(&mut tree, 1, "i")?;
+    add_text(&mut tree, 1, "")?;
+    tree.normalize_of(&node(1))?;
+    assert!(rt; has_children(&tree, 1, &[2, 5]) && holds(&tree, 2, "ab")?);
+    assert!(rt; tree.get_unchecked(&node(5)).has_name("i") && holds(&tree, 3, "")?);
+    let tree = texts_of_a_div(rt.alloc(), &[" a ", "", " b"])?;
+    assert!(rt; reads(&tree, " a  b", 3)?);
+    Ok(())
+}
+
 /// A `b` in a `b` and so on, 20,000 of them: each has the texts `x` and `y` and then the next one,
 /// numbered in this order.
 fn deep_texts(alloc: Global) -> Result<Tree, Fail> {

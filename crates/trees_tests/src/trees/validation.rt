@@ -1,5 +1,6 @@
 //! Raw nodes that are a forest's, and raw nodes that are none, with the text of each fault.
 
+use dom_nodes::link::Link;
 use dom_nodes::name::{LocalName, Namespace, QualName};
 use dom_nodes::node_data::{Attrs, Element, NodeData, TreeNode};
 use dom_nodes::node_id::NodeId;
@@ -67,11 +68,11 @@ fn node(alloc: Global, id: usize, kind: Kind, links: [usize; 5]) -> Result<TreeN
     let [parent, prev, next, first, last] = links;
     Ok(TreeNode {
         id: NodeId::new(id).ok_or("id")?,
-        parent: NodeId::new(parent),
-        prev_sibling: NodeId::new(prev),
-        next_sibling: NodeId::new(next),
-        first_child: NodeId::new(first),
-        last_child: NodeId::new(last),
+        parent: Link::new(NodeId::new(parent)),
+        prev_sibling: Link::new(NodeId::new(prev)),
+        next_sibling: Link::new(NodeId::new(next)),
+        first_child: Link::new(NodeId::new(first)),
+        last_child: Link::new(NodeId::new(last)),
         content: data(alloc, kind)?,
     })
 }

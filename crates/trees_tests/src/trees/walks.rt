@@ -222,7 +222,7 @@ fn makes_templates(rt: HostRuntime) -> Result<(), Fail> {
     assert_eq!(rt; tree.len(), 8);
     let node = tree.get(&template).ok_or("template")?;
     assert!(rt; matches!(node.content.template_contents(), Some(id) if id == contents));
-    assert!(rt; matches!(node.parent, Some(parent) if parent == NodeId::root()));
+    assert!(rt; matches!(node.parent.get(), Some(parent) if parent == NodeId::root()));
     let text = NodeId::new(3).ok_or("id")?;
     let name = html_name(alloc, "template")?;
     assert!(rt;

@@ -17,3 +17,6 @@ returns-clause-inside c = λ n s. let f = c.args.tree.now in let k = c.know_fore
 
 pub returns-clause-order : goal.returns-clause-order
 returns-clause-order c = λ places h. let k = c.know_forest.ensures in is_order c.args.tree.now k.forest k.lines k.trees places h.1 h.0
+
+pub returns-clause-all : goal.returns-clause-all
+returns-clause-all c = λ n known. let k = c.know_forest.ensures in preorder_all c.args.tree.now k.forest k.lines k.trees n known

@@ -20,24 +20,24 @@ read_next nodes i x d arena h e = rw e (link-read (λ node. node.next_sibling) n
 pub join-requires-clause-owner_known : goal.join-requires-clause-owner_known
 join-requires-clause-owner_known c =
     parent_known (forest_of c.args.nodes.now) c.args.nodes.now c.args.x _ c.requires.linked c.requires.known
-    (read_parent c.args.nodes.now c.value.result c.args.x c.index-nodes-value.result c.requires.linked c.requires.known c.value.ensures.number)
+    (c.get-parent.ensures ∙ read_parent c.args.nodes.now c.value.result c.args.x c.index-nodes-value.result c.requires.linked c.requires.known c.value.ensures.number)
 
 pub join-requires-clause-left_known : goal.join-requires-clause-left_known
 join-requires-clause-left_known c =
     prev_known (forest_of c.args.nodes.now) c.args.nodes.now c.args.x _ c.requires.linked c.requires.known
-    (read_prev c.args.nodes.now c.value.result c.args.x c.index-nodes-value.result c.requires.linked c.requires.known c.value.ensures.number)
+    (c.get-prev.ensures ∙ read_prev c.args.nodes.now c.value.result c.args.x c.index-nodes-value.result c.requires.linked c.requires.known c.value.ensures.number)
 
 pub join-requires-clause-right_known : goal.join-requires-clause-right_known
 join-requires-clause-right_known c =
     next_known (forest_of c.args.nodes.now) c.args.nodes.now c.args.x _ c.requires.linked c.requires.known
-    (read_next c.args.nodes.now c.value.result c.args.x c.index-nodes-value.result c.requires.linked c.requires.known c.value.ensures.number)
+    (c.get-next.ensures ∙ read_next c.args.nodes.now c.value.result c.args.x c.index-nodes-value.result c.requires.linked c.requires.known c.value.ensures.number)
 
 pub returns-clause-arena : goal.returns-clause-arena
 returns-clause-arena c =
     arena-cut (forest_of c.args.nodes.now) c.args.nodes.now c.join.new.nodes c.place.new.nodes c.args.x _ _ _ c.requires.linked c.requires.known
-    (read_parent c.args.nodes.now c.value.result c.args.x c.index-nodes-value.result c.requires.linked c.requires.known c.value.ensures.number)
-    (read_prev c.args.nodes.now c.value.result c.args.x c.index-nodes-value.result c.requires.linked c.requires.known c.value.ensures.number)
-    (read_next c.args.nodes.now c.value.result c.args.x c.index-nodes-value.result c.requires.linked c.requires.known c.value.ensures.number)
+    (c.get-parent.ensures ∙ read_parent c.args.nodes.now c.value.result c.args.x c.index-nodes-value.result c.requires.linked c.requires.known c.value.ensures.number)
+    (c.get-prev.ensures ∙ read_prev c.args.nodes.now c.value.result c.args.x c.index-nodes-value.result c.requires.linked c.requires.known c.value.ensures.number)
+    (c.get-next.ensures ∙ read_next c.args.nodes.now c.value.result c.args.x c.index-nodes-value.result c.requires.linked c.requires.known c.value.ensures.number)
     c.join.ensures c.place.ensures
 
 pub returns-clause-removed : goal.returns-clause-removed

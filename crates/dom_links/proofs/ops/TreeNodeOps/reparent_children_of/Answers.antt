@@ -10,7 +10,7 @@ use Rattle.dom_links.proofs.ops.TreeNodeOps.reparent_children_of.Goals as goal
 pub returns-in_default-first_child_of : goal.returns-in_default-first_child_of
 returns-in_default-first_child_of c =
     reparents_to c.args.nodes.now c.args.nodes.now c.args.x c.in-Some.t c.args.parent c.in-Some.is
-    (no_children_moved c.args.nodes.now c.args.x c.in-Some.t c.requires.linked c.in_default-first_child_of.ensures.all)
+    (no_children_moved c.args.nodes.now c.args.x (end_of c.in-Some.t) c.requires.linked c.in_default-first_child_of.ensures.all)
 
 pub append_children_of-requires-clause-apart : goal.append_children_of-requires-clause-apart
 append_children_of-requires-clause-apart c =

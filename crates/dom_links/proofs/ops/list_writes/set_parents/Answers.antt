@@ -13,8 +13,8 @@ loop-step-init c = setting_starts c.args.nodes.now c.args.x c.args.owner c.requi
 
 pub loop-step-preserved : goal.loop-step-preserved
 loop-step-preserved c =
-    setting_goes_on c.args.nodes.now c.loop-step.nodes c.args.x c.args.owner c.loop-step._step c.loop-step.end c.loop-step.next c.in-Some.at c.value.result c.index-nodes-value.result
-    c.requires.nexts_known c.loop-step.invariant c.in-Some.is (omega arith) c.value.ensures.number
+    rw (c.new-node.ensures, c.get-next.ensures) (setting_goes_on c.args.nodes.now c.loop-step.nodes c.args.x c.args.owner c.loop-step._step c.loop-step.end c.loop-step.next c.in-Some.at c.value.result c.index-nodes-value.result
+    c.requires.nexts_known c.loop-step.invariant c.in-Some.is (omega arith) c.value.ensures.number)
 
 pub returns-clause-set : goal.returns-clause-set
 returns-clause-set c =

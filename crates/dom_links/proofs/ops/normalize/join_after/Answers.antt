@@ -10,10 +10,10 @@ pub loop-next-smaller : goal.loop-next-smaller
 loop-next-smaller c =
     Passes.fewer
     (over_on (forest_of c.args.nodes.now) c.args.id c.in-Some.at (string_bytes c.args.joined.now) (string_bytes c.loop-next.joined) (string_bytes c.push_str.new.self) c.loop-next.next _ c.requires.forest c.loop-next.invariant c.in-Some.is
-    (sym c.is_text_at.ensures ∙ c.if-not-is_text_at.false) (c.in_ok-push_str.ensures.bytes ∙ ap (λ t. string_bytes c.loop-next.joined ++ t) c.text_at.ensures) c.node_at.ensures.next_is)
+    (sym c.is_text_at.ensures ∙ c.if-not-is_text_at.false) (c.in_ok-push_str.ensures.bytes ∙ ap (λ t. string_bytes c.loop-next.joined ++ t) c.text_at.ensures) (c.get-next.ensures ∙ c.node_at.ensures.next_is))
 
 pub loop-next-preserved : goal.loop-next-preserved
 loop-next-preserved c =
     Passes.goes
     (over_on (forest_of c.args.nodes.now) c.args.id c.in-Some.at (string_bytes c.args.joined.now) (string_bytes c.loop-next.joined) (string_bytes c.push_str.new.self) c.loop-next.next _ c.requires.forest c.loop-next.invariant c.in-Some.is
-    (sym c.is_text_at.ensures ∙ c.if-not-is_text_at.false) (c.in_ok-push_str.ensures.bytes ∙ ap (λ t. string_bytes c.loop-next.joined ++ t) c.text_at.ensures) c.node_at.ensures.next_is)
+    (sym c.is_text_at.ensures ∙ c.if-not-is_text_at.false) (c.in_ok-push_str.ensures.bytes ∙ ap (λ t. string_bytes c.loop-next.joined ++ t) c.text_at.ensures) (c.get-next.ensures ∙ c.node_at.ensures.next_is))

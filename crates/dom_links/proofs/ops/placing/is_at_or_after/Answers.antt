@@ -12,16 +12,16 @@ loop-n-init c = seeking_starts (forest_of c.args.nodes.now) c.args.x c.args.n (k
 pub returns-in_default : goal.returns-in_default
 returns-in_default c =
     sym (seeks_no_more (forest_of c.args.nodes.now) c.args.nodes.now c.args.x c.args.n c.loop-n.at c.value.result _ c.requires.linked c.loop-n.invariant
-    (eqb-false c.loop-n.at c.args.n (not-true (c.loop-n.at == c.args.n) (sym c.ne.ensures ∙ c.loop-n-test.true))) c.value.ensures.number c.in_default.is)
+    (eqb-false c.loop-n.at c.args.n (not-true (c.loop-n.at == c.args.n) (sym c.ne.ensures ∙ c.loop-n-test.true))) c.value.ensures.number (sym c.get.ensures ∙ c.in_default.is))
 
 pub loop-n-smaller : goal.loop-n-smaller
 loop-n-smaller c =
-    Along.fewer (goes_forth (forest_of c.args.nodes.now) c.args.nodes.now c.args.x c.loop-n.at c.value.result c.in-Some.next _ c.requires.linked (Seeking.here c.loop-n.invariant) c.value.ensures.number c.in-Some.is)
+    Along.fewer (goes_forth (forest_of c.args.nodes.now) c.args.nodes.now c.args.x c.loop-n.at c.value.result c.in-Some.next _ c.requires.linked (Seeking.here c.loop-n.invariant) c.value.ensures.number (sym c.get.ensures ∙ c.in-Some.is))
 
 pub loop-n-preserved : goal.loop-n-preserved
 loop-n-preserved c =
     seeks_forth (forest_of c.args.nodes.now) c.args.nodes.now c.args.x c.args.n c.loop-n.at c.value.result c.in-Some.next _ c.requires.linked c.loop-n.invariant
-    (eqb-false c.loop-n.at c.args.n (not-true (c.loop-n.at == c.args.n) (sym c.ne.ensures ∙ c.loop-n-test.true))) c.value.ensures.number c.in-Some.is
+    (eqb-false c.loop-n.at c.args.n (not-true (c.loop-n.at == c.args.n) (sym c.ne.ensures ∙ c.loop-n-test.true))) c.value.ensures.number (sym c.get.ensures ∙ c.in-Some.is)
 
 pub returns : goal.returns
 returns c = sym (sought_it (forest_of c.args.nodes.now) c.args.x c.args.n c.loop-n.at c.loop-n.invariant (eqb-true c.loop-n.at c.args.n (not-false (c.loop-n.at == c.args.n) (sym c.ne.ensures ∙ c.loop-n-test.false))))

@@ -10,13 +10,13 @@ use Rattle.dom_links.proofs.ops.siblings.element_above_of.Goals as goal
 
 pub bounds-nodes-value-3 : goal.bounds-nodes-value-3
 bounds-nodes-value-3 c =
-    let is : parent (forest_of c.args.nodes.now) c.args.n ≡ Some c.in_ok-parent.parent = sym (read_parent (forest_of c.args.nodes.now) c.args.nodes.now c.value.result c.args.n c.index-nodes-value.result c.requires.linked c.requires.known c.value.ensures.number) ∙ c.in_ok-parent.was in
+    let is : parent (forest_of c.args.nodes.now) c.args.n ≡ Some c.in_ok-parent.parent = sym (read_parent (forest_of c.args.nodes.now) c.args.nodes.now c.value.result c.args.n c.index-nodes-value.result c.requires.linked c.requires.known c.value.ensures.number) ∙ sym c.get.ensures ∙ c.in_ok-parent.was in
     let known : c.in_ok-parent.parent < length c.args.nodes.now = parent_known (forest_of c.args.nodes.now) c.args.nodes.now c.args.n (Some c.in_ok-parent.parent) c.requires.linked c.requires.known (sym is) in
     omega (arith, c.value-2.ensures.number)
 
 pub returns-then-is_element : goal.returns-then-is_element
 returns-then-is_element c =
-    let is : parent (forest_of c.args.nodes.now) c.args.n ≡ Some c.in_ok-parent.parent = sym (read_parent (forest_of c.args.nodes.now) c.args.nodes.now c.value.result c.args.n c.index-nodes-value.result c.requires.linked c.requires.known c.value.ensures.number) ∙ c.in_ok-parent.was in
+    let is : parent (forest_of c.args.nodes.now) c.args.n ≡ Some c.in_ok-parent.parent = sym (read_parent (forest_of c.args.nodes.now) c.args.nodes.now c.value.result c.args.n c.index-nodes-value.result c.requires.linked c.requires.known c.value.ensures.number) ∙ sym c.get.ensures ∙ c.in_ok-parent.was in
     let known : c.in_ok-parent.parent < length c.args.nodes.now = parent_known (forest_of c.args.nodes.now) c.args.nodes.now c.args.n (Some c.in_ok-parent.parent) c.requires.linked c.requires.known (sym is) in
     sym (element_named (forest_of c.args.nodes.now) c.args.n c.in_ok-parent.parent is
     (element_here c.args.nodes.now c.value-2.result c.in_ok-parent.parent c.index-nodes-value-2.result c.requires.linked (omega (arith, c.value-2.ensures.number)) c.value-2.ensures.number
@@ -24,7 +24,7 @@ returns-then-is_element c =
 
 pub returns-else-is_element : goal.returns-else-is_element
 returns-else-is_element c =
-    let is : parent (forest_of c.args.nodes.now) c.args.n ≡ Some c.in_ok-parent.parent = sym (read_parent (forest_of c.args.nodes.now) c.args.nodes.now c.value.result c.args.n c.index-nodes-value.result c.requires.linked c.requires.known c.value.ensures.number) ∙ c.in_ok-parent.was in
+    let is : parent (forest_of c.args.nodes.now) c.args.n ≡ Some c.in_ok-parent.parent = sym (read_parent (forest_of c.args.nodes.now) c.args.nodes.now c.value.result c.args.n c.index-nodes-value.result c.requires.linked c.requires.known c.value.ensures.number) ∙ sym c.get.ensures ∙ c.in_ok-parent.was in
     let known : c.in_ok-parent.parent < length c.args.nodes.now = parent_known (forest_of c.args.nodes.now) c.args.nodes.now c.args.n (Some c.in_ok-parent.parent) c.requires.linked c.requires.known (sym is) in
     sym (no_element (forest_of c.args.nodes.now) c.args.n c.in_ok-parent.parent is
     (element_here c.args.nodes.now c.value-2.result c.in_ok-parent.parent c.index-nodes-value-2.result c.requires.linked (omega (arith, c.value-2.ensures.number)) c.value-2.ensures.number

@@ -3,8 +3,8 @@ use Rattle.dom_links.specs.Forest.{forest_of}
 use Rattle.dom_links.specs.Lists.{stands_in}
 use Rattle.dom_links.specs.ListMoves.{MovedList}
 use Rattle.dom_links.specs.Moves.{before_node}
-use Rattle.dom_links.proofs.Dissolving.{known_in, none_put_before}
-use Rattle.dom_links.proofs.TwoSteps.{wrapper_apart}
+use Rattle.dom_links.proofs.Dissolving.{known_in}
+use Rattle.dom_links.proofs.TwoSteps.{no_children_moved, wrapper_apart}
 use Rattle.dom_links.proofs.ops.strip.put_children_before.Goals as goal
 
 pub first_child_of-requires-clause-known : goal.first_child_of-requires-clause-known
@@ -17,7 +17,7 @@ pub move_to-requires-clause-apart : goal.move_to-requires-clause-apart
 move_to-requires-clause-apart c = ap (stands_in c.args.p) c.in-Some.ensures.all ∙ wrapper_apart (forest_of c.args.nodes.now) c.args.p c.requires.sound.forest
 
 pub returns-in_default : goal.returns-in_default
-returns-in_default c = none_put_before c.args.nodes.now c.args.p c.requires.sound.arena c.in_default.ensures.all
+returns-in_default c = no_children_moved c.args.nodes.now c.args.p (before_node c.args.p) c.requires.sound.arena c.in_default.ensures.all
 
 pub returns : goal.returns
 returns c = subst (MovedList c.args.nodes.now c.move_to.new.nodes (before_node c.args.p)) c.in-Some.ensures.all c.move_to.ensures

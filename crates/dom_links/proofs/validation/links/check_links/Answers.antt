@@ -6,8 +6,8 @@ use Rattle.dom_links.proofs.validation.links.check_links.Goals as goal
 
 pub returns-then-is_some-clause-cause : goal.returns-then-is_some-clause-cause
 returns-then-is_some-clause-cause c =
-    let up = has_link c.in-Some.root.now.parent (sym c.if-is_some.ensures) in
-    ((up.0, ap (option_and_then (λ node. node.parent)) (sym c.in-Some.ensures.value) ∙ up.1), search rules)
+    let up = has_link c.get.result (sym c.if-is_some.ensures) in
+    ((up.0, ap (option_and_then (λ node. node.parent)) (sym c.in-Some.ensures.value) ∙ sym c.get.ensures ∙ up.1), search rules)
 
 pub returns-then-not-are_known-clause-sound : goal.returns-then-not-are_known-clause-sound
 returns-then-not-are_known-clause-sound c = λ sound.

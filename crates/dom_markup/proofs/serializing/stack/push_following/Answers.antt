@@ -8,7 +8,7 @@ use Rattle.dom_markup.proofs.RowLemmas.{contents_within, known_node}
 use Rattle.dom_markup.proofs.serializing.stack.push_following.Goals as goal
 
 pub push_open-requires-clause-within : goal.push_open-requires-clause-within
-push_open-requires-clause-within c = children-within (forest_of c.args.nodes.now) (c.lines_of_a_forest.ensures _ c.requires.sound.forest) c.args.id c.args.node.now c.requires.node
+push_open-requires-clause-within c = rw c.get-first.ensures (children-within (forest_of c.args.nodes.now) (c.lines_of_a_forest.ensures _ c.requires.sound.forest) c.args.id c.args.node.now c.requires.node)
 
 pub push_open-requires-clause-all_within : goal.push_open-requires-clause-all_within
 push_open-requires-clause-all_within c =
@@ -22,7 +22,7 @@ push_open-requires-in-Element-clause-within c =
     subst (IsWithin forest) (sym c.template_contents.ensures) (contents_within forest c.requires.sound.forest c.args.id c.in-Element.element read)
 
 pub push_open-requires-in-Document-clause-within : goal.push_open-requires-in-Document-clause-within
-push_open-requires-in-Document-clause-within c = children-within (forest_of c.args.nodes.now) (c.lines_of_a_forest.ensures _ c.requires.sound.forest) c.args.id c.args.node.now c.requires.node
+push_open-requires-in-Document-clause-within c = rw c.get-first.ensures (children-within (forest_of c.args.nodes.now) (c.lines_of_a_forest.ensures _ c.requires.sound.forest) c.args.id c.args.node.now c.requires.node)
 
 pub returns-in_ok-push_open-in-Element : goal.returns-in_ok-push_open-in-Element
 returns-in_ok-push_open-in-Element c =
@@ -33,12 +33,12 @@ returns-in_ok-push_open-in-Element c =
     record {
       text_is = on_ok c.push_open-in-Element.result
           (λ text. element-below forest c.requires.sound.forest (c.lines_of_a_forest.ensures _ c.requires.sound.forest) c.args.id c.args.node.now c.in-Element.element c.requires.node c.in-Element.is (sym c.if-not-is_void_node.ensures) c.keeps_texts.result c.keeps_texts.ensures _ _ _ _
-          one.text two.text_is (text ∙ ap (λ at. row_text forest false at ++ ops_text forest c.push_open.new.ops) c.template_contents.ensures))
+          one.text (two.text_is ∙ ap (λ at. row_text forest c.keeps_texts.result at ++ ops_text forest c.push.new.self) c.get-first.ensures) (text ∙ ap (λ at. row_text forest false at ++ ops_text forest c.push_open.new.ops) c.template_contents.ensures))
           three.text_is;
       within = three.within;
       weighs = on_ok c.push_open-in-Element.result
           (λ weighs. element-weight forest c.requires.sound.forest (c.lines_of_a_forest.ensures _ c.requires.sound.forest) c.args.id c.args.node.now c.in-Element.element c.requires.node c.in-Element.is (sym c.if-not-is_void_node.ensures) _ _ _ _
-          one.weight two.weighs (weighs ∙ ap (λ at. row_weight forest at + weight forest c.push_open.new.ops) c.template_contents.ensures))
+          one.weight (two.weighs ∙ ap (λ at. row_weight forest at + weight forest c.push.new.self) c.get-first.ensures) (weighs ∙ ap (λ at. row_weight forest at + weight forest c.push_open.new.ops) c.template_contents.ensures))
           three.weighs;
     }
 
@@ -47,7 +47,7 @@ returns-in-Document c =
     let forest = forest_of c.args.nodes.now in
     let made = c.push_open-in-Document.ensures in
     record {
-      text_is = on_ok c.push_open-in-Document.result (top-below forest (c.lines_of_a_forest.ensures _ c.requires.sound.forest) c.args.id c.args.node.now c.requires.node false (search rules) _ _) made.text_is;
+      text_is = on_ok c.push_open-in-Document.result (λ text. top-below forest (c.lines_of_a_forest.ensures _ c.requires.sound.forest) c.args.id c.args.node.now c.requires.node false (search rules) _ _ (text ∙ ap (λ at. row_text forest false at ++ ops_text forest c.args.ops.now) c.get-first.ensures)) made.text_is;
       within = made.within;
-      weighs = on_ok c.push_open-in-Document.result (top-weight forest (c.lines_of_a_forest.ensures _ c.requires.sound.forest) c.args.id c.args.node.now c.requires.node (search rules) _ _) made.weighs;
+      weighs = on_ok c.push_open-in-Document.result (λ weighs. top-weight forest (c.lines_of_a_forest.ensures _ c.requires.sound.forest) c.args.id c.args.node.now c.requires.node (search rules) _ _ (weighs ∙ ap (λ at. row_weight forest at + weight forest c.args.ops.now) c.get-first.ensures)) made.weighs;
     }

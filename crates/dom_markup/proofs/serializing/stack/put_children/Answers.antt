@@ -21,10 +21,10 @@ returns-then-is_void_node g c =
     rw same (nothing-written _)
 
 pub push_open-requires-clause-within : goal.push_open-requires-clause-within
-push_open-requires-clause-within g c = children-within (forest_of c.nodes-nodes.result.now) (c.lines_of_a_forest.ensures _ c.nodes-nodes.ensures.sound.forest) c.args.id c.in-Some.node.now c.in-Some.ensures
+push_open-requires-clause-within g c = rw c.get.ensures (children-within (forest_of c.nodes-nodes.result.now) (c.lines_of_a_forest.ensures _ c.nodes-nodes.ensures.sound.forest) c.args.id c.in-Some.node.now c.in-Some.ensures)
 
 pub returns : goal.returns
 returns g c =
-    let pushed = only (forest_of c.nodes-nodes.result.now) c.new-ops.result (ops_text (forest_of c.nodes-nodes.result.now) c.push_open.new.ops) (row_text (forest_of c.nodes-nodes.result.now) c.keeps_texts.result c.in-Some.node.now.first_child) c.new-ops.ensures c.in_ok-push_open.ensures.text_is in
-    let all = inner-piece (forest_of c.nodes-nodes.result.now) c.args.tree.now (c.lines_of_a_forest.ensures _ c.nodes-nodes.ensures.sound.forest) c.nodes-nodes.ensures.value c.args.id c.in-Some.node.now c.in-Some.ensures (sym c.is_void_node.ensures ∙ c.if-is_void_node.false) c.keeps_texts.result (ops_text (forest_of c.nodes-nodes.result.now) c.push_open.new.ops) c.keeps_texts.ensures pushed in
+    let pushed = only (forest_of c.nodes-nodes.result.now) c.new-ops.result (ops_text (forest_of c.nodes-nodes.result.now) c.push_open.new.ops) (row_text (forest_of c.nodes-nodes.result.now) c.keeps_texts.result c.get.result) c.new-ops.ensures c.in_ok-push_open.ensures.text_is in
+    let all = inner-piece (forest_of c.nodes-nodes.result.now) c.args.tree.now (c.lines_of_a_forest.ensures _ c.nodes-nodes.ensures.sound.forest) c.nodes-nodes.ensures.value c.args.id c.in-Some.node.now c.in-Some.ensures (sym c.is_void_node.ensures ∙ c.if-is_void_node.false) c.keeps_texts.result (ops_text (forest_of c.nodes-nodes.result.now) c.push_open.new.ops) c.keeps_texts.ensures (pushed ∙ ap (row_text (forest_of c.nodes-nodes.result.now) c.keeps_texts.result) c.get.ensures) in
     subst (λ (text : List ℕ). Writes (g.P.PutText.written c.args.w.now) (g.P.PutText.written c.put_ops.new.w) c.put_ops.result text) all c.put_ops.ensures

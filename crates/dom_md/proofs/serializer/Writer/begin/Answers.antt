@@ -1,4 +1,4 @@
-use Rattle.std.proofs.Common.{◌≡◌, ◌∙◌, ap, string_bytes}
+use Rattle.std.proofs.Common.{◌∙◌, ap, string_bytes}
 use Rattle.dom_links.specs.Texts.{text_of}
 use Rattle.dom_md.proofs.ReadLemmas.{reads-whole}
 use Rattle.dom_md.proofs.serializer.Writer.begin.Goals as goal

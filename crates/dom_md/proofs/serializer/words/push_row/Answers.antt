@@ -1,5 +1,4 @@
-use Rattle.std.proofs.Common.{◌≡◌, ◌∙◌, ◌++◌, ap, string_bytes}
-use Rattle.std.specs.Prelude.{true}
+use Rattle.std.proofs.Common.{◌∙◌, ◌++◌, ap, string_bytes}
 use Rattle.dom_md.specs.Written.{written}
 use Rattle.dom_md.proofs.WrittenLemmas.{reads-row-cut, reads-written}
 use Rattle.dom_md.proofs.serializer.words.push_row.Goals as goal

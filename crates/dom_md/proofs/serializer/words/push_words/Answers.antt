@@ -1,5 +1,5 @@
-use Rattle.std.proofs.Common.{arith, ◌≡◌, ◌∙◌, ◌++◌, ◌∷◌, ◌<◌, [], ap, sym, string_bytes, subst, length}
-use Rattle.std.specs.Prelude.{true, false, not}
+use Rattle.std.proofs.Common.{arith, ◌∙◌, ◌++◌, ◌<◌, ap, sym, string_bytes, subst, length}
+use Rattle.std.specs.Prelude.{false, not}
 use Rattle.std.proofs.lemmas.Bool.{eqb-true}
 use Rattle.std.proofs.lemmas.Result.{on_ok_weaker}
 use Rattle.dom_nodes.specs.Words.{words_of}

@@ -4,7 +4,7 @@ use Rattle.dom_selectors.specs.ListsAsTrees.{steps_of}
 use Rattle.dom_selectors.specs.ValuesAsTrees.{read_compound, read_step}
 use Rattle.dom_select.specs.Chains.{looseness}
 use Rattle.dom_select.specs.Has.{Begins, tops_on}
-use Rattle.dom_select.proofs.ReachLemmas.{IsMeant, left_ends, left_farther, left_nowhere, line_some, not_so, to_line}
+use Rattle.dom_select.proofs.ReachLemmas.{IsMeant, left_ends, left_farther, left_nowhere, line_some, to_line}
 use Rattle.dom_select.proofs.HasLemmas.{ends_if, leads_here, leads_later, led_to, list_lighter, reached_from, stands_first}
 use Rattle.dom_select.proofs.StepLemmas.{read_front_and_last, weight_front_and_last}
 use Rattle.dom_select.proofs.FollowLemmas.{ends_here, ends_match, followed_all, followed_nearest, followed_so_far, following_at, following_none, following_more, following_not, is_nil, line_back, next_precedes, reaches_alone, reaches_end, some_where, weight_cut}
@@ -65,7 +65,7 @@ follow-loop-last-preserved t c =
 pub follow_from-follow-requires : goal.follow_from-follow-requires
 follow_from-follow-requires t c = (
   omega (arith, c.looseness-level.ensures, c.decreases),
-  (inr (next_precedes c.args.tree.now c.args.spared (Begins c.args.start.now (read_compound c.args.first.now) c.args.tree.now) c.on_the_left.ensures.lines c.args.combinator (map read_step c.args.steps.now) c.args.id c.loop-v.at c.in-Some.v c.requires.before c.loop-v.invariant.back (sym c.in-Some.ensures.link)), c.loop-v.invariant.kept),
+  (inr (next_precedes c.args.tree.now c.args.spared (Begins c.args.start.now (read_compound c.args.first.now) c.args.tree.now) c.on_the_left.ensures.lines c.args.combinator (map read_step c.args.steps.now) c.args.id c.loop-v.at c.in-Some.v c.requires.before c.loop-v.invariant.back (sym c.in-Some.ensures.link)), c.note_step.ensures ∙ c.loop-v.invariant.kept),
 )
 
 pub follow_from-returns-in-Some-follow-clause-is : goal.follow_from-returns-in-Some-follow-clause-is
@@ -105,7 +105,7 @@ follow_from-loop-v-preserved t c =
     record {
       kept = elim c.if-may_follow.branch [
         | follow_from-then-may_follow+in_default-follow w ↦ w.caches-is ∙ w.in_default-follow.ensures.kept
-        | follow_from-else-may_follow w ↦ w.caches-is ∙ c.loop-v.invariant.kept
+        | follow_from-else-may_follow w ↦ w.caches-is ∙ (c.note_step.ensures ∙ c.loop-v.invariant.kept)
       ];
       forth = λ s. (left_farther forest k Q c.on_the_left.ensures.lines c.loop-v.at c.in-Some.v link refuted goes).0 (c.loop-v.invariant.forth s);
       back = λ u s. c.loop-v.invariant.back u (line_back forest c.args.spared (Begins c.args.start.now (read_compound c.args.first.now) c.args.tree.now) c.on_the_left.ensures.lines k (map read_step c.args.steps.now) c.loop-v.at c.in-Some.v u link goes s);

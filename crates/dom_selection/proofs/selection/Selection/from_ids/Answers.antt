@@ -1,8 +1,3 @@
-use Rattle.std.proofs.Common.{◌∙◌, ap, take}
-use Rattle.std.proofs.lemmas.List.{take_all}
-use Rattle.std.specs.Borrow.{Bor}
-use Rattle.dom_links.specs.Forest.{Forest}
-use Rattle.dom_trees.specs.Views.{refs_to}
 use Rattle.dom_selection.proofs.SelectionLemmas.{one_tree_of}
 use Rattle.dom_selection.proofs.selection.Selection.from_ids.Goals as goal
 

@@ -1,6 +1,7 @@
-use Rattle.std.proofs.Common.{◌≡◌, ◌-◌, take, ℕ, List, [], ◌∷◌, ◌++◌, ◌∙◌, ap, subst, map, refl}
+use Rattle.std.proofs.Common.{◌≡◌, ◌-◌, sym, take, ℕ, List, [], ◌∷◌, ◌++◌, ◌∙◌, ap, subst, map, refl}
 use Rattle.std.proofs.lemmas.List.{map-append}
 use Rattle.std.proofs.lemmas.Bool.{false≢true}
+use Rattle.std.proofs.lemmas.Slice.Eq.{bytes_eq-Decides}
 use Rattle.dom_markup.specs.Bytes.{folded}
 use Rattle.dom_markup.specs.Markup.Item.{end_tag}
 use Rattle.dom_markup.specs.declared.document.reader.Open.{Open}
@@ -31,4 +32,13 @@ returns c = λ items h.
     ap (map opened_by) c.in-Some.ensures.items ∙ map-append opened_by c.pop.new.self.items _ in
     let before = subst (λ (os : List Opened). HasRead items (c.args.self.now.tree) os) shown h in
     let same : folded c.in-Some.innermost.name.now ≡ folded c.args.name.now = c.if-not-eq_ignore_ascii_case.ensures.test.0 refl in
+    subst (λ (n : List ℕ). HasRead (items ++ end_tag n ∷ []) (c.args.self.now.tree) stack) same (reads_end items _ stack (opened_by c.in-Some.innermost) before)
+
+pub returns-then-eq : goal.returns-then-eq
+returns-then-eq c = λ items h.
+    let stack = map opened_by c.pop.new.self.items in
+    let shown : map opened_by c.args.self.now.stack.items ≡ stack ++ opened_by c.in-Some.innermost ∷ [] =
+    ap (map opened_by) c.in-Some.ensures.items ∙ map-append opened_by c.pop.new.self.items _ in
+    let before = subst (λ (os : List Opened). HasRead items (c.args.self.now.tree) os) shown h in
+    let same : folded c.in-Some.innermost.name.now ≡ folded c.args.name.now = ap folded ((bytes_eq-Decides _ _).0 (sym c.eq.ensures ∙ c.if-eq.true)) in
     subst (λ (n : List ℕ). HasRead (items ++ end_tag n ∷ []) (c.args.self.now.tree) stack) same (reads_end items _ stack (opened_by c.in-Some.innermost) before)

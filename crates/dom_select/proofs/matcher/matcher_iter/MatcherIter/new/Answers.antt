@@ -9,3 +9,8 @@ pub returns-in-empty-clause-selected : goal.returns-in-empty-clause-selected
 returns-in-empty-clause-selected c ids none =
     let no_root : c.args.roots.now ≡ [] = is_nil c.args.roots.now (eq-eqb (length c.args.roots.now) 0 (omega (arith, c.in-empty.len_below))) in
     selected_all c.args.tree.now c.args.roots.now c.args.matcher.now [] ids (sym (ap (walks_below c.args.tree.now) no_root)) none
+
+pub returns-in-empty-clause-all : goal.returns-in-empty-clause-all
+returns-in-empty-clause-all c =
+    let no_root : c.args.roots.now ≡ [] = is_nil c.args.roots.now (eq-eqb (length c.args.roots.now) 0 (omega (arith, c.in-empty.len_below))) in
+    sym (ap (walks_below c.args.tree.now) no_root)

@@ -1,0 +1,34 @@
+-- What a byte tells of a node's name, and what a compound wants of it.
+use Rattle.std.specs.Prelude.{ℕ, ◌≡◌, ◌<◌, ◌==◌, ◌&&◌, ◌||◌, nat_lt, Bool, true, List, Some, length, slice_get, slice_index_or}
+use Rattle.std.specs.Str.{bytes_eq}
+use Rattle.dom_nodes.specs.declared.node_data.NodeData.{NodeData}
+use Rattle.dom_nodes.specs.declared.node_data.NodeData.TheVariants.{Element}
+use Rattle.dom_nodes.specs.KnownNames.{known_name}
+use Rattle.dom_links.specs.Forest.{Forest}
+use Rattle.dom_selectors.specs.Syntax.{CompoundSelector}
+use Rattle.dom_select.specs.Meaning.{Holds}
+use Rattle.dom_index.specs.declared.names.WantedName.{WantedName}
+
+abbrev pub byte_at : List ℕ → ℕ → ℕ
+byte_at bytes n = slice_index_or bytes n 0
+
+-- the byte is the number of an element's name, or 254 where it has none, and 255 of what is no element
+abbrev pub tells_name : NodeData → ℕ → Bool
+tells_name (Element element) byte = (byte == 254) || (nat_lt byte 247 && bytes_eq (known_name byte) element.name.local)
+tells_name _ byte = byte == 255
+
+-- an element that bears the known name of that number
+abbrev pub BearsKnown : ℕ → NodeData → Type 0
+BearsKnown number (Element element) = element.name.local ≡ known_name number
+BearsKnown number _ = ⊥
+
+-- the bytes at the numbers tell the names of the nodes
+pub record AreNames (forest : Forest) (bytes : List ℕ) : Type 0 where
+  pub long : length bytes ≡ length forest.content
+  pub each : (n : ℕ) (node : NodeData) → slice_get forest.content n ≡ Some node → tells_name node (byte_at bytes n) ≡ true
+
+-- where the compound holds the node bears the name, and where nothing else is asked it holds of each that does
+pub record IsWanted (c : CompoundSelector) (wanted : WantedName) : Type 0 where
+  pub known : wanted.number < 247
+  pub needs : (forest : Forest) (n : ℕ) (node : NodeData) → slice_get forest.content n ≡ Some node → Holds c forest n → BearsKnown wanted.number node
+  pub suffices : wanted.is_all ≡ true → (forest : Forest) (n : ℕ) (node : NodeData) → slice_get forest.content n ≡ Some node → BearsKnown wanted.number node → Holds c forest n

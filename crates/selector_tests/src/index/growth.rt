@@ -1,0 +1,41 @@
+//! Selections whose time would grow with the square of the nodes if each node were asked.
+
+use dom_markup::document::Document;
+use dom_selection::document_select::DocumentSelect;
+use std::alloc::Global;
+use std::test::Fail;
+
+const MANY: usize = 8000;
+
+/// So many copies of a text, then as many of another.
+fn copies(alloc: Global, start: &str, end: &str) -> Result<String, Fail> {
+    let mut text = String::new(alloc);
+    for _ in 0..MANY {
+        text.push_str(start)?;
+    }
+    for _ in 0..MANY {
+        text.push_str(end)?;
+    }
+    Ok(text)
+}
+
+fn count(document: &Document, selectors: &str) -> Result<usize, Fail> {
+    Ok(document.select(selectors)?.length())
+}
+
+#[test]
+fn deep_and_long(rt: HostRuntime) -> Result<(), Fail> {
+    let alloc = rt.alloc();
+    let source = copies(alloc, "<div>", "</div>")?;
+    let deep = Document::parse(alloc, source.as_str())?;
+    assert_eq!(rt; count(&deep, ".zz div")?, 0);
+    assert_eq!(rt; count(&deep, "div:has(.zz)")?, 0);
+    assert_eq!(rt; count(&deep, "div:has(.zz div)")?, 0);
+    assert_eq!(rt; count(&deep, "div div:has(div)")?, MANY - 2);
+    let source = copies(alloc, "<li></li>", "<b></b>")?;
+    let long = Document::parse(alloc, source.as_str())?;
+    assert_eq!(rt; count(&long, ".zz ~ li")?, 0);
+    assert_eq!(rt; count(&long, "li:has(~ .zz)")?, 0);
+    assert_eq!(rt; count(&long, "li:has(~ b), li ~ b")?, MANY * 2);
+    Ok(())
+}
