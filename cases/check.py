@@ -1,7 +1,8 @@
-"""The test command. It runs the gate, `rt ci`, which proves every crate from nothing, tries the must-fail edits and runs
-every test, and then the program that the gate built on the table of cases in cases/ and on a device that is full. It
-compares the snippets of the documents with the crates `tour` and `uses`, and tries the callers that must not compile. Its last line
-counts all, and its status is 0 where nothing failed. `check --cases` leaves the gate out.
+"""The test command. It runs the gate, `rt ci`, which proves every crate from nothing and runs every test, and beside it
+tries the must-fail edits over each crate that the gate has proved (cases/edits.py). Then it runs the program that the
+gate built on the table of cases in cases/ and on a device that is full, compares the snippets of the documents with the
+crates `tour` and `uses`, and tries the callers that must not compile. Its last line counts all, and its status is 0
+where nothing failed. `check --cases` leaves the gate and the edits out.
 
 A case is a line of a file cases/*.jsonl: `markup` is standard input and `script` the argument (`args` a list of
 arguments in its place; `markup_hex` and `script_hex` give bytes that are no text), `output` and `error` are what must
@@ -27,6 +28,9 @@ import sys
 import tempfile
 import textwrap
 
+sys.dont_write_bytecode = True
+import edits  # noqa: E402
+
 ROOT = pathlib.Path(__file__).resolve().parent.parent
 PROGRAM = ROOT / "crates" / "dq" / "out" / "dq"
 SECONDS = 60
@@ -34,23 +38,28 @@ LIMITED = 256 * 1024 * 1024
 
 
 def gate():
-    """Runs the gate, shows what it says, and returns how many of its checks passed and failed."""
+    """Runs the gate, shows what it says, and has the edits of each crate tried that it proved. Returns how many of its
+    checks passed and failed, and how many of the edits."""
     rt = shutil.which("rt")
     if rt is None:
         print("check: no command rt: the kit's folder bin must be on the PATH")
-        return 0, 1
+        return [(0, 1)]
+    trials = edits.Trials()
     ran = subprocess.Popen([rt, "ci"], cwd=ROOT, stdout=subprocess.PIPE, stderr=subprocess.STDOUT, text=True)
     last = ""
     for line in ran.stdout:
         sys.stdout.write(line)
         sys.stdout.flush()
         last = line.strip() or last
-    status = ran.wait()
+        proved = re.fullmatch(r"rt: (\w+) proved", line.strip())
+        if proved:
+            trials.built(proved[1])
+    status, tried = ran.wait(), trials.finish()
     counted = re.fullmatch(r"(\d+) passed, (\d+) failed", last)
     if counted is None:
-        return 0, 1
+        return [(0, 1), tried]
     passed, failed = int(counted[1]), int(counted[2])
-    return passed, failed if status == 0 or failed else 1
+    return [(passed, failed if status == 0 or failed else 1), tried]
 
 
 def given(case, name):
@@ -239,7 +248,7 @@ def refused_callers():
 
 def main():
     cases_alone = sys.argv[1:] == ["--cases"]
-    counts = [] if cases_alone else [gate()]
+    counts = [] if cases_alone else gate()
     counts += [table(), paths(), refusals(), full_device(), snippets(), refused_callers()]
     passed, failed = (sum(column) for column in zip(*counts))
     print(f"{passed} passed, {failed} failed")

@@ -8,8 +8,6 @@ mod numbers;
 mod runner;
 mod script;
 mod telling;
-#[cfg(test)]
-mod tests;
 
 pub use dom_edits::edit::SelectionFault;
 pub use dom_edits::selection_mut::SelectionMut;

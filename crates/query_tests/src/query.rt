@@ -1,6 +1,6 @@
 //! What runs write and how they end, with ample memory.
 
-use crate::{RunFault, drive, run};
+use dom_query::{RunFault, drive, run};
 use std::alloc::{AllocError, Global};
 use std::io;
 use std::io::{ErrorKind, Read, Write};

@@ -1,6 +1,6 @@
 //! What the lines of scripts select, show and change.
 
-use crate::{EditFault, RunFault, run};
+use dom_query::{EditFault, RunFault, run};
 use std::test::Fail;
 
 const LIST: &str = "<ul><li>1</li>x<li class=\"b\">2<i>3</i></li></ul>";

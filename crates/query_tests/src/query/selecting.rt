@@ -1,6 +1,6 @@
 //! What selectors select in documents, and which texts are no selectors.
 
-use crate::{
+use dom_query::{
     DescendantMatches, Document, Matcher, NodeId, NodeMarkup, NodeRef, NodeSelect, SelectorFault,
 };
 use std::alloc::Global;
