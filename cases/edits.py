@@ -205,16 +205,18 @@ class Trials:
 
     def count(self, crate):
         """Tries a crate's edits, and returns how many were refused and how many weren't."""
-        edits = [Edit(file, pathlib.Path(crate.folder)) for file in sorted((EDITS / crate.name).glob("*.edit"))]
-        good, bad = [it for it in edits if not it.fault], [it for it in edits if it.fault]
-        for edit in bad:
-            print(f"must-fail {edit.name}: BAD EDIT: {edit.fault}", flush=True)
+        files = sorted((EDITS / crate.name).glob("*.edit"))
         try:
-            failed = len(Trial(self.rt, crate, self.jobs).not_refused(good))
+            edits = [Edit(file, pathlib.Path(crate.folder)) for file in files]
+            bad = [it for it in edits if it.fault]
+            for edit in bad:
+                print(f"must-fail {edit.name}: BAD EDIT: {edit.fault}", flush=True)
+            wrong = Trial(self.rt, crate, self.jobs).not_refused([it for it in edits if not it.fault])
         except (OSError, ValueError) as fault:
             print(f"must-fail {crate.name}: {fault}", flush=True)
-            failed = len(good)
-        return len(good) - failed, failed + len(bad)
+            return 0, len(files)
+        failed = len(bad) + len(wrong)
+        return len(files) - failed, failed
 
     def finish(self):
         """Waits for the trials, and returns how many edits were refused and how many weren't: a crate that was not built
