@@ -8,6 +8,7 @@ use dom_trees::iters::{ancestor_nodes, child_nodes, descendant_nodes};
 use dom_trees::node_ref::{Node, NodeRef};
 use dom_trees::tree::Tree;
 use std::alloc::Global;
+use std::process::Abort;
 use std::test::Fail;
 
 /// Root 0 has the comment 1 and the element 2, `html`, which has the comment 3, `head` 4, the
@@ -23,55 +24,74 @@ fn page(alloc: Global) -> Result<Tree, Fail> {
     Ok(tree)
 }
 
-#[test]
-fn finds_elements(rt: HostRuntime) -> Result<(), Fail> {
-    let tree = page(rt.alloc())?;
+/// Shows what the elements of the page stand beside.
+fn shows_elements(rt: &impl Abort, tree: &Tree) {
     assert!(rt;
-        matches!(NodeRef::new(node(3), &tree).next_element_sibling(), Some(found) if found.id == node(4))
+        matches!(NodeRef::new(node(3), tree).next_element_sibling(), Some(found) if found.id == node(4))
     );
     assert!(rt;
-        matches!(NodeRef::new(node(5), &tree).prev_element_sibling(), Some(found) if found.id == node(4))
+        matches!(NodeRef::new(node(5), tree).prev_element_sibling(), Some(found) if found.id == node(4))
     );
     assert!(rt; matches!(tree.root().first_element_child(), Some(found) if found.id == node(2)));
     assert!(rt;
-        matches!(NodeRef::new(node(3), &tree).last_sibling(), Some(found) if found.id == node(6))
+        matches!(NodeRef::new(node(3), tree).last_sibling(), Some(found) if found.id == node(6))
     );
     assert!(rt; matches!(tree.last_sibling_of(&node(3)), Some(found) if found.id == node(6)));
     assert!(rt; tree.last_sibling_of(&node(6)).is_none());
-    assert!(rt;
-        NodeRef::new(node(6), &tree)
-            .next_element_sibling()
-            .is_none()
-    );
-    assert!(rt;
-        NodeRef::new(node(4), &tree)
-            .prev_element_sibling()
-            .is_none()
-    );
+    assert!(rt; NodeRef::new(node(6), tree).next_element_sibling().is_none());
+    assert!(rt; NodeRef::new(node(4), tree).prev_element_sibling().is_none());
+}
+
+#[test]
+fn finds_elements(rt: HostRuntime) -> Result<(), Fail> {
+    let tree = page(rt.alloc())?;
+    shows_elements(&rt, &tree);
     Ok(())
+}
+
+/// Shows that a list has so many nodes.
+fn shows_many(rt: &impl Abort, nodes: Vec<NodeRef<'_>>, wanted: usize) {
+    assert_eq!(rt; nodes.len(), wanted);
 }
 
 #[test]
 fn lists_nodes(rt: HostRuntime) -> Result<(), Fail> {
     let tree = page(rt.alloc())?;
     let body = NodeRef::new(node(6), &tree);
-    assert_eq!(rt; NodeRef::new(node(2), &tree).children()?.len(), 4);
-    assert_eq!(rt; NodeRef::new(node(2), &tree).element_children()?.len(), 2);
-    assert_eq!(rt; body.ancestors(None)?.len(), 2);
-    assert_eq!(rt; body.ancestors(Some(1))?.len(), 1);
-    assert_eq!(rt; tree.root().descendants()?.len(), 6);
+    shows_many(&rt, NodeRef::new(node(2), &tree).children()?, 4);
+    shows_many(&rt, NodeRef::new(node(2), &tree).element_children()?, 2);
+    shows_many(&rt, body.ancestors(None)?, 2);
+    shows_many(&rt, body.ancestors(Some(1))?, 1);
+    shows_many(&rt, tree.root().descendants()?, 6);
     Ok(())
+}
+
+/// Shows the parts of the page.
+fn shows_parts(rt: &impl Abort, tree: &Tree) {
+    assert!(rt; matches!(tree.html_root(), Some(found) if found.id == node(2)));
+    assert!(rt; matches!(tree.head(), Some(found) if found.id == node(4)));
+    assert!(rt; matches!(tree.body(), Some(found) if found.id == node(6)));
+}
+
+/// Shows that the tree has no part of a page.
+fn shows_no_parts(rt: &impl Abort, tree: &Tree) {
+    assert!(rt; tree.html_root().is_none());
+    assert!(rt; tree.head().is_none());
+    assert!(rt; tree.body().is_none());
 }
 
 #[test]
 fn finds_the_parts_of_a_page(rt: HostRuntime) -> Result<(), Fail> {
     let alloc = rt.alloc();
-    let tree = page(alloc)?;
-    assert!(rt; matches!(tree.html_root(), Some(found) if found.id == node(2)));
-    assert!(rt; matches!(tree.head(), Some(found) if found.id == node(4)));
-    assert!(rt; matches!(tree.body(), Some(found) if found.id == node(6)));
-    let empty = Tree::new(alloc, NodeData::Document)?;
-    assert!(rt; empty.html_root().is_none() && empty.head().is_none() && empty.body().is_none());
+    shows_parts(&rt, &page(alloc)?);
+    shows_no_parts(&rt, &Tree::new(alloc, NodeData::Document)?);
+    Ok(())
+}
+
+/// Gives the node that `href`.
+fn set_href(tree: &mut Tree, number: usize, value: &str) -> Result<(), Fail> {
+    let mut changed = tree.node_mut(&node(number)).ok_or("node")?;
+    changed.set_attr("href", value)?;
     Ok(())
 }
 
@@ -83,11 +103,9 @@ fn tells_the_base(rt: HostRuntime) -> Result<(), Fail> {
     assert!(rt; tree.base_uri().is_none());
     add_element(&mut tree, 4, "base")?;
     add_element(&mut tree, 4, "base")?;
-    let mut second = tree.node_mut(&node(9)).ok_or("node")?;
-    second.set_attr("href", "b")?;
+    set_href(&mut tree, 9, "b")?;
     assert!(rt; tree.base_uri().is_none());
-    let mut first = tree.node_mut(&node(8)).ok_or("node")?;
-    first.set_attr("href", "a")?;
+    set_href(&mut tree, 8, "a")?;
     assert!(rt; tree.base_uri() == Some("a"));
     assert!(rt; NodeRef::new(node(6), &tree).base_uri() == Some("a"));
     Ok(())
@@ -99,24 +117,28 @@ fn tells_roots_and_links(rt: HostRuntime) -> Result<(), Fail> {
     add_element(&mut tree, 6, "a")?;
     assert!(rt; tree.root().is_root() && !NodeRef::new(node(2), &tree).is_root());
     assert!(rt; !NodeRef::new(node(7), &tree).is_link());
-    let mut link = tree.node_mut(&node(7)).ok_or("node")?;
-    link.set_attr("href", "")?;
+    set_href(&mut tree, 7, "")?;
     assert!(rt; NodeRef::new(node(7), &tree).is_link() && !tree.root().is_link());
     Ok(())
+}
+
+/// Shows the calls that the crate has under two names.
+fn shows_names(rt: &impl Abort, tree: &Tree) {
+    let body: Node = NodeRef::new(node(6), tree);
+    assert!(rt; matches!(body.parent_element(), Some(found) if found.id == node(2)));
+    assert!(rt; matches!(body.prev_sibling_element(), Some(found) if found.id == node(4)));
+    let head = NodeRef::new(node(4), tree);
+    assert!(rt; matches!(head.next_sibling_element(), Some(found) if found.id == node(6)));
+    assert!(rt; child_nodes(tree, &node(2), false).next() == Some(node(3)));
+    assert!(rt; child_nodes(tree, &node(2), true).next() == Some(node(6)));
+    assert_eq!(rt; ancestor_nodes(tree, &node(6), None).count(), 2);
+    assert_eq!(rt; descendant_nodes(tree, &node(0)).count(), 6);
 }
 
 #[test]
 fn names_of_the_crate(rt: HostRuntime) -> Result<(), Fail> {
     let tree = page(rt.alloc())?;
-    let body: Node = NodeRef::new(node(6), &tree);
-    assert!(rt; matches!(body.parent_element(), Some(found) if found.id == node(2)));
-    assert!(rt; matches!(body.prev_sibling_element(), Some(found) if found.id == node(4)));
-    let head = NodeRef::new(node(4), &tree);
-    assert!(rt; matches!(head.next_sibling_element(), Some(found) if found.id == node(6)));
-    assert!(rt; child_nodes(&tree, &node(2), false).next() == Some(node(3)));
-    assert!(rt; child_nodes(&tree, &node(2), true).next() == Some(node(6)));
-    assert_eq!(rt; ancestor_nodes(&tree, &node(6), None).count(), 2);
-    assert_eq!(rt; descendant_nodes(&tree, &node(0)).count(), 6);
+    shows_names(&rt, &tree);
     assert!(rt; format!(in rt.alloc(); "{tree:?}")?.as_str() == "Tree");
     Ok(())
 }
@@ -138,17 +160,23 @@ fn tells_integration_points(rt: HostRuntime) -> Result<(), Fail> {
     Ok(())
 }
 
+/// Shows what a node of a number that the tree doesn't have answers.
+fn shows_nothing(rt: &impl Abort, nowhere: &NodeRef<'_>) {
+    assert!(rt; nowhere.parent().is_none() && nowhere.first_child().is_none());
+    assert!(rt; nowhere.next_sibling().is_none() && nowhere.prev_sibling().is_none());
+    assert!(rt; nowhere.last_sibling().is_none() && nowhere.first_element_child().is_none());
+    assert!(rt; !nowhere.is_element() && !nowhere.has_attr("id") && !nowhere.has_class("a"));
+    assert!(rt; nowhere.attr_or("id", "none") == "none");
+    assert!(rt; nowhere.attrs().is_empty() && nowhere.node_name().is_none());
+}
+
 #[test]
 fn answers_nothing_of_an_unknown_node(rt: HostRuntime) -> Result<(), Fail> {
     let tree = page(rt.alloc())?;
     let nowhere = tree.get_unchecked(&node(99));
-    assert!(rt; nowhere.parent().is_none() && nowhere.first_child().is_none());
-    assert!(rt; nowhere.next_sibling().is_none() && nowhere.prev_sibling().is_none());
-    assert!(rt; nowhere.last_sibling().is_none() && nowhere.first_element_child().is_none());
-    assert!(rt; nowhere.children()?.is_empty() && nowhere.ancestors(None)?.is_empty());
-    assert!(rt; !nowhere.is_element() && !nowhere.has_attr("id") && !nowhere.has_class("a"));
-    assert!(rt; nowhere.attr_or("id", "none") == "none");
-    assert!(rt; nowhere.attrs().is_empty() && nowhere.node_name().is_none());
+    shows_nothing(&rt, &nowhere);
+    shows_many(&rt, nowhere.children()?, 0);
+    shows_many(&rt, nowhere.ancestors(None)?, 0);
     assert!(rt; tree.query_node(&node(99), |node| node.is_text()).is_none());
     assert!(rt; tree.query_node_or(&node(99), true, |node| node.is_text()));
     Ok(())
