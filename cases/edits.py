@@ -4,8 +4,9 @@ must refuse that function: a function that calls it doesn't count, nor does the 
 An edit is a file cases/must-fail/CRATE/NAME.edit, in the form of `rt must-fail`: a line 'file: src/FILE.rt', then pairs
 of lines 'old: TEXT' and 'new: TEXT', where the old text stands in the file once. The edits of different functions are
 put into one copy of the crate, and the copy is checked once over the libraries that the gate built. Where a function
-calls another that is refused, the prover says no more of it, so what wasn't shown is tried again with what is left, and
-at last alone. An edit of no function (a constant) is tried alone, and any refusal will do.
+calls another that is refused, the prover says no more of it, so what wasn't shown is tried again with what is left. What
+is still not shown, and an edit of no function (a constant), is tried alone, as `rt must-fail` does it: over the whole
+crate, any refusal will do, and it is told as one elsewhere.
 
 `edits.py [CRATE ..]` tries the edits of these crates, or of all, over what stands built in the workspace."""
 import importlib.machinery
@@ -131,10 +132,10 @@ class Trial:
 
     def flags_and_answers(self, edits):
         """What has the prover look at the functions of these names alone, and the files of answers, with none in them,
-        that have it offer no proofs of them."""
+        that have it offer no proofs of them: nothing for one edit, which is tried over the whole crate."""
         names = {place and place[0] for edit in edits for place in edit.places}
         asked = [path for path in self.functions if path[-1] in names]
-        if names - {path[-1] for path in asked}:
+        if len(edits) == 1 or names - {path[-1] for path in asked}:
             return [], []
         only = [word for path in asked for word in ("--only", "::".join([self.crate.name, *path]))]
         offered = [path for path in asked if not list((self.folder / "proofs" / pathlib.Path(*path)).glob("*.antt"))]
@@ -163,8 +164,9 @@ class Trial:
                 now, begun = left[:1] if is_alone else apart(left), time.monotonic()
                 said = self.said_of(now, kept)
                 print(f"edits of {self.crate.name}: {len(now)} at once, {time.monotonic() - begun:.0f} s", flush=True)
-                last = said[-1] if len(now) == 1 and said and None in now[0].places else None
-                shown = {it: it.refusal(said) or last for it in now if it.refusal(said) or last}
+                shown = {it: it.refusal(said) for it in now if it.refusal(said)}
+                if len(now) == 1 and said and not shown:
+                    shown = {now[0]: f"elsewhere: {next(filter(TOLD.match, said), said[-1])}"}
                 for edit, line in shown.items():
                     print(f"must-fail {edit.name}: refused: {line[:160]}", flush=True)
                 is_alone = not shown and len(now) > 1
