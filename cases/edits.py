@@ -169,7 +169,7 @@ class Trial:
                     shown = {now[0]: f"elsewhere: {next(filter(TOLD.match, said), said[-1])}"}
                 for edit, line in shown.items():
                     print(f"must-fail {edit.name}: refused: {line[:160]}", flush=True)
-                is_alone = not shown and len(now) > 1
+                is_alone = is_alone or not shown
                 if len(now) == 1 and not shown:
                     print(f"must-fail {now[0].name}: NOT REFUSED", flush=True)
                     passed += now
