@@ -111,11 +111,13 @@ def apart(edits):
 
 
 def texts_with(edits, folder):
-    """The texts of the files that the edits change."""
+    """The texts of the files that the edits change, or None where one takes away what another is of."""
     texts = {}
     for edit in edits:
         text = texts.get(edit.path) or (folder / edit.path).read_text(encoding="utf-8")
         for old, new in edit.pairs:
+            if text.count(old) != 1:
+                return None
             text = text.replace(old, new)
         texts[edit.path] = text
     return texts
@@ -125,7 +127,7 @@ class Trial:
     """The edits of one crate, tried in rounds over what the rounds before proved."""
 
     def __init__(self, rt, crate, jobs):
-        self.rt, self.crate, self.jobs = rt, crate, jobs
+        self.rt, self.crate, self.jobs, self.wrong = rt, crate, jobs, []
         self.folder = pathlib.Path(crate.folder)
         built = (pathlib.Path(crate.rlib) / "toolchain" / "checked.json").read_text(encoding="utf-8")
         self.functions = [path.split(".") for path in MET.findall(built)]
@@ -144,6 +146,9 @@ class Trial:
     def said_of(self, edits, kept):
         """What the prover says of the crate with these edits, in lines: none where it was not reached."""
         flags, answers = self.flags_and_answers(edits)
+        texts = texts_with(edits, self.folder)
+        if texts is None:
+            return []
         with tempfile.TemporaryDirectory(prefix="edits-copy-") as room:
             crate = self.rt.copy.copy(self.crate)
             crate.folder = room
@@ -152,29 +157,42 @@ class Trial:
             for file in answers:
                 (pathlib.Path(room) / file).parent.mkdir(parents=True, exist_ok=True)
                 (pathlib.Path(room) / file).write_text("-- none\n", encoding="utf-8")
-            ran = self.rt.checked(crate, texts_with(edits, self.folder), [*flags, "--jobs", str(self.jobs())], kept)
+            ran = self.rt.checked(crate, texts, [*flags, "--jobs", str(self.jobs())], kept)
         said = ran.stdout.splitlines() or [""]
         return said if ran.returncode == 1 and re.match("logic=not-proved|only=", said[-1]) else []
 
+    def tried(self, edits, kept):
+        """Tries edits of different functions at once, tells of those that were refused, and returns the batches of those
+        that are to be tried again."""
+        begun = time.monotonic()
+        said = self.said_of(edits, kept)
+        print(f"edits of {self.crate.name}: {len(edits)} at once, {time.monotonic() - begun:.0f} s", flush=True)
+        shown = {it: it.refusal(said) for it in edits if it.refusal(said)}
+        if len(edits) == 1 and said and not shown:
+            shown = {edits[0]: f"elsewhere: {next(filter(TOLD.match, said), said[-1])}"}
+        for edit, line in shown.items():
+            print(f"must-fail {edit.name}: refused: {line[:160]}", flush=True)
+        if len(edits) == 1 and not shown:
+            print(f"must-fail {edits[0].name}: NOT REFUSED", flush=True)
+            self.wrong += edits
+        missed = [it for it in edits if it not in shown and it not in self.wrong]
+        if said and not shown:
+            return [[it] for it in missed]
+        half = len(missed) // 2 if not said else 0
+        return [it for it in (missed[:half], missed[half:]) if it]
+
     def not_refused(self, edits):
-        """Tries the edits, tells of each, and returns those that were not refused."""
-        left, is_alone, passed = list(edits), False, []
+        """Tries the edits in rounds, and returns those that were not refused."""
+        batches = [edits] if edits else []
         with tempfile.TemporaryDirectory(prefix="edits-") as kept:
-            while left:
-                now, begun = left[:1] if is_alone else apart(left), time.monotonic()
-                said = self.said_of(now, kept)
-                print(f"edits of {self.crate.name}: {len(now)} at once, {time.monotonic() - begun:.0f} s", flush=True)
-                shown = {it: it.refusal(said) for it in now if it.refusal(said)}
-                if len(now) == 1 and said and not shown:
-                    shown = {now[0]: f"elsewhere: {next(filter(TOLD.match, said), said[-1])}"}
-                for edit, line in shown.items():
-                    print(f"must-fail {edit.name}: refused: {line[:160]}", flush=True)
-                is_alone = is_alone or not shown
-                if len(now) == 1 and not shown:
-                    print(f"must-fail {now[0].name}: NOT REFUSED", flush=True)
-                    passed += now
-                left = [it for it in left if it not in shown and it not in passed]
-        return passed
+            while batches:
+                batch = batches.pop()
+                now = apart(batch)
+                later = [it for it in batch if it not in now]
+                again = self.tried(now, kept)
+                # what a refused function hid joins what waited for it
+                batches += [again[0] + later] if len(again) == 1 else [*again, later] if later else again
+        return self.wrong
 
 
 class Trials:
