@@ -50,7 +50,7 @@ fn finds_elements(rt: HostRuntime) -> Result<(), Fail> {
 }
 
 /// Shows that a list has so many nodes.
-fn shows_many(rt: &impl Abort, nodes: Vec<NodeRef<'_>>, wanted: usize) {
+pub(crate) fn shows_many(rt: &impl Abort, nodes: Vec<NodeRef<'_>>, wanted: usize) {
     assert_eq!(rt; nodes.len(), wanted);
 }
 

@@ -1,58 +1,82 @@
 //! Changes of what a node is, and new nodes with contents.
 
 use crate::trees::lists::node;
+use crate::trees::walks::html_name;
 use dom_nodes::fault::EditFault;
-use dom_nodes::name::{LocalName, Namespace, QualName};
 use dom_nodes::node_data::{Attrs, Element, NodeData, NodeEdit};
 use dom_nodes::node_id::NodeId;
 use dom_nodes::text::Text;
 use dom_trees::node_ref::NodeRef;
 use dom_trees::tree::Tree;
 use std::alloc::Global;
+use std::process::Abort;
 use std::test::Fail;
 
 fn template(alloc: Global, contents: Option<NodeId>) -> Result<NodeData, Fail> {
-    let name = QualName {
-        prefix: None,
-        ns: Namespace::Html,
-        local: LocalName::new(alloc, "template")?,
-    };
+    let name = html_name(alloc, "template")?;
     Ok(NodeData::Element(Element::new(name, Attrs::new(alloc), contents, false)))
+}
+
+fn add_start_nodes(tree: &mut Tree) -> Result<(), Fail> {
+    tree.new_element("b")?;
+    tree.new_text("text")?;
+    Ok(())
 }
 
 /// The document 0, the element 1, `b`, and the text 2, which stand alone.
 fn start(alloc: Global) -> Result<Tree, Fail> {
     let mut tree = Tree::new(alloc, NodeData::Document)?;
-    tree.new_element("b")?;
-    tree.new_text("text")?;
+    add_start_nodes(&mut tree)?;
     Ok(tree)
+}
+
+/// Makes a fragment and a template that holds it.
+fn add_template(tree: &mut Tree) -> Result<(), Fail> {
+    tree.create_node(NodeData::Fragment)?;
+    let content = template(tree.allocator(), Some(node(3)))?;
+    tree.create_node(content)?;
+    Ok(())
+}
+
+/// Shows that no template is made that holds this node.
+fn refuses_to_hold(rt: &impl Abort, tree: &mut Tree, number: usize) -> Result<(), Fail> {
+    let content = template(tree.allocator(), Some(node(number)))?;
+    assert!(rt; tree.create_node(content) == Err(EditFault::BadContents));
+    Ok(())
 }
 
 #[test]
 fn refuses_contents(rt: HostRuntime) -> Result<(), Fail> {
-    let alloc = rt.alloc();
-    let mut tree = start(alloc)?;
-    tree.create_node(NodeData::Fragment)?;
-    tree.create_node(template(alloc, Some(node(3)))?)?;
-    let root = template(alloc, Some(node(0)))?;
-    assert!(rt; tree.create_node(root) == Err(EditFault::BadContents));
-    let text = template(alloc, Some(node(2)))?;
-    assert!(rt; tree.create_node(text) == Err(EditFault::BadContents));
-    let held = template(alloc, Some(node(3)))?;
-    assert!(rt; tree.create_node(held) == Err(EditFault::BadContents));
+    let mut tree = start(rt.alloc())?;
+    add_template(&mut tree)?;
+    refuses_to_hold(&rt, &mut tree, 0)?;
+    refuses_to_hold(&rt, &mut tree, 2)?;
+    refuses_to_hold(&rt, &mut tree, 3)?;
     assert_eq!(rt; tree.len(), 5);
+    Ok(())
+}
+
+/// Shows that no new template is put in what it holds.
+fn refuses_a_new_holder(rt: &impl Abort, tree: &mut Tree, held: NodeId) -> Result<(), Fail> {
+    let holder = template(tree.allocator(), Some(held))?;
+    assert!(rt; tree.append_child_data_of(&held, holder) == Err(EditFault::Cycle));
+    Ok(())
+}
+
+/// Shows that a template that stands alone isn't put in what it holds.
+fn refuses_a_loose_holder(rt: &impl Abort, tree: &mut Tree, held: NodeId) -> Result<(), Fail> {
+    let content = template(tree.allocator(), Some(held))?;
+    let holder = tree.create_node(content)?;
+    assert!(rt; tree.append_child_of(&held, &holder) == Err(EditFault::Cycle));
     Ok(())
 }
 
 #[test]
 fn refuses_cycles_by_contents(rt: HostRuntime) -> Result<(), Fail> {
-    let alloc = rt.alloc();
-    let mut tree = Tree::new(alloc, NodeData::Document)?;
+    let mut tree = Tree::new(rt.alloc(), NodeData::Document)?;
     let fragment = tree.create_node(NodeData::Fragment)?;
-    let holder = template(alloc, Some(fragment))?;
-    assert!(rt; tree.append_child_data_of(&fragment, holder) == Err(EditFault::Cycle));
-    let holder = tree.create_node(template(alloc, Some(fragment))?)?;
-    assert!(rt; tree.append_child_of(&fragment, &holder) == Err(EditFault::Cycle));
+    refuses_a_new_holder(&rt, &mut tree, fragment)?;
+    refuses_a_loose_holder(&rt, &mut tree, fragment)?;
     assert_eq!(rt; tree.len(), 3);
     Ok(())
 }
@@ -65,44 +89,79 @@ fn has_class_value(tree: &Tree, number: usize, value: &str) -> bool {
     }
 }
 
-#[test]
-fn changes_classes(rt: HostRuntime) -> Result<(), Fail> {
-    let mut tree = start(rt.alloc())?;
+/// Gives the element these classes, and adds others.
+fn adds_classes(tree: &mut Tree, old: &str, classes: &str) -> Result<(), Fail> {
     let mut one = tree.node_mut(&node(1)).ok_or("node")?;
-    one.set_attr("class", "a a")?;
-    one.add_class("b")?;
-    assert!(rt; has_class_value(&tree, 1, "a a b"));
+    one.set_attr("class", old)?;
+    one.add_class(classes)?;
+    Ok(())
+}
+
+/// Gives the element these classes, and takes some away.
+fn removes_classes(tree: &mut Tree, old: &str, classes: &str) -> Result<(), Fail> {
     let mut one = tree.node_mut(&node(1)).ok_or("node")?;
-    one.set_attr("class", "a b b c")?;
-    one.remove_class("b")?;
-    assert!(rt; has_class_value(&tree, 1, "a c"));
-    let mut one = tree.node_mut(&node(1)).ok_or("node")?;
-    one.set_attr("class", "a  b")?;
-    one.add_class("b c")?;
-    assert!(rt; has_class_value(&tree, 1, "a b c"));
+    one.set_attr("class", old)?;
+    one.remove_class(classes)?;
     Ok(())
 }
 
 #[test]
-fn changes_attributes(rt: HostRuntime) -> Result<(), Fail> {
+fn changes_classes(rt: HostRuntime) -> Result<(), Fail> {
     let mut tree = start(rt.alloc())?;
+    adds_classes(&mut tree, "a a", "b")?;
+    assert!(rt; has_class_value(&tree, 1, "a a b"));
+    removes_classes(&mut tree, "a b b c", "b")?;
+    assert!(rt; has_class_value(&tree, 1, "a c"));
+    adds_classes(&mut tree, "a  b", "b c")?;
+    assert!(rt; has_class_value(&tree, 1, "a b c"));
+    Ok(())
+}
+
+/// Renames the element, and gives it four attributes.
+fn gives_attributes(tree: &mut Tree) -> Result<(), Fail> {
     let mut one = tree.node_mut(&node(1)).ok_or("node")?;
     one.rename("i")?;
     one.set_attr("id", "x")?;
     one.set_attr("title", "y")?;
     one.set_attr("lang", "en")?;
     one.set_attr("dir", "rtl")?;
+    Ok(())
+}
+
+/// Takes two attributes away, and shows what is left.
+fn removes_two(rt: &impl Abort, tree: &mut Tree) -> Result<(), Fail> {
+    let mut one = tree.node_mut(&node(1)).ok_or("node")?;
     one.remove_attr("id");
     one.remove_attrs(&["title", "none"]);
-    assert!(rt; NodeRef::new(node(1), &tree).has_name("i"));
-    assert_eq!(rt; NodeRef::new(node(1), &tree).attrs().len(), 2);
+    assert!(rt; NodeRef::new(node(1), tree).has_name("i"));
+    assert_eq!(rt; NodeRef::new(node(1), tree).attrs().len(), 2);
+    Ok(())
+}
+
+/// Keeps one attribute, and shows it.
+fn keeps_one(rt: &impl Abort, tree: &mut Tree) -> Result<(), Fail> {
     let mut one = tree.node_mut(&node(1)).ok_or("node")?;
     one.retain_attrs(&["dir"]);
-    assert!(rt; NodeRef::new(node(1), &tree).attr("dir") == Some("rtl"));
-    assert!(rt; !NodeRef::new(node(1), &tree).has_attr("lang"));
+    assert!(rt; NodeRef::new(node(1), tree).attr("dir") == Some("rtl"));
+    assert!(rt; !NodeRef::new(node(1), tree).has_attr("lang"));
+    Ok(())
+}
+
+/// Takes all attributes away, and shows that.
+fn removes_all(rt: &impl Abort, tree: &mut Tree) -> Result<(), Fail> {
     let mut one = tree.node_mut(&node(1)).ok_or("node")?;
     one.remove_all_attrs();
-    assert!(rt; NodeRef::new(node(1), &tree).attrs().is_empty());
+    assert!(rt; NodeRef::new(node(1), tree).attrs().is_empty());
+    Ok(())
+}
+
+#[test]
+fn changes_attributes(rt: HostRuntime) -> Result<(), Fail> {
+    let mut tree = start(rt.alloc())?;
+    gives_attributes(&mut tree)?;
+    removes_two(&rt, &mut tree)?;
+    keeps_one(&rt, &mut tree)?;
+    removes_all(&rt, &mut tree)?;
     Ok(())
 }
 
@@ -117,18 +176,34 @@ fn has_contents(tree: &Tree, number: usize, wanted: &str) -> bool {
     }
 }
 
-#[test]
-fn updates(rt: HostRuntime) -> Result<(), Fail> {
-    let alloc = rt.alloc();
-    let mut tree = start(alloc)?;
-    let first = Text::new(alloc, "first")?;
+/// Changes the text by its number.
+fn updates_by_number(tree: &mut Tree) -> Result<(), Fail> {
+    let first = Text::new(tree.allocator(), "first")?;
     tree.update_node(&node(2), move |edit: &mut NodeEdit| edit.contents = first)?;
-    assert!(rt; has_contents(&tree, 2, "first"));
-    let second = Text::new(alloc, "second")?;
+    Ok(())
+}
+
+/// Changes the text as a node that is lent.
+fn updates_as_lent(tree: &mut Tree) -> Result<(), Fail> {
+    let second = Text::new(tree.allocator(), "second")?;
     let mut two = tree.node_mut(&node(2)).ok_or("node")?;
     two.update(move |edit: &mut NodeEdit| edit.contents = second);
-    assert!(rt; has_contents(&tree, 2, "second"));
+    Ok(())
+}
+
+/// Shows that no unknown node is changed.
+fn updates_nothing(rt: &impl Abort, tree: &mut Tree) {
     let updated = tree.update_node(&node(9), |edit: &mut NodeEdit| edit.attrs.clear());
     assert!(rt; updated == Err(EditFault::UnknownNode));
+}
+
+#[test]
+fn updates(rt: HostRuntime) -> Result<(), Fail> {
+    let mut tree = start(rt.alloc())?;
+    updates_by_number(&mut tree)?;
+    assert!(rt; has_contents(&tree, 2, "first"));
+    updates_as_lent(&mut tree)?;
+    assert!(rt; has_contents(&tree, 2, "second"));
+    updates_nothing(&rt, &mut tree);
     Ok(())
 }

@@ -8,6 +8,7 @@ use dom_nodes::text::Text;
 use dom_trees::node_ref::NodeRef;
 use dom_trees::tree::Tree;
 use std::alloc::Global;
+use std::process::Abort;
 use std::test::Fail;
 
 pub(crate) fn node(number: usize) -> NodeId {
@@ -30,17 +31,22 @@ pub(crate) fn add_comment(tree: &mut Tree, parent: usize) -> Result<NodeId, Fail
     Ok(tree.append_child_data_of(&node(parent), NodeData::Comment { contents })?)
 }
 
+fn add_start_nodes(tree: &mut Tree) -> Result<(), Fail> {
+    add_element(tree, 0, "div")?;
+    add_element(tree, 1, "i")?;
+    add_element(tree, 1, "b")?;
+    add_element(tree, 1, "u")?;
+    add_element(tree, 0, "s")?;
+    add_comment(tree, 0)?;
+    tree.remove_from_parent(&node(5))?;
+    tree.remove_from_parent(&node(6))?;
+    Ok(())
+}
+
 /// Root 0 has the child 1, which has 2, 3 and 4; 5, an element, and 6, a comment, stand alone.
 pub(crate) fn start(alloc: Global) -> Result<Tree, Fail> {
     let mut tree = Tree::new(alloc, NodeData::Document)?;
-    add_element(&mut tree, 0, "div")?;
-    add_element(&mut tree, 1, "i")?;
-    add_element(&mut tree, 1, "b")?;
-    add_element(&mut tree, 1, "u")?;
-    add_element(&mut tree, 0, "s")?;
-    add_comment(&mut tree, 0)?;
-    tree.remove_from_parent(&node(5))?;
-    tree.remove_from_parent(&node(6))?;
+    add_start_nodes(&mut tree)?;
     Ok(tree)
 }
 
@@ -76,12 +82,13 @@ pub(crate) fn is_run(tree: &Tree, first: usize, others: &[usize]) -> bool {
     at.next_sibling().is_none() && at.parent().is_none()
 }
 
-fn appends(alloc: Global) -> Result<bool, Fail> {
+fn appends_two(alloc: Global) -> Result<bool, Fail> {
     let mut tree = start(alloc)?;
     tree.append_children_of(&node(5), &node(3))?;
-    if !has_children(&tree, 1, &[2]) || !has_children(&tree, 5, &[3, 4]) {
-        return Ok(false);
-    }
+    Ok(has_children(&tree, 1, &[2]) && has_children(&tree, 5, &[3, 4]))
+}
+
+fn appends_the_last(alloc: Global) -> Result<bool, Fail> {
     let mut tree = start(alloc)?;
     tree.append_children_of(&node(2), &node(4))?;
     Ok(has_children(&tree, 1, &[2, 3]) && has_children(&tree, 2, &[4]))
@@ -93,36 +100,44 @@ fn prepends(alloc: Global) -> Result<bool, Fail> {
     Ok(has_children(&tree, 1, &[]) && has_children(&tree, 5, &[2, 3, 4]))
 }
 
-fn inserts(alloc: Global) -> Result<bool, Fail> {
+fn inserts_before(alloc: Global) -> Result<bool, Fail> {
     let mut tree = start(alloc)?;
     tree.insert_siblings_before(&node(5), &node(2))?;
-    if !has_children(&tree, 1, &[]) || !is_run(&tree, 2, &[3, 4, 5]) {
-        return Ok(false);
-    }
+    Ok(has_children(&tree, 1, &[]) && is_run(&tree, 2, &[3, 4, 5]))
+}
+
+fn inserts_after(alloc: Global) -> Result<bool, Fail> {
     let mut tree = start(alloc)?;
     tree.insert_siblings_after(&node(2), &node(4))?;
-    if !has_children(&tree, 1, &[2, 4, 3]) {
-        return Ok(false);
-    }
+    Ok(has_children(&tree, 1, &[2, 4, 3]))
+}
+
+fn inserts_where_it_is(alloc: Global) -> Result<bool, Fail> {
     let mut tree = start(alloc)?;
     tree.insert_before_of(&node(4), &node(3))?;
     Ok(has_children(&tree, 1, &[2, 3, 4]))
 }
 
-fn reparents(alloc: Global) -> Result<bool, Fail> {
+fn reparents_to_none(alloc: Global) -> Result<bool, Fail> {
     let mut tree = start(alloc)?;
     tree.reparent_children_of(&node(1), None)?;
     tree.insert_before_of(&node(3), &node(5))?;
-    if !has_children(&tree, 1, &[]) || !is_run(&tree, 2, &[5, 3, 4]) {
-        return Ok(false);
-    }
-    let mut tree = start(alloc)?;
+    Ok(has_children(&tree, 1, &[]) && is_run(&tree, 2, &[5, 3, 4]))
+}
+
+/// Moves all children to another node, then takes them out of it.
+fn reparents_and_removes(tree: &mut Tree) -> Result<bool, Fail> {
     tree.reparent_children_of(&node(1), Some(node(5)))?;
-    if !has_children(&tree, 1, &[]) || !has_children(&tree, 5, &[2, 3, 4]) {
+    if !has_children(tree, 1, &[]) || !has_children(tree, 5, &[2, 3, 4]) {
         return Ok(false);
     }
     tree.remove_children_of(&node(5))?;
-    Ok(has_children(&tree, 5, &[]) && is_run(&tree, 2, &[3, 4]))
+    Ok(has_children(tree, 5, &[]) && is_run(tree, 2, &[3, 4]))
+}
+
+fn reparents(alloc: Global) -> Result<bool, Fail> {
+    let mut tree = start(alloc)?;
+    reparents_and_removes(&mut tree)
 }
 
 fn replaces(alloc: Global) -> Result<bool, Fail> {
@@ -131,53 +146,79 @@ fn replaces(alloc: Global) -> Result<bool, Fail> {
     Ok(has_children(&tree, 1, &[2, 5, 4]) && is_run(&tree, 3, &[]))
 }
 
-fn wraps(alloc: Global) -> Result<bool, Fail> {
-    let mut tree = start(alloc)?;
+/// Unwraps a node of the list, which changes nothing, and wraps a node in another one.
+fn wraps_one(tree: &mut Tree) -> Result<bool, Fail> {
     tree.unwrap_node(&node(3))?;
-    if !has_children(&tree, 0, &[1]) || !has_children(&tree, 1, &[2, 3, 4]) {
+    if !has_children(tree, 0, &[1]) || !has_children(tree, 1, &[2, 3, 4]) {
         return Ok(false);
     }
     tree.wrap_node(&node(3), &node(5))?;
-    if !has_children(&tree, 1, &[2, 5, 4]) || !has_children(&tree, 5, &[3]) {
-        return Ok(false);
-    }
+    Ok(has_children(tree, 1, &[2, 5, 4]) && has_children(tree, 5, &[3]))
+}
+
+/// Unwraps what was wrapped.
+fn unwraps_one(tree: &mut Tree) -> Result<bool, Fail> {
     tree.unwrap_node(&node(3))?;
-    Ok(has_children(&tree, 1, &[2, 3, 4]) && has_children(&tree, 5, &[]) && is_run(&tree, 5, &[]))
+    Ok(has_children(tree, 1, &[2, 3, 4]) && has_children(tree, 5, &[]) && is_run(tree, 5, &[]))
+}
+
+fn wraps(alloc: Global) -> Result<bool, Fail> {
+    let mut tree = start(alloc)?;
+    Ok(wraps_one(&mut tree)? && unwraps_one(&mut tree)?)
 }
 
 #[test]
 fn moves_lists(rt: HostRuntime) -> Result<(), Fail> {
     let alloc = rt.alloc();
-    assert!(rt; appends(alloc)?);
+    assert!(rt; appends_two(alloc)?);
+    assert!(rt; appends_the_last(alloc)?);
     assert!(rt; prepends(alloc)?);
-    assert!(rt; inserts(alloc)?);
+    assert!(rt; inserts_before(alloc)?);
+    assert!(rt; inserts_after(alloc)?);
+    assert!(rt; inserts_where_it_is(alloc)?);
+    assert!(rt; reparents_to_none(alloc)?);
     assert!(rt; reparents(alloc)?);
     assert!(rt; replaces(alloc)?);
     assert!(rt; wraps(alloc)?);
     Ok(())
 }
 
-#[test]
-fn refuses_lists(rt: HostRuntime) -> Result<(), Fail> {
-    let mut tree = start(rt.alloc())?;
+/// Shows that nothing is put where that would make a cycle.
+fn refuses_cycles(rt: &impl Abort, tree: &mut Tree) {
     assert!(rt; tree.append_children_of(&node(4), &node(2)) == Err(EditFault::Cycle));
     assert!(rt; tree.prepend_children_of(&node(2), &node(4)) == Err(EditFault::Cycle));
     assert!(rt; tree.insert_before_of(&node(2), &node(2)) == Err(EditFault::Cycle));
+}
+
+/// Shows which nodes take no children, and which are never moved.
+fn refuses_nodes(rt: &impl Abort, tree: &mut Tree) {
     assert!(rt; tree.append_child_of(&node(6), &node(2)) == Err(EditFault::NoChildrenHere));
     assert!(rt; tree.append_child_of(&node(5), &node(0)) == Err(EditFault::RootOrFragment));
     assert!(rt; tree.insert_before_of(&node(0), &node(2)) == Err(EditFault::RootOrFragment));
     assert!(rt; tree.append_child_of(&node(5), &node(99)) == Err(EditFault::UnknownNode));
-    Ok(())
 }
 
 #[test]
-fn refuses_empty_lists(rt: HostRuntime) -> Result<(), Fail> {
+fn refuses_lists(rt: HostRuntime) -> Result<(), Fail> {
     let mut tree = start(rt.alloc())?;
+    refuses_cycles(&rt, &mut tree);
+    refuses_nodes(&rt, &mut tree);
+    Ok(())
+}
+
+/// Shows what is refused where there is nothing to move.
+fn refuses_empty(rt: &impl Abort, tree: &mut Tree) {
     let comment = Some(node(6));
     assert!(rt; tree.reparent_children_of(&node(5), comment) == Err(EditFault::NoChildrenHere));
     let nowhere = Some(node(99));
     assert!(rt; tree.reparent_children_of(&node(5), nowhere) == Err(EditFault::UnknownNode));
     assert!(rt; tree.wrap_node(&node(3), &node(6)) == Err(EditFault::NoChildrenHere));
-    assert!(rt; has_children(&tree, 1, &[2, 3, 4]));
+    assert!(rt; has_children(tree, 1, &[2, 3, 4]));
+}
+
+#[test]
+fn refuses_empty_lists(rt: HostRuntime) -> Result<(), Fail> {
+    let mut tree = start(rt.alloc())?;
+    refuses_empty(&rt, &mut tree);
     Ok(())
 }

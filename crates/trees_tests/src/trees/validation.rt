@@ -1,5 +1,6 @@
 //! Raw nodes that are a forest's, and raw nodes that are none, with the text of each fault.
 
+use crate::trees::calls::shows_count;
 use dom_nodes::link::Link;
 use dom_nodes::name::{LocalName, Namespace, QualName};
 use dom_nodes::node_data::{Attrs, Element, NodeData, TreeNode};
@@ -7,6 +8,7 @@ use dom_nodes::node_id::NodeId;
 use dom_nodes::text::Text;
 use dom_trees::tree::Tree;
 use std::alloc::Global;
+use std::process::Abort;
 use std::test::Fail;
 
 /// No link.
@@ -140,32 +142,52 @@ fn tells(alloc: Global, nodes: &[(Kind, [usize; 5])], text: &str) -> Result<(), 
     Err(Fail::new(format_args!("{fault}, and not {text}")))
 }
 
-#[test]
-fn accepts_a_tree(rt: HostRuntime) -> Result<(), Fail> {
-    let alloc = rt.alloc();
-    let (nodes, same) = changed(alloc, 0, 0, NO)?;
+/// The good tree, made of raw nodes.
+fn good_tree(rt: &(impl Abort + Alloc<A = Global>)) -> Result<Tree, Fail> {
+    let (nodes, same) = changed(rt.alloc(), 0, 0, NO)?;
     assert!(rt; same);
     let Ok(tree) = Tree::from_nodes(nodes) else {
         return Err(Fail::new("refused"));
     };
+    Ok(tree)
+}
+
+/// Shows that the tree has all nodes, and is found to be one.
+fn shows_good(rt: &impl Abort, tree: &Tree) {
     assert_eq!(rt; tree.len(), 7);
-    assert_eq!(rt; tree.descendant_ids_of(&NodeId::root())?.len(), 4);
     assert!(rt; tree.validate() == Ok(()));
+}
+
+#[test]
+fn accepts_a_tree(rt: HostRuntime) -> Result<(), Fail> {
+    let tree = good_tree(&rt)?;
+    shows_good(&rt, &tree);
+    shows_count(&rt, tree.descendant_ids_of(&NodeId::root())?, 4);
+    Ok(())
+}
+
+/// Shows that the good tree is taken with a link that is the same, and with no other one.
+fn shows_changed(
+    rt: &(impl Abort + Alloc<A = Global>),
+    at: usize,
+    which: usize,
+    to: usize,
+) -> Result<(), Fail> {
+    let (nodes, same) = changed(rt.alloc(), at, which, to)?;
+    assert_eq!(rt;
+        Tree::from_nodes(nodes).is_ok(),
+        same,
+        "node {at}, link {which} to {to}"
+    );
     Ok(())
 }
 
 #[test]
 fn refuses_each_changed_link(rt: HostRuntime) -> Result<(), Fail> {
-    let alloc = rt.alloc();
     for at in 0..7 {
         for which in 0..5 {
             for to in [0, 1, 2, 3, 4, 5, 6, 99, NO] {
-                let (nodes, same) = changed(alloc, at, which, to)?;
-                assert_eq!(rt;
-                    Tree::from_nodes(nodes).is_ok(),
-                    same,
-                    "node {at}, link {which} to {to}"
-                );
+                shows_changed(&rt, at, which, to)?;
             }
         }
     }
@@ -180,9 +202,20 @@ const ROOT_OF_ONE: (Kind, [usize; 5]) = (Kind::Document, [NO, NO, NO, 1, 1]);
 
 const LEAF: Kind = Kind::Element(NO);
 
-#[test]
-fn tells_of_links(rt: HostRuntime) -> Result<(), Fail> {
-    let alloc = rt.alloc();
+/// Shows a part of the text of a fault.
+fn shows_part(rt: &impl Abort, fault: String, part: &str) {
+    assert!(rt; fault.as_str().contains(part), "{fault}");
+}
+
+/// The text of the fault where the second node has the third number.
+fn misplaced(alloc: Global) -> Result<String, Fail> {
+    let mut nodes = raw(alloc, &[ROOT])?;
+    nodes.push(node(alloc, 2, LEAF, LONE)?)?;
+    refusal(alloc, nodes)
+}
+
+/// Links that don't fit are told.
+fn tells_of_each_link(alloc: Global) -> Result<(), Fail> {
     tells(alloc, &[], "Root node (NodeId(0)) missing")?;
     let placed = (Kind::Document, [0, NO, NO, NO, NO]);
     tells(
@@ -200,16 +233,18 @@ fn tells_of_links(rt: HostRuntime) -> Result<(), Fail> {
     )?;
     tells(alloc, &[ROOT_OF_ONE, (LEAF, LONE)], "is not linked")?;
     tells(alloc, &[ROOT, (LEAF, [0, NO, NO, NO, NO])], "is not linked")?;
-    let mut nodes = raw(alloc, &[ROOT])?;
-    nodes.push(node(alloc, 2, LEAF, LONE)?)?;
-    let fault = refusal(alloc, nodes)?;
-    assert!(rt; fault.as_str().contains("is not its place"), "{fault}");
     Ok(())
 }
 
 #[test]
-fn tells_of_cycles(rt: HostRuntime) -> Result<(), Fail> {
-    let alloc = rt.alloc();
+fn tells_of_links(rt: HostRuntime) -> Result<(), Fail> {
+    tells_of_each_link(rt.alloc())?;
+    shows_part(&rt, misplaced(rt.alloc())?, "is not its place");
+    Ok(())
+}
+
+/// Cycles by parents and by contents are told.
+fn tells_of_rings(alloc: Global) -> Result<(), Fail> {
     // nodes that name each other as parent
     let cycle = "Cycle detected";
     tells(
@@ -235,6 +270,13 @@ fn tells_of_cycles(rt: HostRuntime) -> Result<(), Fail> {
     )?;
     let below = (Kind::Element(0), [0, NO, NO, NO, NO]);
     tells(alloc, &[(Kind::Fragment, [NO, NO, NO, 1, 1]), below], cycle)?;
+    Ok(())
+}
+
+#[test]
+fn tells_of_cycles(rt: HostRuntime) -> Result<(), Fail> {
+    let alloc = rt.alloc();
+    tells_of_rings(alloc)?;
     // siblings without a parent that go round
     let round = "Cycle detected in siblings";
     tells(
@@ -279,27 +321,41 @@ fn tells_of_contents(rt: HostRuntime) -> Result<(), Fail> {
     Ok(())
 }
 
-#[test]
-fn meets_a_long_ring(rt: HostRuntime) -> Result<(), Fail> {
-    let alloc = rt.alloc();
-    let mut nodes = raw(alloc, &[(Kind::Document, [NO, NO, NO, NO, NO])])?;
+fn add_ring(nodes: &mut Vec<TreeNode>, alloc: Global) -> Result<(), Fail> {
     for id in 1..20000 {
         nodes.push(node(alloc, id, Kind::Element(NO), [id + 1, NO, NO, NO, NO])?)?;
     }
     nodes.push(node(alloc, 20000, Kind::Element(NO), [1, NO, NO, NO, NO])?)?;
-    let fault = refusal(alloc, nodes)?;
-    assert!(rt; fault.as_str().contains("Cycle detected"), "{fault}");
     Ok(())
+}
+
+#[test]
+fn meets_a_long_ring(rt: HostRuntime) -> Result<(), Fail> {
+    let alloc = rt.alloc();
+    let mut nodes = raw(alloc, &[(Kind::Document, [NO, NO, NO, NO, NO])])?;
+    add_ring(&mut nodes, alloc)?;
+    shows_part(&rt, refusal(alloc, nodes)?, "Cycle detected");
+    Ok(())
+}
+
+fn add_nested(nodes: &mut Vec<TreeNode>, alloc: Global) -> Result<(), Fail> {
+    for id in 1..20000 {
+        nodes.push(node(alloc, id, LEAF, [id - 1, NO, NO, id + 1, id + 1])?)?;
+    }
+    nodes.push(node(alloc, 20000, LEAF, [19999, NO, NO, NO, NO])?)?;
+    Ok(())
+}
+
+/// Shows that the nodes are a tree's.
+fn shows_a_tree(rt: &impl Abort, nodes: Vec<TreeNode>) {
+    assert!(rt; Tree::from_nodes(nodes).is_ok());
 }
 
 #[test]
 fn accepts_a_deep_tree(rt: HostRuntime) -> Result<(), Fail> {
     let alloc = rt.alloc();
     let mut nodes = raw(alloc, &[ROOT_OF_ONE])?;
-    for id in 1..20000 {
-        nodes.push(node(alloc, id, LEAF, [id - 1, NO, NO, id + 1, id + 1])?)?;
-    }
-    nodes.push(node(alloc, 20000, LEAF, [19999, NO, NO, NO, NO])?)?;
-    assert!(rt; Tree::from_nodes(nodes).is_ok());
+    add_nested(&mut nodes, alloc)?;
+    shows_a_tree(&rt, nodes);
     Ok(())
 }
