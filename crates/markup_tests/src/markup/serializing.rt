@@ -9,6 +9,7 @@ use dom_trees::node_ref::NodeRef;
 use dom_trees::tree::Tree;
 use std::alloc::Global;
 use std::io::{self, ErrorKind, Write};
+use std::process::Abort;
 use std::test::Fail;
 
 fn name(alloc: Global, ns: Namespace, local: &str) -> Result<QualName, Fail> {
@@ -36,52 +37,98 @@ fn text(alloc: Global, contents: &str) -> Result<NodeData, Fail> {
     })
 }
 
-/// Root 0 with the doctype 1, the paragraph 2 with the text 3, and the link 4 with the instruction
-/// 5.
-fn page(alloc: Global) -> Result<Tree, Fail> {
-    let root = NodeId::root();
-    let mut tree = Tree::new(alloc, NodeData::Document)?;
-    let doctype = NodeData::Doctype {
+fn doctype(alloc: Global) -> Result<NodeData, Fail> {
+    Ok(NodeData::Doctype {
         name: Text::new(alloc, "html")?,
         public_id: RareText::new(alloc, "-//W3C")?,
         system_id: RareText::new(alloc, "about:legacy-compat")?,
-    };
-    tree.append_child_data_of(&root, doctype)?;
+    })
+}
+
+fn instruction(alloc: Global) -> Result<NodeData, Fail> {
+    Ok(NodeData::ProcessingInstruction {
+        target: Text::new(alloc, "php")?,
+        contents: Text::new(alloc, "1 < 2")?,
+    })
+}
+
+fn comment(alloc: Global) -> Result<NodeData, Fail> {
+    Ok(NodeData::Comment {
+        contents: Text::new(alloc, " 1 < 2 ")?,
+    })
+}
+
+/// The attributes of the paragraph.
+fn plain_attrs(alloc: Global) -> Result<Attrs, Fail> {
     let mut attrs = Attrs::new(alloc);
     attrs.push(attr(alloc, Namespace::None, "title", "a\"b&<c>\u{a0}")?)?;
     attrs.push(attr(alloc, Namespace::None, "hidden", "")?)?;
-    let paragraph = tree.append_child_data_of(&root, element(alloc, "p", attrs)?)?;
-    tree.append_child_data_of(&paragraph, text(alloc, "1 < 2 & \"3\"\u{a0}é\u{a9}>")?)?;
+    Ok(attrs)
+}
+
+/// The attributes of the link.
+fn foreign_attrs(alloc: Global) -> Result<Attrs, Fail> {
     let mut attrs = Attrs::new(alloc);
     attrs.push(attr(alloc, Namespace::XLink, "href", "#x")?)?;
     attrs.push(attr(alloc, Namespace::XmlNs, "xmlns", "u")?)?;
     attrs.push(attr(alloc, Namespace::XmlNs, "xlink", "v")?)?;
     attrs.push(attr(alloc, Namespace::Xml, "lang", "en")?)?;
     attrs.push(attr(alloc, Namespace::Svg, "d", "")?)?;
-    let link = tree.append_child_data_of(&paragraph, element(alloc, "a", attrs)?)?;
-    let instruction = NodeData::ProcessingInstruction {
-        target: Text::new(alloc, "php")?,
-        contents: Text::new(alloc, "1 < 2")?,
-    };
-    tree.append_child_data_of(&link, instruction)?;
+    Ok(attrs)
+}
+
+/// Puts an element without attributes behind the node's children.
+fn add_element(tree: &mut Tree, parent: NodeId, local: &str) -> Result<NodeId, Fail> {
+    let alloc = tree.allocator();
+    Ok(tree.append_child_data_of(&parent, element(alloc, local, Attrs::new(alloc))?)?)
+}
+
+/// Puts a text behind the node's children.
+fn add_text(tree: &mut Tree, parent: NodeId, contents: &str) -> Result<(), Fail> {
+    let made = text(tree.allocator(), contents)?;
+    tree.append_child_data_of(&parent, made)?;
+    Ok(())
+}
+
+fn fill_page(tree: &mut Tree) -> Result<(), Fail> {
+    let alloc = tree.allocator();
+    let root = NodeId::root();
+    tree.append_child_data_of(&root, doctype(alloc)?)?;
+    let made = element(alloc, "p", plain_attrs(alloc)?)?;
+    let paragraph = tree.append_child_data_of(&root, made)?;
+    add_text(tree, paragraph, "1 < 2 & \"3\"\u{a0}é\u{a9}>")?;
+    let made = element(alloc, "a", foreign_attrs(alloc)?)?;
+    let link = tree.append_child_data_of(&paragraph, made)?;
+    tree.append_child_data_of(&link, instruction(alloc)?)?;
+    Ok(())
+}
+
+/// Root 0 with the doctype 1, the paragraph 2 with the text 3, and the link 4 with the instruction
+/// 5.
+fn page(alloc: Global) -> Result<Tree, Fail> {
+    let mut tree = Tree::new(alloc, NodeData::Document)?;
+    fill_page(&mut tree)?;
     Ok(tree)
+}
+
+fn fill_fragment(tree: &mut Tree) -> Result<(), Fail> {
+    let root = NodeId::root();
+    let void = add_element(tree, root, "br")?;
+    add_text(tree, void, "lost")?;
+    let script = add_element(tree, root, "script")?;
+    add_text(tree, script, "a < b && \u{a0}")?;
+    let bold = add_element(tree, script, "b")?;
+    add_text(tree, bold, "<&>")?;
+    let made = comment(tree.allocator())?;
+    tree.append_child_data_of(&root, made)?;
+    Ok(())
 }
 
 /// Root 0 with the break 1 with the text 2, the script 3 with the text 4 and the bold 5 with the
 /// text 6, and the comment 7.
 fn fragment(alloc: Global) -> Result<Tree, Fail> {
-    let root = NodeId::root();
     let mut tree = Tree::new(alloc, NodeData::Fragment)?;
-    let void = tree.append_child_data_of(&root, element(alloc, "br", Attrs::new(alloc))?)?;
-    tree.append_child_data_of(&void, text(alloc, "lost")?)?;
-    let script = tree.append_child_data_of(&root, element(alloc, "script", Attrs::new(alloc))?)?;
-    tree.append_child_data_of(&script, text(alloc, "a < b && \u{a0}")?)?;
-    let bold = tree.append_child_data_of(&script, element(alloc, "b", Attrs::new(alloc))?)?;
-    tree.append_child_data_of(&bold, text(alloc, "<&>")?)?;
-    let comment = NodeData::Comment {
-        contents: Text::new(alloc, " 1 < 2 ")?,
-    };
-    tree.append_child_data_of(&root, comment)?;
+    fill_fragment(&mut tree)?;
     Ok(tree)
 }
 
@@ -122,41 +169,56 @@ const FRAGMENT: [(&str, &str); 9] = [
     ("", ""),
 ];
 
-/// Whether every call gives these texts.
-fn gives(tree: &Tree, number: usize, whole: &str, inner: &str) -> Result<bool, Fail> {
-    let alloc = tree.allocator();
-    let node = NodeRef::new(NodeId::new(number).ok_or("id")?, tree);
-    let mut out: Vec<u8> = Vec::new(alloc);
+/// Whether the node is written with its own tags as this text.
+fn writes_whole(node: &NodeRef<'_>, whole: &str) -> Result<bool, Fail> {
+    let mut out: Vec<u8> = Vec::new(node.tree.allocator());
     node.write_html(TraversalScope::IncludeNode, &mut out)?;
-    let mut below: Vec<u8> = Vec::new(alloc);
-    let writable = SerializableNodeRef::from(NodeRef::new(node.id, tree));
-    writable.serialize(TraversalScope::ChildrenOnly, &mut below)?;
-    if out.as_slice() != whole.as_bytes() || below.as_slice() != inner.as_bytes() {
-        return Ok(false);
-    }
-    if node.html()?.as_str() != whole || node.inner_html()?.as_str() != inner {
-        return Ok(false);
-    }
-    let Some(tried) = node.try_html() else {
-        return Ok(false);
-    };
-    let Some(tried_inner) = node.try_inner_html() else {
-        return Ok(false);
-    };
-    Ok(tried.as_str() == whole && tried_inner.as_str() == inner)
+    Ok(out.as_slice() == whole.as_bytes())
 }
 
-#[test]
-fn writes(rt: HostRuntime) -> Result<(), Fail> {
-    let alloc = rt.alloc();
-    let tree = page(alloc)?;
+/// Whether what is below the node is written as this text.
+fn writes_inner(node: &NodeRef<'_>, inner: &str) -> Result<bool, Fail> {
+    let mut below: Vec<u8> = Vec::new(node.tree.allocator());
+    let writable = SerializableNodeRef::from(NodeRef::new(node.id, node.tree));
+    writable.serialize(TraversalScope::ChildrenOnly, &mut below)?;
+    Ok(below.as_slice() == inner.as_bytes())
+}
+
+/// Whether the node's HTML is this text, and its inner HTML that one.
+fn has_html(node: &NodeRef<'_>, whole: &str, inner: &str) -> Result<bool, Fail> {
+    Ok(node.html()?.as_str() == whole && node.inner_html()?.as_str() == inner)
+}
+
+/// Whether the calls that answer nothing where memory is refused give these texts.
+fn gives_tried(node: &NodeRef<'_>, whole: &str, inner: &str) -> bool {
+    matches!(node.try_html(), Some(tried) if tried.as_str() == whole)
+        && matches!(node.try_inner_html(), Some(tried) if tried.as_str() == inner)
+}
+
+/// Whether every call gives these texts.
+fn gives(tree: &Tree, number: usize, whole: &str, inner: &str) -> Result<bool, Fail> {
+    let node = NodeRef::new(NodeId::new(number).ok_or("id")?, tree);
+    Ok(
+        writes_whole(&node, whole)?
+            && writes_inner(&node, inner)?
+            && has_html(&node, whole, inner)?
+            && gives_tried(&node, whole, inner),
+    )
+}
+
+/// Shows the texts of each node of the page.
+fn shows_page(rt: &impl Abort, tree: &Tree) -> Result<(), Fail> {
     for (number, (whole, inner)) in PAGE.iter().enumerate() {
-        assert!(rt; gives(&tree, number, whole, inner)?, "page, node {number}");
+        assert!(rt; gives(tree, number, whole, inner)?, "page, node {number}");
     }
-    let tree = fragment(alloc)?;
+    Ok(())
+}
+
+/// Shows the texts of each node of the fragment.
+fn shows_fragment(rt: &impl Abort, tree: &Tree) -> Result<(), Fail> {
     for (number, (whole, inner)) in FRAGMENT.iter().enumerate() {
         assert!(rt;
-            gives(&tree, number, whole, inner)?,
+            gives(tree, number, whole, inner)?,
             "fragment, node {number}"
         );
     }
@@ -164,15 +226,31 @@ fn writes(rt: HostRuntime) -> Result<(), Fail> {
 }
 
 #[test]
-fn writes_deep_trees(rt: HostRuntime) -> Result<(), Fail> {
+fn writes(rt: HostRuntime) -> Result<(), Fail> {
     let alloc = rt.alloc();
-    let mut tree = Tree::new(alloc, NodeData::Document)?;
+    shows_page(&rt, &page(alloc)?)?;
+    shows_fragment(&rt, &fragment(alloc)?)
+}
+
+/// Puts elements into the tree, each in the one before it.
+fn nest(tree: &mut Tree) -> Result<(), Fail> {
     let mut at = NodeId::root();
     for _depth in 0..20000 {
-        at = tree.append_child_data_of(&at, element(alloc, "b", Attrs::new(alloc))?)?;
+        at = add_element(tree, at, "b")?;
     }
-    let written = NodeRef::new(NodeId::root(), &tree).html()?;
-    assert_eq!(rt; written.len(), 140000);
+    Ok(())
+}
+
+/// Shows how long the text is.
+fn shows_long(rt: &impl Abort, text: String, length: usize) {
+    assert_eq!(rt; text.len(), length);
+}
+
+#[test]
+fn writes_deep_trees(rt: HostRuntime) -> Result<(), Fail> {
+    let mut tree = Tree::new(rt.alloc(), NodeData::Document)?;
+    nest(&mut tree)?;
+    shows_long(&rt, NodeRef::new(NodeId::root(), &tree).html()?, 140000);
     Ok(())
 }
 
@@ -216,45 +294,77 @@ fn written_by(
     Ok((frail, result))
 }
 
+/// Shows what a writer that takes so many bytes a call, and fails after so many calls, got.
+fn shows_taken(
+    rt: &impl Abort,
+    (node, scope): (&NodeRef<'_>, TraversalScope),
+    (calls, most): (usize, usize),
+    wanted: Result<(), WriteFault>,
+    taken: &[u8],
+) -> Result<(), Fail> {
+    let (frail, result) = written_by(node, scope, calls, most)?;
+    assert!(rt; result == wanted);
+    assert_eq!(rt; frail.taken.as_slice(), taken);
+    Ok(())
+}
+
+/// Shows that a writer which takes no bytes is called once.
+fn shows_full(rt: &impl Abort, node: &NodeRef<'_>, scope: TraversalScope) -> Result<(), Fail> {
+    let (full, result) = written_by(node, scope, 1, 0)?;
+    assert!(rt; result == Err(WriteFault::Write));
+    assert_eq!(rt; full.calls, 0);
+    Ok(())
+}
+
+/// Shows what writers get that fail at each byte of the whole text, and one that doesn't fail.
+fn shows_stops(
+    rt: &impl Abort,
+    node: &NodeRef<'_>,
+    scope: TraversalScope,
+    whole: &str,
+) -> Result<(), Fail> {
+    let failed = Err(WriteFault::Write);
+    for calls in 0..whole.len() {
+        let taken = &whole.as_bytes()[..calls];
+        shows_taken(rt, (node, scope), (calls, 1), failed, taken)?;
+    }
+    shows_taken(
+        rt,
+        (node, scope),
+        (whole.len(), 3),
+        Ok(()),
+        whole.as_bytes(),
+    )?;
+    shows_full(rt, node, scope)
+}
+
 #[test]
 fn stops_where_the_writer_fails(rt: HostRuntime) -> Result<(), Fail> {
-    let alloc = rt.alloc();
-    let tree = page(alloc)?;
+    let tree = page(rt.alloc())?;
     let node = NodeRef::new(NodeId::root(), &tree);
+    shows_stops(&rt, &node, TraversalScope::IncludeNode, PAGE[0].0)?;
+    shows_stops(&rt, &node, TraversalScope::ChildrenOnly, PAGE[0].1)?;
     let link = NodeRef::new(NodeId::new(2).ok_or("id")?, &tree);
-    for (node, scope, whole) in [
-        (&node, TraversalScope::IncludeNode, PAGE[0].0),
-        (&node, TraversalScope::ChildrenOnly, PAGE[0].1),
-        (&link, TraversalScope::IncludeNode, PAGE[2].0),
-        (&link, TraversalScope::ChildrenOnly, PAGE[2].1),
-    ] {
-        for calls in 0..whole.len() {
-            let (frail, result) = written_by(node, scope, calls, 1)?;
-            assert!(rt; result == Err(WriteFault::Write));
-            assert_eq!(rt; frail.taken.as_slice(), &whole.as_bytes()[..calls]);
-        }
-        let (frail, result) = written_by(node, scope, whole.len(), 3)?;
-        assert!(rt; result.is_ok());
-        assert_eq!(rt; frail.taken.as_slice(), whole.as_bytes());
-        let (full, result) = written_by(node, scope, 1, 0)?;
-        assert!(rt; result == Err(WriteFault::Write));
-        assert_eq!(rt; full.calls, 0);
-    }
-    Ok(())
+    shows_stops(&rt, &link, TraversalScope::IncludeNode, PAGE[2].0)?;
+    shows_stops(&rt, &link, TraversalScope::ChildrenOnly, PAGE[2].1)
+}
+
+/// Shows that the node is not written to a writer that fails.
+fn shows_failed(rt: &impl Abort, node: &SerializableNodeRef<'_>, scope: TraversalScope) {
+    let mut frail = Frail {
+        taken: Vec::new(node.0.tree.allocator()),
+        most: 2,
+        calls: 5,
+    };
+    assert!(rt; node.serialize(scope, &mut frail) == Err(WriteFault::Write));
 }
 
 #[test]
 fn serialize_stops_where_the_writer_fails(rt: HostRuntime) -> Result<(), Fail> {
-    let alloc = rt.alloc();
-    let tree = page(alloc)?;
+    let tree = page(rt.alloc())?;
     let node = SerializableNodeRef::from(NodeRef::new(NodeId::new(2).ok_or("id")?, &tree));
     for scope in [TraversalScope::IncludeNode, TraversalScope::ChildrenOnly] {
-        let mut frail = Frail {
-            taken: Vec::new(alloc),
-            most: 2,
-            calls: 5,
-        };
-        assert!(rt; node.serialize(scope, &mut frail) == Err(WriteFault::Write));
+        shows_failed(&rt, &node, scope);
     }
     Ok(())
 }

@@ -1,5 +1,6 @@
 //! Pieces of Markdown and formatted texts, against cases from outside.
 
+use crate::markup::shows_text;
 use dom_markup::document::Document;
 use dom_md::cells::escape_table_cell_inplace;
 use dom_md::chunks::push_escaped_chunk;
@@ -9,46 +10,79 @@ use dom_md::node_md::{DocumentMd, NodeMd};
 use dom_nodes::node_id::NodeId;
 use dom_trees::node_ref::NodeRef;
 use std::alloc::Global;
+use std::process::Abort;
 use std::test::Fail;
 
-fn is_escaped(alloc: Global, chunk: &str, wanted: &str) -> Result<bool, Fail> {
-    let mut text = String::from_str(alloc, "x")?;
+/// Shows what is put behind a text for a chunk.
+fn shows_escaped(
+    rt: &(impl Abort + Alloc<A = Global>),
+    chunk: &str,
+    wanted: &str,
+) -> Result<(), Fail> {
+    let mut text = String::from_str(rt.alloc(), "x")?;
     push_escaped_chunk(&mut text, chunk, true, true)?;
-    Ok(text.as_str() == wanted)
+    shows_text(rt, text, wanted);
+    Ok(())
+}
+
+/// Shows how a cell of two bars is escaped.
+fn shows_cell(rt: &(impl Abort + Alloc<A = Global>)) -> Result<(), Fail> {
+    let mut cell = String::from_str(rt.alloc(), "||")?;
+    escape_table_cell_inplace(&mut cell)?;
+    shows_text(rt, cell, "\\|\\|");
+    Ok(())
 }
 
 #[test]
 fn escapes(rt: HostRuntime) -> Result<(), Fail> {
-    let alloc = rt.alloc();
-    assert!(rt; is_escaped(alloc, "\\*", "x\\\\\\*")?);
-    assert!(rt; is_escaped(alloc, "#h", "x\\#h")? && is_escaped(alloc, ">q", "x\\>q")?);
-    assert!(rt; is_escaped(alloc, "-l", "x\\-l")? && is_escaped(alloc, "+m", "x\\+m")?);
-    assert!(rt; is_escaped(alloc, "2024.", "x2024\\.")? && is_escaped(alloc, "5)", "x5\\)")?);
-    assert!(rt; is_escaped(alloc, ".", "x.")? && is_escaped(alloc, "==", "x\\==")?);
-    assert!(rt; is_escaped(alloc, "![an", "x\\!\\[an")? && is_escaped(alloc, "Bar!", "xBar!")?);
+    for (chunk, wanted) in [
+        ("\\*", "x\\\\\\*"),
+        ("#h", "x\\#h"),
+        (">q", "x\\>q"),
+        ("-l", "x\\-l"),
+        ("+m", "x\\+m"),
+        ("2024.", "x2024\\."),
+        ("5)", "x5\\)"),
+        (".", "x."),
+        ("==", "x\\=="),
+        ("![an", "x\\!\\[an"),
+        ("Bar!", "xBar!"),
+    ] {
+        shows_escaped(&rt, chunk, wanted)?;
+    }
     assert_eq!(rt; fence_len("a``b", 1), 3);
     assert_eq!(rt; fence_len("", 3), 3);
     assert_eq!(rt; fence_len("````", 3), 5);
-    let mut cell = String::from_str(alloc, "||")?;
-    escape_table_cell_inplace(&mut cell)?;
-    assert!(rt; cell.as_str() == "\\|\\|");
+    shows_cell(&rt)
+}
+
+/// Shows the formatted texts of the document and of its division.
+fn shows_formatted(rt: &impl Abort, document: &Document) -> Result<(), Fail> {
+    let div = NodeRef::new(NodeId::new(1).ok_or("id")?, &document.tree);
+    shows_text(rt, formatted_node(&div)?, "a b\n\nc\n\n");
+    shows_text(rt, document.formatted_text()?, "a b\n\nc");
+    Ok(())
+}
+
+/// Shows the formatted text of a text that is kept as it is.
+fn shows_kept(rt: &impl Abort, kept: &Document) -> Result<(), Fail> {
+    shows_text(rt, kept.formatted_text()?, "a");
     Ok(())
 }
 
 #[test]
 fn formats_a_node(rt: HostRuntime) -> Result<(), Fail> {
-    let document = Document::parse(rt.alloc(), "<div><p>a  b</p><p>c</p></div>")?;
-    let div = NodeRef::new(NodeId::new(1).ok_or("id")?, &document.tree);
-    assert!(rt; formatted_node(&div)?.as_str() == "a b\n\nc\n\n");
-    assert!(rt; document.formatted_text()?.as_str() == "a b\n\nc");
-    let kept = Document::fragment(rt.alloc(), "<pre>a&nbsp;\n</pre>")?;
-    assert!(rt; kept.formatted_text()?.as_str() == "a");
-    Ok(())
+    let alloc = rt.alloc();
+    shows_formatted(
+        &rt,
+        &Document::parse(alloc, "<div><p>a  b</p><p>c</p></div>")?,
+    )?;
+    shows_kept(&rt, &Document::fragment(alloc, "<pre>a&nbsp;\n</pre>")?)
 }
 
 #[test]
 fn escapes_values(rt: HostRuntime) -> Result<(), Fail> {
     let escaped = dom_md::html_escape(rt.alloc(), "/?q=&copy;\u{a0}\"")?;
-    assert!(rt; escaped.as_str() == "/?q=&amp;copy;&nbsp;&quot;");
+    shows_text(&rt, escaped, "/?q=&amp;copy;&nbsp;&quot;");
     Ok(())
 }
