@@ -53,13 +53,18 @@ pub(crate) fn append(alloc: Global, tree: &mut Tree, row: Row<'_>) -> Result<(),
     Ok(())
 }
 
-fn numbers(alloc: Global, tree: &Tree, text: &str) -> Result<Vec<usize>, Fail> {
-    let matcher = Matcher::new(alloc, text)?;
+/// The numbers of the nodes.
+pub(crate) fn ids_of(alloc: Global, ids: &[NodeId]) -> Result<Vec<usize>, Fail> {
     let mut numbers = Vec::new(alloc);
-    for id in &select_below(tree, &NodeId::root(), &matcher)? {
+    for id in ids {
         numbers.push(id.value())?;
     }
     Ok(numbers)
+}
+
+fn numbers(alloc: Global, tree: &Tree, text: &str) -> Result<Vec<usize>, Fail> {
+    let matcher = Matcher::new(alloc, text)?;
+    ids_of(alloc, &select_below(tree, &NodeId::root(), &matcher)?)
 }
 
 /// Shows which numbers a list has.
@@ -179,12 +184,22 @@ fn shows_some(rt: &impl Abort, numbers: Vec<usize>, wanted: bool) {
     assert!(rt; !numbers.is_empty() == wanted);
 }
 
+/// Shows whether a selector selects something in a document of one element.
+fn shows_attribute(
+    rt: &(impl Abort + Alloc<A = Global>),
+    row: Row<'_>,
+    text: &str,
+    wanted: bool,
+) -> Result<(), Fail> {
+    let tree = tree_of(rt.alloc(), &[row])?;
+    shows_some(rt, numbers(rt.alloc(), &tree, text)?, wanted);
+    Ok(())
+}
+
 #[test]
 fn asks_for_attributes(rt: HostRuntime) -> Result<(), Fail> {
-    let alloc = rt.alloc();
     for (attr, value, text, wanted) in ATTRIBUTES {
-        let tree = tree_of(alloc, &[(0, "p", attr, value)])?;
-        shows_some(&rt, numbers(alloc, &tree, text)?, wanted);
+        shows_attribute(&rt, (0, "p", attr, value), text, wanted)?;
     }
     shows_selected(&rt, &LINKS, ":any-link", &[1, 3])
 }
