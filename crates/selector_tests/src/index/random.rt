@@ -151,29 +151,58 @@ fn are_those(nodes: &[NodeRef<'_>], ids: &[NodeId]) -> bool {
     true
 }
 
-/// How many nodes a selector selects below random roots of a random forest; None where the two ways
-/// differ.
-fn same(alloc: Global, seed: u64) -> Option<usize> {
-    let mut dice = Dice { state: seed };
-    let source = markup(alloc, &mut dice)?;
-    let mut document = Document::parse(alloc, source.as_str()).ok()?;
-    cut_some(&mut document.tree, &mut dice)?;
-    let tree = &document.tree;
-    let mut roots = vec![in alloc; NodeId::root()].ok()?;
+/// The root, and up to two other nodes.
+fn some_roots(tree: &Tree, dice: &mut Dice) -> Option<Vec<NodeId>> {
+    let mut roots = vec![in tree.allocator(); NodeId::root()].ok()?;
     for _ in 0..dice.roll(3) {
         roots
             .push(NodeId::new(dice.roll(tree.len().saturating_add(1)))?)
             .ok()?;
     }
-    let matcher = Matcher::new(alloc, selector(alloc, &mut dice)?.as_str()).ok()?;
-    let asked = select_below_all(tree, &roots, &matcher).ok()?;
+    Some(roots)
+}
+
+/// A random forest.
+fn forest(alloc: Global, dice: &mut Dice) -> Option<Document> {
+    let source = markup(alloc, dice)?;
+    let mut document = Document::parse(alloc, source.as_str()).ok()?;
+    cut_some(&mut document.tree, dice)?;
+    Some(document)
+}
+
+/// A random matcher.
+fn some_matcher(alloc: Global, dice: &mut Dice) -> Option<Matcher> {
+    Matcher::new(alloc, selector(alloc, dice)?.as_str()).ok()
+}
+
+/// Whether tables select these nodes.
+fn by_tables(tree: &Tree, roots: &[NodeId], matcher: &Matcher, asked: &[NodeId]) -> Option<bool> {
     let mut index = TreeIndex::new(tree).ok()?;
-    let tables = index.select(&matcher, &roots).ok()?;
-    let chosen = select_nodes(tree, &roots, &matcher).ok()?;
-    if !are_those(&tables, &asked) || !are_those(&chosen, &asked) {
+    Some(are_those(&index.select(matcher, roots).ok()?, asked))
+}
+
+/// Whether the choice between tables and asking selects these nodes.
+fn by_choice(tree: &Tree, roots: &[NodeId], matcher: &Matcher, asked: &[NodeId]) -> Option<bool> {
+    Some(are_those(&select_nodes(tree, roots, matcher).ok()?, asked))
+}
+
+/// How many nodes a matcher selects below the roots; None where the ways differ.
+fn same_below(tree: &Tree, roots: &[NodeId], matcher: &Matcher) -> Option<usize> {
+    let asked = select_below_all(tree, roots, matcher).ok()?;
+    if !by_tables(tree, roots, matcher, &asked)? || !by_choice(tree, roots, matcher, &asked)? {
         return None;
     }
     Some(asked.len())
+}
+
+/// How many nodes a selector selects below random roots of a random forest; None where the two ways
+/// differ.
+fn same(alloc: Global, seed: u64) -> Option<usize> {
+    let mut dice = Dice { state: seed };
+    let document = forest(alloc, &mut dice)?;
+    let roots = some_roots(&document.tree, &mut dice)?;
+    let matcher = some_matcher(alloc, &mut dice)?;
+    same_below(&document.tree, &roots, &matcher)
 }
 
 #[test]
