@@ -58,6 +58,16 @@ fn words(alloc: Global, texts: &[&str]) -> Result<Vec<String>, AllocError> {
     Ok(words)
 }
 
+/// Shows that bytes are those of a text.
+fn shows_bytes(rt: &impl Abort, bytes: &[u8], wanted: &str) {
+    assert_eq!(rt; bytes, wanted.as_bytes());
+}
+
+/// Shows how a run ended.
+fn shows_end(rt: &impl Abort, end: Result<(), RunFault>, wanted: Result<(), RunFault>) {
+    assert_eq!(rt; end, wanted);
+}
+
 /// Shows what a script writes over markup, and how it ends.
 fn shows_run(
     rt: &(impl Abort + Alloc<A = Global>),
@@ -67,8 +77,9 @@ fn shows_run(
     end: Result<(), RunFault>,
 ) {
     let mut out: Vec<u8> = Vec::new(rt.alloc());
-    assert_eq!(rt; run(rt.alloc(), markup, script, &mut out), end);
-    assert_eq!(rt; out.as_slice(), want.as_bytes());
+    let ended = run(rt.alloc(), markup, script, &mut out);
+    shows_end(rt, ended, end);
+    shows_bytes(rt, out.as_slice(), want);
 }
 
 /// Shows what each script writes over its markup.
@@ -158,6 +169,11 @@ const DRIVES: [(&[&str], &str, u8, &str); 9] = [
     (&["--md", "--md"], PAGE, 64, USAGE),
 ];
 
+/// Shows the status of a drive.
+fn shows_status(rt: &impl Abort, status: u8, wanted: u8) {
+    assert_eq!(rt; status, wanted);
+}
+
 /// Shows the status, what is written and the line that is told.
 fn shows_drive(
     rt: &(impl Abort + Alloc<A = Global>),
@@ -170,12 +186,19 @@ fn shows_drive(
     let mut out: Vec<u8> = Vec::new(alloc);
     let mut err: Vec<u8> = Vec::new(alloc);
     let mut input = markup.as_bytes();
-    assert_eq!(rt; drive(alloc, args, &mut input, &mut out, &mut err), status);
-    assert_eq!(rt; out.as_slice(), told.0.as_bytes());
-    assert_eq!(rt; err.as_slice(), told.1.as_bytes());
+    let ended = drive(alloc, args, &mut input, &mut out, &mut err);
+    shows_status(rt, ended, status);
+    shows_bytes(rt, out.as_slice(), told.0);
+    shows_bytes(rt, err.as_slice(), told.1);
 }
 
-/// Shows how much is written where that comes to an end, and the line that is told.
+/// Shows that a page and a line feed were written, or nothing where the status isn't 0.
+fn shows_page(rt: &impl Abort, status: u8, out: &[u8]) {
+    let written = if status == 0 { PAGE.len() + 1 } else { 0 };
+    assert_eq!(rt; out.len(), written);
+}
+
+/// Shows the status, how much is written and the line that is told.
 fn shows_length(
     rt: &(impl Abort + Alloc<A = Global>),
     args: &[String],
@@ -187,10 +210,10 @@ fn shows_length(
     let mut out: Vec<u8> = Vec::new(alloc);
     let mut err: Vec<u8> = Vec::new(alloc);
     let mut input = markup.as_bytes();
-    assert_eq!(rt; drive(alloc, args, &mut input, &mut out, &mut err), status);
-    assert_eq!(rt; err.as_slice(), line.as_bytes());
-    let written = if status == 0 { PAGE.len() + 1 } else { 0 };
-    assert_eq!(rt; out.len(), written);
+    let ended = drive(alloc, args, &mut input, &mut out, &mut err);
+    shows_status(rt, ended, status);
+    shows_bytes(rt, err.as_slice(), line);
+    shows_page(rt, status, out.as_slice());
 }
 
 /// Shows that no status waits on the line.
@@ -202,7 +225,8 @@ fn shows_deaf(rt: &(impl Abort + Alloc<A = Global>), args: &[String], markup: &s
         left: 0,
         taken: Vec::new(alloc),
     };
-    assert_eq!(rt; drive(alloc, args, &mut input, &mut out, &mut deaf), status);
+    let ended = drive(alloc, args, &mut input, &mut out, &mut deaf);
+    shows_status(rt, ended, status);
 }
 
 #[test]
@@ -246,7 +270,7 @@ fn shows_line(rt: &impl Abort, status: u8, told: &[u8]) {
     } else {
         "dq: write failed\n"
     };
-    assert_eq!(rt; told, line.as_bytes());
+    shows_bytes(rt, told, line);
 }
 
 /// Shows what a writer took.
@@ -283,9 +307,9 @@ fn shows_lengths(
 ) -> Result<(), Fail> {
     let args = words(rt.alloc(), &[word])?;
     for left in 0..whole.len() {
-        assert_eq!(rt; status_with(rt, &args, whole, left), 5);
+        shows_status(rt, status_with(rt, &args, whole, left), 5);
     }
-    assert_eq!(rt; status_with(rt, &args, whole, whole.len()), 0);
+    shows_status(rt, status_with(rt, &args, whole, whole.len()), 0);
     Ok(())
 }
 
@@ -299,12 +323,10 @@ fn shows_no_reader(
     let alloc = rt.alloc();
     let mut out: Vec<u8> = Vec::new(alloc);
     let mut err: Vec<u8> = Vec::new(alloc);
-    assert_eq!(rt;
-        drive(alloc, args, &mut NoReader(kind), &mut out, &mut err),
-        5
-    );
-    assert_eq!(rt; err.as_slice(), line.as_bytes());
-    assert!(rt; out.is_empty());
+    let ended = drive(alloc, args, &mut NoReader(kind), &mut out, &mut err);
+    shows_status(rt, ended, 5);
+    shows_bytes(rt, err.as_slice(), line);
+    shows_bytes(rt, out.as_slice(), "");
 }
 
 #[test]

@@ -147,20 +147,22 @@ fn script_with(alloc: Global, line: &str) -> Result<String, Fail> {
     Ok(script)
 }
 
-/// Shows whether a script ends well, and that it writes nothing where it doesn't.
-fn shows_script(rt: &(impl Abort + Alloc<A = Global>), script: &str, line: &str, good: bool) {
+/// Shows how a script with that line ended, and that it wrote nothing where it didn't end well.
+fn shows_end(rt: &impl Abort, end: Result<(), RunFault>, out: &[u8], line: &str, good: bool) {
     let want = if good {
         Ok(())
     } else {
         Err(RunFault::BadScript(3))
     };
-    let mut out: Vec<u8> = Vec::new(rt.alloc());
-    assert_eq!(rt;
-        run(rt.alloc(), b"<p>a</p>", script.as_bytes(), &mut out),
-        want,
-        "{line}"
-    );
+    assert_eq!(rt; end, want, "{line}");
     assert!(rt; out.is_empty() != good, "{line}");
+}
+
+/// Shows whether a script ends well, and that it writes nothing where it doesn't.
+fn shows_script(rt: &(impl Abort + Alloc<A = Global>), script: &str, line: &str, good: bool) {
+    let mut out: Vec<u8> = Vec::new(rt.alloc());
+    let end = run(rt.alloc(), b"<p>a</p>", script.as_bytes(), &mut out);
+    shows_end(rt, end, out.as_slice(), line, good);
 }
 
 #[test]
@@ -188,7 +190,8 @@ const PUT: [(&str, &str, &str, Result<(), RunFault>); 7] = [
     ),
     (
         "<p>a</p>",
-        "select p\nbefore-html 1<!doctype x>\nafter-html 2<b></b>\nprepend-html 3\ndocument\nset-html &lt;\nhtml",
+        "select p\nbefore-html 1<!doctype x>\nafter-html 2<b></b>\nprepend-html 3\ndocument\n\
+            set-html &lt;\nhtml",
         "1<p>3a</p>2<b></b>\n<p>&lt;</p>\n",
         Ok(()),
     ),

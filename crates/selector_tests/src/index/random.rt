@@ -1,5 +1,5 @@
-//! Random selectors over random forests: tables, and the choice between them and asking, select what
-//! asking each node does.
+//! Random selectors over random forests: tables, and the choice between them and asking, select
+//! what asking each node does.
 
 use dom_index::index::TreeIndex;
 use dom_index::selecting::select_nodes;
