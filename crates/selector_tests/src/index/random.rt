@@ -81,21 +81,26 @@ fn add(text: &mut String, word: &str) -> Option<()> {
     text.push_str(word).ok()
 }
 
+/// Adds a leaf, an end or a start.
+fn add_piece(text: &mut String, open: &mut Vec<usize>, dice: &mut Dice) -> Option<()> {
+    match dice.roll(4) {
+        0 => add(text, dice.pick(&LEAVES)),
+        1 => close(text, open.pop()),
+        _ => {
+            let n = dice.roll(6);
+            add(text, STARTS.get(n)?)?;
+            open.push(n).ok()
+        }
+    }
+}
+
 /// A few elements, texts and comments.
 fn markup(alloc: Global, dice: &mut Dice) -> Option<String> {
     let mut text = String::new(alloc);
     let mut open: Vec<usize> = Vec::new(alloc);
     let pieces = dice.roll(24);
     for _ in 0..pieces {
-        match dice.roll(4) {
-            0 => add(&mut text, dice.pick(&LEAVES))?,
-            1 => close(&mut text, open.pop())?,
-            _ => {
-                let n = dice.roll(6);
-                add(&mut text, STARTS.get(n)?)?;
-                open.push(n).ok()?;
-            }
-        }
+        add_piece(&mut text, &mut open, dice)?;
     }
     for _ in 0..open.len() {
         close(&mut text, open.pop())?;
@@ -112,6 +117,16 @@ fn close(text: &mut String, name: Option<usize>) -> Option<()> {
     add(text, ">")
 }
 
+/// Adds up to three compounds.
+fn add_compounds(text: &mut String, dice: &mut Dice) -> Option<()> {
+    add(text, dice.pick(&COMPOUNDS))?;
+    for _ in 0..dice.roll(3) {
+        add(text, dice.pick(&COMBINATORS))?;
+        add(text, dice.pick(&COMPOUNDS))?;
+    }
+    Some(())
+}
+
 /// One selector or two, each of up to three compounds.
 fn selector(alloc: Global, dice: &mut Dice) -> Option<String> {
     let mut text = String::new(alloc);
@@ -119,11 +134,7 @@ fn selector(alloc: Global, dice: &mut Dice) -> Option<String> {
         if n > 0 {
             add(&mut text, ", ")?;
         }
-        add(&mut text, dice.pick(&COMPOUNDS))?;
-        for _ in 0..dice.roll(3) {
-            add(&mut text, dice.pick(&COMBINATORS))?;
-            add(&mut text, dice.pick(&COMPOUNDS))?;
-        }
+        add_compounds(&mut text, dice)?;
     }
     Some(text)
 }

@@ -29,10 +29,14 @@ fn are_those(nodes: &[NodeRef<'_>], asked: &[NodeId]) -> Result<(), Fail> {
 /// How many nodes are selected below the roots, and how many tests that asks, where each node is
 /// the one that asking every node gives.
 fn counts(alloc: Global, tree: &Tree, roots: &[NodeId], text: &str) -> Result<(usize, u128), Fail> {
-    let matcher = Matcher::new(alloc, text)?;
+    counts_with(tree, roots, &Matcher::new(alloc, text)?)
+}
+
+/// The same for a matcher.
+fn counts_with(tree: &Tree, roots: &[NodeId], matcher: &Matcher) -> Result<(usize, u128), Fail> {
     let mut index = TreeIndex::new(tree)?;
-    let found = index.select(&matcher, roots)?;
-    are_those(&found, &select_below_all(tree, roots, &matcher)?)?;
+    let found = index.select(matcher, roots)?;
+    are_those(&found, &select_below_all(tree, roots, matcher)?)?;
     Ok((found.len(), index.tests()))
 }
 

@@ -1,9 +1,9 @@
 //! What nodes answer in small trees, and selections below several of them.
 
-use crate::select::selecting::{ids_of, shows_numbers};
+use crate::select::selecting::{Row, element, ids_of, shows_numbers, text_of};
 use dom_nodes::case_sensitivity::CaseSensitivity;
-use dom_nodes::name::{Attr, LocalName, Namespace, QualName};
-use dom_nodes::node_data::{Attrs, Element, NodeData};
+use dom_nodes::name::{LocalName, Namespace};
+use dom_nodes::node_data::NodeData;
 use dom_nodes::node_id::NodeId;
 use dom_nodes::text::Text;
 use dom_select::matcher::Matcher;
@@ -19,48 +19,40 @@ use std::alloc::Global;
 use std::process::Abort;
 use std::test::Fail;
 
-fn name(alloc: Global, ns: Namespace, local: &str) -> Result<QualName, Fail> {
-    Ok(QualName {
-        prefix: None,
-        ns,
-        local: LocalName::new(alloc, local)?,
-    })
-}
-
-/// An element with an attribute, where its name isn't empty.
-fn element(alloc: Global, local: &str, attr: &str, value: &str) -> Result<NodeData, Fail> {
-    let mut attrs = Attrs::new(alloc);
-    if !attr.is_empty() {
-        attrs.push(Attr {
-            name: name(alloc, Namespace::None, attr)?,
-            value: Text::new(alloc, value)?,
-        })?;
-    }
-    let name = name(alloc, Namespace::Html, local)?;
-    Ok(NodeData::Element(Element::new(name, attrs, None, false)))
-}
-
-fn text(alloc: Global, contents: &str) -> Result<NodeData, Fail> {
-    Ok(NodeData::Text {
-        contents: Text::new(alloc, contents)?,
-    })
-}
-
 fn number(value: usize) -> Result<NodeId, Fail> {
     Ok(NodeId::new(value).ok_or("number")?)
+}
+
+/// Adds an element.
+fn add_element(tree: &mut Tree, above: &NodeId, row: Row<'_>) -> Result<NodeId, Fail> {
+    let data = element(tree.allocator(), row)?;
+    Ok(tree.append_child_data_of(above, data)?)
+}
+
+/// Adds a text.
+fn add_text(tree: &mut Tree, above: &NodeId, text: &str) -> Result<(), Fail> {
+    let data = text_of(tree.allocator(), text)?;
+    tree.append_child_data_of(above, data)?;
+    Ok(())
+}
+
+/// Adds the nodes of the page.
+fn fill(tree: &mut Tree) -> Result<(), Fail> {
+    let root = NodeId::root();
+    let p = add_element(tree, &root, (0, "p", "id", "Ab"))?;
+    add_text(tree, &p, "ab")?;
+    let i = add_element(tree, &p, (0, "i", "", ""))?;
+    add_text(tree, &i, "cd")?;
+    let a = add_element(tree, &root, (0, "a", "href", ""))?;
+    add_text(tree, &a, "x")?;
+    add_element(tree, &root, (0, "br", "", ""))?;
+    Ok(())
 }
 
 /// `<p id="Ab">ab<i>cd</i></p><a href="">x</a><br>`: nodes 1, 2, 3, 4, then 5, 6, then 7.
 fn page(alloc: Global) -> Result<Tree, Fail> {
     let mut tree = Tree::new(alloc, NodeData::Document)?;
-    let root = NodeId::root();
-    let p = tree.append_child_data_of(&root, element(alloc, "p", "id", "Ab")?)?;
-    tree.append_child_data_of(&p, text(alloc, "ab")?)?;
-    let i = tree.append_child_data_of(&p, element(alloc, "i", "", "")?)?;
-    tree.append_child_data_of(&i, text(alloc, "cd")?)?;
-    let a = tree.append_child_data_of(&root, element(alloc, "a", "href", "")?)?;
-    tree.append_child_data_of(&a, text(alloc, "x")?)?;
-    tree.append_child_data_of(&root, element(alloc, "br", "", "")?)?;
+    fill(&mut tree)?;
     Ok(tree)
 }
 

@@ -24,15 +24,27 @@ fn name(alloc: Global, ns: Namespace, local: &str) -> Result<QualName, Fail> {
     })
 }
 
-fn element(alloc: Global, row: Row<'_>) -> Result<NodeData, Fail> {
-    let (_, local, attr, value) = row;
+/// An attribute of that name and value.
+fn attr_of(alloc: Global, ns: Namespace, local: &str, value: &str) -> Result<Attr, Fail> {
+    Ok(Attr {
+        name: name(alloc, ns, local)?,
+        value: Text::new(alloc, value)?,
+    })
+}
+
+/// The attribute alone, or none where its name is empty.
+fn attrs_of(alloc: Global, attr: &str, value: &str) -> Result<Attrs, Fail> {
     let mut attrs = Attrs::new(alloc);
     if !attr.is_empty() {
-        attrs.push(Attr {
-            name: name(alloc, Namespace::None, attr)?,
-            value: Text::new(alloc, value)?,
-        })?;
+        attrs.push(attr_of(alloc, Namespace::None, attr, value)?)?;
     }
+    Ok(attrs)
+}
+
+/// An element, whichever stands above it.
+pub(crate) fn element(alloc: Global, row: Row<'_>) -> Result<NodeData, Fail> {
+    let (_, local, attr, value) = row;
+    let attrs = attrs_of(alloc, attr, value)?;
     let name = name(alloc, Namespace::Html, local)?;
     Ok(NodeData::Element(Element::new(name, attrs, None, false)))
 }
@@ -204,24 +216,26 @@ fn asks_for_attributes(rt: HostRuntime) -> Result<(), Fail> {
     shows_selected(&rt, &LINKS, ":any-link", &[1, 3])
 }
 
-/// A document with the SVG element `linearGradient`, which has attributes of two namespaces, and a
-/// text in it.
+/// The SVG element `linearGradient`, which has attributes of two namespaces.
+fn gradient(alloc: Global) -> Result<NodeData, Fail> {
+    let mut attrs = Attrs::new(alloc);
+    attrs.push(attr_of(alloc, Namespace::XLink, "href", "x")?)?;
+    attrs.push(attr_of(alloc, Namespace::None, "viewBox", "y")?)?;
+    let name = name(alloc, Namespace::Svg, "linearGradient")?;
+    Ok(NodeData::Element(Element::new(name, attrs, None, false)))
+}
+
+/// A text.
+pub(crate) fn text_of(alloc: Global, text: &str) -> Result<NodeData, Fail> {
+    let contents = Text::new(alloc, text)?;
+    Ok(NodeData::Text { contents })
+}
+
+/// A document with that element, and a text in it.
 fn graphic(alloc: Global) -> Result<Tree, Fail> {
     let mut tree = Tree::new(alloc, NodeData::Document)?;
-    let mut attrs = Attrs::new(alloc);
-    attrs.push(Attr {
-        name: name(alloc, Namespace::XLink, "href")?,
-        value: Text::new(alloc, "x")?,
-    })?;
-    attrs.push(Attr {
-        name: name(alloc, Namespace::None, "viewBox")?,
-        value: Text::new(alloc, "y")?,
-    })?;
-    let gradient = name(alloc, Namespace::Svg, "linearGradient")?;
-    let gradient = Element::new(gradient, attrs, None, false);
-    let gradient = tree.append_child_data_of(&NodeId::root(), NodeData::Element(gradient))?;
-    let contents = Text::new(alloc, "text")?;
-    tree.append_child_data_of(&gradient, NodeData::Text { contents })?;
+    let gradient = tree.append_child_data_of(&NodeId::root(), gradient(alloc)?)?;
+    tree.append_child_data_of(&gradient, text_of(alloc, "text")?)?;
     Ok(tree)
 }
 
