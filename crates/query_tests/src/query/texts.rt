@@ -1,8 +1,9 @@
 //! The texts of faults, and the lines that the program tells.
 
+use crate::query::{shows_drive, shows_run};
 use dom_query::{
     EditFault, MarkupFault, MarkupFaultKind, OutOfMemory, RunFault, SelectorFault, ValidateFault,
-    WriteFault, drive, run,
+    WriteFault,
 };
 use std::alloc::Global;
 use std::fmt::Display;
@@ -75,49 +76,50 @@ fn texts_of_edit_faults(rt: HostRuntime) -> Result<(), Fail> {
     Ok(())
 }
 
+const RAW_FAULTS: [(ValidateFault, &str); 13] = [
+    (ValidateFault::NoRoot, "Root node (NodeId(0)) missing"),
+    (
+        ValidateFault::RootPlaced,
+        "Root node (NodeId(0)) must have no parent",
+    ),
+    (ValidateFault::BadId, "The id of a node is not its place"),
+    (
+        ValidateFault::UnknownLink,
+        "Invalid parent, first_child, last_child, prev_sibling or next_sibling reference",
+    ),
+    (
+        ValidateFault::BadLink,
+        "prev_sibling or next_sibling mismatch",
+    ),
+    (ValidateFault::Cycle, "Cycle detected"),
+    (
+        ValidateFault::NotLinked,
+        "A node is not linked to its parent",
+    ),
+    (ValidateFault::SiblingCycle, "Cycle detected in siblings"),
+    (
+        ValidateFault::NoChildrenHere,
+        "The parent of a node may not have children",
+    ),
+    (
+        ValidateFault::PlacedFragment,
+        "A document or fragment is placed",
+    ),
+    (ValidateFault::BadContents, "bad template contents"),
+    (ValidateFault::TooManyNodes, "too many nodes"),
+    (ValidateFault::Memory, "out of memory"),
+];
+
 #[test]
 fn texts_of_raw_nodes(rt: HostRuntime) -> Result<(), Fail> {
-    for (fault, want) in [
-        (ValidateFault::NoRoot, "Root node (NodeId(0)) missing"),
-        (
-            ValidateFault::RootPlaced,
-            "Root node (NodeId(0)) must have no parent",
-        ),
-        (ValidateFault::BadId, "The id of a node is not its place"),
-        (
-            ValidateFault::UnknownLink,
-            "Invalid parent, first_child, last_child, prev_sibling or next_sibling reference",
-        ),
-        (
-            ValidateFault::BadLink,
-            "prev_sibling or next_sibling mismatch",
-        ),
-        (ValidateFault::Cycle, "Cycle detected"),
-        (
-            ValidateFault::NotLinked,
-            "A node is not linked to its parent",
-        ),
-        (ValidateFault::SiblingCycle, "Cycle detected in siblings"),
-        (
-            ValidateFault::NoChildrenHere,
-            "The parent of a node may not have children",
-        ),
-        (
-            ValidateFault::PlacedFragment,
-            "A document or fragment is placed",
-        ),
-        (ValidateFault::BadContents, "bad template contents"),
-        (ValidateFault::TooManyNodes, "too many nodes"),
-        (ValidateFault::Memory, "out of memory"),
-    ] {
+    for (fault, want) in RAW_FAULTS {
         shows(&rt, fault, want)?;
     }
     Ok(())
 }
 
-#[test]
-fn tells_a_line_of_five_digits(rt: HostRuntime) -> Result<(), Fail> {
-    let alloc = rt.alloc();
+/// The one argument: a script whose line 10203 is none.
+fn long_script(alloc: Global) -> Result<Vec<String>, Fail> {
     let mut script = String::new(alloc);
     for _ in 0..10202 {
         script.push_str("\n")?;
@@ -125,27 +127,30 @@ fn tells_a_line_of_five_digits(rt: HostRuntime) -> Result<(), Fail> {
     script.push_str("x")?;
     let mut args: Vec<String> = Vec::new(alloc);
     args.push(script)?;
-    let mut out: Vec<u8> = Vec::new(alloc);
-    let mut err: Vec<u8> = Vec::new(alloc);
-    assert_eq!(rt;
-        drive(alloc, &args, &mut b"".as_slice(), &mut out, &mut err),
-        2
-    );
-    assert_eq!(rt; err.as_slice(), b"dq: script: line 10203\n".as_slice());
+    Ok(args)
+}
+
+#[test]
+fn tells_a_line_of_five_digits(rt: HostRuntime) -> Result<(), Fail> {
+    let args = long_script(rt.alloc())?;
+    shows_drive(&rt, &args, "", 2, ("", "dq: script: line 10203\n"));
     Ok(())
+}
+
+/// So many paragraphs.
+fn paragraphs(alloc: Global, pairs: usize) -> Result<Vec<u8>, Fail> {
+    let mut markup: Vec<u8> = Vec::new(alloc);
+    for _ in 0..pairs {
+        markup.extend_from_slice(b"<p></p>")?;
+    }
+    Ok(markup)
 }
 
 #[test]
 fn counts_many_nodes(rt: HostRuntime) -> Result<(), Fail> {
-    let alloc = rt.alloc();
     for (pairs, want) in [(9, "9\n"), (10, "10\n"), (105, "105\n")] {
-        let mut markup: Vec<u8> = Vec::new(alloc);
-        for _ in 0..pairs {
-            markup.extend_from_slice(b"<p></p>")?;
-        }
-        let mut out: Vec<u8> = Vec::new(alloc);
-        assert_eq!(rt; run(alloc, &markup, b"select p\ncount", &mut out), Ok(()));
-        assert_eq!(rt; out.as_slice(), want.as_bytes());
+        let markup = paragraphs(rt.alloc(), pairs)?;
+        shows_run(&rt, &markup, b"select p\ncount", want, Ok(()));
     }
     Ok(())
 }

@@ -4,6 +4,7 @@ use dom_index::index::TreeIndex;
 use dom_markup::document::Document;
 use dom_nodes::node_id::NodeId;
 use dom_trees::tree::Tree;
+use std::process::Abort;
 use std::test::Fail;
 
 fn number(value: usize) -> Result<NodeId, Fail> {
@@ -47,32 +48,51 @@ fn stand_so(tree: &Tree, order: &[usize]) -> Result<bool, Fail> {
     walks_as(&index, tree)
 }
 
-#[test]
-fn places_of_nodes(rt: HostRuntime) -> Result<(), Fail> {
-    let alloc = rt.alloc();
-    let document = Document::parse(alloc, "<div><p>a</p></div><b></b>")?;
-    let index = TreeIndex::new(&document.tree)?;
+/// Shows which node is the last one below another.
+fn shows_last(rt: &impl Abort, index: &TreeIndex<'_>) -> Result<(), Fail> {
     assert_eq!(rt; index.last_below(&number(0)?), Some(4));
     assert_eq!(rt; index.last_below(&number(1)?), Some(3));
     assert_eq!(rt; index.last_below(&number(4)?), Some(4));
-    assert!(rt; stand_so(&document.tree, &[0, 1, 2, 3, 4])?);
     assert!(rt; !index.is_below(&number(1)?, &number(1)?));
-    assert_eq!(rt; index.position(&number(5)?), None);
-    assert_eq!(rt; index.last_below(&number(5)?), None);
-    assert!(rt; !index.is_below(&number(0)?, &number(5)?));
-    assert!(rt; index.descendants(&number(5)?).next().is_none());
+    Ok(())
+}
+
+/// Shows that the index has nothing for a node that the tree doesn't have.
+fn shows_nothing(rt: &impl Abort, index: &TreeIndex<'_>, unknown: &NodeId) -> Result<(), Fail> {
+    assert_eq!(rt; index.position(unknown), None);
+    assert_eq!(rt; index.last_below(unknown), None);
+    assert!(rt; !index.is_below(&number(0)?, unknown));
+    assert!(rt; index.descendants(unknown).next().is_none());
+    Ok(())
+}
+
+/// Shows what an index of the tree knows.
+fn shows_index(rt: &impl Abort, tree: &Tree) -> Result<(), Fail> {
+    let index = TreeIndex::new(tree)?;
+    shows_last(rt, &index)?;
+    shows_nothing(rt, &index, &number(5)?)
+}
+
+#[test]
+fn places_of_nodes(rt: HostRuntime) -> Result<(), Fail> {
+    let document = Document::parse(rt.alloc(), "<div><p>a</p></div><b></b>")?;
+    shows_index(&rt, &document.tree)?;
+    assert!(rt; stand_so(&document.tree, &[0, 1, 2, 3, 4])?);
+    Ok(())
+}
+
+/// Puts the fragment's paragraph in front, and takes the other one out.
+fn move_some(tree: &mut Tree) -> Result<(), Fail> {
+    tree.prepend_child_of(&NodeId::root(), &number(5)?)?;
+    tree.remove_from_parent(&number(3)?)?;
     Ok(())
 }
 
 #[test]
 fn runs_stand_behind(rt: HostRuntime) -> Result<(), Fail> {
-    let alloc = rt.alloc();
-    let mut document = Document::parse(alloc, "<template><p>a</p></template><p>b</p>")?;
+    let mut document = Document::parse(rt.alloc(), "<template><p>a</p></template><p>b</p>")?;
     assert!(rt; stand_so(&document.tree, &[0, 1, 5, 6, 2, 3, 4])?);
-    document
-        .tree
-        .prepend_child_of(&NodeId::root(), &number(5)?)?;
-    document.tree.remove_from_parent(&number(3)?)?;
+    move_some(&mut document.tree)?;
     assert!(rt; stand_so(&document.tree, &[0, 5, 6, 1, 2, 3, 4])?);
     Ok(())
 }

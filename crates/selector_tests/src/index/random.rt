@@ -1,5 +1,5 @@
-//! Random selectors over random forests: tables, and the choice between them and asking, select what
-//! asking each node does.
+//! Random selectors over random forests: tables, and the choice between them and asking, select
+//! what asking each node does.
 
 use dom_index::index::TreeIndex;
 use dom_index::selecting::select_nodes;
@@ -81,21 +81,26 @@ fn add(text: &mut String, word: &str) -> Option<()> {
     text.push_str(word).ok()
 }
 
+/// Adds a leaf, an end or a start.
+fn add_piece(text: &mut String, open: &mut Vec<usize>, dice: &mut Dice) -> Option<()> {
+    match dice.roll(4) {
+        0 => add(text, dice.pick(&LEAVES)),
+        1 => close(text, open.pop()),
+        _ => {
+            let n = dice.roll(6);
+            add(text, STARTS.get(n)?)?;
+            open.push(n).ok()
+        }
+    }
+}
+
 /// A few elements, texts and comments.
 fn markup(alloc: Global, dice: &mut Dice) -> Option<String> {
     let mut text = String::new(alloc);
     let mut open: Vec<usize> = Vec::new(alloc);
     let pieces = dice.roll(24);
     for _ in 0..pieces {
-        match dice.roll(4) {
-            0 => add(&mut text, dice.pick(&LEAVES))?,
-            1 => close(&mut text, open.pop())?,
-            _ => {
-                let n = dice.roll(6);
-                add(&mut text, STARTS.get(n)?)?;
-                open.push(n).ok()?;
-            }
-        }
+        add_piece(&mut text, &mut open, dice)?;
     }
     for _ in 0..open.len() {
         close(&mut text, open.pop())?;
@@ -112,6 +117,16 @@ fn close(text: &mut String, name: Option<usize>) -> Option<()> {
     add(text, ">")
 }
 
+/// Adds up to three compounds.
+fn add_compounds(text: &mut String, dice: &mut Dice) -> Option<()> {
+    add(text, dice.pick(&COMPOUNDS))?;
+    for _ in 0..dice.roll(3) {
+        add(text, dice.pick(&COMBINATORS))?;
+        add(text, dice.pick(&COMPOUNDS))?;
+    }
+    Some(())
+}
+
 /// One selector or two, each of up to three compounds.
 fn selector(alloc: Global, dice: &mut Dice) -> Option<String> {
     let mut text = String::new(alloc);
@@ -119,11 +134,7 @@ fn selector(alloc: Global, dice: &mut Dice) -> Option<String> {
         if n > 0 {
             add(&mut text, ", ")?;
         }
-        add(&mut text, dice.pick(&COMPOUNDS))?;
-        for _ in 0..dice.roll(3) {
-            add(&mut text, dice.pick(&COMBINATORS))?;
-            add(&mut text, dice.pick(&COMPOUNDS))?;
-        }
+        add_compounds(&mut text, dice)?;
     }
     Some(text)
 }
@@ -151,29 +162,58 @@ fn are_those(nodes: &[NodeRef<'_>], ids: &[NodeId]) -> bool {
     true
 }
 
-/// How many nodes a selector selects below random roots of a random forest; None where the two ways
-/// differ.
-fn same(alloc: Global, seed: u64) -> Option<usize> {
-    let mut dice = Dice { state: seed };
-    let source = markup(alloc, &mut dice)?;
-    let mut document = Document::parse(alloc, source.as_str()).ok()?;
-    cut_some(&mut document.tree, &mut dice)?;
-    let tree = &document.tree;
-    let mut roots = vec![in alloc; NodeId::root()].ok()?;
+/// The root, and up to two other nodes.
+fn some_roots(tree: &Tree, dice: &mut Dice) -> Option<Vec<NodeId>> {
+    let mut roots = vec![in tree.allocator(); NodeId::root()].ok()?;
     for _ in 0..dice.roll(3) {
         roots
             .push(NodeId::new(dice.roll(tree.len().saturating_add(1)))?)
             .ok()?;
     }
-    let matcher = Matcher::new(alloc, selector(alloc, &mut dice)?.as_str()).ok()?;
-    let asked = select_below_all(tree, &roots, &matcher).ok()?;
+    Some(roots)
+}
+
+/// A random forest.
+fn forest(alloc: Global, dice: &mut Dice) -> Option<Document> {
+    let source = markup(alloc, dice)?;
+    let mut document = Document::parse(alloc, source.as_str()).ok()?;
+    cut_some(&mut document.tree, dice)?;
+    Some(document)
+}
+
+/// A random matcher.
+fn some_matcher(alloc: Global, dice: &mut Dice) -> Option<Matcher> {
+    Matcher::new(alloc, selector(alloc, dice)?.as_str()).ok()
+}
+
+/// Whether tables select these nodes.
+fn by_tables(tree: &Tree, roots: &[NodeId], matcher: &Matcher, asked: &[NodeId]) -> Option<bool> {
     let mut index = TreeIndex::new(tree).ok()?;
-    let tables = index.select(&matcher, &roots).ok()?;
-    let chosen = select_nodes(tree, &roots, &matcher).ok()?;
-    if !are_those(&tables, &asked) || !are_those(&chosen, &asked) {
+    Some(are_those(&index.select(matcher, roots).ok()?, asked))
+}
+
+/// Whether the choice between tables and asking selects these nodes.
+fn by_choice(tree: &Tree, roots: &[NodeId], matcher: &Matcher, asked: &[NodeId]) -> Option<bool> {
+    Some(are_those(&select_nodes(tree, roots, matcher).ok()?, asked))
+}
+
+/// How many nodes a matcher selects below the roots; None where the ways differ.
+fn same_below(tree: &Tree, roots: &[NodeId], matcher: &Matcher) -> Option<usize> {
+    let asked = select_below_all(tree, roots, matcher).ok()?;
+    if !by_tables(tree, roots, matcher, &asked)? || !by_choice(tree, roots, matcher, &asked)? {
         return None;
     }
     Some(asked.len())
+}
+
+/// How many nodes a selector selects below random roots of a random forest; None where the two ways
+/// differ.
+fn same(alloc: Global, seed: u64) -> Option<usize> {
+    let mut dice = Dice { state: seed };
+    let document = forest(alloc, &mut dice)?;
+    let roots = some_roots(&document.tree, &mut dice)?;
+    let matcher = some_matcher(alloc, &mut dice)?;
+    same_below(&document.tree, &roots, &matcher)
 }
 
 #[test]

@@ -54,131 +54,144 @@ fn count(alloc: Global, rows: &[Row<'_>], selector: &str) -> Result<usize, Fail>
     Ok(select_below(&tree, &NodeId::root(), &matcher)?.len())
 }
 
+/// A document, a selector, and how many elements it selects there.
+type Case = (&'static [Row<'static>], &'static str, usize);
+
+const PARTED: [Row<'static>; 4] = [
+    (0, Named("p")),
+    (1, Kind::Text("ab")),
+    (1, Named("i")),
+    (3, Kind::Text("cd")),
+];
+
+const ALONE: [Row<'static>; 1] = [(0, Named("br"))];
+
+const FILLED: [Row<'static>; 6] = [
+    (0, Named("p")),
+    (1, Kind::Text(" ")),
+    (0, Named("b")),
+    (3, Comment),
+    (0, Named("i")),
+    (5, Kind::Text("a")),
+];
+
+const ONLY: [Row<'static>; 7] = [
+    (0, Named("p")),
+    (1, Kind::Text("a")),
+    (0, Named("p")),
+    (3, Kind::Text("a")),
+    (3, Comment),
+    (0, Named("p")),
+    (6, Kind::Text(" ")),
+];
+
+const TEXTS: [Case; 8] = [
+    (&PARTED, "p:contains(\"bc\")", 1),
+    (&PARTED, "p:has-text(\"bc\")", 0),
+    (&PARTED, "p:has-text( 'cd' )", 1),
+    (&ALONE, ":contains(\"\")", 1),
+    (&ALONE, ":has-text(\"\")", 0),
+    (&FILLED, ":empty", 2),
+    (&FILLED, ":EMPTY:not(b)", 1),
+    (&ONLY, ":only-text", 1),
+];
+
 #[test]
 fn finds_texts(rt: HostRuntime) -> Result<(), Fail> {
-    let alloc = rt.alloc();
-    let parted = [
-        (0, Named("p")),
-        (1, Kind::Text("ab")),
-        (1, Named("i")),
-        (3, Kind::Text("cd")),
-    ];
-    let alone = [(0, Named("br"))];
-    let filled = [
-        (0, Named("p")),
-        (1, Kind::Text(" ")),
-        (0, Named("b")),
-        (3, Comment),
-        (0, Named("i")),
-        (5, Kind::Text("a")),
-    ];
-    let only = [
-        (0, Named("p")),
-        (1, Kind::Text("a")),
-        (0, Named("p")),
-        (3, Kind::Text("a")),
-        (3, Comment),
-        (0, Named("p")),
-        (6, Kind::Text(" ")),
-    ];
-    let cases: [(&[Row<'_>], &str, usize); 8] = [
-        (&parted, "p:contains(\"bc\")", 1),
-        (&parted, "p:has-text(\"bc\")", 0),
-        (&parted, "p:has-text( 'cd' )", 1),
-        (&alone, ":contains(\"\")", 1),
-        (&alone, ":has-text(\"\")", 0),
-        (&filled, ":empty", 2),
-        (&filled, ":EMPTY:not(b)", 1),
-        (&only, ":only-text", 1),
-    ];
-    for (rows, selector, wanted) in cases {
-        assert_eq!(rt; count(alloc, rows, selector)?, wanted);
+    for (rows, selector, wanted) in TEXTS {
+        assert_eq!(rt; count(rt.alloc(), rows, selector)?, wanted);
     }
     Ok(())
 }
+
+const TYPED: [Row<'static>; 3] = [(0, Named("b")), (0, Named("p")), (0, Named("b"))];
+
+const SIBLINGS: [(&str, usize); 15] = [
+    ("b:nth-of-type(2)", 1),
+    (":only-of-type", 1),
+    (":nth-child(2n + 1)", 2),
+    (":nth-child(odd)", 2),
+    (":nth-child( EVEN )", 1),
+    ("b:nth-child(2147483647n+1)", 1),
+    ("b:nth-last-child(1)", 1),
+    (":nth-child(-n+2)", 2),
+    (":nth-last-of-type(n + 2)", 1),
+    (":nth-child(0)", 0),
+    (":nth-child(-1)", 0),
+    (":first-child", 1),
+    ("p:first-of-type:last-of-type", 1),
+    (":last-child:first-child", 0),
+    (":only-child", 0),
+];
 
 #[test]
 fn counts_siblings(rt: HostRuntime) -> Result<(), Fail> {
-    let alloc = rt.alloc();
-    let typed = [(0, Named("b")), (0, Named("p")), (0, Named("b"))];
-    let cases = [
-        ("b:nth-of-type(2)", 1),
-        (":only-of-type", 1),
-        (":nth-child(2n + 1)", 2),
-        (":nth-child(odd)", 2),
-        (":nth-child( EVEN )", 1),
-        ("b:nth-child(2147483647n+1)", 1),
-        ("b:nth-last-child(1)", 1),
-        (":nth-child(-n+2)", 2),
-        (":nth-last-of-type(n + 2)", 1),
-        (":nth-child(0)", 0),
-        (":nth-child(-1)", 0),
-        (":first-child", 1),
-        ("p:first-of-type:last-of-type", 1),
-        (":last-child:first-child", 0),
-        (":only-child", 0),
-    ];
-    for (selector, wanted) in cases {
-        assert_eq!(rt; count(alloc, &typed, selector)?, wanted);
+    for (selector, wanted) in SIBLINGS {
+        assert_eq!(rt; count(rt.alloc(), &TYPED, selector)?, wanted);
     }
     Ok(())
 }
+
+const LIST: [Row<'static>; 6] = [
+    (0, Named("ul")),
+    (1, Named("li")),
+    (1, Named("li")),
+    (1, Named("li")),
+    (1, Named("li")),
+    (1, Named("li")),
+];
+
+const MIXED: [Row<'static>; 3] = [(0, Named("div")), (1, Named("b")), (1, Named("p"))];
+
+const ITEMS: [Case; 6] = [
+    (&LIST, "ul li:nth-child(2)", 1),
+    (&LIST, "li:nth-child(2n+1)", 3),
+    (&LIST, "li:nth-child(-n+2)", 2),
+    (&LIST, "li:nth-last-child(2)", 1),
+    (&LIST, "li:nth-child(0)", 0),
+    (&MIXED, "p:nth-child(2):nth-of-type(1)", 1),
+];
 
 #[test]
 fn counts_items(rt: HostRuntime) -> Result<(), Fail> {
-    let alloc = rt.alloc();
-    let items = [
-        (0, Named("ul")),
-        (1, Named("li")),
-        (1, Named("li")),
-        (1, Named("li")),
-        (1, Named("li")),
-        (1, Named("li")),
-    ];
-    let mixed = [(0, Named("div")), (1, Named("b")), (1, Named("p"))];
-    let cases: [(&[Row<'_>], &str, usize); 6] = [
-        (&items, "ul li:nth-child(2)", 1),
-        (&items, "li:nth-child(2n+1)", 3),
-        (&items, "li:nth-child(-n+2)", 2),
-        (&items, "li:nth-last-child(2)", 1),
-        (&items, "li:nth-child(0)", 0),
-        (&mixed, "p:nth-child(2):nth-of-type(1)", 1),
-    ];
-    for (rows, selector, wanted) in cases {
-        assert_eq!(rt; count(alloc, rows, selector)?, wanted);
+    for (rows, selector, wanted) in ITEMS {
+        assert_eq!(rt; count(rt.alloc(), rows, selector)?, wanted);
     }
     Ok(())
 }
 
+const BESIDE: [Row<'static>; 3] = [(0, Named("i")), (0, Named("p")), (0, Named("p"))];
+
+const BELOW: [Row<'static>; 4] = [
+    (0, Named("div")),
+    (1, Named("p")),
+    (2, Named("a")),
+    (1, Named("b")),
+];
+
+const NESTED: [Row<'static>; 3] = [(0, Named("p")), (1, Named("div")), (2, Named("a"))];
+
+const LEADS: [Case; 14] = [
+    (&NESTED, "div:has(p a)", 0),
+    (&NESTED, "div:has(a)", 1),
+    (&NESTED, "div:has(> a)", 1),
+    (&NESTED, "a:not(p > a)", 1),
+    (&NESTED, "a:not(div > a)", 0),
+    (&BESIDE, ":has(+ p)", 2),
+    (&BESIDE, ":has(~ p)", 2),
+    (&BESIDE, "i:has(+ p + p)", 1),
+    (&BESIDE, "p:has(+ p + p)", 0),
+    (&BELOW, ":has(a)", 2),
+    (&BELOW, ":has(> a)", 1),
+    (&BELOW, "div:has(> p + b)", 1),
+    (&BELOW, "p:has(> p a)", 0),
+    (&BELOW, ":has(> a, + b):not(:has(b))", 1),
+];
+
 #[test]
 fn leads_on(rt: HostRuntime) -> Result<(), Fail> {
-    let alloc = rt.alloc();
-    let beside = [(0, Named("i")), (0, Named("p")), (0, Named("p"))];
-    let below = [
-        (0, Named("div")),
-        (1, Named("p")),
-        (2, Named("a")),
-        (1, Named("b")),
-    ];
-    let nested = [(0, Named("p")), (1, Named("div")), (2, Named("a"))];
-    let cases: [(&[Row<'_>], &str, usize); 14] = [
-        (&nested, "div:has(p a)", 0),
-        (&nested, "div:has(a)", 1),
-        (&nested, "div:has(> a)", 1),
-        (&nested, "a:not(p > a)", 1),
-        (&nested, "a:not(div > a)", 0),
-        (&beside, ":has(+ p)", 2),
-        (&beside, ":has(~ p)", 2),
-        (&beside, "i:has(+ p + p)", 1),
-        (&beside, "p:has(+ p + p)", 0),
-        (&below, ":has(a)", 2),
-        (&below, ":has(> a)", 1),
-        (&below, "div:has(> p + b)", 1),
-        (&below, "p:has(> p a)", 0),
-        (&below, ":has(> a, + b):not(:has(b))", 1),
-    ];
-    for (rows, selector, wanted) in cases {
-        assert_eq!(rt; count(alloc, rows, selector)?, wanted);
+    for (rows, selector, wanted) in LEADS {
+        assert_eq!(rt; count(rt.alloc(), rows, selector)?, wanted);
     }
     Ok(())
 }
