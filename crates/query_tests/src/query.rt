@@ -174,6 +174,29 @@ fn shows_status(rt: &impl Abort, status: u8, wanted: u8) {
     assert_eq!(rt; status, wanted);
 }
 
+/// How a drive ended, and what it wrote.
+#[derive(Drop)]
+struct Driven {
+    status: u8,
+    out: Vec<u8>,
+    err: Vec<u8>,
+}
+
+/// Drives once.
+fn drive_once(alloc: Global, args: &[String], markup: &str) -> Driven {
+    let mut out: Vec<u8> = Vec::new(alloc);
+    let mut err: Vec<u8> = Vec::new(alloc);
+    let mut input = markup.as_bytes();
+    let status = drive(alloc, args, &mut input, &mut out, &mut err);
+    Driven { status, out, err }
+}
+
+/// Shows the status and the line that is told.
+fn shows_ending(rt: &impl Abort, driven: &Driven, status: u8, line: &str) {
+    shows_status(rt, driven.status, status);
+    shows_bytes(rt, driven.err.as_slice(), line);
+}
+
 /// Shows the status, what is written and the line that is told.
 fn shows_drive(
     rt: &(impl Abort + Alloc<A = Global>),
@@ -182,14 +205,9 @@ fn shows_drive(
     status: u8,
     told: (&str, &str),
 ) {
-    let alloc = rt.alloc();
-    let mut out: Vec<u8> = Vec::new(alloc);
-    let mut err: Vec<u8> = Vec::new(alloc);
-    let mut input = markup.as_bytes();
-    let ended = drive(alloc, args, &mut input, &mut out, &mut err);
-    shows_status(rt, ended, status);
-    shows_bytes(rt, out.as_slice(), told.0);
-    shows_bytes(rt, err.as_slice(), told.1);
+    let driven = drive_once(rt.alloc(), args, markup);
+    shows_ending(rt, &driven, status, told.1);
+    shows_bytes(rt, driven.out.as_slice(), told.0);
 }
 
 /// Shows that a page and a line feed were written, or nothing where the status isn't 0.
@@ -206,14 +224,9 @@ fn shows_length(
     status: u8,
     line: &str,
 ) {
-    let alloc = rt.alloc();
-    let mut out: Vec<u8> = Vec::new(alloc);
-    let mut err: Vec<u8> = Vec::new(alloc);
-    let mut input = markup.as_bytes();
-    let ended = drive(alloc, args, &mut input, &mut out, &mut err);
-    shows_status(rt, ended, status);
-    shows_bytes(rt, err.as_slice(), line);
-    shows_page(rt, status, out.as_slice());
+    let driven = drive_once(rt.alloc(), args, markup);
+    shows_ending(rt, &driven, status, line);
+    shows_page(rt, status, driven.out.as_slice());
 }
 
 /// Shows that no status waits on the line.

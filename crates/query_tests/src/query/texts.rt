@@ -1,10 +1,7 @@
 //! The texts of faults, and the lines that the program tells.
 
 use crate::query::{shows_drive, shows_run};
-use dom_query::{
-    EditFault, MarkupFault, MarkupFaultKind, OutOfMemory, RunFault, SelectorFault, ValidateFault,
-    WriteFault,
-};
+use dom_query::{EditFault, OutOfMemory, RunFault, SelectorFault, ValidateFault, WriteFault};
 use std::alloc::Global;
 use std::fmt::Display;
 use std::process::Abort;
@@ -44,32 +41,6 @@ fn texts_of_other_faults(rt: HostRuntime) -> Result<(), Fail> {
         (SelectorFault::NestedHas, "nested :has"),
         (SelectorFault::TooDeep, "nested too deep"),
         (SelectorFault::Memory, "out of memory"),
-    ] {
-        shows(&rt, fault, want)?;
-    }
-    Ok(())
-}
-
-/// A fault of markup at the byte 7.
-fn bad_tag() -> MarkupFault {
-    MarkupFault {
-        kind: MarkupFaultKind::BadTag,
-        at: 7,
-    }
-}
-
-#[test]
-fn texts_of_edit_faults(rt: HostRuntime) -> Result<(), Fail> {
-    shows(&rt, bad_tag(), "bad markup at byte 7")?;
-    for (fault, want) in [
-        (EditFault::UnknownNode, "unknown node"),
-        (EditFault::NoChildrenHere, "no children here"),
-        (EditFault::RootOrFragment, "root or fragment"),
-        (EditFault::Cycle, "cycle"),
-        (EditFault::TooManyNodes, "too many nodes"),
-        (EditFault::Memory, "out of memory"),
-        (EditFault::BadContents, "bad template contents"),
-        (EditFault::Markup(bad_tag()), "bad markup"),
     ] {
         shows(&rt, fault, want)?;
     }
