@@ -62,27 +62,28 @@ def function_at(lines, at):
 
 
 class Edit:
-    """An edit of one file, and the functions that it turns."""
+    """An edit of one file: the lines that it changes, by their place, and the functions that it turns."""
 
     def __init__(self, file, folder):
         self.name = f"{file.parent.name}/{file.stem}"
-        self.path, self.pairs, self.places, self.fault, old = "", [], set(), None, ""
+        self.path, self.lines, self.places, self.fault, old = "", {}, set(), None, ""
         for line in file.read_text(encoding="utf-8").splitlines():
             key, _, text = line.partition(": ")
             if key == "file":
                 self.path = text
-                source = (folder / text).read_text(encoding="utf-8")
+                before = source = (folder / text).read_text(encoding="utf-8")
             elif key == "old":
                 old = text
             elif key in ("new", "new:"):
                 if source.count(old) != 1:
                     self.fault = f"{old!r} is in {self.path} {source.count(old)} times, and not once"
                     return
-                self.places.add(function_at(source.splitlines(), source[: source.index(old)].count("\n")))
-                self.pairs.append((old, text))
                 source = source.replace(old, text)
-        if not self.pairs:
-            self.fault = "it has no 'old:' and 'new:' pair"
+        was, now = before.split("\n"), source.split("\n")
+        self.lines = {at: line for at, line in enumerate(now) if line != was[at]}
+        self.places = {function_at(was, at) for at in self.lines}
+        if not self.lines:
+            self.fault = "it changes nothing"
 
     def is_apart(self, taken):
         """Whether it is of functions alone, and of none of those taken."""
@@ -111,15 +112,14 @@ def apart(edits):
 
 
 def texts_with(edits, folder):
-    """The texts of the files that the edits change, or None where one takes away what another is of."""
+    """The texts of the files that the edits change."""
     texts = {}
-    for edit in edits:
-        text = texts.get(edit.path) or (folder / edit.path).read_text(encoding="utf-8")
-        for old, new in edit.pairs:
-            if text.count(old) != 1:
-                return None
-            text = text.replace(old, new)
-        texts[edit.path] = text
+    for path in {edit.path for edit in edits}:
+        lines = (folder / path).read_text(encoding="utf-8").split("\n")
+        for edit in edits:
+            for at, line in edit.lines.items() if edit.path == path else ():
+                lines[at] = line
+        texts[path] = "\n".join(lines)
     return texts
 
 
@@ -147,8 +147,6 @@ class Trial:
         """What the prover says of the crate with these edits, in lines: none where it was not reached."""
         flags, answers = self.flags_and_answers(edits)
         texts = texts_with(edits, self.folder)
-        if texts is None:
-            return []
         with tempfile.TemporaryDirectory(prefix="edits-copy-") as room:
             crate = self.rt.copy.copy(self.crate)
             crate.folder = room
