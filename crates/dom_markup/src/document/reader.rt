@@ -311,6 +311,7 @@ impl<'a> Reader<'a> {
 
     /// Reads the item at the front of what is left, and tells what follows it. `Err` where none
     /// begins there, for a limit, or where no trees have such items.
+    #[inline(always)]
     pub fn read(
         &mut self,
         alloc: Global,
