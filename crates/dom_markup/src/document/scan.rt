@@ -1,10 +1,11 @@
 //! Fronts of a text: whitespace, names, attributes, the end of a start tag.
 
 ghost use Rattle.std.specs.Prelude.{◌≡◌, ◌≤◌, ◌<◌, ◌==◌, ◌||◌, not, true, List, ℕ, ◌∷◌, ◌++◌};
-ghost use Rattle.std.specs.Prelude.{IfNone, IfSome, codes, drop, length};
+ghost use Rattle.std.specs.Prelude.{IfNone, IfSome, codes, drop, length, map};
+ghost use Rattle.std.specs.Simd.Lanes.{chunk, mask_l};
 ghost use Rattle.std.specs.List.{list_all, prefix_len};
 ghost use Rattle.dom_nodes.specs.Ascii.{exclamation_mark, question_mark, slash};
-ghost use Rattle.dom_markup.specs.Bytes.{is_letter, is_name_byte, is_whitespace};
+ghost use Rattle.dom_markup.specs.Bytes.{is_letter, is_low, is_name_byte, is_whitespace};
 ghost use Rattle.dom_markup.specs.References.{decoded};
 ghost use Rattle.dom_markup.specs.ValueTrees.{Attribute};
 ghost use Rattle.dom_markup.specs.Markup.{BeginsAttribute, BeginsValue, Closes, EndsAtMark};
@@ -60,7 +61,7 @@ impl Stretch {
     }
 }
 
-/// How many bytes of this kind stand at the front.
+/// The same as `stretch_len`, one byte after the other.
 #[inline(always)]
 fn front_len(stretch: Stretch, bytes: &[u8]) -> usize
     ensures { result ≡ prefix_len (passes stretch) bytes.now }
@@ -73,12 +74,57 @@ fn front_len(stretch: Stretch, bytes: &[u8]) -> usize
     bytes.len()
 }
 
+/// Which of the bytes are no more than `>`, a bit for each.
+#[inline(always)]
+fn low_places(bytes: u8x16) -> u64
+    ensures { result ≡ mask_l (map is_low bytes) }
+{
+    bytes.simd_le(u8x16::splat(b'>')).to_bitmask()
+}
+
+/// How many of the first 16 bytes stand before one that is no more than `>`.
+#[inline(always)]
+fn high_len(bytes: &[u8]) -> usize
+    requires { 16 ≤ length bytes.now }
+    ensures { result ≡ prefix_len (λ b. not (is_low b)) (chunk 0 16 bytes.now) }
+{
+    let low = low_places(u8x16::from_slice(bytes));
+    if low == 0 {
+        return 16;
+    }
+    low.trailing_zeros() as usize
+}
+
+/// How many bytes of a name stand at the front. Those above `>` are told by 16 at once, and they are
+/// the whole of most names.
+#[inline(always)]
+fn name_len(bytes: &[u8]) -> usize
+    ensures { result ≡ prefix_len is_name_byte bytes.now }
+{
+    if bytes.len() < 16 {
+        return front_len(Stretch::Name, bytes);
+    }
+    let high = high_len(bytes);
+    high + front_len(Stretch::Name, bytes_from(bytes, high))
+}
+
+/// How many bytes of this kind stand at the front.
+#[inline(always)]
+fn stretch_len(stretch: Stretch, bytes: &[u8]) -> usize
+    ensures { result ≡ prefix_len (passes stretch) bytes.now }
+{
+    match stretch {
+        Stretch::Name => name_len(bytes),
+        _ => front_len(stretch, bytes),
+    }
+}
+
 /// The front that is of this kind, as far as it goes, and what follows it.
 #[inline(always)]
 pub fn split_front(stretch: Stretch, text: &str) -> (&str, &str)
     ensures { Splits (passes stretch) text.now result.0.now result.1.now }
 {
-    text.split_at(front_len(stretch, text.as_bytes()))
+    text.split_at(stretch_len(stretch, text.as_bytes()))
 }
 
 /// What follows the letter at the front, if it stands there.
@@ -117,6 +163,7 @@ pub fn begins_markup(bytes: &[u8]) -> bool
 }
 
 /// The bytes from a place on.
+#[inline(always)]
 pub fn bytes_from(bytes: &[u8], at: usize) -> &[u8]
     requires { at ≤ length bytes.now }
     ensures { result.now ≡ drop at bytes.now }
