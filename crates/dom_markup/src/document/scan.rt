@@ -188,6 +188,7 @@ fn text_len(bytes: &[u8]) -> usize
 }
 
 /// The text up to the first place where markup begins, and what follows it.
+#[inline(always)]
 pub fn split_text(text: &str) -> (&str, &str)
     ensures front { result.0.now ≡ text_front text.now }
     ensures whole { text.now ≡ result.0.now ++ result.1.now }
@@ -196,25 +197,26 @@ pub fn split_text(text: &str) -> (&str, &str)
 }
 
 /// About how many nodes the text has: as many as it has `<`, for an element with a text has two of
-/// both. Nothing but room for nodes hangs on it, so the last few bytes don't count.
+/// both. Nothing but room for nodes hangs on it, so a quarter of the text is counted, and a little
+/// more is told than that tells.
 pub fn nodes_about(text: &str) -> usize {
     let bytes = text.as_bytes();
     let mut count: usize = 0;
     let mut at = 0;
-    while bytes.len() - at >= 32 {
+    while bytes.len() - at >= 128 {
         let lanes = u8x32::from_slice(&bytes[at..]);
         let found = lanes.simd_eq(u8x32::splat(b'<')).to_bitmask().count_ones();
         count = count.saturating_add(found as usize);
-        at += 32;
+        at += 128;
     }
-    count
+    count.saturating_mul(4).saturating_add(count / 4)
 }
 
 /// About how many attributes stand before the end of a tag: as many as the next 64 bytes have `=`
 /// before a `>`. Nothing but room for attributes hangs on it.
 pub fn attrs_about(text: &str) -> usize {
     let bytes = text.as_bytes();
-    if bytes.len() < 64 {
+    if bytes.len() < 64 || bytes[0] == b'>' {
         return 0;
     }
     let ends = places_of(bytes, b'>');
@@ -300,6 +302,7 @@ pub struct Written<'a> {
 }
 
 /// The attribute at the front, and what follows it.
+#[inline(always)]
 pub fn attribute_at(text: &str) -> Option<(Written<'_>, &str)>
     ensures some { IfSome result (λ found. let written = found.0 in
         BeginsAttribute text.now (attribute_of written.name.now written.value.now) found.1.now) }
@@ -307,8 +310,11 @@ pub fn attribute_at(text: &str) -> Option<(Written<'_>, &str)>
         → BeginsAttribute text.now attribute rest → ⊥) }
 {
     let (space, behind) = split_front(Stretch::Whitespace, text);
+    if space.is_empty() {
+        return None;
+    }
     let (name, behind) = split_front(Stretch::Name, behind);
-    if space.is_empty() || name.is_empty() {
+    if name.is_empty() {
         return None;
     }
     let (value, rest) = value_behind(behind)?;
@@ -316,6 +322,7 @@ pub fn attribute_at(text: &str) -> Option<(Written<'_>, &str)>
 }
 
 /// What follows the end of a tag at the front, which may be a slash and `>`.
+#[inline(always)]
 pub fn close_at(text: &str, slash: bool) -> Option<&str>
     ensures { Leaves (Closes slash text.now) result }
 {
