@@ -128,6 +128,7 @@ pub fn split_front(stretch: Stretch, text: &str) -> (&str, &str)
 }
 
 /// What follows the letter at the front, if it stands there.
+#[inline(always)]
 pub fn strip(text: &str, letter: char) -> Option<&str>
     requires { letter < 128 }
     ensures { Leaves (λ rest. text.now ≡ letter ∷ rest) result }
@@ -250,6 +251,7 @@ pub fn comment_at(text: &str) -> Option<(&str, &str)>
 // ---- attributes
 
 /// What stands before the first such letter, and what follows it.
+#[inline(always)]
 pub fn split_letter(text: &str, letter: u8) -> Option<(&str, &str)>
     requires { letter < 128 }
     ensures some { IfSome result (λ found. (list_all (λ b. not (b == letter)) found.0.now ≡ true)
@@ -261,6 +263,7 @@ pub fn split_letter(text: &str, letter: u8) -> Option<(&str, &str)>
 }
 
 /// The value at the front as it is written, without its quotes, and what follows it.
+#[inline(always)]
 fn value_at(text: &str) -> Option<(&str, &str)>
     ensures { Takes (BeginsValue text.now) result }
 {
@@ -281,6 +284,7 @@ fn value_at(text: &str) -> Option<(&str, &str)>
 
 /// The value behind an attribute's name as it is written, and what follows it; empty where there is
 /// none.
+#[inline(always)]
 fn value_behind(after: &str) -> Option<(&str, &str)>
     ensures some { IfSome result (λ found. HasValue after.now (decoded found.0.now) found.1.now) }
     ensures none { IfNone result ((value rest : List ℕ) → HasValue after.now value rest → ⊥) }
