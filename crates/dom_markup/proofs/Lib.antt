@@ -9,6 +9,7 @@ pub mod Fronts
 pub mod Whole
 pub mod NumberedLemmas
 pub mod Frames
+pub mod Highs
 pub mod AttrLemmas
 pub mod NoteLemmas
 pub mod Steps

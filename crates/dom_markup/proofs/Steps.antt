@@ -115,22 +115,22 @@ start_read items old new before stack one name all h made kept pushed number nam
     (subst (λ (f : Forest). HasRead (items ++ start_tag name all ∷ []) f (map opened_by old.stack.items ++ record { number = children_place name old.tree; name = name } ∷ [])) (sym tree)
     (reads_start items old.tree (map opened_by old.stack.items) name all h open_one))
 
-abbrev of_parts : QualName → List Attr → Option ℕ → Element
+abbrev pub of_parts : QualName → List Attr → Option ℕ → Element
 of_parts name attrs contents = record { name = name; attrs = attrs; template_contents = contents; mathml_annotation_xml_integration_point = false }
 
 parts_same : (name other : QualName) (attrs others : List Attr) (contents : Option ℕ) → name ≡ other → attrs ≡ others → of_parts name attrs contents ≡ of_parts other others contents
 parts_same name other attrs others contents e f = ap (λ (n : QualName). of_parts n attrs contents) e ∙ ap (λ (as' : List Attr). of_parts other as' contents) f
 
 -- an element without contents, and one with
-pub plain_made : (old new : Reader) (result : Result ℕ MarkupFaultKind) (started : Started) (element : Element) → is_template (folded started.written.now) ≡ false → element ≡ of_parts started.name started.attrs None →
+pub plain_made : (old new : Reader) (result : Result ℕ MarkupFaultKind) (started : Started) (element : Element) → is_template (folded started.written.now) ≡ false → element ≡ of_parts (html_name started.local) started.attrs None →
     Grows old new result (length old.tree.content) (with_child (parent_number old) (AnElement element) old.tree) → Grows old new result (children_place (folded started.written.now) old.tree) (with_started (parent_number old) started old.tree)
 plain_made old new result started element plain is grows =
-    let made : Grows old new result (length old.tree.content) (with_child (parent_number old) (plain_element started.name started.attrs) old.tree) =
+    let made : Grows old new result (length old.tree.content) (with_child (parent_number old) (plain_element (html_name started.local) started.attrs) old.tree) =
     subst (λ (x : Element). Grows old new result (length old.tree.content) (with_child (parent_number old) (AnElement x) old.tree)) is grows in
     rw plain made
 
 pub template_made : (old new : Reader) (result : Result ℕ MarkupFaultKind) (started : Started) → is_template (folded started.written.now) ≡ true →
-    Grows old new result (length old.tree.content + 1) (with_template (parent_number old) (element_with started.name started.attrs (length old.tree.content + 1)) old.tree) →
+    Grows old new result (length old.tree.content + 1) (with_template (parent_number old) (element_with (html_name started.local) started.attrs (length old.tree.content + 1)) old.tree) →
     Grows old new result (children_place (folded started.written.now) old.tree) (with_started (parent_number old) started old.tree)
 template_made old new result started template grows = rw template grows
 
@@ -139,7 +139,7 @@ pub started_is : (p : ℕ) (started : Started) (all : List Attribute) (forest : 
 started_is p started all forest told =
     let name = folded started.written.now in
     let more = length forest.content + 1 in
-    ap (λ (q : QualName). cond (is_template name) (with_template p (element_with q started.attrs more) forest) (with_child p (plain_element q started.attrs) forest)) told.html
+    ap (λ (n : List ℕ). cond (is_template name) (with_template p (element_with (html_name n) started.attrs more) forest) (with_child p (plain_element (html_name n) started.attrs) forest)) told.local
     ∙ ap (λ (as' : List Attr). cond (is_template name) (with_template p (element_with (html_name name) as' more) forest) (with_child p (plain_element (html_name name) as') forest)) told.attrs
 
 -- a void element has no contents

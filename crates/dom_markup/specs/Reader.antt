@@ -53,7 +53,7 @@ pub record Grows (old new : Reader) (result : Result ℕ MarkupFaultKind) (place
 -- what was read of a start tag is an element of this name with these attributes
 pub record IsStarted (started : Started) (name : List ℕ) (attributes : List Attribute) : Type 0 where
   pub written : folded started.written.now ≡ name
-  pub html : started.name ≡ html_name name
+  pub local : started.local ≡ name
   pub attrs : started.attrs ≡ map read_attr attributes
 
 -- an element without contents
@@ -68,8 +68,8 @@ StartsSo text started rest =
 -- the forest with a new element that a start tag tells of as the last child of p, and a template's contents
 abbrev pub with_started : ℕ → Started → Forest → Forest
 with_started p started forest =
-    if is_template (folded started.written.now) then with_template p (element_with started.name started.attrs (length forest.content + 1)) forest
-    else with_child p (plain_element started.name started.attrs) forest
+    if is_template (folded started.written.now) then with_template p (element_with (html_name started.local) started.attrs (length forest.content + 1)) forest
+    else with_child p (plain_element (html_name started.local) started.attrs) forest
 
 -- behind all that was read before, the item is read too, or the fault tells why it isn't
 abbrev pub ReadsItem : {T : Type 0} → Item → Reader → Reader → Result T MarkupFaultKind → Type 0

@@ -9,12 +9,20 @@ use memchr::memchr;
 use std::alloc::Global;
 
 /// The text with its references read.
+#[inline(always)]
 pub fn decode(alloc: Global, text: &str) -> Result<Text, OutOfMemory>
     ensures { IfOk result (λ read. read ≡ decoded text.now) }
 {
     let Some(_) = memchr(b'&', text.as_bytes()) else {
         return Text::new(alloc, text);
     };
+    decode_references(alloc, text)
+}
+
+/// The same, a character at each `&`.
+fn decode_references(alloc: Global, text: &str) -> Result<Text, OutOfMemory>
+    ensures { IfOk result (λ read. read ≡ decoded text.now) }
+{
     let mut read = String::with_capacity(alloc, text.len())?;
     let mut rest = text;
     while let Some(cut) = cut_reference(rest) {

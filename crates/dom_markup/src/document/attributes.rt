@@ -99,6 +99,7 @@ impl Kept {
     }
 
     /// Adds an attribute, unless one of its name is there.
+    #[inline(always)]
     fn add(&mut self, alloc: Global, written: Written) -> Result<(), OutOfMemory>
         requires { IsNoted self.old }
         ensures noted { OnOk result (IsNoted self.new) }
@@ -123,6 +124,7 @@ impl Kept {
 
 /// The attributes of a start tag, behind its name, and what follows them; of equal names the first
 /// is kept.
+#[inline(always)]
 pub fn attrs_of(alloc: Global, text: &str) -> Result<(Attrs, &str), OutOfMemory>
     ensures past { IfOk result (λ found. PastAttributes text.now found.1.now) }
     ensures attrs { IfOk result (λ found. (slash : Bool) (all : List Attribute) (rest : List ℕ)

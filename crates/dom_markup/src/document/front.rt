@@ -94,7 +94,8 @@ fn front_in_text<'a>(
     Ok((Front::Text(contents), rest))
 }
 
-/// The item at the front, and what follows it.
+/// The item at the front, and what follows it. What `front_in_text` finds is taken apart and put
+/// together again, so that what stands at the front of markup needs no place in memory.
 #[inline(always)]
 pub fn front_at<'a>(
     text: &'a str,
@@ -105,7 +106,13 @@ pub fn front_at<'a>(
 {
     match within {
         Within::Markup => markup_front(text),
-        Within::Text(name) => front_in_text(text, name, within),
-        Within::RawText(name) => front_in_text(text, name, within),
+        Within::Text(name) => {
+            let (front, rest) = front_in_text(text, name, within)?;
+            Ok((front, rest))
+        }
+        Within::RawText(name) => {
+            let (front, rest) = front_in_text(text, name, within)?;
+            Ok((front, rest))
+        }
     }
 }

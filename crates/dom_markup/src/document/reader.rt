@@ -32,22 +32,23 @@ use dom_nodes::text::{RareText, Text};
 use dom_trees::tree::Tree;
 use std::alloc::Global;
 
-/// The HTML name that is written so.
-fn html_name(alloc: Global, written: &str) -> Result<QualName, OutOfMemory>
-    ensures { IfOk result (λ name. name ≡ html_name (folded written.now)) }
+/// The HTML name of that local name.
+#[inline(always)]
+fn html_name(local: LocalName) -> QualName
+    ensures { result ≡ html_name local }
 {
-    Ok(QualName {
+    QualName {
         prefix: None,
         ns: Namespace::Html,
-        local: LocalName::folded(alloc, written)?,
-    })
+        local,
+    }
 }
 
-/// What a start tag tells: the name as it is written, the element's name, and its attributes.
+/// What a start tag tells: the name as it is written, the element's local name, and its attributes.
 #[derive(Drop)]
 struct Started<'a> {
     written: &'a str,
-    name: QualName,
+    local: LocalName,
     attrs: Attrs,
 }
 
@@ -62,17 +63,17 @@ fn start_tag_of(alloc: Global, tag: &str) -> Result<(Started<'_>, &str), MarkupF
     if !names_element(written) {
         return Err(MarkupFaultKind::BadTag);
     }
-    let Ok(name) = html_name(alloc, written) else {
+    let Ok(local) = LocalName::folded(alloc, written) else {
         return Err(MarkupFaultKind::Memory);
     };
     let Ok((attrs, close)) = attrs_of(alloc, behind) else {
         return Err(MarkupFaultKind::Memory);
     };
-    let rest = close_tag(close, is_void_name(&name.local))?;
+    let rest = close_tag(close, is_void_name(&local))?;
     Ok((
         Started {
             written,
-            name,
+            local,
             attrs,
         },
         rest,
@@ -218,11 +219,12 @@ impl<'a> Reader<'a> {
             (children_place (folded started.entry.written.now) self.old.tree)
             (with_started (parent_number self.old) started.entry self.old.tree) }
     {
+        let name = html_name(started.local);
         if !is_template(started.written) {
-            let element = Element::new(started.name, started.attrs, None, false);
+            let element = Element::new(name, started.attrs, None, false);
             return self.append(NodeData::Element(element));
         }
-        self.append_template(started.name, started.attrs)
+        self.append_template(name, started.attrs)
     }
 
     /// Reads a text.
@@ -296,8 +298,8 @@ impl<'a> Reader<'a> {
     {
         let (started, rest) = start_tag_of(alloc, tag)?;
         let name = started.written;
-        let void = is_void_name(&started.name.local);
-        let within = within_named(name, &started.name.local);
+        let void = is_void_name(&started.local);
+        let within = within_named(name, &started.local);
         let number = self.append_element(started)?;
         let behind = Behind { rest, within };
         if void {
@@ -311,6 +313,7 @@ impl<'a> Reader<'a> {
 
     /// Reads the item at the front of what is left, and tells what follows it. `Err` where none
     /// begins there, for a limit, or where no trees have such items.
+    #[inline(always)]
     pub fn read(
         &mut self,
         alloc: Global,

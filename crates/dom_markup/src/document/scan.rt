@@ -1,10 +1,11 @@
 //! Fronts of a text: whitespace, names, attributes, the end of a start tag.
 
 ghost use Rattle.std.specs.Prelude.{◌≡◌, ◌≤◌, ◌<◌, ◌==◌, ◌||◌, not, true, List, ℕ, ◌∷◌, ◌++◌};
-ghost use Rattle.std.specs.Prelude.{IfNone, IfSome, codes, drop, length};
+ghost use Rattle.std.specs.Prelude.{IfNone, IfSome, codes, drop, length, map};
+ghost use Rattle.std.specs.Simd.Lanes.{chunk, mask_l};
 ghost use Rattle.std.specs.List.{list_all, prefix_len};
 ghost use Rattle.dom_nodes.specs.Ascii.{exclamation_mark, question_mark, slash};
-ghost use Rattle.dom_markup.specs.Bytes.{is_letter, is_name_byte, is_whitespace};
+ghost use Rattle.dom_markup.specs.Bytes.{is_letter, is_low, is_name_byte, is_whitespace};
 ghost use Rattle.dom_markup.specs.References.{decoded};
 ghost use Rattle.dom_markup.specs.ValueTrees.{Attribute};
 ghost use Rattle.dom_markup.specs.Markup.{BeginsAttribute, BeginsValue, Closes, EndsAtMark};
@@ -60,7 +61,7 @@ impl Stretch {
     }
 }
 
-/// How many bytes of this kind stand at the front.
+/// The same as `stretch_len`, one byte after the other.
 #[inline(always)]
 fn front_len(stretch: Stretch, bytes: &[u8]) -> usize
     ensures { result ≡ prefix_len (passes stretch) bytes.now }
@@ -73,15 +74,61 @@ fn front_len(stretch: Stretch, bytes: &[u8]) -> usize
     bytes.len()
 }
 
+/// Which of the bytes are no more than `>`, a bit for each.
+#[inline(always)]
+fn low_places(bytes: u8x16) -> u64
+    ensures { result ≡ mask_l (map is_low bytes) }
+{
+    bytes.simd_le(u8x16::splat(b'>')).to_bitmask()
+}
+
+/// How many of the first 16 bytes stand before one that is no more than `>`.
+#[inline(always)]
+fn high_len(bytes: &[u8]) -> usize
+    requires { 16 ≤ length bytes.now }
+    ensures { result ≡ prefix_len (λ b. not (is_low b)) (chunk 0 16 bytes.now) }
+{
+    let low = low_places(u8x16::from_slice(bytes));
+    if low == 0 {
+        return 16;
+    }
+    low.trailing_zeros() as usize
+}
+
+/// How many bytes of a name stand at the front. Those above `>` are told by 16 at once, and they are
+/// the whole of most names.
+#[inline(always)]
+fn name_len(bytes: &[u8]) -> usize
+    ensures { result ≡ prefix_len is_name_byte bytes.now }
+{
+    if bytes.len() < 16 {
+        return front_len(Stretch::Name, bytes);
+    }
+    let high = high_len(bytes);
+    high + front_len(Stretch::Name, bytes_from(bytes, high))
+}
+
+/// How many bytes of this kind stand at the front.
+#[inline(always)]
+fn stretch_len(stretch: Stretch, bytes: &[u8]) -> usize
+    ensures { result ≡ prefix_len (passes stretch) bytes.now }
+{
+    match stretch {
+        Stretch::Name => name_len(bytes),
+        _ => front_len(stretch, bytes),
+    }
+}
+
 /// The front that is of this kind, as far as it goes, and what follows it.
 #[inline(always)]
 pub fn split_front(stretch: Stretch, text: &str) -> (&str, &str)
     ensures { Splits (passes stretch) text.now result.0.now result.1.now }
 {
-    text.split_at(front_len(stretch, text.as_bytes()))
+    text.split_at(stretch_len(stretch, text.as_bytes()))
 }
 
 /// What follows the letter at the front, if it stands there.
+#[inline(always)]
 pub fn strip(text: &str, letter: char) -> Option<&str>
     requires { letter < 128 }
     ensures { Leaves (λ rest. text.now ≡ letter ∷ rest) result }
@@ -117,6 +164,7 @@ pub fn begins_markup(bytes: &[u8]) -> bool
 }
 
 /// The bytes from a place on.
+#[inline(always)]
 pub fn bytes_from(bytes: &[u8], at: usize) -> &[u8]
     requires { at ≤ length bytes.now }
     ensures { result.now ≡ drop at bytes.now }
@@ -141,6 +189,7 @@ fn text_len(bytes: &[u8]) -> usize
 }
 
 /// The text up to the first place where markup begins, and what follows it.
+#[inline(always)]
 pub fn split_text(text: &str) -> (&str, &str)
     ensures front { result.0.now ≡ text_front text.now }
     ensures whole { text.now ≡ result.0.now ++ result.1.now }
@@ -149,25 +198,26 @@ pub fn split_text(text: &str) -> (&str, &str)
 }
 
 /// About how many nodes the text has: as many as it has `<`, for an element with a text has two of
-/// both. Nothing but room for nodes hangs on it, so the last few bytes don't count.
+/// both. Nothing but room for nodes hangs on it, so a quarter of the text is counted, and a little
+/// more is told than that tells.
 pub fn nodes_about(text: &str) -> usize {
     let bytes = text.as_bytes();
     let mut count: usize = 0;
     let mut at = 0;
-    while bytes.len() - at >= 32 {
+    while bytes.len() - at >= 128 {
         let lanes = u8x32::from_slice(&bytes[at..]);
         let found = lanes.simd_eq(u8x32::splat(b'<')).to_bitmask().count_ones();
         count = count.saturating_add(found as usize);
-        at += 32;
+        at += 128;
     }
-    count
+    count.saturating_mul(4).saturating_add(count / 4)
 }
 
 /// About how many attributes stand before the end of a tag: as many as the next 64 bytes have `=`
 /// before a `>`. Nothing but room for attributes hangs on it.
 pub fn attrs_about(text: &str) -> usize {
     let bytes = text.as_bytes();
-    if bytes.len() < 64 {
+    if bytes.len() < 64 || bytes[0] == b'>' {
         return 0;
     }
     let ends = places_of(bytes, b'>');
@@ -201,6 +251,7 @@ pub fn comment_at(text: &str) -> Option<(&str, &str)>
 // ---- attributes
 
 /// What stands before the first such letter, and what follows it.
+#[inline(always)]
 pub fn split_letter(text: &str, letter: u8) -> Option<(&str, &str)>
     requires { letter < 128 }
     ensures some { IfSome result (λ found. (list_all (λ b. not (b == letter)) found.0.now ≡ true)
@@ -212,6 +263,7 @@ pub fn split_letter(text: &str, letter: u8) -> Option<(&str, &str)>
 }
 
 /// The value at the front as it is written, without its quotes, and what follows it.
+#[inline(always)]
 fn value_at(text: &str) -> Option<(&str, &str)>
     ensures { Takes (BeginsValue text.now) result }
 {
@@ -232,6 +284,7 @@ fn value_at(text: &str) -> Option<(&str, &str)>
 
 /// The value behind an attribute's name as it is written, and what follows it; empty where there is
 /// none.
+#[inline(always)]
 fn value_behind(after: &str) -> Option<(&str, &str)>
     ensures some { IfSome result (λ found. HasValue after.now (decoded found.0.now) found.1.now) }
     ensures none { IfNone result ((value rest : List ℕ) → HasValue after.now value rest → ⊥) }
@@ -253,6 +306,7 @@ pub struct Written<'a> {
 }
 
 /// The attribute at the front, and what follows it.
+#[inline(always)]
 pub fn attribute_at(text: &str) -> Option<(Written<'_>, &str)>
     ensures some { IfSome result (λ found. let written = found.0 in
         BeginsAttribute text.now (attribute_of written.name.now written.value.now) found.1.now) }
@@ -260,8 +314,11 @@ pub fn attribute_at(text: &str) -> Option<(Written<'_>, &str)>
         → BeginsAttribute text.now attribute rest → ⊥) }
 {
     let (space, behind) = split_front(Stretch::Whitespace, text);
+    if space.is_empty() {
+        return None;
+    }
     let (name, behind) = split_front(Stretch::Name, behind);
-    if space.is_empty() || name.is_empty() {
+    if name.is_empty() {
         return None;
     }
     let (value, rest) = value_behind(behind)?;
@@ -269,6 +326,7 @@ pub fn attribute_at(text: &str) -> Option<(Written<'_>, &str)>
 }
 
 /// What follows the end of a tag at the front, which may be a slash and `>`.
+#[inline(always)]
 pub fn close_at(text: &str, slash: bool) -> Option<&str>
     ensures { Leaves (Closes slash text.now) result }
 {

@@ -13,6 +13,7 @@ use dom_nodes::fault::MarkupFaultKind;
 
 /// What follows the end of a start tag, behind its attributes; that of a void element may be a
 /// slash and `>`.
+#[inline(always)]
 pub fn close_tag(close: &str, void: bool) -> Result<&str, MarkupFaultKind>
     ensures { MatchResult result (λ rest. Closes void close.now rest.now)
         (ClosesNothing void close.now) }
@@ -41,6 +42,7 @@ pub fn start_tag_end(tag: &str) -> Result<(&str, &str), MarkupFaultKind>
 }
 
 /// The name of the end tag behind its `</`, as it is written, and what follows the tag.
+#[inline(always)]
 pub fn end_tag_end(tag: &str) -> Option<(&str, &str)>
     ensures some { IfSome result (λ found.
         BeginsEnd (codes "</" ++ tag.now) (folded found.0.now) found.1.now) }

@@ -1,6 +1,5 @@
-use Rattle.std.proofs.Common.{refl, sym, ◌∙◌, ap, inr}
+use Rattle.std.proofs.Common.{ℕ, List, refl, sym, ◌∙◌, ap, inr}
 use Rattle.std.proofs.lemmas.Result.{err_from_is_err_and}
-use Rattle.dom_nodes.specs.declared.name.QualName.{QualName}
 use Rattle.dom_nodes.specs.Words.{is_among}
 use Rattle.dom_markup.specs.Bytes.{folded}
 use Rattle.dom_markup.specs.Names.{mode_in, void_names}
@@ -29,8 +28,8 @@ returns-then-void c =
     let tag = c.in_ok-started.ensures in
     let grows = c.in_ok-number.ensures in
     let made = grows.grown.1 ∙ started_is (parent_number c.args.self.now) started tag.0 c.args.self.now.tree tag.2 in
-    let void = ap (λ (n : QualName). is_among n.local void_names) (sym tag.2.html) ∙ (sym c.is_void_name-void.ensures ∙ c.if-void.true) in
-    λ items h. (start_tag name tag.0, tag.1, c.within_named-within.ensures ∙ ap (λ (n : QualName). mode_in n.local) tag.2.html, void_read items _ _ name tag.0 h made grows.stack void)
+    let void = ap (λ (n : List ℕ). is_among n void_names) (sym tag.2.local) ∙ (sym c.is_void_name-void.ensures ∙ c.if-void.true) in
+    λ items h. (start_tag name tag.0, tag.1, c.within_named-within.ensures ∙ ap mode_in tag.2.local, void_read items _ _ name tag.0 h made grows.stack void)
 
 pub returns-in-Ok : goal.returns-in-Ok
 returns-in-Ok c =
@@ -40,10 +39,10 @@ returns-in-Ok c =
     let grows = c.in_ok-number.ensures in
     let made = grows.grown.1 ∙ started_is (parent_number c.args.self.now) started tag.0 c.args.self.now.tree tag.2 in
     let one : Open = record { number = c.in_ok-number.number; name = started.written } in
-    let open_one = ap (λ (n : QualName). is_among n.local void_names) (sym tag.2.html) ∙ (sym c.is_void_name-void.ensures ∙ c.if-void.false) in
+    let open_one = ap (λ (n : List ℕ). is_among n void_names) (sym tag.2.local) ∙ (sym c.is_void_name-void.ensures ∙ c.if-void.false) in
     λ items h. (
       start_tag name tag.0,
       tag.1,
-      c.within_named-within.ensures ∙ ap (λ (n : QualName). mode_in n.local) tag.2.html,
+      c.within_named-within.ensures ∙ ap mode_in tag.2.local,
       start_read items _ _ _ _ one name tag.0 h made grows.stack c.in-Ok.ensures.items grows.grown.0 refl open_one,
     )
