@@ -25,7 +25,8 @@ use Rattle.dom_selectors.proofs.Layers.{read_compound_is}
 use Rattle.dom_select.specs.Meaning.{Holds, PartsHold}
 use Rattle.dom_select.specs.Parts.{PartHolds, name_within, node_passes}
 use Rattle.dom_index.specs.declared.names.WantedName.{WantedName}
-use Rattle.dom_index.specs.Names.{AreNames, BearsKnown, IsWanted, byte_at, tells_name}
+use Rattle.dom_index.specs.Names.{AreNamed, AreNames, BearsKnown, IsWanted, byte_at, tells_name}
+use Rattle.dom_index.specs.Tables.{AreAsked, truth_at}
 
 -- what the byte is
 abbrev IsNameByte : NodeData → ℕ → Type 0
@@ -112,6 +113,26 @@ module _ (forest : Forest) (bytes : List ℕ) (names : AreNames forest bytes) (n
     met_by_name same all =
         let node = found.0 in
         is.suffices all forest n node found.1 (this_name node (byte_at bytes n) wanted.number is.known (name_told node (byte_at bytes n) (names.each n node found.1)) same)
+
+-- who bears the name is kept by its byte
+byte_kept : (byte number : ℕ) → ((byte ≡ 254 → ⊥) → (byte ≡ number → ⊥) → ⊥) → ((byte == number) || (byte == 254)) ≡ true
+byte_kept byte number h = elim (cases_Bool (byte == number)) [
+  | inl t ↦ ap (λ b. b || (byte == 254)) t
+  | inr f ↦ or_right (byte == number) (byte == 254) (elim (cases_Bool (byte == 254)) [
+    | inl t ↦ t
+    | inr g ↦ absurd (h (λ e. true≢false (sym (eq-eqb byte 254 e) ∙ g)) (λ e. true≢false (sym (eq-eqb byte number e) ∙ f)))
+  ])
+]
+
+pub named_asked : (forest : Forest) (bytes : List ℕ) → AreNames forest bytes → (c : CompoundSelector) (wanted : WantedName) → IsWanted c wanted → (table other : List Bool) → length other ≡ length forest.content →
+    AreNamed bytes wanted.number table other → AreAsked forest c table other
+named_asked forest bytes names c wanted is table other long named = record {
+  long = named.long;
+  told = λ n known t. (both_true (truth_at other n) _ (sym (named.each n known) ∙ t)).0;
+  kept = λ n known t holds. let inside : n < length forest.content = omega arith in
+      named.each n known ∙ (ap (λ b. b && ((byte_at bytes n == wanted.number) || (byte_at bytes n == 254))) t
+      ∙ byte_kept (byte_at bytes n) wanted.number (λ known_one other_one. refused_by_name forest bytes names n inside c wanted is known_one other_one holds));
+}
 
 -- what a type asks of a node
 asks_name : (name : List ℕ) (number : ℕ) → ((ns : Namespace) → name_within ns name ≡ known_name number) → (node : NodeData) → node_passes (Part.«Type» name) node ≡ true → BearsKnown number node

@@ -8,6 +8,7 @@ use Rattle.dom_links.specs.Forest.{Forest}
 use Rattle.dom_selectors.specs.Syntax.{CompoundSelector}
 use Rattle.dom_select.specs.Meaning.{Holds}
 use Rattle.dom_index.specs.declared.names.WantedName.{WantedName}
+use Rattle.dom_index.specs.Tables.{truth_at}
 
 abbrev pub byte_at : List ℕ → ℕ → ℕ
 byte_at bytes n = slice_index_or bytes n 0
@@ -26,6 +27,11 @@ BearsKnown number _ = ⊥
 pub record AreNames (forest : Forest) (bytes : List ℕ) : Type 0 where
   pub long : length bytes ≡ length forest.content
   pub each : (n : ℕ) (node : NodeData) → slice_get forest.content n ≡ Some node → tells_name node (byte_at bytes n) ≡ true
+
+-- a table that tells what the other tells of the nodes whose byte is that number, or tells no name
+pub record AreNamed (bytes : List ℕ) (number : ℕ) (table other : List Bool) : Type 0 where
+  pub long : length table ≡ length other
+  pub each : (n : ℕ) → n < length other → truth_at table n ≡ (truth_at other n && ((byte_at bytes n == number) || (byte_at bytes n == 254)))
 
 -- where the compound holds the node bears the name, and where nothing else is asked it holds of each that does
 pub record IsWanted (c : CompoundSelector) (wanted : WantedName) : Type 0 where

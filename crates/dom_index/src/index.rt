@@ -77,7 +77,8 @@ impl<'a> TreeIndex<'a> {
     {
         self.tests = 0;
         know_walks(self.layout.tree);
-        let table = list_table(&self.layout, matcher.selectors(), &mut self.tests)?;
+        let all = vec![in self.layout.tree.allocator(); true; self.layout.order.len()]?;
+        let table = list_table(&self.layout, matcher.selectors(), &all, &mut self.tests)?;
         picked(&self.layout, roots, table)
     }
 

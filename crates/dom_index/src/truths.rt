@@ -9,11 +9,11 @@ ghost use Rattle.dom_selectors.specs.Spelling.{Decides};
 ghost use Rattle.dom_select.specs.Answers.{AreAnswers};
 ghost use Rattle.dom_select.specs.Meaning.{Holds, ListsHold};
 ghost use Rattle.dom_index.specs.Names.{IsWanted};
-ghost use Rattle.dom_index.specs.Tables.{AreBoth, AreEither, AreServing, AreTold, AreTurned};
-ghost use Rattle.dom_index.specs.Tables.{truth_at};
+ghost use Rattle.dom_index.specs.Tables.{AreAsked, AreBoth, AreEither, AreServing, AreTold};
+ghost use Rattle.dom_index.specs.Tables.{AreTurned, truth_at};
 
 use crate::layout::{Layout, numbered};
-use crate::names::{WantedName, is_element_at, told_by_name, wanted_name};
+use crate::names::{WantedName, is_element_at, keep_named, told_by_name, wanted_name};
 use dom_nodes::fault::OutOfMemory;
 use dom_select::matcher::caches::SelectorCaches;
 use dom_select::matcher::compounds::test_compound;
@@ -105,8 +105,20 @@ pub(crate) fn narrow(table: &mut Vec<bool>, other: &[bool])
     requires { length other.now ≡ length table.old.items }
     ensures { AreBoth table.new.items table.old.items other.now }
 {
-    for n in 0..table.len() {
-        table[n] = table[n] && other[n];
+    let cells = table.as_mut_slice();
+    for n in 0..cells.len() {
+        cells[n] = cells[n] & other[n];
+    }
+}
+
+/// Keeps the truths of the nodes that may bear the name that the compound begins with.
+pub(crate) fn narrow_by_name(layout: &Layout<'_>, compound: &Compound, table: &mut Vec<bool>)
+    requires { length table.old.items ≡ length layout.now.tree.now.content }
+    ensures { AreAsked layout.now.tree.now (read_compound compound.now) table.new.items
+        table.old.items }
+{
+    if let Some(wanted) = wanted_name(compound) {
+        keep_named(table, &layout.names, wanted.number);
     }
 }
 
@@ -115,8 +127,9 @@ pub(crate) fn widen(table: &mut Vec<bool>, other: &[bool])
     requires { length other.now ≡ length table.old.items }
     ensures { AreEither table.new.items table.old.items other.now }
 {
-    for n in 0..table.len() {
-        table[n] = table[n] || other[n];
+    let cells = table.as_mut_slice();
+    for n in 0..cells.len() {
+        cells[n] = cells[n] | other[n];
     }
 }
 
@@ -124,8 +137,9 @@ pub(crate) fn widen(table: &mut Vec<bool>, other: &[bool])
 pub(crate) fn turn(table: &mut Vec<bool>)
     ensures { AreTurned table.new.items table.old.items }
 {
-    for n in 0..table.len() {
-        table[n] = !table[n];
+    let cells = table.as_mut_slice();
+    for n in 0..cells.len() {
+        cells[n] = !cells[n];
     }
 }
 
