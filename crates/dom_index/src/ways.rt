@@ -20,7 +20,7 @@ fn left_at(layout: &Layout<'_>, combinator: Combinator, place: usize) -> Option<
         ≡ left_of layout.now.tree.now combinator (number_at layout.now.order.items place) }
 {
     match combinator {
-        Combinator::Descendant | Combinator::Child => layout.above[place],
+        Combinator::Descendant | Combinator::Child => layout.above[place].get(),
         Combinator::Adjacent | Combinator::Sibling => {
             prev_sibling_id(layout.tree.nodes(), &layout.order[place])
         }
@@ -42,7 +42,7 @@ fn passes_on(
 {
     let v = id.value();
     match combinator {
-        Combinator::Descendant => table[v] || flags[v],
+        Combinator::Descendant => table[v] | flags[v],
         Combinator::Child => table[v],
         Combinator::Adjacent => {
             if is_element_at(layout, v) {
@@ -53,7 +53,7 @@ fn passes_on(
         }
         Combinator::Sibling => {
             let element = is_element_at(layout, v);
-            (element && table[v]) || flags[v]
+            (element & table[v]) | flags[v]
         }
     }
 }
