@@ -28,7 +28,7 @@ use Rattle.dom_select.proofs.ReachLemmas.{from_reaches, to_reaches}
 use Rattle.dom_select.proofs.MeaningLemmas.{parts_unknown}
 use Rattle.dom_select.proofs.RowLemmas.{first_stands, parent_first}
 use Rattle.dom_selectors.specs.Spelling.{Decides}
-use Rattle.dom_index.specs.Tables.{AreAsked, AreBoth, AreTold, AreToldWhere, truth_at, serves, IsLed}
+use Rattle.dom_index.specs.Tables.{AllHold, AreAsked, AreBoth, AreTold, AreToldWhere, truth_at, serves, IsLed}
 use Rattle.dom_index.proofs.LedLemmas.{told_by}
 
 abbrev pub Chain : Type 0
@@ -235,3 +235,15 @@ asked_told forest c count wanted named new long asked told = record {
   each = λ n known. let inside = subst (λ (m : ℕ). n < m) (sym long) known in
       told_by (truth_at new n) _ _ (λ x. (asked.told n inside x.0, x.1)) (λ x. (asked.kept n inside x.0 x.1, x.1)) (told.each n known);
 }
+
+-- and where the names tell all
+pub named_told : (forest : Forest) (c : CompoundSelector) (wanted named : List Bool) → length wanted ≡ length forest.content → AreAsked forest c named wanted → AllHold forest c named → AreTold named (length forest.content) (λ n. (truth_at wanted n ≡ true) × Holds c forest n)
+named_told forest c wanted named long asked hold = record {
+  long = asked.long ∙ long;
+  each = λ n known. let inside = subst (λ (m : ℕ). n < m) (sym long) known in
+      at n (truth_at named n) (λ t. (asked.told n inside t, hold n known t)) (λ x. asked.kept n inside x.0 x.1);
+}
+  where
+    at : (n : ℕ) (b : Bool) → (b ≡ true → (truth_at wanted n ≡ true) × Holds c forest n) → ((truth_at wanted n ≡ true) × Holds c forest n → b ≡ true) → Decides b ((truth_at wanted n ≡ true) × Holds c forest n)
+    at n true f g = f refl
+    at n false f g = λ x. true≢false (sym (g x))

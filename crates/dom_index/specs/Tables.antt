@@ -29,6 +29,10 @@ pub record AreAsked (forest : Forest) (c : CompoundSelector) (table other : List
   pub told : (n : ℕ) → n < length other → truth_at table n ≡ true → truth_at other n ≡ true
   pub kept : (n : ℕ) → n < length other → truth_at other n ≡ true → Holds c forest n → truth_at table n ≡ true
 
+-- the compound holds of each node of which the table tells the truth
+abbrev pub AllHold : Forest → CompoundSelector → List Bool → Type 0
+AllHold forest c table = (n : ℕ) → n < length forest.content → truth_at table n ≡ true → Holds c forest n
+
 -- a node beside `+` or `~` is an element
 abbrev pub serves : Forest → Combinator → ℕ → Bool
 serves forest Descendant v = true

@@ -33,7 +33,10 @@ fn compound_table(
         + compound_count (read_compound compound.now) * length layout.now.tree.now.content }
 {
     let mut named = wanted;
-    narrow_by_name(layout, compound, &mut named);
+    if let Some(count) = narrow_by_name(layout, compound, &mut named) {
+        *tests = tests.saturating_add(count as u128);
+        return Ok(named);
+    }
     let narrowed = narrowed_table(layout, &compound.nested, named, tests)?;
     tested(layout, compound, narrowed, tests)
 }
