@@ -108,6 +108,7 @@ fn swept(tree: &Tree) -> Result<Sweep, OutOfMemory>
     ensures swept { IfOk result (IsSwept tree.now) }
 {
     know_started(tree);
+    know_order(tree);
     let mut sweep = Sweep::new(tree)?;
     for n in 0..tree.len() {
         if sweep.marks[n] {
@@ -116,6 +117,9 @@ fn swept(tree: &Tree) -> Result<Sweep, OutOfMemory>
         let id = numbered(tree, n);
         if starts_run(tree, id) {
             push_from(tree, id, &mut sweep)?;
+            if sweep.order.len() == tree.len() {
+                return Ok(sweep);
+            }
         }
     }
     Ok(sweep)
