@@ -58,7 +58,7 @@ fn passes_on(
     }
 }
 
-/// Whether a node with this parent is led to, where the flags tell that of the next one on its left.
+/// Whether a node with this parent is led to, where the flags tell that of the next on its left.
 fn is_led(
     layout: &Layout<'_>,
     combinator: Combinator,
