@@ -28,7 +28,7 @@ use Rattle.dom_select.proofs.ReachLemmas.{from_reaches, to_reaches}
 use Rattle.dom_select.proofs.MeaningLemmas.{parts_unknown}
 use Rattle.dom_select.proofs.RowLemmas.{first_stands, parent_first}
 use Rattle.dom_selectors.specs.Spelling.{Decides}
-use Rattle.dom_index.specs.Tables.{AreTold, truth_at, serves, IsLed}
+use Rattle.dom_index.specs.Tables.{AllHold, AreAsked, AreBoth, AreTold, AreToldWhere, truth_at, serves, IsLed}
 use Rattle.dom_index.proofs.LedLemmas.{told_by}
 
 abbrev pub Chain : Type 0
@@ -204,3 +204,46 @@ chain_more forest good lines first ss more k c table flags new is told led asked
   long = asked.long;
   each = λ n known. subst (λ z. Decides (truth_at new n) (ReachesIt forest first z n)) (sym is) (chain_told forest good lines first ss k c table told flags n (truth_at new n) (led.each n known) (asked.each n known));
 }
+
+-- the same, where the last compound was asked of wanted nodes alone
+pub chain_where : (forest : Forest) → IsForest forest → AreLines forest → (first : CompoundSelector) (ss more : Chain) (k : Combinator) (c : CompoundSelector) (wanted table flags both new : List Bool) → more ≡ ss ++ (k, c) ∷ [] →
+    AreTold table (length forest.content) (ReachesIt forest first ss) → AreTold flags (length forest.content) (IsLed forest k table) → AreBoth both flags wanted →
+    AreTold new (length forest.content) (λ n. (truth_at both n ≡ true) × Holds c forest n) → AreToldWhere wanted new (length forest.content) (ReachesIt forest first more)
+chain_where forest good lines first ss more k c wanted table flags both new is told led narrowed asked = record {
+  long = asked.long;
+  each = λ n known here. subst (λ z. Decides (truth_at new n) (ReachesIt forest first z n)) (sym is) (chain_told forest good lines first ss k c table told flags n (truth_at new n) (led.each n known)
+      (told_by (truth_at new n) _ _
+      (λ x. ((both_true _ _ (sym (same n known) ∙ x.0)).0, x.1))
+      (λ x. (same n known ∙ (rw (x.0, here) refl), x.1))
+      (asked.each n known)));
+}
+  where
+    same : (n : ℕ) → n < length forest.content → truth_at both n ≡ (truth_at flags n && truth_at wanted n)
+    same n known = narrowed.each n (subst (λ (m : ℕ). n < m) (sym led.long) known)
+
+pub chain_first : (forest : Forest) (first : CompoundSelector) (wanted new : List Bool) → AreTold new (length forest.content) (λ n. (truth_at wanted n ≡ true) × Holds first forest n) → AreToldWhere wanted new (length forest.content) (ReachesIt forest first [])
+chain_first forest first wanted new asked = record {
+  long = asked.long;
+  each = λ n known here. told_by (truth_at new n) _ _ (λ x. (n, x.1, refl)) (λ r. (here, subst (Holds first forest) r.2 r.1)) (asked.each n known);
+}
+
+-- what was asked of those that may bear a compound's name, of all
+pub asked_told : (forest : Forest) (c : CompoundSelector) (count : ℕ) (wanted named new : List Bool) → length wanted ≡ count → AreAsked forest c named wanted → AreTold new count (λ n. (truth_at named n ≡ true) × Holds c forest n) →
+    AreTold new count (λ n. (truth_at wanted n ≡ true) × Holds c forest n)
+asked_told forest c count wanted named new long asked told = record {
+  long = told.long;
+  each = λ n known. let inside = subst (λ (m : ℕ). n < m) (sym long) known in
+      told_by (truth_at new n) _ _ (λ x. (asked.told n inside x.0, x.1)) (λ x. (asked.kept n inside x.0 x.1, x.1)) (told.each n known);
+}
+
+-- and where the names tell all
+pub named_told : (forest : Forest) (c : CompoundSelector) (wanted named : List Bool) → length wanted ≡ length forest.content → AreAsked forest c named wanted → AllHold forest c named → AreTold named (length forest.content) (λ n. (truth_at wanted n ≡ true) × Holds c forest n)
+named_told forest c wanted named long asked hold = record {
+  long = asked.long ∙ long;
+  each = λ n known. let inside = subst (λ (m : ℕ). n < m) (sym long) known in
+      at n (truth_at named n) (λ t. (asked.told n inside t, hold n known t)) (λ x. asked.kept n inside x.0 x.1);
+}
+  where
+    at : (n : ℕ) (b : Bool) → (b ≡ true → (truth_at wanted n ≡ true) × Holds c forest n) → ((truth_at wanted n ≡ true) × Holds c forest n → b ≡ true) → Decides b ((truth_at wanted n ≡ true) × Holds c forest n)
+    at n true f g = f refl
+    at n false f g = λ x. true≢false (sym (g x))

@@ -15,7 +15,7 @@ use Rattle.dom_selectors.specs.ValuesAsTrees.{read_compound, read_list, read_nes
 use Rattle.dom_selectors.specs.Syntax.{CompoundSelector, NestedLists, no_lists, nested, NestedList, none_means, SelectorList, alternative, Steps, step}
 use Rattle.dom_selectors.proofs.Layers.{read_selector_is, read_step_is}
 use Rattle.dom_selectors.specs.Spelling.{Decides}
-use Rattle.dom_index.specs.Tables.{AreBoth, AreEither, AreTold, AreTurned, truth_at}
+use Rattle.dom_index.specs.Tables.{AreBoth, AreEither, AreTold, AreToldWhere, AreTurned, truth_at}
 
 -- the lists that are left decide, where the table still tells the truth
 pub record Narrowed (forest : Forest) (count : ℕ) (wanted table : List Bool) (all left : NestedLists) : Type 0 where
@@ -30,17 +30,17 @@ module _ (forest : Forest) (count : ℕ) (wanted : List Bool) (all : NestedLists
       at n true e = (λ h. h.1, λ h. (e, h))
       at n false e = λ h. true≢false (sym h.0 ∙ e)
 
-  narrowed_at : (list : NestedList) (left : NestedLists) (n : ℕ) (w a b : Bool) → w ≡ (a && b) → Decides b (ListHolds list forest n) →
+  narrowed_at : (list : NestedList) (left : NestedLists) (n : ℕ) (w a b : Bool) → w ≡ (a && b) → (a ≡ true → Decides b (ListHolds list forest n)) →
       MatchBool a (((truth_at wanted n ≡ true) × ListsHold all forest n) ↔ ListsHold (nested list left) forest n) ((truth_at wanted n ≡ true) × ListsHold all forest n → ⊥) →
       MatchBool w (((truth_at wanted n ≡ true) × ListsHold all forest n) ↔ ListsHold left forest n) ((truth_at wanted n ≡ true) × ListsHold all forest n → ⊥)
-  narrowed_at list left n true true true e told h = (λ x. (h.0 x).1, λ x. h.1 (told, x))
+  narrowed_at list left n true true true e told h = (λ x. (h.0 x).1, λ x. h.1 (told refl, x))
   narrowed_at list left n false true true e told h = absurd (true≢false (sym e))
   narrowed_at list left n true true false e told h = absurd (true≢false e)
-  narrowed_at list left n false true false e told h = λ x. told (h.0 x).0
+  narrowed_at list left n false true false e told h = λ x. told refl (h.0 x).0
   narrowed_at list left n true false b e told h = absurd (true≢false e)
   narrowed_at list left n false false b e told h = h
 
-  pub narrowed_more : (list : NestedList) (left : NestedLists) (table other new : List Bool) → AreTold other count (ListHolds list forest) → AreBoth new table other → Narrowed forest count wanted table all (nested list left) →
+  pub narrowed_more : (list : NestedList) (left : NestedLists) (table other new : List Bool) → AreToldWhere table other count (ListHolds list forest) → AreBoth new table other → Narrowed forest count wanted table all (nested list left) →
       Narrowed forest count wanted new all left
   narrowed_more list left table other new told both h = record {
     long = both.long ∙ h.long;
@@ -55,13 +55,20 @@ module _ (forest : Forest) (count : ℕ) (wanted : List Bool) (all : NestedLists
       at n false x = x
 
 -- what is left decides, where the table doesn't yet tell the truth
-pub record Widened (count : ℕ) (table : List Bool) (All Left : ℕ → Type 0) : Type 0 where
+pub record Widened (Here : ℕ → Type 0) (count : ℕ) (table : List Bool) (All Left : ℕ → Type 0) : Type 0 where
   pub long : length table ≡ count
-  pub each : (n : ℕ) → n < count → MatchBool (truth_at table n) (All n) (All n ↔ Left n)
+  pub each : (n : ℕ) → n < count → Here n → MatchBool (truth_at table n) (All n) (All n ↔ Left n)
 
-module _ (count : ℕ) (All : ℕ → Type 0) where
-  pub widened_none : (table : List Bool) → length table ≡ count → ((n : ℕ) → n < count → truth_at table n ≡ false) → Widened count table All All
-  widened_none table long empty = record { long = long; each = λ n known. rw (empty n known) (λ h. h, λ h. h) }
+-- the numbers of which a table tells the truth, and all numbers
+abbrev pub Wanted : List Bool → ℕ → Type 0
+Wanted wanted n = truth_at wanted n ≡ true
+
+abbrev pub Anywhere : ℕ → Type 0
+Anywhere n = Unit {0}
+
+module _ (Here : ℕ → Type 0) (count : ℕ) (All : ℕ → Type 0) where
+  pub widened_none : (table : List Bool) → length table ≡ count → ((n : ℕ) → n < count → truth_at table n ≡ false) → Widened Here count table All All
+  widened_none table long empty = record { long = long; each = λ n known here. rw (empty n known) (λ h. h, λ h. h) }
 
   widened_at : (One Left : ℕ → Type 0) (n : ℕ) (w a b : Bool) → w ≡ (a || b) → Decides b (One n) →
       MatchBool a (All n) (All n ↔ (One n ⊎ Left n)) → MatchBool w (All n) (All n ↔ Left n)
@@ -76,19 +83,33 @@ module _ (count : ℕ) (All : ℕ → Type 0) where
       on (inl r) = absurd (told r)
       on (inr m) = m
 
-  pub widened_more : (One Left : ℕ → Type 0) (table other new : List Bool) → AreTold other count One → AreEither new table other →
-      Widened count table All (λ n. One n ⊎ Left n) → Widened count new All Left
+  pub widened_more : (One Left : ℕ → Type 0) (table other new : List Bool) → ((n : ℕ) → n < count → Here n → Decides (truth_at other n) (One n)) → AreEither new table other →
+      Widened Here count table All (λ n. One n ⊎ Left n) → Widened Here count new All Left
   widened_more One Left table other new told either h = record {
     long = either.long ∙ h.long;
-    each = λ n known. widened_at One Left n _ _ _ (either.each n (subst (λ (m : ℕ). n < m) (sym h.long) known)) (told.each n known) (h.each n known);
+    each = λ n known here. widened_at One Left n _ _ _ (either.each n (subst (λ (m : ℕ). n < m) (sym h.long) known)) (told n known here) (h.each n known here);
   }
 
-  pub widened_all : (table : List Bool) → Widened count table All (λ n. ⊥) → AreTold table count All
-  widened_all table h = record { long = h.long; each = λ n known. at n (truth_at table n) (h.each n known) }
+  pub widened_last : (table : List Bool) → Widened Here count table All (λ n. ⊥) → (n : ℕ) → n < count → Here n → Decides (truth_at table n) (All n)
+  widened_last table h n known here = at (truth_at table n) (h.each n known here)
     where
-      at : (n : ℕ) (b : Bool) → MatchBool b (All n) (All n ↔ ⊥) → Decides b (All n)
-      at n true x = x
-      at n false x = x.0
+      at : (b : Bool) → MatchBool b (All n) (All n ↔ ⊥) → Decides b (All n)
+      at true x = x
+      at false x = x.0
+
+pub widened_all : (count : ℕ) (All : ℕ → Type 0) (table : List Bool) → Widened Anywhere count table All (λ n. ⊥) → AreTold table count All
+widened_all count All table h = record { long = h.long; each = λ n known. widened_last Anywhere count All table h n known tt }
+
+pub widened_where : (wanted : List Bool) (count : ℕ) (All : ℕ → Type 0) (table : List Bool) → Widened (Wanted wanted) count table All (λ n. ⊥) → AreToldWhere wanted table count All
+widened_where wanted count All table h = record { long = h.long; each = widened_last (Wanted wanted) count All table h }
+
+-- what is told anywhere is told where it is wanted
+pub told_where : (wanted table : List Bool) (count : ℕ) (P : ℕ → Type 0) → AreTold table count P → AreToldWhere wanted table count P
+told_where wanted table count P told = record { long = told.long; each = λ n known here. told.each n known }
+
+-- and what is told where all is wanted is told anywhere
+pub told_anywhere : (wanted table : List Bool) (count : ℕ) (P : ℕ → Type 0) → ((n : ℕ) → n < count → truth_at wanted n ≡ true) → AreToldWhere wanted table count P → AreTold table count P
+told_anywhere wanted table count P all told = record { long = told.long; each = λ n known. told.each n known (all n known) }
 
 -- a table turned round
 turned_at : (w b : Bool) (P : Type 0) → w ≡ not b → Decides b P → Decides w (P → ⊥)
@@ -97,10 +118,11 @@ turned_at false true P e h = λ none. none h
 turned_at true false P e h = h
 turned_at false false P e h = absurd (true≢false (sym e))
 
-pub turned_all : (forest : Forest) (count : ℕ) (list : SelectorList) (table other : List Bool) → AreTold other count (Means list forest) → AreTurned table other → AreTold table count (ListHolds (none_means list) forest)
-turned_all forest count list table other told turned = record {
+pub turned_where : (forest : Forest) (wanted : List Bool) (count : ℕ) (list : SelectorList) (table other : List Bool) → AreToldWhere wanted other count (Means list forest) → AreTurned table other →
+    AreToldWhere wanted table count (ListHolds (none_means list) forest)
+turned_where forest wanted count list table other told turned = record {
   long = turned.long ∙ told.long;
-  each = λ n known. turned_at _ _ (Means list forest n) (turned.each n (subst (λ (m : ℕ). n < m) (sym told.long) known)) (told.each n known);
+  each = λ n known here. turned_at _ _ (Means list forest n) (turned.each n (subst (λ (m : ℕ). n < m) (sym told.long) known)) (told.each n known here);
 }
 
 -- so many tests were asked, and so many more may be

@@ -25,7 +25,9 @@ use Rattle.dom_selectors.proofs.Layers.{read_compound_is}
 use Rattle.dom_select.specs.Meaning.{Holds, PartsHold}
 use Rattle.dom_select.specs.Parts.{PartHolds, name_within, node_passes}
 use Rattle.dom_index.specs.declared.names.WantedName.{WantedName}
-use Rattle.dom_index.specs.Names.{AreNames, BearsKnown, IsWanted, byte_at, tells_name}
+use Rattle.dom_index.specs.Names.{AreElements, AreKnown, AreNamed, AreNames, BearsKnown, IsWanted, byte_at, tells_name}
+use Rattle.dom_index.specs.Tables.{AllHold, AreAsked, AreTold, truth_at}
+use Rattle.dom_index.proofs.FillLemmas.{same_told}
 
 -- what the byte is
 abbrev IsNameByte : NodeData → ℕ → Type 0
@@ -112,6 +114,45 @@ module _ (forest : Forest) (bytes : List ℕ) (names : AreNames forest bytes) (n
     met_by_name same all =
         let node = found.0 in
         is.suffices all forest n node found.1 (this_name node (byte_at bytes n) wanted.number is.known (name_told node (byte_at bytes n) (names.each n node found.1)) same)
+
+-- a table of the elements
+pub elements_told : (forest : Forest) (bytes : List ℕ) → AreNames forest bytes → (table : List Bool) → AreElements bytes table → AreTold table (length forest.content) (λ n. element_at forest n ≡ true)
+elements_told forest bytes names table told = record {
+  long = told.long ∙ names.long;
+  each = λ n known. same_told (truth_at table n) (element_at forest n) (told.each n (let long = names.long in omega arith) ∙ element_told forest bytes names n known (byte_at bytes n) refl);
+}
+
+-- who bears the name is kept by its byte
+byte_kept : (byte number : ℕ) → ((byte ≡ 254 → ⊥) → (byte ≡ number → ⊥) → ⊥) → ((byte == number) || (byte == 254)) ≡ true
+byte_kept byte number h = elim (cases_Bool (byte == number)) [
+  | inl t ↦ ap (λ b. b || (byte == 254)) t
+  | inr f ↦ or_right (byte == number) (byte == 254) (elim (cases_Bool (byte == 254)) [
+    | inl t ↦ t
+    | inr g ↦ absurd (h (λ e. true≢false (sym (eq-eqb byte 254 e) ∙ g)) (λ e. true≢false (sym (eq-eqb byte number e) ∙ f)))
+  ])
+]
+
+pub named_asked : (forest : Forest) (bytes : List ℕ) → AreNames forest bytes → (c : CompoundSelector) (wanted : WantedName) → IsWanted c wanted → (table other : List Bool) → length other ≡ length forest.content →
+    AreNamed bytes wanted.number table other → AreAsked forest c table other
+named_asked forest bytes names c wanted is table other long named = record {
+  long = named.long;
+  told = λ n known t. (both_true (truth_at other n) _ (sym (named.each n known) ∙ t)).0;
+  kept = λ n known t holds. let inside : n < length forest.content = omega arith in
+      named.each n known ∙ (ap (λ b. b && ((byte_at bytes n == wanted.number) || (byte_at bytes n == 254))) t
+      ∙ byte_kept (byte_at bytes n) wanted.number (λ known_one other_one. refused_by_name forest bytes names n inside c wanted is known_one other_one holds));
+}
+
+-- and a type alone holds of each that is kept, where the bytes tell the names
+pub named_hold : (forest : Forest) (bytes : List ℕ) → AreNames forest bytes → (c : CompoundSelector) (wanted : WantedName) → IsWanted c wanted → (table other : List Bool) → length other ≡ length forest.content →
+    AreNamed bytes wanted.number table other → wanted.is_all ≡ true → AreKnown bytes table (length table) → AllHold forest c table
+named_hold forest bytes names c wanted is table other long named all known = λ n inside t.
+    let there : n < length other = omega arith in
+    let here : n < length table = let same = named.long in omega arith in
+    let both = both_true (truth_at other n) _ (sym (named.each n there) ∙ t) in
+    met_by_name forest bytes names n inside c wanted is (elim (or_cases (byte_at bytes n == wanted.number) (byte_at bytes n == 254) both.1) [
+      | inl e ↦ eqb-true (byte_at bytes n) wanted.number e
+      | inr e ↦ absurd (known n here t (eqb-true (byte_at bytes n) 254 e))
+    ]) all
 
 -- what a type asks of a node
 asks_name : (name : List ℕ) (number : ℕ) → ((ns : Namespace) → name_within ns name ≡ known_name number) → (node : NodeData) → node_passes (Part.«Type» name) node ≡ true → BearsKnown number node

@@ -1,5 +1,5 @@
 -- Where compounds lead from a node to an element, from the last step to the first.
-use Rattle.std.proofs.Common.{◌≡◌, ◌⊎◌, ◌<◌, ◌≤◌, ◌+◌, ◌*◌, ℕ, List, [], ◌∷◌, ◌++◌, Bool, true, false, true≢false, inl, inr, refl, sym, ap, ◌∙◌, subst, length, map, append_assoc, arith}
+use Rattle.std.proofs.Common.{◌≡◌, ◌⊎◌, ◌<◌, ◌≤◌, ◌+◌, ◌*◌, ℕ, List, [], ◌∷◌, ◌++◌, Bool, true, false, true≢false, inl, inr, refl, sym, ap, ◌∙◌, subst, length, map, append_assoc, add-mul, arith}
 use Rattle.std.specs.Prelude.{◌&&◌}
 use Rattle.std.proofs.lemmas.List.{map-append}
 use Rattle.dom_links.specs.Forest.{Forest}
@@ -166,3 +166,13 @@ steps_asked m old now new all left before s e so_far asked =
     let apart = ap (λ (ss : Chain). steps_count (steps_of ss)) (steps_apart left before s e) ∙ count_last (map read_step before) (s.combinator, read_compound s.compound) in
     let sum = subst (λ (n : ℕ). now + n * m ≤ old + steps_count (steps_of (map read_step all)) * m) apart so_far in
     spent (compound_count (read_compound s.compound)) (steps_count (steps_of (map read_step before))) m old now new (steps_count (steps_of (map read_step all))) sum asked
+
+-- what was asked of the steps before the last one leaves as much as that may ask
+pub last_asked : (m old now first : ℕ) (all before : List Step) (s : Step) → all ≡ before ++ s ∷ [] → now ≤ old + (first + steps_count (steps_of (map read_step before))) * m →
+    now + compound_count (read_compound s.compound) * m ≤ old + (first + steps_count (steps_of (map read_step all))) * m
+last_asked m old now first all before s e asked =
+    let apart = ap (λ (ss : Chain). steps_count (steps_of ss)) (steps_apart all before s e) ∙ count_last (map read_step before) (s.combinator, read_compound s.compound) in
+    let front : ℕ = first + steps_count (steps_of (map read_step before)) in
+    let sum = add-mul front (compound_count (read_compound s.compound)) m in
+    let same : (first + steps_count (steps_of (map read_step all))) * m ≡ (front + compound_count (read_compound s.compound)) * m = ap (λ (n : ℕ). n * m) (omega arith) in
+    omega arith

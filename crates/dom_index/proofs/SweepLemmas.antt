@@ -1,5 +1,5 @@
 -- What a sweep has written down, node by node.
-use Rattle.std.proofs.Common.{◌≡◌, ◌≢◌, ◌<◌, ℕ, List, [], ◌∷◌, ◌++◌, Bool, true, false, true≢false, Option, None, Some, slice_get, ◌⊎◌, inl, inr, refl, sym, ap, ◌∙◌, length, map, set, get_or, arith, append_assoc, append-nil, cond, suc, ◌+◌}
+use Rattle.std.proofs.Common.{◌≡◌, ◌≢◌, ◌<◌, ℕ, List, [], ◌∷◌, ◌++◌, Bool, true, false, true≢false, Option, None, Some, slice_get, ◌⊎◌, inl, inr, refl, sym, ap, ◌∙◌, length, map, set, get_or, arith, append_assoc, append-nil, length-append, cond, zero, suc, ◌+◌, ◌-◌}
 use Rattle.std.specs.Prelude.{◌==◌, ◌||◌}
 use Rattle.std.proofs.lemmas.Bool.{cases_Bool, eq-eqb, eqb-true, or_right}
 use Rattle.std.proofs.lemmas.List.{get_or-map, get_or-set_other, get_or-set_same, length-set, map-append}
@@ -11,7 +11,8 @@ use Rattle.dom_nodes.specs.declared.node_data.NodeData.{NodeData}
 use Rattle.dom_index.specs.Names.{byte_at, tells_name}
 use Rattle.dom_index.specs.declared.layout.Sweep.{Sweep}
 use Rattle.dom_index.specs.Orders.{IsSwept, number_at}
-use Rattle.dom_index.specs.Preorder.{preorder_to, starts_run, walk_from}
+use Rattle.dom_index.specs.Preorder.{preorder, preorder_to, starts_run, walk_from}
+use Rattle.std.proofs.lemmas.List.{nil_from_length}
 use Rattle.dom_index.proofs.PlaceLemmas.{same_or_not}
 
 or_none : (a b : Bool) → b ≡ false → (a || (b || false)) ≡ a
@@ -82,3 +83,33 @@ none_started forest n order none is =
     let more : preorder_to forest (suc n) ≡ preorder_to forest n = ap (λ b. preorder_to forest n ++ cond b (walk_from forest n) []) none ∙ append-nil (preorder_to forest n) in
     let next : suc n ≡ n + 1 = omega arith in
     is ∙ (sym more ∙ ap (preorder_to forest) next)
+
+-- the order up to a number goes on to the order up to a greater one
+order_grows : (forest : Forest) (n k m : ℕ) → m ≡ k + n → (rest : List ℕ) × (preorder_to forest m ≡ preorder_to forest n ++ rest)
+order_grows forest n zero m e =
+    let same : m ≡ n = omega arith in
+    ([], ap (preorder_to forest) same ∙ sym (append-nil (preorder_to forest n)))
+order_grows forest n (suc k) m e =
+    let p : ℕ = k + n in
+    let before = order_grows forest n k p refl in
+    let next : m ≡ suc p = omega arith in
+    let run : List ℕ = cond (starts_run forest p) (walk_from forest p) [] in
+    (before.0 ++ run, ap (preorder_to forest) next ∙ (ap (λ ns. ns ++ run) before.1 ∙ append_assoc (preorder_to forest n) before.0 run))
+
+-- the walk of a run is what the order goes on by
+pub one_started : (forest : Forest) (n : ℕ) (order new : List ℕ) → starts_run forest n ≡ true → order ≡ preorder_to forest n → new ≡ order ++ walk_from forest n → new ≡ preorder_to forest (n + 1)
+one_started forest n order new starts is pushed =
+    let more : preorder_to forest (suc n) ≡ preorder_to forest n ++ walk_from forest n = ap (λ b. preorder_to forest n ++ cond b (walk_from forest n) []) starts in
+    let next : suc n ≡ n + 1 = omega arith in
+    pushed ∙ (ap (λ ns. ns ++ walk_from forest n) is ∙ (sym more ∙ ap (preorder_to forest) next))
+
+-- where all nodes are met the order is whole
+pub all_met : (forest : Forest) (n : ℕ) (order : List ℕ) → order ≡ preorder_to forest (n + 1) → n < length forest.content → length order ≡ length forest.content → length (preorder forest) ≡ length forest.content → order ≡ preorder forest
+all_met forest n order is known met whole =
+    let k : ℕ = length forest.content - (n + 1) in
+    let at : length forest.content ≡ k + (n + 1) = omega arith in
+    let grown = order_grows forest (n + 1) k (length forest.content) at in
+    let all : preorder forest ≡ order ++ grown.0 = grown.1 ∙ ap (λ ns. ns ++ grown.0) (sym is) in
+    let long : length (preorder forest) ≡ length order + length grown.0 = ap length all ∙ length-append order grown.0 in
+    let none : grown.0 ≡ [] = nil_from_length grown.0 (omega arith) in
+    sym (all ∙ (ap (λ ns. order ++ ns) none ∙ append-nil order))

@@ -1,5 +1,5 @@
 -- What a byte tells of a node's name, and what a compound wants of it.
-use Rattle.std.specs.Prelude.{ℕ, ◌≡◌, ◌<◌, ◌==◌, ◌&&◌, ◌||◌, nat_lt, Bool, true, List, Some, length, slice_get, slice_index_or}
+use Rattle.std.specs.Prelude.{not, ℕ, ◌≡◌, ◌<◌, ◌==◌, ◌&&◌, ◌||◌, nat_lt, Bool, true, List, Some, length, slice_get, slice_index_or}
 use Rattle.std.specs.Str.{bytes_eq}
 use Rattle.dom_nodes.specs.declared.node_data.NodeData.{NodeData}
 use Rattle.dom_nodes.specs.declared.node_data.NodeData.TheVariants.{Element}
@@ -8,6 +8,7 @@ use Rattle.dom_links.specs.Forest.{Forest}
 use Rattle.dom_selectors.specs.Syntax.{CompoundSelector}
 use Rattle.dom_select.specs.Meaning.{Holds}
 use Rattle.dom_index.specs.declared.names.WantedName.{WantedName}
+use Rattle.dom_index.specs.Tables.{truth_at}
 
 abbrev pub byte_at : List ℕ → ℕ → ℕ
 byte_at bytes n = slice_index_or bytes n 0
@@ -26,6 +27,20 @@ BearsKnown number _ = ⊥
 pub record AreNames (forest : Forest) (bytes : List ℕ) : Type 0 where
   pub long : length bytes ≡ length forest.content
   pub each : (n : ℕ) (node : NodeData) → slice_get forest.content n ≡ Some node → tells_name node (byte_at bytes n) ≡ true
+
+-- a table that tells what the other tells of the nodes whose byte is that number, or tells no name
+pub record AreNamed (bytes : List ℕ) (number : ℕ) (table other : List Bool) : Type 0 where
+  pub long : length table ≡ length other
+  pub each : (n : ℕ) → n < length other → truth_at table n ≡ (truth_at other n && ((byte_at bytes n == number) || (byte_at bytes n == 254)))
+
+-- of the first so many nodes, those of which the table tells the truth have bytes that tell their names
+abbrev pub AreKnown : List ℕ → List Bool → ℕ → Type 0
+AreKnown bytes table count = (n : ℕ) → n < count → truth_at table n ≡ true → byte_at bytes n ≡ 254 → ⊥
+
+-- a table that tells of which nodes the bytes tell that they are elements
+pub record AreElements (bytes : List ℕ) (table : List Bool) : Type 0 where
+  pub long : length table ≡ length bytes
+  pub each : (n : ℕ) → n < length bytes → truth_at table n ≡ not (byte_at bytes n == 255)
 
 -- where the compound holds the node bears the name, and where nothing else is asked it holds of each that does
 pub record IsWanted (c : CompoundSelector) (wanted : WantedName) : Type 0 where

@@ -7,7 +7,8 @@ use Rattle.dom_selectors.specs.declared.syntax.Combinator.{Combinator}
 use Rattle.dom_selectors.specs.declared.syntax.Combinator.TheVariants.{Descendant, Child, Adjacent, Sibling}
 use Rattle.dom_selectors.specs.Spelling.{Decides}
 use Rattle.dom_select.specs.Leftward.{ends_at, left_of}
-use Rattle.dom_select.specs.Meaning.{Stands}
+use Rattle.dom_select.specs.Meaning.{Holds, Stands}
+use Rattle.dom_selectors.specs.Syntax.{CompoundSelector}
 
 abbrev pub truth_at : List Bool → ℕ → Bool
 truth_at table n = slice_index_or table n false
@@ -16,6 +17,21 @@ truth_at table n = slice_index_or table n false
 pub record AreTold (table : List Bool) (count : ℕ) (P : ℕ → Type 0) : Type 0 where
   pub long : length table ≡ count
   pub each : (n : ℕ) → n < count → Decides (truth_at table n) (P n)
+
+-- the same, of the numbers of which another table tells the truth
+pub record AreToldWhere (wanted table : List Bool) (count : ℕ) (P : ℕ → Type 0) : Type 0 where
+  pub long : length table ≡ count
+  pub each : (n : ℕ) → n < count → truth_at wanted n ≡ true → Decides (truth_at table n) (P n)
+
+-- a table that tells what the other tells, but for nodes of which the compound doesn't hold
+pub record AreAsked (forest : Forest) (c : CompoundSelector) (table other : List Bool) : Type 0 where
+  pub long : length table ≡ length other
+  pub told : (n : ℕ) → n < length other → truth_at table n ≡ true → truth_at other n ≡ true
+  pub kept : (n : ℕ) → n < length other → truth_at other n ≡ true → Holds c forest n → truth_at table n ≡ true
+
+-- the compound holds of each node of which the table tells the truth
+abbrev pub AllHold : Forest → CompoundSelector → List Bool → Type 0
+AllHold forest c table = (n : ℕ) → n < length forest.content → truth_at table n ≡ true → Holds c forest n
 
 -- a node beside `+` or `~` is an element
 abbrev pub serves : Forest → Combinator → ℕ → Bool

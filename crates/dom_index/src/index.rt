@@ -77,7 +77,8 @@ impl<'a> TreeIndex<'a> {
     {
         self.tests = 0;
         know_walks(self.layout.tree);
-        let table = list_table(&self.layout, matcher.selectors(), &mut self.tests)?;
+        let all = vec![in self.layout.tree.allocator(); true; self.layout.order.len()]?;
+        let table = list_table(&self.layout, matcher.selectors(), &all, &mut self.tests)?;
         picked(&self.layout, roots, table)
     }
 
@@ -138,10 +139,11 @@ fn last_at(layout: &Layout<'_>, n: usize) -> Option<usize>
 }
 
 /// What is written of the node of that number.
-fn written(places: &[usize], n: usize) -> Option<usize>
+fn written(places: &[u32], n: usize) -> Option<usize>
     ensures { result ≡ slice_get places.now n }
 {
-    places.get(n).copied()
+    let place = places.get(n)?;
+    Some(*place as usize)
 }
 
 /// Whether y is below x, by their places.

@@ -16,6 +16,7 @@ use crate::names::{NO_ELEMENT, name_byte};
 use dom_links::iters::{next_sibling_id, node_at, parent_id, prev_sibling_id};
 use dom_links::laws::{lines_of_a_forest, trees_of_a_forest};
 use dom_nodes::fault::OutOfMemory;
+use dom_nodes::link::Link;
 use dom_nodes::node_id::NodeId;
 use dom_trees::tree::Tree;
 
@@ -25,9 +26,9 @@ use dom_trees::tree::Tree;
 pub(crate) struct Layout<'a> {
     pub(crate) tree: &'a Tree,
     pub(crate) order: Vec<NodeId>,
-    pub(crate) above: Vec<Option<NodeId>>,
-    pub(crate) places: Vec<usize>,
-    pub(crate) lasts: Vec<usize>,
+    pub(crate) above: Vec<Link>,
+    pub(crate) places: Vec<u32>,
+    pub(crate) lasts: Vec<u32>,
     pub(crate) names: Vec<u8>,
     ghost is_preorder: { order.items ≡ preorder tree.now },
     ghost above_told: { above.items ≡ map (parent tree.now) order.items },
@@ -61,8 +62,8 @@ fn starts_run(tree: &Tree, id: NodeId) -> bool
 #[derive(Drop)]
 struct Sweep {
     order: Vec<NodeId>,
-    above: Vec<Option<NodeId>>,
-    ends: Vec<Option<NodeId>>,
+    above: Vec<Link>,
+    ends: Vec<Link>,
     marks: Vec<bool>,
     names: Vec<u8>,
 }
@@ -92,8 +93,8 @@ impl Sweep {
     {
         let node = node_at(tree.nodes(), id);
         self.order.push(id)?;
-        self.above.push(node.parent.get())?;
-        self.ends.push(node.last_child.get())?;
+        self.above.push(node.parent)?;
+        self.ends.push(node.last_child)?;
         self.marks[id.value()] = true;
         self.names[id.value()] = name_byte(&node.content);
         Ok(())
@@ -107,6 +108,7 @@ fn swept(tree: &Tree) -> Result<Sweep, OutOfMemory>
     ensures swept { IfOk result (IsSwept tree.now) }
 {
     know_started(tree);
+    know_order(tree);
     let mut sweep = Sweep::new(tree)?;
     for n in 0..tree.len() {
         if sweep.marks[n] {
@@ -115,6 +117,9 @@ fn swept(tree: &Tree) -> Result<Sweep, OutOfMemory>
         let id = numbered(tree, n);
         if starts_run(tree, id) {
             push_from(tree, id, &mut sweep)?;
+            if sweep.order.len() == tree.len() {
+                return Ok(sweep);
+            }
         }
     }
     Ok(sweep)
@@ -173,15 +178,16 @@ fn push_below(tree: &Tree, id: NodeId, sweep: &mut Sweep) -> Result<(), OutOfMem
 }
 
 /// The place of each node in the order.
-fn places_of(tree: &Tree, order: &[NodeId]) -> Result<Vec<usize>, OutOfMemory>
+fn places_of(tree: &Tree, order: &[NodeId]) -> Result<Vec<u32>, OutOfMemory>
     requires long { length order.now ≡ length tree.now.content }
     requires once { IsDistinct order.now }
     requires inside { (n : ℕ) → stands_in n order.now ≡ true → n < length tree.now.content }
     ensures { IfOk result (λ places. ArePlaces tree.now order.now places.items) }
 {
+    know_forest(tree);
     let mut places = vec![in tree.allocator(); 0; order.len()]?;
     for i in 0..order.len() {
-        places[order[i].value()] = i;
+        places[order[i].value()] = i as u32;
     }
     Ok(places)
 }
@@ -190,9 +196,9 @@ fn places_of(tree: &Tree, order: &[NodeId]) -> Result<Vec<usize>, OutOfMemory>
 fn lasts_of(
     tree: &Tree,
     order: &[NodeId],
-    ends: &[Option<NodeId>],
-    places: &[usize],
-) -> Result<Vec<usize>, OutOfMemory>
+    ends: &[Link],
+    places: &[u32],
+) -> Result<Vec<u32>, OutOfMemory>
     requires is_preorder { order.now ≡ preorder tree.now }
     requires ends { ends.now ≡ map (λ n. last (children_of tree.now n)) order.now }
     requires good { IsOrder tree.now order.now places.now }
@@ -203,17 +209,17 @@ fn lasts_of(
     for i in 0..order.len() {
         let at = order.len() - 1 - i;
         let n = order[at].value();
-        lasts[n] = last_of(&lasts, ends[at], at);
+        lasts[n] = last_of(&lasts, ends[at], at as u32);
     }
     Ok(lasts)
 }
 
 /// The place of the last node at or below one with this place and this last child.
-fn last_of(lasts: &[usize], end: Option<NodeId>, place: usize) -> usize
+fn last_of(lasts: &[u32], end: Link, place: u32) -> u32
     requires { (child : ℕ) → end ≡ Some child → child < length lasts.now }
     ensures { result ≡ last_from (number_at lasts.now) place end }
 {
-    match end {
+    match end.get() {
         Some(child) => lasts[child.value()],
         None => place,
     }
@@ -268,7 +274,9 @@ pub(crate) fn below<'i>(layout: &'i Layout<'_>, id: NodeId) -> &'i [NodeId]
     if n >= layout.order.len() {
         return &[];
     }
-    &layout.order[layout.places[n] + 1..layout.lasts[n] + 1]
+    let first = layout.places[n] as usize + 1;
+    let end = layout.lasts[n] as usize + 1;
+    &layout.order[first..end]
 }
 
 /// Tells that nothing is below an unknown number. It does nothing.

@@ -9,7 +9,7 @@ ghost use Rattle.dom_selectors.specs.ValuesAsTrees.{read_compound};
 ghost use Rattle.dom_nodes.specs.KnownNames.{known_name};
 ghost use Rattle.dom_select.specs.Parts.{name_within};
 ghost use Rattle.dom_nodes.specs.declared.name.Namespace.{Namespace};
-ghost use Rattle.dom_index.specs.Names.{IsWanted, tells_name};
+ghost use Rattle.dom_index.specs.Names.{AreKnown, AreNamed, IsWanted, tells_name};
 
 use crate::layout::Layout;
 use dom_nodes::node_data::NodeData;
@@ -83,6 +83,30 @@ fn is_one_part(compound: &Compound) -> bool
         return false;
     }
     compound.parts.len() == 1
+}
+
+/// Keeps the truths of the nodes whose byte is that number, or tells no name.
+pub(crate) fn keep_named(table: &mut Vec<bool>, bytes: &[u8], number: u8)
+    requires { length bytes.now ≡ length table.old.items }
+    ensures { AreNamed bytes.now number table.new.items table.old.items }
+{
+    let cells = table.as_mut_slice();
+    for n in 0..cells.len() {
+        let byte = bytes[n];
+        cells[n] = cells[n] & ((byte == number) | (byte == UNKNOWN));
+    }
+}
+
+/// Whether each node of which the table tells the truth has a byte that tells its name.
+pub(crate) fn are_known(table: &[bool], bytes: &[u8]) -> bool
+    requires { length bytes.now ≡ length table.now }
+    ensures { result ≡ true → AreKnown bytes.now table.now (length table.now) }
+{
+    let mut unknown = false;
+    for n in 0..table.len() {
+        unknown = unknown | (table[n] & (bytes[n] == UNKNOWN));
+    }
+    !unknown
 }
 
 /// Whether a compound that begins with this name holds of the node, where the node's name tells that.

@@ -9,10 +9,10 @@ ghost use Rattle.dom_select.specs.Meaning.{Means, Reaches};
 ghost use Rattle.dom_index.specs.Counts.{compound_count, list_count, lists_count};
 ghost use Rattle.dom_index.specs.Counts.{selectors_count, steps_count};
 ghost use Rattle.dom_index.specs.Onward.{Onward};
-ghost use Rattle.dom_index.specs.Tables.{AreTold, truth_at};
+ghost use Rattle.dom_index.specs.Tables.{AreTold, AreToldWhere, truth_at};
 
 use crate::layout::{Layout, know_forest};
-use crate::truths::{elements, narrow, narrow_beside, tested, turn, widen};
+use crate::truths::{elements, narrow, narrow_beside, narrow_by_name, tested, turn, widen};
 use crate::ways::{leading, led};
 use dom_nodes::fault::OutOfMemory;
 use dom_selectors::syntax::{Combinator, Compound, Nested, Selector, Step};
@@ -32,7 +32,12 @@ fn compound_table(
     ensures tests { tests.new ≤ tests.old
         + compound_count (read_compound compound.now) * length layout.now.tree.now.content }
 {
-    let narrowed = narrowed_table(layout, &compound.nested, wanted, tests)?;
+    let mut named = wanted;
+    if let Some(count) = narrow_by_name(layout, compound, &mut named) {
+        *tests = tests.saturating_add(count as u128);
+        return Ok(named);
+    }
+    let narrowed = narrowed_table(layout, &compound.nested, named, tests)?;
     tested(layout, compound, narrowed, tests)
 }
 
@@ -54,28 +59,31 @@ fn narrowed_table(
 {
     let mut table = wanted;
     for list in lists {
-        let told = nested_table(layout, list, tests)?;
+        let told = nested_table(layout, list, &table, tests)?;
         narrow(&mut table, &told);
     }
     Ok(table)
 }
 
-/// Where a list in a compound holds.
+/// Where a list in a compound holds, of the nodes that are wanted.
 #[cycle(tables)]
 fn nested_table(
     layout: &Layout<'_>,
     list: &Nested,
+    wanted: &[bool],
     tests: &mut u128,
 ) -> Result<Vec<bool>, OutOfMemory>
-    ensures table { IfOk result (λ table. AreTold table.items (length layout.now.tree.now.content)
+    requires { length wanted.now ≡ length layout.now.tree.now.content }
+    ensures table { IfOk result (λ table. AreToldWhere wanted.now table.items
+        (length layout.now.tree.now.content)
         (ListHolds (read_nested list.now) layout.now.tree.now)) }
     ensures tests { tests.new ≤ tests.old
         + list_count (read_nested list.now) * length layout.now.tree.now.content }
 {
     match list {
-        Nested::Is(selectors) => list_table(layout, selectors, tests),
+        Nested::Is(selectors) => list_table(layout, selectors, wanted, tests),
         Nested::Not(selectors) => {
-            let mut table = list_table(layout, selectors, tests)?;
+            let mut table = list_table(layout, selectors, wanted, tests)?;
             turn(&mut table);
             Ok(table)
         }
@@ -83,29 +91,63 @@ fn nested_table(
     }
 }
 
-/// Which nodes one of the selectors means.
+/// Which of the nodes that are wanted one of the selectors means.
 #[cycle(tables)]
 pub(crate) fn list_table(
     layout: &Layout<'_>,
     selectors: &[Selector],
+    wanted: &[bool],
     tests: &mut u128,
 ) -> Result<Vec<bool>, OutOfMemory>
-    ensures table { IfOk result (λ table. AreTold table.items (length layout.now.tree.now.content)
+    requires { length wanted.now ≡ length layout.now.tree.now.content }
+    ensures table { IfOk result (λ table. AreToldWhere wanted.now table.items
+        (length layout.now.tree.now.content)
         (Means (read_list selectors.now) layout.now.tree.now)) }
     ensures tests { tests.new ≤ tests.old
         + selectors_count (read_list selectors.now) * length layout.now.tree.now.content }
 {
     let mut table = vec![in layout.tree.allocator(); false; layout.order.len()]?;
     for selector in selectors {
-        let told = selector_table(layout, &selector.first, &selector.rest, tests)?;
+        let told = selector_table(layout, &selector.first, &selector.rest, wanted, tests)?;
         widen(&mut table, &told);
     }
     Ok(table)
 }
 
-/// Which nodes the compounds lead to, from the first to the last.
+/// Which of the nodes that are wanted the compounds lead to. The last compound is asked of them
+/// alone.
 #[cycle(tables)]
 fn selector_table(
+    layout: &Layout<'_>,
+    first: &Compound,
+    steps: &[Step],
+    wanted: &[bool],
+    tests: &mut u128,
+) -> Result<Vec<bool>, OutOfMemory>
+    requires { length wanted.now ≡ length layout.now.tree.now.content }
+    ensures table { IfOk result (λ table. AreToldWhere wanted.now table.items
+        (length layout.now.tree.now.content)
+        (λ n. Reaches (Holds (read_compound first.now) layout.now.tree.now)
+        (steps_of (map read_step steps.now)) layout.now.tree.now n n)) }
+    ensures tests { tests.new ≤ tests.old
+        + (compound_count (read_compound first.now)
+        + steps_count (steps_of (map read_step steps.now)))
+        * length layout.now.tree.now.content }
+{
+    know_forest(layout.tree);
+    let Some((last, before)) = steps.split_last() else {
+        let copy = Vec::from_slice(layout.tree.allocator(), wanted)?;
+        return compound_table(layout, first, copy, tests);
+    };
+    let table = chain_table(layout, first, before, tests)?;
+    let mut here = led(layout, last.combinator, &table)?;
+    narrow(&mut here, wanted);
+    compound_table(layout, &last.compound, here, tests)
+}
+
+/// Which nodes the compounds lead to, from the first to the last.
+#[cycle(tables)]
+fn chain_table(
     layout: &Layout<'_>,
     first: &Compound,
     steps: &[Step],

@@ -8,12 +8,14 @@ ghost use Rattle.dom_links.specs.ListMoves.{element_at};
 ghost use Rattle.dom_selectors.specs.Spelling.{Decides};
 ghost use Rattle.dom_select.specs.Answers.{AreAnswers};
 ghost use Rattle.dom_select.specs.Meaning.{Holds, ListsHold};
-ghost use Rattle.dom_index.specs.Names.{IsWanted};
-ghost use Rattle.dom_index.specs.Tables.{AreBoth, AreEither, AreServing, AreTold, AreTurned};
-ghost use Rattle.dom_index.specs.Tables.{truth_at};
+ghost use Rattle.dom_index.specs.Names.{AreElements, IsWanted};
+ghost use Rattle.dom_index.specs.Tables.{AllHold, AreAsked, AreBoth, AreEither, AreServing};
+ghost use Rattle.dom_index.specs.Tables.{AreTold, AreTurned, truth_at};
 
 use crate::layout::{Layout, numbered};
-use crate::names::{WantedName, is_element_at, told_by_name, wanted_name};
+use crate::names::{
+    NO_ELEMENT, WantedName, are_known, is_element_at, keep_named, told_by_name, wanted_name,
+};
 use dom_nodes::fault::OutOfMemory;
 use dom_select::matcher::caches::SelectorCaches;
 use dom_select::matcher::compounds::test_compound;
@@ -94,10 +96,19 @@ pub(crate) fn elements(layout: &Layout<'_>) -> Result<Vec<bool>, OutOfMemory>
         (λ n. element_at layout.now.tree.now n ≡ true)) }
 {
     let mut table = vec![in layout.tree.allocator(); false; layout.order.len()]?;
-    for n in 0..layout.tree.len() {
-        table[n] = is_element_at(layout, n);
-    }
+    fill_elements(&layout.names, &mut table);
     Ok(table)
+}
+
+/// Writes down of which nodes the bytes tell that they are elements.
+fn fill_elements(bytes: &[u8], table: &mut Vec<bool>)
+    requires { length bytes.now ≡ length table.old.items }
+    ensures { AreElements bytes.now table.new.items }
+{
+    let cells = table.as_mut_slice();
+    for n in 0..cells.len() {
+        cells[n] = bytes[n] != NO_ELEMENT;
+    }
 }
 
 /// Keeps the truths of a table where another tells the truth too.
@@ -105,9 +116,49 @@ pub(crate) fn narrow(table: &mut Vec<bool>, other: &[bool])
     requires { length other.now ≡ length table.old.items }
     ensures { AreBoth table.new.items table.old.items other.now }
 {
-    for n in 0..table.len() {
-        table[n] = table[n] && other[n];
+    let cells = table.as_mut_slice();
+    for n in 0..cells.len() {
+        cells[n] = cells[n] & other[n];
     }
+}
+
+/// Keeps the truths of the nodes that may bear the name that the compound begins with. Where the
+/// compound asks for nothing else, and each node's byte tells its name, it holds of those that are
+/// kept: then this tells how many nodes were asked.
+pub(crate) fn narrow_by_name(
+    layout: &Layout<'_>,
+    compound: &Compound,
+    table: &mut Vec<bool>,
+) -> Option<usize>
+    requires { length table.old.items ≡ length layout.now.tree.now.content }
+    ensures asked { AreAsked layout.now.tree.now (read_compound compound.now) table.new.items
+        table.old.items }
+    ensures told { IfSome result (λ count. (count ≤ length layout.now.tree.now.content)
+        × AllHold layout.now.tree.now (read_compound compound.now) table.new.items) }
+{
+    let wanted = wanted_name(compound)?;
+    let count = count_of(table);
+    keep_named(table, &layout.names, wanted.number);
+    if !wanted.is_all {
+        return None;
+    }
+    if !are_known(table, &layout.names) {
+        return None;
+    }
+    Some(count)
+}
+
+/// Of how many nodes the table tells the truth.
+fn count_of(table: &[bool]) -> usize
+    ensures { result ≤ length table.now }
+{
+    let mut count: usize = 0;
+    for n in 0..table.len() {
+        if table[n] {
+            count += 1;
+        }
+    }
+    count
 }
 
 /// Adds the truths of another table.
@@ -115,8 +166,9 @@ pub(crate) fn widen(table: &mut Vec<bool>, other: &[bool])
     requires { length other.now ≡ length table.old.items }
     ensures { AreEither table.new.items table.old.items other.now }
 {
-    for n in 0..table.len() {
-        table[n] = table[n] || other[n];
+    let cells = table.as_mut_slice();
+    for n in 0..cells.len() {
+        cells[n] = cells[n] | other[n];
     }
 }
 
@@ -124,8 +176,9 @@ pub(crate) fn widen(table: &mut Vec<bool>, other: &[bool])
 pub(crate) fn turn(table: &mut Vec<bool>)
     ensures { AreTurned table.new.items table.old.items }
 {
-    for n in 0..table.len() {
-        table[n] = !table[n];
+    let cells = table.as_mut_slice();
+    for n in 0..cells.len() {
+        cells[n] = !cells[n];
     }
 }
 

@@ -3,27 +3,27 @@
 
 ghost use Rattle.std.specs.Prelude.{◌≡◌, ◌<◌, length, IfOk};
 ghost use Rattle.dom_select.specs.Leftward.{left_of};
-ghost use Rattle.dom_index.specs.Orders.{number_at};
+ghost use Rattle.dom_links.specs.Forest.{parent};
 ghost use Rattle.dom_index.specs.Tables.{AreTold, IsLeading, IsLed, is_led, passes_on, told_too};
 
 use crate::layout::{Layout, know_forest};
 use crate::names::is_element_at;
 use dom_links::iters::prev_sibling_id;
 use dom_nodes::fault::OutOfMemory;
+use dom_nodes::link::Link;
 use dom_nodes::node_id::NodeId;
 use dom_selectors::syntax::Combinator;
+use dom_trees::tree::Tree;
 
-/// The next node on the way to the left of the node at a place: the parent, or the sibling before.
-fn left_at(layout: &Layout<'_>, combinator: Combinator, place: usize) -> Option<NodeId>
-    requires { place < length layout.now.tree.now.content }
-    ensures { result
-        ≡ left_of layout.now.tree.now combinator (number_at layout.now.order.items place) }
+/// The next node on the way to the left of a node with this parent: the parent, or the sibling
+/// before.
+fn left_of(tree: &Tree, combinator: Combinator, id: NodeId, above: Link) -> Option<NodeId>
+    requires { above ≡ parent tree.now id }
+    ensures { result ≡ left_of tree.now combinator id }
 {
     match combinator {
-        Combinator::Descendant | Combinator::Child => layout.above[place],
-        Combinator::Adjacent | Combinator::Sibling => {
-            prev_sibling_id(layout.tree.nodes(), &layout.order[place])
-        }
+        Combinator::Descendant | Combinator::Child => above.get(),
+        Combinator::Adjacent | Combinator::Sibling => prev_sibling_id(tree.nodes(), &id),
     }
 }
 
@@ -42,7 +42,7 @@ fn passes_on(
 {
     let v = id.value();
     match combinator {
-        Combinator::Descendant => table[v] || flags[v],
+        Combinator::Descendant => table[v] | flags[v],
         Combinator::Child => table[v],
         Combinator::Adjacent => {
             if is_element_at(layout, v) {
@@ -53,26 +53,27 @@ fn passes_on(
         }
         Combinator::Sibling => {
             let element = is_element_at(layout, v);
-            (element && table[v]) || flags[v]
+            (element & table[v]) | flags[v]
         }
     }
 }
 
-/// Whether the node at a place is led to, where the flags tell that of the next one on its left.
+/// Whether a node with this parent is led to, where the flags tell that of the next on its left.
 fn is_led(
     layout: &Layout<'_>,
     combinator: Combinator,
     table: &[bool],
     flags: &[bool],
-    place: usize,
+    id: NodeId,
+    above: Link,
 ) -> bool
-    requires known { place < length layout.now.tree.now.content }
+    requires known { id < length layout.now.tree.now.content }
+    requires above { above ≡ parent layout.now.tree.now id }
     requires table_long { length table.now ≡ length layout.now.tree.now.content }
     requires flags_long { length flags.now ≡ length layout.now.tree.now.content }
-    ensures { result ≡ is_led layout.now.tree.now combinator table.now flags.now
-        (number_at layout.now.order.items place) }
+    ensures { result ≡ is_led layout.now.tree.now combinator table.now flags.now id }
 {
-    match left_at(layout, combinator, place) {
+    match left_of(layout.tree, combinator, id, above) {
         Some(left) => passes_on(layout, combinator, table, flags, left),
         None => false,
     }
@@ -90,10 +91,13 @@ pub(crate) fn led(
         (IsLed layout.now.tree.now combinator table.now)) }
 {
     know_forest(layout.tree);
+    let order = layout.order.as_slice();
+    let above = layout.above.as_slice();
     let mut flags = vec![in layout.tree.allocator(); false; table.len()]?;
-    for i in 0..layout.order.len() {
-        let n = layout.order[i].value();
-        flags[n] = is_led(layout, combinator, table, &flags, i);
+    for i in 0..order.len() {
+        let id = order[i];
+        let n = id.value();
+        flags[n] = is_led(layout, combinator, table, &flags, id, above[i]);
     }
     Ok(flags)
 }
@@ -110,11 +114,17 @@ pub(crate) fn leading(
         (IsLeading layout.now.tree.now combinator table.now)) }
 {
     know_forest(layout.tree);
+    let order = layout.order.as_slice();
+    let above = layout.above.as_slice();
     let mut flags = vec![in layout.tree.allocator(); false; table.len()]?;
-    for i in 0..layout.order.len() {
-        let place = layout.order.len() - 1 - i;
-        if passes_on(layout, combinator, table, &flags, layout.order[place]) {
-            tell(&mut flags, left_at(layout, combinator, place));
+    for i in 0..order.len() {
+        let place = order.len() - 1 - i;
+        let id = order[place];
+        if passes_on(layout, combinator, table, &flags, id) {
+            tell(
+                &mut flags,
+                left_of(layout.tree, combinator, id, above[place]),
+            );
         }
     }
     Ok(flags)

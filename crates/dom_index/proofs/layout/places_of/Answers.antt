@@ -25,3 +25,6 @@ loop-i-preserved c =
       long = length-set c.loop-i.places.items c.value.result c.loop-i.i ∙ long;
       placed = placed_more order c.loop-i.places.items c.loop-i.i c.value.result c.requires.once below is fits c.loop-i.invariant.placed;
     }
+
+pub overflow_cast-i : goal.overflow_cast-i
+overflow_cast-i c = omega (arith, c.requires.long, c.know_forest.ensures.few)

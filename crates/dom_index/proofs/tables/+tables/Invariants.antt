@@ -5,7 +5,7 @@ use Rattle.dom_selectors.specs.ValuesAsTrees.{read_compound, read_list, read_nes
 use Rattle.dom_index.specs.Counts.{compound_count, lists_count, selectors_count, steps_count}
 use Rattle.dom_index.specs.Tables.{AreTold}
 use Rattle.dom_selectors.proofs.Weights.{compound_weight, lists_weight, list_weight, selectors_weight, steps_weight}
-use Rattle.dom_index.proofs.ListLemmas.{Narrowed, Widened}
+use Rattle.dom_index.proofs.ListLemmas.{Anywhere, Narrowed, Wanted, Widened}
 use Rattle.dom_index.proofs.OnwardLemmas.{Going}
 use Rattle.dom_index.proofs.tables.+tables.Given as goal
 
@@ -33,13 +33,16 @@ decreases-onward_table l = 1 + steps_weight (steps_of (map read_step l.steps.now
 abbrev pub decreases-selector_table : goal.decreases-selector_table
 decreases-selector_table l = 8 + compound_weight (read_compound l.first.now) + steps_weight (steps_of (map read_step l.steps.now))
 
+abbrev pub decreases-chain_table : goal.decreases-chain_table
+decreases-chain_table l = 8 + compound_weight (read_compound l.first.now) + steps_weight (steps_of (map read_step l.steps.now))
+
 abbrev pub invariant-list_table-loop-selector : goal.invariant-list_table-loop-selector
 invariant-list_table-loop-selector l =
     let all = read_list l.selectors in
     let left = read_list (drop l.selector-index l.selectors) in
     let count = length l.layout.tree.now.content in
     record {
-      table : Widened count l.table.items (Means all l.layout.tree.now) (Means left l.layout.tree.now);
+      table : Widened (Wanted l.wanted) count l.table.items (Means all l.layout.tree.now) (Means left l.layout.tree.now);
       tests : l.tests + selectors_count left * count ≤ l.fn.tests + selectors_count all * count;
       light : selectors_weight left ≤ selectors_weight all;
     }
@@ -50,7 +53,7 @@ invariant-has_table-loop-selector l =
     let left = read_list (drop l.selector-index l.selectors) in
     let count = length l.layout.tree.now.content in
     record {
-      table : Widened count l.table.items (LeadsOn all l.layout.tree.now) (LeadsOn left l.layout.tree.now);
+      table : Widened Anywhere count l.table.items (LeadsOn all l.layout.tree.now) (LeadsOn left l.layout.tree.now);
       tests : l.tests + selectors_count left * count ≤ l.fn.tests + selectors_count all * count;
       light : selectors_weight left ≤ selectors_weight all;
     }
@@ -81,8 +84,8 @@ invariant-narrowed_table-loop-list l =
       light : lists_weight left ≤ lists_weight all;
     }
 
-abbrev pub invariant-selector_table-loop-step : goal.invariant-selector_table-loop-step
-invariant-selector_table-loop-step l =
+abbrev pub invariant-chain_table-loop-step : goal.invariant-chain_table-loop-step
+invariant-chain_table-loop-step l =
     let all = steps_of (map read_step l.steps) in
     let left = steps_of (map read_step (drop l.step-index l.steps)) in
     let count = length l.layout.tree.now.content in

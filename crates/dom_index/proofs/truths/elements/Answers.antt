@@ -1,11 +1,9 @@
-use Rattle.std.proofs.Common.{◌<◌, length, arith}
-use Rattle.dom_links.specs.ListMoves.{element_at}
-use Rattle.dom_index.specs.Tables.{truth_at}
-use Rattle.dom_index.proofs.FillLemmas.{same_told}
+use Rattle.std.proofs.Common.{subst}
+use Rattle.dom_index.specs.Names.{AreElements}
+use Rattle.dom_index.proofs.NameLemmas.{elements_told}
 use Rattle.dom_index.proofs.truths.elements.Goals as goal
 
 pub returns : goal.returns
-returns c = record {
-  long = c.loop-n.invariant.long;
-  each = λ n known. same_told (truth_at c.loop-n.table.items n) (element_at c.args.layout.now.tree.now n) (c.loop-n.invariant.told n (let inside : n < length c.args.layout.now.tree.now.content = known in omega arith));
-}
+returns c =
+    let layout = c.args.layout.now in
+    elements_told layout.tree.now layout.names.items layout.named c.fill_elements.new.table.items (subst (λ bytes. AreElements bytes c.fill_elements.new.table.items) c.deref.ensures.value c.fill_elements.ensures)

@@ -4,4 +4,4 @@ use Rattle.dom_index.proofs.FillLemmas.{Filled}
 use Rattle.dom_index.proofs.truths.turn.Given as goal
 
 abbrev pub invariant-loop-n : goal.invariant-loop-n
-invariant-loop-n l = Filled (λ m. not (truth_at l.fn.table.items m)) l.fn.table.items l.table.items l.n
+invariant-loop-n l = Filled (λ m. not (truth_at l.fn.table.items m)) l.fn.table.items l.cells l.n

@@ -4,4 +4,4 @@ use Rattle.dom_index.proofs.FillLemmas.{Filled}
 use Rattle.dom_index.proofs.truths.widen.Given as goal
 
 abbrev pub invariant-loop-n : goal.invariant-loop-n
-invariant-loop-n l = Filled (λ m. truth_at l.fn.table.items m || truth_at l.other m) l.fn.table.items l.table.items l.n
+invariant-loop-n l = Filled (λ m. truth_at l.fn.table.items m || truth_at l.other m) l.fn.table.items l.cells l.n

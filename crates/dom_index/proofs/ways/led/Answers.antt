@@ -10,11 +10,15 @@ loop-i-preserved c =
     let layout = c.args.layout.now in
     let forest = layout.tree.now in
     let flags = c.loop-i.flags.items in
-    let below : c.loop-i.i < length forest.content = omega (arith, layout.ordered.long) in
+    let i = c.loop-i.i in
+    let row = c.as_slice-order.result.now in
+    let same = ap length c.as_slice-order.ensures.value in
+    let below : i < length forest.content = omega (arith, same, layout.ordered.long) in
+    let inside : i < length row = omega (arith, same, layout.ordered.long) in
     let n = c.value-n.result in
-    let here : n ≡ number_at layout.order.items c.loop-i.i = c.value-n.ensures.number ∙ get_or_read layout.order.items _ _ (omega (arith, layout.ordered.long)) c.index.ensures 0 in
-    let is = c.is_led.ensures ∙ (ap (λ fs. is_led forest c.args.combinator c.args.table.now fs (number_at layout.order.items c.loop-i.i)) c.deref.ensures.value ∙ ap (is_led forest c.args.combinator c.args.table.now flags) (sym here)) in
+    let here : n ≡ number_at layout.order.items i = c.value-n.ensures.number ∙ (get_or_read row i c.index-order-i.result inside c.index-order-i.is 0 ∙ ap (λ o. number_at o i) c.as_slice-order.ensures.value) in
+    let is = c.is_led.ensures ∙ (ap (λ fs. is_led forest c.args.combinator c.args.table.now fs c.index-order-i.result) c.deref.ensures.value ∙ ap (is_led forest c.args.combinator c.args.table.now flags) (sym c.value-n.ensures.number)) in
     record {
       long = length-set flags n _ ∙ c.loop-i.invariant.long;
-      told = led_more forest c.know_forest.ensures.lines layout.order.items layout.places.items layout.ordered c.args.combinator c.args.table.now flags c.loop-i.i n _ below here c.loop-i.invariant.long c.loop-i.invariant.told is;
+      told = led_more forest c.know_forest.ensures.lines layout.order.items layout.places.items layout.ordered c.args.combinator c.args.table.now flags i n _ below here c.loop-i.invariant.long c.loop-i.invariant.told is;
     }

@@ -1,12 +1,14 @@
-use Rattle.std.proofs.Common.{length, subst}
+use Rattle.std.proofs.Common.{◌≡◌, ◌<◌, ◌∙◌, ℕ, true, ap, length, replicate, subst, arith}
 use Rattle.std.specs.List.{flat_map}
 use Rattle.std.specs.Result.{IfOk}
+use Rattle.std.proofs.lemmas.List.{get_or-replicate}
 use Rattle.std.proofs.lemmas.Result.{IfOk-weaker}
 use Rattle.dom_links.specs.Trees.{walk_below}
 use Rattle.dom_select.specs.Meaning.{Means}
 use Rattle.dom_index.specs.Index.{Finds, Indexed}
 use Rattle.dom_index.specs.Picking.{picks}
-use Rattle.dom_index.specs.Tables.{AreTold}
+use Rattle.dom_index.specs.Tables.{AreTold, truth_at}
+use Rattle.dom_index.proofs.ListLemmas.{told_anywhere}
 use Rattle.dom_index.proofs.PickLemmas.{picks_selected, walks_inside}
 use Rattle.dom_index.proofs.index.TreeIndex.select.Goals as goal
 
@@ -14,7 +16,10 @@ pub returns-clause-found : goal.returns-clause-found
 returns-clause-found c =
     let forest = c.self.inside.layout.tree.now in
     let table = c.in_ok-table.table.items in
-    let told = subst (λ list. AreTold table (length forest.content) (Means list forest)) c.selectors.ensures c.in_ok-table.ensures.table in
+    let all = c.deref.result.now in
+    let filled : all ≡ replicate c.len.result true = c.deref.ensures.value ∙ c.in_ok-all.ensures.items_if_clones_equal (λ y h. h) in
+    let everywhere : (n : ℕ) → n < length forest.content → truth_at all n ≡ true = λ n known. ap (λ cells. truth_at cells n) filled ∙ get_or-replicate c.len.result n true _ (omega (arith, c.len.ensures, c.self.inside.layout.ordered.long)) in
+    let told = subst (λ list. AreTold table (length forest.content) (Means list forest)) c.selectors.ensures (told_anywhere all table (length forest.content) _ everywhere c.in_ok-table.ensures.table) in
     let ids = picks forest table (flat_map (walk_below forest) c.args.roots.now) in
     let selected = picks_selected forest c.args.matcher.now c.args.roots.now table (walks_inside forest c.args.roots.now c.know_walks.ensures) told in
     subst (λ (it : Indexed). IfOk c.picked.result (λ found. Finds it.tree c.args.roots.now c.args.matcher.now found.items)) c.self.view_is
