@@ -40,6 +40,7 @@ pub(crate) fn parts_hold(
 }
 
 /// Whether the node is an element that bears the name as a type.
+#[inline(always)]
 pub(crate) fn is_named_node(node: &NodeData, name: &SelectorName) -> bool
     ensures { result ≡ node_passes (Part.«Type» name.now) node.now }
 {
@@ -145,13 +146,22 @@ fn element_passes(part: &Part, element: &Element) -> bool
 }
 
 /// Whether a local name is a selector's name: with A to Z folded in HTML, as written elsewhere.
+#[inline(always)]
 fn is_named(ns: &Namespace, local: &LocalName, name: &SelectorName) -> bool
     ensures { result ≡ bytes_eq local.now (name_within ns.now name.now) }
 {
     match ns {
         Namespace::Html => local.is_same(name.folded()),
-        _ => local.as_str() == name.as_str(),
+        _ => is_written(local, name),
     }
+}
+
+/// Whether a local name is a selector's name as written.
+#[inline(never)]
+fn is_written(local: &LocalName, name: &SelectorName) -> bool
+    ensures { result ≡ bytes_eq local.now name.now }
+{
+    local.as_str() == name.as_str()
 }
 
 fn has_attr(attrs: &[Attr], name: &str, value: &str) -> bool
