@@ -151,12 +151,34 @@ fn is_named(ns: &Namespace, local: &LocalName, name: &SelectorName) -> bool
     ensures { result ≡ bytes_eq local.now (name_within ns.now name.now) }
 {
     match ns {
-        Namespace::Html => local.is_same(name.folded()),
+        Namespace::Html => is_folded(local, name.folded()),
         _ => is_written(local, name),
     }
 }
 
+/// Whether the names are the same. Known ones, which most are, are told at once.
+#[inline(always)]
+fn is_folded(local: &LocalName, folded: &LocalName) -> bool
+    ensures { result ≡ bytes_eq local.now folded.now }
+{
+    if let Some(number) = local.number() {
+        if let Some(other) = folded.number() {
+            return number == other;
+        }
+    }
+    is_spelled(local, folded)
+}
+
+#[cold]
+#[inline(never)]
+fn is_spelled(local: &LocalName, other: &LocalName) -> bool
+    ensures { result ≡ bytes_eq local.now other.now }
+{
+    local.is_same(other)
+}
+
 /// Whether a local name is a selector's name as written.
+#[cold]
 #[inline(never)]
 fn is_written(local: &LocalName, name: &SelectorName) -> bool
     ensures { result ≡ bytes_eq local.now name.now }
