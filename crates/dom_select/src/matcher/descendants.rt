@@ -176,8 +176,8 @@ fn is_wanted(
     }
 }
 
-/// Whether the node is an element that the selector means, which bears one of the names if there are
-/// some.
+/// Whether the node is an element that the selector means, which bears one of the names if there
+/// are some.
 #[inline(always)]
 fn is_found(
     matcher: &Matcher,
