@@ -1,5 +1,6 @@
 pub mod AnswerLemmas
 pub mod AskLemmas
+pub mod EndLemmas
 pub mod FollowLemmas
 pub mod HasLemmas
 pub mod JoinedLemmas

@@ -1,5 +1,5 @@
 -- Selectors that are a type and nothing else.
-use Rattle.std.proofs.Common.{◌≡◌, ◌↔◌, ◌<◌, ◌≤◌, ℕ, Bool, true, false, List, [], ◌∷◌, ◌++◌, Option, None, Some, IfSome, length, map, slice_get, get_or, sym, ap, ◌∙◌, refl, subst, inl, inr, MatchBool, true≢false, arith}
+use Rattle.std.proofs.Common.{◌≡◌, ◌↔◌, ◌<◌, ◌≤◌, ℕ, Bool, true, false, List, [], ◌∷◌, Option, None, Some, IfSome, length, map, slice_get, get_or, sym, ap, ◌∙◌, refl, subst, inl, inr, MatchBool, true≢false, arith}
 use Rattle.std.specs.Borrow.{Bor}
 use Rattle.std.specs.Option.{option_map_or}
 use Rattle.std.specs.Prelude.{◌==◌, IsTrue, not}
@@ -9,21 +9,17 @@ use Rattle.dom_nodes.specs.declared.node_data.NodeData.TheVariants.{Comment, Doc
 use Rattle.dom_nodes.specs.Kinds.{is_element}
 use Rattle.dom_links.specs.Forest.{Forest}
 use Rattle.dom_links.specs.ListMoves.{element_at}
-use Rattle.dom_selectors.specs.declared.syntax.Combinator.{Combinator}
 use Rattle.dom_selectors.specs.declared.syntax.Compound.{Compound}
 use Rattle.dom_selectors.specs.declared.syntax.Part.{Part}
 use Rattle.dom_selectors.specs.declared.syntax.Selector.{Selector, out-Selector}
 use Rattle.dom_selectors.specs.ListsAsTrees.{lists_of, selector_list, steps_of}
-use Rattle.dom_selectors.specs.Syntax.{CompoundSelector, SelectorList, alternative, compound, no_lists, no_selectors, no_steps}
+use Rattle.dom_selectors.specs.Syntax.{SelectorList, alternative, compound, no_lists, no_selectors, no_steps}
 use Rattle.dom_selectors.specs.ValuesAsTrees.{read_compound, read_list, read_nested, read_step}
 use Rattle.dom_selectors.proofs.Layers.{read_compound_is, read_selector_is}
-use Rattle.dom_select.specs.declared.matcher.has.Start.{Start}
-use Rattle.dom_select.specs.declared.matcher.has.Start.TheVariants.{Anywhere, From}
 use Rattle.dom_select.specs.Descendants.{IsMatch}
-use Rattle.dom_select.specs.Has.{Begins}
-use Rattle.dom_select.specs.Meaning.{Holds, MayBeside, Means, MeansType, PartsHold, Reaches}
+use Rattle.dom_select.specs.Meaning.{Holds, Means, MeansType, PartsHold}
 use Rattle.dom_select.specs.Parts.{PartHolds, node_passes}
-use Rattle.dom_select.proofs.FollowLemmas.{is_nil, reaches_end}
+use Rattle.dom_select.proofs.FollowLemmas.{is_nil}
 
 -- a selector that is a type alone means what bears the name
 pub means_type : (name : List ℕ) (s : Selector) → read_compound (out-Selector s).first ≡ compound (Part.«Type» name ∷ []) no_lists → (out-Selector s).rest.items ≡ [] → MeansType name (read_list (s ∷ []))
@@ -65,6 +61,9 @@ pub wanted_by_type : (name : List ℕ) (list : SelectorList) (forest : Forest) (
 wanted_by_type name list forest n true means h = (type_is_element name forest n h, (means forest n).1 h)
 wanted_by_type name list forest n false means h = λ match. h ((means forest n).0 match.1)
 
+pub bears_wanted : (name : List ℕ) (list : SelectorList) (forest : Forest) (n : ℕ) → MeansType name list → PartsHold (Part.«Type» name ∷ []) forest n → IsMatch list forest n
+bears_wanted name list forest n means held = (type_is_element name forest n held, (means forest n).1 held)
+
 -- a compound that begins with a type holds of nothing that doesn't bear its name
 pub lacks_first : (name : List ℕ) (c : Compound) (parts : List Part) (p : Part) (forest : Forest) (n : ℕ) (b : Bool) → parts ≡ c.parts.items → Some p ≡ slice_get parts 0 → p ≡ Part.«Type» name →
     MatchBool b (PartsHold (Part.«Type» name ∷ []) forest n) (PartsHold (Part.«Type» name ∷ []) forest n → ⊥) → IsTrue (not b) → Holds (read_compound c) forest n → ⊥
@@ -81,21 +80,3 @@ lacks_first name c parts p forest n b same is named out lacks held = bears b out
     bears : (b : Bool) → MatchBool b (PartsHold (Part.«Type» name ∷ []) forest n) (PartsHold (Part.«Type» name ∷ []) forest n → ⊥) → IsTrue (not b) → ⊥
     bears true bears_it lacks = true≢false (sym lacks)
     bears false none lacks = none (first c.parts.items (is ∙ ap (λ qs. slice_get qs 0) same) all.0)
-
--- ---- what doesn't bear the name of the last compound
-
-begins_holds : (start : Start) (first : CompoundSelector) (forest : Forest) (n : ℕ) → Begins start first forest n → Holds first forest n
-begins_holds Anywhere first forest n h = h
-begins_holds (From k x) first forest n h = h.1
-
-not_false : (b : Bool) → not b ≡ false → IsTrue b
-not_false true e = refl
-not_false false e = sym e
-
-module _ (start : Start) (first : CompoundSelector) (steps : List (Combinator × CompoundSelector)) (k : Combinator) (forest : Forest) (spared n : ℕ) (lacks : Bool) where
-  pub alone_not : steps ≡ [] → (IsTrue lacks → Holds first forest n → ⊥) → not lacks ≡ false → MayBeside forest spared k n × Reaches (Begins start first forest) (steps_of steps) forest spared n → ⊥
-  alone_not is none e r = none (not_false lacks e) (begins_holds start first forest n ((reaches_end forest spared (Begins start first forest) steps n r.1).alone is))
-
-  pub behind_not : (front : List (Combinator × CompoundSelector)) (last : Combinator × CompoundSelector) → steps ≡ front ++ last ∷ [] → (IsTrue lacks → Holds last.1 forest n → ⊥) → not lacks ≡ false →
-      MayBeside forest spared k n × Reaches (Begins start first forest) (steps_of steps) forest spared n → ⊥
-  behind_not front last is none e r = none (not_false lacks e) ((reaches_end forest spared (Begins start first forest) steps n r.1).behind front last is).1

@@ -1,6 +1,7 @@
 pub mod Answers
 pub mod Chains
 pub mod Descendants
+pub mod Ends
 pub mod Has
 pub mod Leftward
 pub mod Marks

@@ -1,7 +1,7 @@
 //! A list of selectors that nodes are asked for.
 
 use crate::matcher::caches::SelectorCaches;
-use crate::matcher::matches::{is_meant, means, type_alone};
+use crate::matcher::matches::{is_meant, last_names, means, type_alone};
 use dom_nodes::fault::OutOfMemory;
 use dom_selectors::copies::copy_selectors;
 use dom_selectors::fault::SelectorFault;
@@ -51,6 +51,7 @@ impl Model for Matcher {
 impl Matcher {
     ghost use Rattle.std.specs.Prelude.{◌≡◌, chars, IfErr, IfOk, IfSome};
     ghost use Rattle.dom_selectors.specs.Grammar.{Refused, StandsFor};
+    ghost use Rattle.dom_select.specs.Ends.{EndsAmong};
     ghost use Rattle.dom_select.specs.Meaning.{Means, MeansType};
     ghost use Rattle.dom_selectors.specs.Spelling.{Decides};
     ghost use Rattle.dom_selectors.specs.ValuesAsTrees.{read_list};
@@ -86,6 +87,14 @@ impl Matcher {
         ensures { IfSome result (λ name. MeansType name.now self.now) }
     {
         type_alone(&self.selectors)
+    }
+
+    /// Two names, which may be one, of which each node that the selectors mean bears one, where
+    /// they are one or two and end in a type.
+    pub(crate) fn last_names(&self) -> Option<(&SelectorName, &SelectorName)>
+        ensures { IfSome result (λ names. EndsAmong names.0.now names.1.now self.now) }
+    {
+        last_names(&self.selectors)
     }
 
     /// Whether one of the selectors means the node; false for an unknown number. It takes no

@@ -14,6 +14,7 @@ use dom_selectors::syntax::Combinator;
 use dom_trees::tree::Tree;
 
 /// Whether the node may stand beside `+` or `~`.
+#[inline(always)]
 pub(crate) fn may_beside(tree: &Tree, spared: NodeId, combinator: Combinator, id: NodeId) -> bool
     ensures { IsTrue result ↔ MayBeside tree.now spared combinator id }
 {
@@ -34,6 +35,7 @@ pub(crate) fn know_lines(tree: &Tree)
 }
 
 /// The next node on the way to the left: the parent, or the sibling before.
+#[inline(always)]
 pub(crate) fn on_the_left(tree: &Tree, combinator: Combinator, id: NodeId) -> Option<NodeId>
     ensures link { result ≡ left_of tree.now combinator id }
     ensures lines { AreLines tree.now }
@@ -47,6 +49,7 @@ pub(crate) fn on_the_left(tree: &Tree, combinator: Combinator, id: NodeId) -> Op
 }
 
 /// Whether no node farther on the left can be meant.
+#[inline(always)]
 pub(crate) fn ends_at(tree: &Tree, combinator: Combinator, id: NodeId) -> bool
     ensures { result ≡ ends_at tree.now combinator id }
 {

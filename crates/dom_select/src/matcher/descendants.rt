@@ -4,13 +4,14 @@ ghost use Rattle.std.specs.Prelude.{◌≡◌, ◌∷◌, [], ℕ, List, length,
 ghost use Rattle.std.specs.Iterator.{at_most};
 ghost use Rattle.dom_links.specs.Trees.{walk_below};
 ghost use Rattle.dom_select.specs.Descendants.{GivesMatch, IsMatch, ToCome};
+ghost use Rattle.dom_select.specs.Ends.{EndsAmong};
 ghost use Rattle.dom_select.specs.Meaning.{MeansType};
 ghost use Rattle.dom_select.specs.Selected.{Selected, walks_below};
 ghost use Rattle.dom_selectors.specs.Spelling.{Decides};
 
 use crate::matcher::Matcher;
 use crate::matcher::caches::SelectorCaches;
-use crate::matcher::matches::bears_name;
+use crate::matcher::matches::{bears_name, bears_neither};
 use crate::matcher::parts::is_element;
 use dom_links::iters::DescendantNodes;
 use dom_nodes::fault::OutOfMemory;
@@ -97,11 +98,39 @@ pub fn select_below(
 ) -> Result<Vec<NodeId>, OutOfMemory>
     ensures { IfOk result (λ ids. Selected tree.now (root.now ∷ []) matcher.now ids.items) }
 {
+    if let Some(name) = matcher.type_alone() {
+        return named_below(tree, root, matcher, name);
+    }
+    let names = matcher.last_names();
+    let mut caches = SelectorCaches::late(tree);
     let mut picked = Vec::new(tree.allocator());
-    for node in DescendantMatches::new(NodeRef::new(*root, tree), matcher) {
-        picked.push(node.id)?;
+    for id in tree.descendant_ids_of_it(root) {
+        if !is_found(matcher, &names, &mut caches, id) {
+            continue;
+        }
+        picked.push(id)?;
     }
     Ok(picked)
+}
+
+/// The elements below the root that bear the name, which is all that the selector asks.
+fn named_below(
+    tree: &Tree,
+    root: &NodeId,
+    matcher: &Matcher,
+    name: &SelectorName,
+) -> Result<Vec<NodeId>, OutOfMemory>
+    requires { MeansType name.now matcher.now }
+    ensures { IfOk result (λ ids. Selected tree.now (root.now ∷ []) matcher.now ids.items) }
+{
+    let mut named = Vec::new(tree.allocator());
+    for id in tree.descendant_ids_of_it(root) {
+        if !bears_name(tree, &id, name) {
+            continue;
+        }
+        named.push(id)?;
+    }
+    Ok(named)
 }
 
 /// The same, or None where more than so many steps were taken.
@@ -114,13 +143,14 @@ pub(crate) fn select_below_within(
     ensures { IfOk result (λ found. IfSome found
         (λ ids. Selected tree.now (root.now ∷ []) matcher.now ids.items)) }
 {
+    let names = matcher.last_names();
     let mut caches = SelectorCaches::late(tree);
     let mut picked = Vec::new(tree.allocator());
     for id in tree.descendant_ids_of_it(root) {
         if caches.steps() > steps {
             return Ok(None);
         }
-        if !is_selected_with(matcher, &mut caches, id) {
+        if !is_found(matcher, &names, &mut caches, id) {
             continue;
         }
         picked.push(id)?;
@@ -144,6 +174,27 @@ fn is_wanted(
         Some(name) => bears_name(caches.tree(), &id, name),
         None => is_selected_with(matcher, caches, id),
     }
+}
+
+/// Whether the node is an element that the selector means, which bears one of the names if there
+/// are some.
+#[inline(always)]
+fn is_found(
+    matcher: &Matcher,
+    names: &Option<(&SelectorName, &SelectorName)>,
+    caches: &mut SelectorCaches<'_>,
+    id: NodeId,
+) -> bool
+    requires { IfSome names.now (λ names. EndsAmong names.0.now names.1.now matcher.now) }
+    ensures is { Decides result (IsMatch matcher.now caches.old id) }
+    ensures same { caches.new ≡ caches.old }
+{
+    if let Some((one, other)) = names {
+        if bears_neither(caches.tree(), &id, one, other) {
+            return false;
+        }
+    }
+    is_selected_with(matcher, caches, id)
 }
 
 /// Whether the node is an element that the selector means.

@@ -97,6 +97,7 @@ fn begins_among(tree: &Tree, text: &[u8], rest: &DescendantNodes<'_>, inner: &[u
 }
 
 /// Whether the texts at the node and below it, joined, contain the other.
+#[inline(never)]
 pub(crate) fn contains_joined(tree: &Tree, id: &NodeId, inner: &str) -> bool
     ensures { result ≡ joined_contains_at tree.now inner.now id.now }
 {

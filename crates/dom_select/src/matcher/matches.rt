@@ -9,6 +9,8 @@ ghost use Rattle.dom_selectors.specs.ListsAsTrees.{lists_of, steps_of};
 ghost use Rattle.dom_select.specs.Leftward.{ends_at};
 ghost use Rattle.dom_select.specs.Meaning.{Holds, LeadsOn, LeadsToSome, ListsHold, ListHolds, MayBeside};
 ghost use Rattle.dom_select.specs.Meaning.{Means, MeansType, PartsHold, Reaches};
+ghost use Rattle.dom_select.specs.Ends.{BeginsAs, EndsAmong, EndsAs};
+ghost use Rattle.dom_select.specs.declared.matcher.has.Start.{Start};
 ghost use Rattle.dom_selectors.specs.ValuesAsTrees.{read_compound, read_list, read_nested};
 ghost use Rattle.dom_selectors.specs.ValuesAsTrees.{read_step};
 ghost use Rattle.dom_selectors.specs.Syntax.{no_lists, compound as the_compound};
@@ -55,7 +57,50 @@ pub(crate) fn type_alone(selectors: &[Selector]) -> Option<&SelectorName>
     bare_type(&selector.first)
 }
 
+/// The name that the compound begins with, where that is a type.
+fn first_name(compound: &Compound) -> Option<&SelectorName>
+    ensures { IfSome result (λ name. BeginsAs name.now (read_compound compound.now)) }
+{
+    let Some(part) = compound.parts.first() else {
+        return None;
+    };
+    match part {
+        Part::Type(name) => Some(name),
+        _ => None,
+    }
+}
+
+/// The name that the last of the compounds begins with, where that is a type.
+fn last_name<'a>(first: &'a Compound, steps: &'a [Step]) -> Option<&'a SelectorName>
+    ensures { IfSome result
+        (λ name. EndsAs name.now (read_compound first.now) (map read_step steps.now)) }
+{
+    match steps.split_last() {
+        None => first_name(first),
+        Some((last, _)) => first_name(&last.compound),
+    }
+}
+
+/// Two names, which may be one, of which each node that the selectors mean bears one, where that is
+/// told by one or two selectors that end in a type.
+pub(crate) fn last_names(selectors: &[Selector]) -> Option<(&SelectorName, &SelectorName)>
+    ensures { IfSome result
+        (λ names. EndsAmong names.0.now names.1.now (read_list selectors.now)) }
+{
+    let (selector, more) = selectors.split_first()?;
+    let name = last_name(&selector.first, &selector.rest)?;
+    let Some((another, rest)) = more.split_first() else {
+        return Some((name, name));
+    };
+    if !rest.is_empty() {
+        return None;
+    }
+    let other = last_name(&another.first, &another.rest)?;
+    Some((name, other))
+}
+
 /// Whether the number is an element's that bears the name as a type.
+#[inline(always)]
 pub(crate) fn bears_name(tree: &Tree, id: &NodeId, name: &SelectorName) -> bool
     ensures { MatchBool result (PartsHold (Part.«Type» name.now ∷ []) tree.now id.now)
         (PartsHold (Part.«Type» name.now ∷ []) tree.now id.now → ⊥) }
@@ -64,6 +109,23 @@ pub(crate) fn bears_name(tree: &Tree, id: &NodeId, name: &SelectorName) -> bool
         Some(found) => is_named_node(&found.content, name),
         None => false,
     }
+}
+
+/// Whether the node bears none of the names as a type.
+#[inline(always)]
+pub(crate) fn bears_neither(
+    tree: &Tree,
+    id: &NodeId,
+    one: &SelectorName,
+    other: &SelectorName,
+) -> bool
+    ensures one { IsTrue result → PartsHold (Part.«Type» one.now ∷ []) tree.now id.now → ⊥ }
+    ensures other { IsTrue result → PartsHold (Part.«Type» other.now ∷ []) tree.now id.now → ⊥ }
+{
+    if bears_name(tree, id, one) {
+        return false;
+    }
+    !bears_name(tree, id, other)
 }
 
 /// Whether the compound begins with a type whose name the node doesn't bear.
@@ -257,9 +319,6 @@ fn reaches(
     if steps.is_empty() {
         return begins(start, first, tree, caches, id);
     }
-    if !end_holds(start, first, steps, tree, caches, id, id) {
-        return false;
-    }
     follow(ALL, start, first, steps, tree, caches, id, id).is_some()
 }
 
@@ -317,10 +376,11 @@ fn end_holds(
     }
 }
 
-/// Whether steps may be followed from the node to the left: it may stand beside the combinator, and
-/// it bears the name that the last compound begins with.
+/// Whether the compounds may be followed from the node to the left: it may stand beside the
+/// combinator, and it bears the name that the last of them begins with.
+#[inline(always)]
 fn may_follow(
-    start: &Start,
+    name: Option<&SelectorName>,
     first: &Compound,
     steps: &[Step],
     combinator: Combinator,
@@ -328,17 +388,19 @@ fn may_follow(
     spared: NodeId,
     id: NodeId,
 ) -> bool
+    requires { IfSome name
+        (λ name. EndsAs name.now (read_compound first.now) (map read_step steps.now)) }
     ensures beside { IsTrue result → MayBeside tree.now spared combinator id }
-    ensures others { result ≡ false → MayBeside tree.now spared combinator id
-        × Reaches (Begins start.now (read_compound first.now) tree.now)
+    ensures others { (start : Start) → result ≡ false → MayBeside tree.now spared combinator id
+        × Reaches (Begins start (read_compound first.now) tree.now)
         (steps_of (map read_step steps.now)) tree.now spared id → ⊥ }
 {
     if !may_beside(tree, spared, combinator, id) {
         return false;
     }
-    match steps.split_last() {
-        None => !lacks_name(first, tree, &id),
-        Some((last, _)) => !lacks_name(&last.compound, tree, &id),
+    match name {
+        Some(name) => bears_name(tree, &id, name),
+        None => true,
     }
 }
 
@@ -421,10 +483,11 @@ fn follow_from<'a>(
         combinator (map read_step steps.now) (map read_step place.left.now) id place.at) }
     ensures kept { caches.new ≡ tree.now }
 {
+    let name = last_name(first, steps);
     let mut at = id;
     while let Some(v) = on_the_left(tree, combinator, at) {
         caches.note_step();
-        if may_follow(start, first, steps, combinator, tree, spared, v) {
+        if may_follow(name, first, steps, combinator, tree, spared, v) {
             let level = looseness(combinator);
             if let Some(place) = follow(level, start, first, steps, tree, caches, spared, v) {
                 return Some(place);

@@ -40,6 +40,7 @@ pub(crate) fn parts_hold(
 }
 
 /// Whether the node is an element that bears the name as a type.
+#[inline(always)]
 pub(crate) fn is_named_node(node: &NodeData, name: &SelectorName) -> bool
     ensures { result ≡ node_passes (Part.«Type» name.now) node.now }
 {
@@ -145,13 +146,44 @@ fn element_passes(part: &Part, element: &Element) -> bool
 }
 
 /// Whether a local name is a selector's name: with A to Z folded in HTML, as written elsewhere.
+#[inline(always)]
 fn is_named(ns: &Namespace, local: &LocalName, name: &SelectorName) -> bool
     ensures { result ≡ bytes_eq local.now (name_within ns.now name.now) }
 {
     match ns {
-        Namespace::Html => local.is_same(name.folded()),
-        _ => local.as_str() == name.as_str(),
+        Namespace::Html => is_folded(local, name.folded()),
+        _ => is_written(local, name),
     }
+}
+
+/// Whether the names are the same. Known ones, which most are, are told at once.
+#[inline(always)]
+fn is_folded(local: &LocalName, folded: &LocalName) -> bool
+    ensures { result ≡ bytes_eq local.now folded.now }
+{
+    if let Some(number) = local.number() {
+        if let Some(other) = folded.number() {
+            return number == other;
+        }
+    }
+    is_spelled(local, folded)
+}
+
+#[cold]
+#[inline(never)]
+fn is_spelled(local: &LocalName, other: &LocalName) -> bool
+    ensures { result ≡ bytes_eq local.now other.now }
+{
+    local.is_same(other)
+}
+
+/// Whether a local name is a selector's name as written.
+#[cold]
+#[inline(never)]
+fn is_written(local: &LocalName, name: &SelectorName) -> bool
+    ensures { result ≡ bytes_eq local.now name.now }
+{
+    local.as_str() == name.as_str()
 }
 
 fn has_attr(attrs: &[Attr], name: &str, value: &str) -> bool

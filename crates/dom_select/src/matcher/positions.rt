@@ -10,6 +10,7 @@ use dom_nodes::node_id::NodeId;
 use dom_selectors::syntax::Position;
 
 /// Whether the node has one of the indexes.
+#[inline(never)]
 pub(crate) fn has_position(position: Position, caches: &mut SelectorCaches<'_>, id: &NodeId) -> bool
     ensures is { Decides result (IsNth position.nth (index_at position.kind caches.old id.now)) }
     ensures kept { caches.new ≡ caches.old }

@@ -29,6 +29,7 @@ fn is_passed_over(tree: &Tree, id: &NodeId) -> bool
 }
 
 /// Whether the node is an element without elements and without a text that isn't blank.
+#[inline(never)]
 pub(crate) fn is_empty(tree: &Tree, id: &NodeId) -> bool
     ensures { result ≡ empty_at tree.now id.now }
 {
@@ -44,6 +45,7 @@ pub(crate) fn is_empty(tree: &Tree, id: &NodeId) -> bool
 }
 
 /// Whether the node has exactly one child, a text that isn't blank.
+#[inline(never)]
 pub(crate) fn is_only_text(tree: &Tree, id: &NodeId) -> bool
     ensures { result ≡ only_text_at tree.now id.now }
 {
@@ -80,6 +82,7 @@ fn text_contains(node: &NodeData, inner: &str) -> bool
 }
 
 /// Whether a text at the node or below it contains the other.
+#[inline(never)]
 pub(crate) fn has_text(tree: &Tree, id: &NodeId, inner: &str) -> bool
     ensures { result ≡ has_text_at tree.now inner.now id.now }
 {

@@ -6,8 +6,8 @@ use Rattle.dom_links.proofs.Cuts.{length-contents}
 use Rattle.dom_links.proofs.Steps.{looks_fit}
 use Rattle.dom_links.proofs.iters.DescendantNodesIterator.next.Goals as goal
 
-pub next_below-self-inside-requires-clause-room : goal.next_below-self-inside-requires-clause-room
-next_below-self-inside-requires-clause-room c =
+pub next_below-next-requires-clause-room : goal.next_below-next-requires-clause-room
+next_below-next-requires-clause-room c =
     let good = c.self.invariant.0 in
     let long = length-contents (forest_of c.self.inside.nodes.now) c.self.inside.nodes.now good.arena.links in
     let few : length (walk_below (forest_of c.self.inside.nodes.now) c.self.inside.start_id) ≤ 4294967295 =

@@ -1,8 +1,11 @@
-use Rattle.std.proofs.Common.{ℕ, List, [], ◌∷◌, ◌++◌}
-use Rattle.dom_select.specs.Descendants.{ToCome}
-use Rattle.dom_select.specs.Selected.{Selected}
+use Rattle.std.proofs.Common.{ℕ, List, [], ◌∷◌, ◌≡◌, ◌++◌}
+use Rattle.dom_select.specs.Descendants.{IsMatch}
+use Rattle.dom_select.specs.Selected.{Picks, Selected}
 use Rattle.dom_select.proofs.matcher.descendants.select_below.Given as goal
 
 -- what was picked and what is to come is what is selected
-abbrev pub invariant-loop-node : goal.invariant-loop-node
-invariant-loop-node l = (ids : List ℕ) → ToCome l.node-iterator ids → Selected l.tree (l.root ∷ []) l.matcher (l.picked.items ++ ids)
+abbrev pub invariant-loop-id : goal.invariant-loop-id
+invariant-loop-id l = record {
+  kept : l.caches ≡ l.tree;
+  so_far : (ids : List ℕ) → Picks (IsMatch l.matcher l.tree) l.id-iterator.left ids → Selected l.tree (l.root ∷ []) l.matcher (l.picked.items ++ ids);
+}

@@ -20,11 +20,11 @@ loop-id-init c = record {
 
 pub loop-id-preserved : goal.loop-id-preserved
 loop-id-preserved c = record {
-  kept = c.is_selected_with.ensures.same ∙ c.loop-id.invariant.kept;
+  kept = c.is_found.ensures.same ∙ c.loop-id.invariant.kept;
   so_far = λ ids h.
       let n = c.in-Some.id in
       let P = IsMatch c.args.matcher.now c.args.tree.now in
-      let meant : P n = subst (λ (forest : Forest). IsMatch c.args.matcher.now forest n) c.loop-id.invariant.kept c.if-not-is_selected_with.ensures.is in
+      let meant : P n = subst (λ (forest : Forest). IsMatch c.args.matcher.now forest n) c.loop-id.invariant.kept c.if-not-is_found.ensures.is in
       let added = ap (λ (ns : List ℕ). ns ++ ids) c.in_ok-push.ensures.items ∙ append_assoc c.loop-id.picked.items (n ∷ []) ids in
       subst (λ (ns : List ℕ). Selected c.args.tree.now (c.args.root.now ∷ []) c.args.matcher.now ns) (sym added)
       (c.loop-id.invariant.so_far (n ∷ ids) (subst (λ (ns : List ℕ). Picks P ns (n ∷ ids)) (sym c.in-Some.ensures.steps) (inl (meant, ids, refl, h))));

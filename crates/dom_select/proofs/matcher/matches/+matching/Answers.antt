@@ -81,7 +81,7 @@ follow_from-returns-then-ends_at-clause-is t c =
     let Q : ℕ → Type 0 = IsMeant forest c.args.spared (Begins c.args.start.now (read_compound c.args.first.now) c.args.tree.now) (steps_of (map read_step c.args.steps.now)) k in
     let refuted : Q c.in-Some.v → ⊥ = elim c.if-may_follow.branch [
       | follow_from-then-may_follow+in_default-follow w ↦ λ q. w.in_default-follow.ensures.is q.1
-      | follow_from-else-may_follow w ↦ λ q. c.may_follow.ensures.others w.if-may_follow.false q
+      | follow_from-else-may_follow w ↦ λ q. c.may_follow.ensures.others c.args.start.now w.if-may_follow.false q
     ] in
     let none = left_ends forest k Q c.on_the_left.ensures.lines c.loop-v.at c.in-Some.v (sym c.in-Some.ensures.link) refuted (sym c.ends_at.ensures ∙ c.if-ends_at.true) in
     λ s. none (c.loop-v.invariant.forth (to_line Q forest k c.args.id s.0 c.on_the_left.ensures.lines s.1 s.2))
@@ -98,7 +98,7 @@ follow_from-loop-v-preserved t c =
     let Q : ℕ → Type 0 = IsMeant forest c.args.spared (Begins c.args.start.now (read_compound c.args.first.now) c.args.tree.now) (steps_of (map read_step c.args.steps.now)) k in
     let refuted : Q c.in-Some.v → ⊥ = elim c.if-may_follow.branch [
       | follow_from-then-may_follow+in_default-follow w ↦ λ q. w.in_default-follow.ensures.is q.1
-      | follow_from-else-may_follow w ↦ λ q. c.may_follow.ensures.others w.if-may_follow.false q
+      | follow_from-else-may_follow w ↦ λ q. c.may_follow.ensures.others c.args.start.now w.if-may_follow.false q
     ] in
     let link = sym c.in-Some.ensures.link in
     let goes = sym c.ends_at.ensures ∙ c.if-ends_at.false in
@@ -125,13 +125,6 @@ reaches-returns-clause-is t c =
     let steps = map read_step c.args.steps.now in
     ends_if c.args.start.now (read_compound c.args.first.now) (steps_of steps) c.args.tree.now c.args.id _ (sym c.may_end.ensures ∙ c.if-not-may_end.false)
     (some_where c.follow.result c.is_some.result _ _ (λ place f. followed_all c.args.tree.now c.args.id first steps (map read_step place.left.now) c.args.id place.at f) c.follow.ensures.is c.is_some.ensures)
-
-pub reaches-returns-then-not-end_holds-clause-is : goal.reaches-returns-then-not-end_holds-clause-is
-reaches-returns-then-not-end_holds-clause-is t c =
-    let first = Begins c.args.start.now (read_compound c.args.first.now) c.args.tree.now in
-    let steps = map read_step c.args.steps.now in
-    ends_if c.args.start.now (read_compound c.args.first.now) (steps_of steps) c.args.tree.now c.args.id _ (sym c.may_end.ensures ∙ c.if-not-may_end.false)
-    ((λ e. absurd (true≢false (sym e))), λ r. absurd (c.if-not-end_holds.ensures.is (reaches_end c.args.tree.now c.args.id first steps c.args.id r)))
 
 pub reaches-begins-requires : goal.reaches-begins-requires
 reaches-begins-requires t c = (omega (arith, c.decreases), c.requires)
