@@ -51,6 +51,9 @@ impl QualName {
     pub fn try_clone(&self) -> Result<QualName, OutOfMemory>
         ensures { IfOk result (λ made. made ≡ self.now) }
     {
+        if let Some(name) = self.plain() {
+            return Ok(name);
+        }
         let prefix = copied(&self.prefix)?;
         let ns = self.ns.try_clone()?;
         let local = self.local.try_clone()?;
@@ -100,6 +103,42 @@ impl Element {
 }
 
 impl NodeData {
+    ghost use Rattle.std.specs.Prelude.{None};
+    ghost use Rattle.dom_nodes.specs.Kinds.{contents_named};
+
+    /// The same data, where it is a text that needs no memory of its own.
+    #[inline(always)]
+    pub fn short_text(&self) -> Option<NodeData>
+        ensures same { IfSome result (λ made. made ≡ self.now) }
+        ensures plain { IfSome result (λ _. contents_named self.now ≡ None) }
+    {
+        let NodeData::Text { contents } = self else {
+            return None;
+        };
+        let contents = contents.short_copy()?;
+        Some(NodeData::Text { contents })
+    }
+
+    /// The same data, where it is an element of a common name without attributes and contents.
+    #[inline(always)]
+    pub fn bare_element(&self) -> Option<NodeData>
+        ensures same { IfSome result (λ made. made ≡ self.now) }
+        ensures plain { IfSome result (λ _. contents_named self.now ≡ None) }
+    {
+        let NodeData::Element(element) = self else {
+            return None;
+        };
+        let None = element.template_contents() else {
+            return None;
+        };
+        if !element.attrs.as_slice().is_empty() {
+            return None;
+        }
+        let name = element.name.plain()?;
+        let attrs = Attrs::new(element.attrs.allocator());
+        Some(NodeData::Element(element.with(name, attrs)))
+    }
+
     /// The same data.
     pub fn try_clone(&self) -> Result<NodeData, OutOfMemory>
         ensures { IfOk result (λ made. made ≡ self.now) }

@@ -353,15 +353,50 @@ fn copy_alone(
     ensures cause { IfErr result
         (λ fault. LacksRoom (vec_len nodes.old) (data_at at.source id) fault) }
 {
-    let node = source_node(other, nodes, id);
-    let first = node.first_child.get();
-    let content = copy_data(node, nodes.len())?;
-    let made = add_below(nodes, parent, content)?;
+    let first = source_node(other, nodes, id).first_child.get();
+    let made = add_copy(nodes, other, id, parent)?;
     push_row(rows, first, made)?;
     Ok(made)
 }
 
+/// Copies a node alone. Short texts and bare elements, which most nodes are, are made where they go.
+#[inline(always)]
+fn add_copy(
+    nodes: &mut Vec<TreeNode>,
+    other: Option<&[TreeNode]>,
+    id: NodeId,
+    parent: Option<NodeId>,
+) -> Result<NodeId, EditFault>
+    ghost at: { Copying }
+    requires under_way { IsUnderWay at other nodes.old.items }
+    requires known { id < length at.source.content }
+    requires below { IsPlaceFor at (vec_len nodes.old) parent }
+    ensures under_way { IsUnderWay at other.entry nodes.new.items }
+    ensures made { let number = vec_len nodes.old in OnOk result (forest_of nodes.new.items
+        ≡ with_node_below parent (copied_data number (data_at at.source id))
+        (forest_of nodes.old.items)) }
+    ensures number { IfOk result (λ made. made ≡ vec_len nodes.old) }
+    ensures grown { OnOk result (vec_len nodes.new ≡ vec_len nodes.old + 1) }
+    ensures cause { IfErr result
+        (λ fault. LacksRoom (vec_len nodes.old) (data_at at.source id) fault) }
+{
+    let node = source_node(other, nodes, id);
+    let number = nodes.len();
+    if let Some(text) = copy_text(node, number) {
+        let made = add_below(nodes, parent, text)?;
+        return Ok(made);
+    }
+    if let Some(element) = copy_element(node, number) {
+        let made = add_below(nodes, parent, element)?;
+        return Ok(made);
+    }
+    let content = copy_data(node, number)?;
+    let made = add_below(nodes, parent, content)?;
+    Ok(made)
+}
+
 /// A node of the source.
+#[inline(always)]
 fn source_node<'a>(other: Option<&'a [TreeNode]>, nodes: &'a [TreeNode], id: NodeId) -> &'a TreeNode
     requires { id < length (read_nodes other nodes.now) }
     ensures { (at : Copying) → IsUnderWay at other.entry nodes.now → id < length at.source.content
@@ -371,6 +406,22 @@ fn source_node<'a>(other: Option<&'a [TreeNode]>, nodes: &'a [TreeNode], id: Nod
         Some(read) => &read[id.value()],
         None => &nodes[id.value()],
     }
+}
+
+/// The data of a node's copy, where it is a short text.
+#[inline(always)]
+fn copy_text(node: &TreeNode, number: usize) -> Option<NodeData>
+    ensures { IfSome result (λ made. made ≡ copied_data number node.now.content) }
+{
+    node.content.short_text()
+}
+
+/// The data of a node's copy, where it is a bare element.
+#[inline(always)]
+fn copy_element(node: &TreeNode, number: usize) -> Option<NodeData>
+    ensures { IfSome result (λ made. made ≡ copied_data number node.now.content) }
+{
+    node.content.bare_element()
 }
 
 /// The data of a node's copy with that number.
@@ -415,6 +466,7 @@ fn with_contents(content: NodeData, contents: NodeId) -> NodeData
 }
 
 /// Makes a node as the last child of another, or standing alone.
+#[inline(always)]
 fn add_below(
     nodes: &mut Vec<TreeNode>,
     parent: Option<NodeId>,
@@ -437,6 +489,7 @@ fn add_below(
 }
 
 /// Notes the row that begins at a node, if any.
+#[inline(always)]
 fn push_row(rows: &mut Rows, first: Option<NodeId>, parent: NodeId) -> Result<(), EditFault>
     ensures ok { OnOk result (rows.new ≡ rows.old ++ row_from first parent) }
     ensures err { OnErr result (rows.new ≡ rows.old) }
