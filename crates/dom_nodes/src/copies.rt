@@ -204,11 +204,7 @@ fn push_node(made: &mut Vec<TreeNode>, node: &TreeNode) -> Result<(), OutOfMemor
 }
 
 #[inline(always)]
-fn push_text(
-    made: &mut Vec<TreeNode>,
-    node: &TreeNode,
-    contents: &Text,
-) -> Result<(), OutOfMemory>
+fn push_text(made: &mut Vec<TreeNode>, node: &TreeNode, contents: &Text) -> Result<(), OutOfMemory>
     requires { node.now.content ≡ NodeData.Text contents.now }
     ensures { OnOk result (made.new.items ≡ made.old.items ++ node.now ∷ []) }
 {
