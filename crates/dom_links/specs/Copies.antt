@@ -105,6 +105,15 @@ pub record Copied (result : Result (Vec ℕ) EditFault) (source : Forest) (old n
   pub cause : IfErr result (CopyCause source ns (forest_of old))
   pub sound : IsSoundArena new
 
+-- the same of one node, whose copy's number is told alone
+pub record CopiedOne (result : Result ℕ EditFault) (source : Forest) (old new : List TreeNode) (ns : List ℕ) : Type 0 where
+  pub made : OnOk result (forest_of new ≡ copied source ns (forest_of old))
+  pub numbers : IfOk result (λ made. made ∷ [] ≡ copy_numbers source ns (forest_of old))
+  pub allowed : OnOk result (MayCopy source ns)
+  pub err : OnErr result (forest_of new ≡ forest_of old)
+  pub cause : IfErr result (CopyCause source ns (forest_of old))
+  pub sound : IsSoundArena new
+
 -- a fragment: its root, the element below that, and copies of some nodes of a source below the element
 abbrev pub fragment_of : NodeData → Forest → List ℕ → Forest
 fragment_of html source ns = copied_below source (Some 1) ns (with_child 0 html (lone Fragment))

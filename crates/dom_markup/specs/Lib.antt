@@ -29,3 +29,4 @@ pub mod FaultKinds
 pub mod Setters
 pub mod Joining
 pub mod Sinks
+pub mod Tops

@@ -31,6 +31,7 @@ pub mod sink;
 pub mod snippet;
 mod tags;
 pub mod tokens;
+mod tops;
 mod within;
 
 use crate::document::reader::Reader;

@@ -1,6 +1,6 @@
 //! Copies of names, attributes and nodes: the same value in memory of its own.
 
-ghost use Rattle.std.specs.Prelude.{◌≡◌, IfOk};
+ghost use Rattle.std.specs.Prelude.{◌≡◌, ◌∷◌, ◌++◌, [], IfOk, IfSome, OnOk};
 
 use crate::fault::OutOfMemory;
 use crate::name::{Attr, Namespace, QualName};
@@ -26,10 +26,34 @@ impl Namespace {
 }
 
 impl QualName {
+    /// The same name, where it is known and has no prefix, in one of the common namespaces.
+    #[inline(always)]
+    fn plain(&self) -> Option<QualName>
+        ensures { IfSome result (λ made. made ≡ self.now) }
+    {
+        let None = &self.prefix else {
+            return None;
+        };
+        let ns = match &self.ns {
+            Namespace::None => Namespace::None,
+            Namespace::Html => Namespace::Html,
+            _ => return None,
+        };
+        let local = self.local.plain()?;
+        Some(QualName {
+            prefix: None,
+            ns,
+            local,
+        })
+    }
+
     /// The same name.
     pub fn try_clone(&self) -> Result<QualName, OutOfMemory>
         ensures { IfOk result (λ made. made ≡ self.now) }
     {
+        if let Some(name) = self.plain() {
+            return Ok(name);
+        }
         let prefix = copied(&self.prefix)?;
         let ns = self.ns.try_clone()?;
         let local = self.local.try_clone()?;
@@ -56,7 +80,7 @@ impl Attrs {
         let attrs = self.as_slice();
         let mut made = Vec::with_capacity(self.allocator(), attrs.len())?;
         for attr in attrs {
-            made.push(attr.try_clone()?)?;
+            push_attr(&mut made, attr)?;
         }
         Ok(Attrs::of(made))
     }
@@ -79,6 +103,42 @@ impl Element {
 }
 
 impl NodeData {
+    ghost use Rattle.std.specs.Prelude.{None};
+    ghost use Rattle.dom_nodes.specs.Kinds.{contents_named};
+
+    /// The same data, where it is a text that needs no memory of its own.
+    #[inline(always)]
+    pub fn short_text(&self) -> Option<NodeData>
+        ensures same { IfSome result (λ made. made ≡ self.now) }
+        ensures plain { IfSome result (λ _. contents_named self.now ≡ None) }
+    {
+        let NodeData::Text { contents } = self else {
+            return None;
+        };
+        let contents = contents.short_copy()?;
+        Some(NodeData::Text { contents })
+    }
+
+    /// The same data, where it is an element of a common name without attributes and contents.
+    #[inline(always)]
+    pub fn bare_element(&self) -> Option<NodeData>
+        ensures same { IfSome result (λ made. made ≡ self.now) }
+        ensures plain { IfSome result (λ _. contents_named self.now ≡ None) }
+    {
+        let NodeData::Element(element) = self else {
+            return None;
+        };
+        let None = element.template_contents() else {
+            return None;
+        };
+        if !element.attrs.as_slice().is_empty() {
+            return None;
+        }
+        let name = element.name.plain()?;
+        let attrs = Attrs::new(element.attrs.allocator());
+        Some(NodeData::Element(element.with(name, attrs)))
+    }
+
     /// The same data.
     pub fn try_clone(&self) -> Result<NodeData, OutOfMemory>
         ensures { IfOk result (λ made. made ≡ self.now) }
@@ -119,6 +179,97 @@ impl TreeNode {
             content,
         })
     }
+
+    /// Adds copies of nodes at the end, each as `try_clone` makes it.
+    pub fn push_copies(made: &mut Vec<TreeNode>, nodes: &[TreeNode]) -> Result<(), OutOfMemory>
+        ensures { OnOk result (made.new.items ≡ made.old.items ++ nodes.now) }
+    {
+        for node in nodes {
+            push_node(made, node)?;
+        }
+        Ok(())
+    }
+}
+
+/// Adds a copy of a node. Texts and elements, which most nodes are, are made where they go.
+#[inline(always)]
+fn push_node(made: &mut Vec<TreeNode>, node: &TreeNode) -> Result<(), OutOfMemory>
+    ensures { OnOk result (made.new.items ≡ made.old.items ++ node.now ∷ []) }
+{
+    match &node.content {
+        NodeData::Text { contents } => push_text(made, node, contents),
+        NodeData::Element(element) => push_element(made, node, element),
+        _ => push_with(made, node, node.content.try_clone()?),
+    }
+}
+
+#[inline(always)]
+fn push_text(made: &mut Vec<TreeNode>, node: &TreeNode, contents: &Text) -> Result<(), OutOfMemory>
+    requires { node.now.content ≡ NodeData.Text contents.now }
+    ensures { OnOk result (made.new.items ≡ made.old.items ++ node.now ∷ []) }
+{
+    if let Some(contents) = contents.short_copy() {
+        return push_with(made, node, NodeData::Text { contents });
+    }
+    let contents = contents.try_clone()?;
+    push_with(made, node, NodeData::Text { contents })
+}
+
+#[inline(always)]
+fn push_element(
+    made: &mut Vec<TreeNode>,
+    node: &TreeNode,
+    element: &Element,
+) -> Result<(), OutOfMemory>
+    requires { node.now.content ≡ NodeData.Element element.now }
+    ensures { OnOk result (made.new.items ≡ made.old.items ++ node.now ∷ []) }
+{
+    let Some(name) = element.name.plain() else {
+        let element = element.try_clone()?;
+        return push_with(made, node, NodeData::Element(element));
+    };
+    let attrs = element.attrs.try_clone()?;
+    push_with(made, node, NodeData::Element(element.with(name, attrs)))
+}
+
+/// Adds a node with the number and the links of another one.
+#[inline(always)]
+fn push_with(
+    made: &mut Vec<TreeNode>,
+    node: &TreeNode,
+    content: NodeData,
+) -> Result<(), OutOfMemory>
+    requires { node.now.content ≡ content }
+    ensures { OnOk result (made.new.items ≡ made.old.items ++ node.now ∷ []) }
+{
+    made.push(TreeNode {
+        id: node.id,
+        parent: node.parent,
+        prev_sibling: node.prev_sibling,
+        next_sibling: node.next_sibling,
+        first_child: node.first_child,
+        last_child: node.last_child,
+        content,
+    })?;
+    Ok(())
+}
+
+/// Adds a copy of an attribute.
+#[inline(always)]
+fn push_attr(made: &mut Vec<Attr>, attr: &Attr) -> Result<(), OutOfMemory>
+    ensures { OnOk result (made.new.items ≡ made.old.items ++ attr.now ∷ []) }
+{
+    let Some(name) = attr.name.plain() else {
+        made.push(attr.try_clone()?)?;
+        return Ok(());
+    };
+    if let Some(value) = attr.value.short_copy() {
+        made.push(Attr { name, value })?;
+        return Ok(());
+    }
+    let value = attr.value.try_clone()?;
+    made.push(Attr { name, value })?;
+    Ok(())
 }
 
 fn copied(text: &Option<RareText>) -> Result<Option<RareText>, OutOfMemory>

@@ -127,6 +127,19 @@ impl Element {
         }
     }
 
+    /// The element with another name and other attributes.
+    #[inline(always)]
+    pub(crate) fn with(&self, name: QualName, attrs: Attrs) -> Element
+        ensures { result ≡ record self.now { name = name; attrs = attrs } }
+    {
+        Element {
+            name,
+            attrs,
+            template_contents: self.template_contents,
+            mathml_annotation_xml_integration_point: self.mathml_annotation_xml_integration_point,
+        }
+    }
+
     /// The local name.
     pub fn node_name(&self) -> &str
         ensures { result.now ≡ self.now.name.local }

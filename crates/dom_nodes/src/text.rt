@@ -1,6 +1,6 @@
 //! Texts: bytes of valid UTF-8, short ones without memory of their own.
 
-ghost use Rattle.std.specs.Prelude.{◌≡◌, ◌≤◌, ◌++◌, IfOk, MatchOption, OnErr, OnOk, List, ℕ, length};
+ghost use Rattle.std.specs.Prelude.{◌≡◌, ◌≤◌, ◌++◌, IfOk, IfSome, MatchOption, OnErr, OnOk, List, ℕ, length};
 ghost use Rattle.dom_nodes.specs.Forms.{form_bytes};
 
 mod rare;
@@ -80,6 +80,20 @@ impl Text {
             }
         }
         Ok(())
+    }
+
+    /// The same text, where it needs no memory of its own.
+    #[inline(always)]
+    pub(crate) fn short_copy(&self) -> Option<Text>
+        ensures { IfSome result (λ made. made ≡ self.now) }
+    {
+        match &self.form {
+            Form::Short(short) => Some(Text {
+                form: Form::Short(short.copied()),
+                alloc: self.alloc,
+            }),
+            Form::Long(_) => None,
+        }
     }
 
     /// A text of the same bytes in memory of its own.

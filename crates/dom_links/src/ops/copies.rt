@@ -4,7 +4,7 @@
 ghost use Rattle.std.specs.Prelude.{◌≡◌, ◌<◌, ◌≤◌, ◌+◌, ◌∷◌, ◌++◌, [], None, Some, length, vec_len};
 ghost use Rattle.std.specs.Prelude.{IfErr, IfOk, IfSome, MatchResult, OnErr, OnOk};
 ghost use Rattle.dom_nodes.specs.declared.fault.EditFault.TheVariants.{Memory};
-ghost use Rattle.dom_links.specs.Copies.{CheckCause, Copied, MayCopyOne, OneCause};
+ghost use Rattle.dom_links.specs.Copies.{CheckCause, Copied, CopiedOne, MayCopyOne, OneCause};
 ghost use Rattle.dom_links.specs.Copies.{copied, copied_below};
 ghost use Rattle.dom_links.specs.Copies.{FragmentCause, IsPlainElement, fragment_of};
 ghost use Rattle.dom_links.specs.Copies.{copied_data, copy_numbers, data_at};
@@ -19,12 +19,15 @@ ghost use Rattle.dom_links.specs.Sound.{IsSoundArena};
 ghost use Rattle.dom_links.specs.Trees.{trees};
 ghost use Rattle.dom_links.specs.Walk.{IsNodeOf};
 
+mod rows;
+
 use crate::iters::find_node;
 use crate::ops::TreeNodeOps;
 use crate::ops::create::{add_child, create_root, push_alone};
 use dom_nodes::fault::EditFault;
 use dom_nodes::node_data::{Element, NodeData, TreeNode};
 use dom_nodes::node_id::NodeId;
+use rows::Rows;
 use std::alloc::Global;
 
 /// A node with its later siblings, of which copies are still to be made, below a node.
@@ -47,6 +50,23 @@ pub fn merge(
 {
     check_copies(other, ids)?;
     copy_all(nodes, Some(other), ids)
+}
+
+/// Makes a copy of a node of another arena, a run of its own, and answers its number: as `merge`
+/// does of the one node of a list.
+pub(crate) fn merge_one(
+    nodes: &mut Vec<TreeNode>,
+    other: &[TreeNode],
+    ids: &[NodeId],
+    id: NodeId,
+) -> Result<NodeId, EditFault>
+    requires sound { IsSoundArena nodes.old.items }
+    requires other { IsSoundArena other.now }
+    requires one { ids.now ≡ id ∷ [] }
+    ensures { CopiedOne result (forest_of other.now) nodes.old.items nodes.new.items ids.now }
+{
+    check_copies(other, ids)?;
+    copy_one(nodes, Some(other), id)
 }
 
 /// Makes copies of nodes of the same arena, each a run of its own, and answers their numbers: all
@@ -138,6 +158,36 @@ fn copy_all(
     }
 }
 
+/// Makes a copy of one node, or takes away what was made of it.
+fn copy_one(
+    nodes: &mut Vec<TreeNode>,
+    other: Option<&[TreeNode]>,
+    id: NodeId,
+) -> Result<NodeId, EditFault>
+    ghost at: { Copying }
+    requires sound { IsSoundArena nodes.old.items }
+    requires under_way { IsUnderWay at other nodes.old.items }
+    requires base { at.base ≡ forest_of nodes.old.items }
+    requires known { AreKnown at.source (id ∷ []) }
+    ensures made { OnOk result (forest_of nodes.new.items
+        ≡ copied at.source (id ∷ []) (forest_of nodes.old.items)) }
+    ensures numbers { IfOk result (λ made. made ∷ []
+        ≡ copy_numbers at.source (id ∷ []) (forest_of nodes.old.items)) }
+    ensures err { OnErr result (forest_of nodes.new.items ≡ forest_of nodes.old.items) }
+    ensures cause { IfErr result
+        (λ fault. IsTooLarge (copied at.source (id ∷ []) (forest_of nodes.old.items)) fault) }
+    ensures sound { IsSoundArena nodes.new.items }
+{
+    let count = nodes.len();
+    match copy_tree(nodes, other, id, None) {
+        Ok(made) => Ok(made),
+        Err(fault) => {
+            nodes.truncate(count);
+            Err(fault)
+        }
+    }
+}
+
 /// Makes the copies.
 fn copy_each(
     nodes: &mut Vec<TreeNode>,
@@ -194,7 +244,7 @@ fn copy_tree(
         (forest_of nodes.old.items)
         in IfErr result (λ fault. IsTooLarge copied fault) }
 {
-    let mut rows = Vec::new(*nodes.allocator());
+    let mut rows = Rows::new(*nodes.allocator());
     let made = copy_node(nodes, other, &mut rows, id, parent)?;
     copy_rows(nodes, other, rows)?;
     Ok(made)
@@ -204,15 +254,15 @@ fn copy_tree(
 fn copy_rows(
     nodes: &mut Vec<TreeNode>,
     other: Option<&[TreeNode]>,
-    mut rows: Vec<Row>,
+    mut rows: Rows,
 ) -> Result<(), EditFault>
     ghost at: { Copying }
     requires under_way { IsUnderWay at other nodes.old.items }
-    requires rows { AreRows at (vec_len nodes.old) rows.items }
+    requires rows { AreRows at (vec_len nodes.old) rows }
     ensures under_way { IsUnderWay at other.entry nodes.new.items }
     ensures made { OnOk result (forest_of nodes.new.items
-        ≡ with_rows at.source rows.items (forest_of nodes.old.items)) }
-    ensures cause { let copied = with_rows at.source rows.items (forest_of nodes.old.items)
+        ≡ with_rows at.source rows (forest_of nodes.old.items)) }
+    ensures cause { let copied = with_rows at.source rows (forest_of nodes.old.items)
         in IfErr result (λ fault. IsTooLarge copied fault) }
 {
     while let Some(row) = rows.pop() {
@@ -225,18 +275,18 @@ fn copy_rows(
 fn copy_row(
     nodes: &mut Vec<TreeNode>,
     other: Option<&[TreeNode]>,
-    rows: &mut Vec<Row>,
+    rows: &mut Rows,
     row: Row,
 ) -> Result<(), EditFault>
     ghost at: { Copying }
     requires under_way { IsUnderWay at other nodes.old.items }
     requires row { IsRow at (vec_len nodes.old) row }
-    requires rows { AreRows at (vec_len nodes.old) rows.old.items }
+    requires rows { AreRows at (vec_len nodes.old) rows.old }
     ensures under_way { IsUnderWay at other.entry nodes.new.items }
-    ensures rows { OnOk result (AreRows at (vec_len nodes.new) rows.new.items) }
+    ensures rows { OnOk result (AreRows at (vec_len nodes.new) rows.new) }
     ensures made { let copied = with_row at.source row (forest_of nodes.old.items)
-        in OnOk result (with_rows at.source rows.new.items (forest_of nodes.new.items)
-        ≡ with_rows at.source rows.old.items copied) }
+        in OnOk result (with_rows at.source rows.new (forest_of nodes.new.items)
+        ≡ with_rows at.source rows.old copied) }
     ensures grown { OnOk result (vec_len nodes.old < vec_len nodes.new) }
     ensures cause { IfErr result
         (λ fault. IsTooLarge (with_row at.source row (forest_of nodes.old.items)) fault) }
@@ -251,7 +301,7 @@ fn copy_row(
 fn copy_node(
     nodes: &mut Vec<TreeNode>,
     other: Option<&[TreeNode]>,
-    rows: &mut Vec<Row>,
+    rows: &mut Rows,
     id: NodeId,
     parent: Option<NodeId>,
 ) -> Result<NodeId, EditFault>
@@ -259,13 +309,13 @@ fn copy_node(
     requires under_way { IsUnderWay at other nodes.old.items }
     requires known { id < length at.source.content }
     requires below { IsPlaceFor at (vec_len nodes.old) parent }
-    requires rows { AreRows at (vec_len nodes.old) rows.old.items }
+    requires rows { AreRows at (vec_len nodes.old) rows.old }
     ensures under_way { IsUnderWay at other.entry nodes.new.items }
-    ensures rows { OnOk result (AreRows at (vec_len nodes.new) rows.new.items) }
+    ensures rows { OnOk result (AreRows at (vec_len nodes.new) rows.new) }
     ensures made { let copied = with_copies at.source parent (trees at.source (id ∷ []))
         (forest_of nodes.old.items)
-        in OnOk result (with_rows at.source rows.new.items (forest_of nodes.new.items)
-        ≡ with_rows at.source rows.old.items copied) }
+        in OnOk result (with_rows at.source rows.new (forest_of nodes.new.items)
+        ≡ with_rows at.source rows.old copied) }
     ensures number { IfOk result (λ made. made ≡ vec_len nodes.old) }
     ensures grown { OnOk result (vec_len nodes.old < vec_len nodes.new) }
     ensures cause { let copied = with_copies at.source parent (trees at.source (id ∷ []))
@@ -284,7 +334,7 @@ fn copy_node(
 fn copy_alone(
     nodes: &mut Vec<TreeNode>,
     other: Option<&[TreeNode]>,
-    rows: &mut Vec<Row>,
+    rows: &mut Rows,
     id: NodeId,
     parent: Option<NodeId>,
 ) -> Result<NodeId, EditFault>
@@ -297,21 +347,56 @@ fn copy_alone(
         ≡ with_node_below parent (copied_data number (data_at at.source id))
         (forest_of nodes.old.items)) }
     ensures rows { let children = first (children_of at.source id) in
-        OnOk result (rows.new.items ≡ rows.old.items ++ row_from children (vec_len nodes.old)) }
+        OnOk result (rows.new ≡ rows.old ++ row_from children (vec_len nodes.old)) }
+    ensures number { IfOk result (λ made. made ≡ vec_len nodes.old) }
+    ensures grown { OnOk result (vec_len nodes.new ≡ vec_len nodes.old + 1) }
+    ensures cause { IfErr result
+        (λ fault. LacksRoom (vec_len nodes.old) (data_at at.source id) fault) }
+{
+    let first = source_node(other, nodes, id).first_child.get();
+    let made = add_copy(nodes, other, id, parent)?;
+    push_row(rows, first, made)?;
+    Ok(made)
+}
+
+/// Copies a node alone. Short texts and bare elements, which most nodes are, are made where they go.
+#[inline(always)]
+fn add_copy(
+    nodes: &mut Vec<TreeNode>,
+    other: Option<&[TreeNode]>,
+    id: NodeId,
+    parent: Option<NodeId>,
+) -> Result<NodeId, EditFault>
+    ghost at: { Copying }
+    requires under_way { IsUnderWay at other nodes.old.items }
+    requires known { id < length at.source.content }
+    requires below { IsPlaceFor at (vec_len nodes.old) parent }
+    ensures under_way { IsUnderWay at other.entry nodes.new.items }
+    ensures made { let number = vec_len nodes.old in OnOk result (forest_of nodes.new.items
+        ≡ with_node_below parent (copied_data number (data_at at.source id))
+        (forest_of nodes.old.items)) }
     ensures number { IfOk result (λ made. made ≡ vec_len nodes.old) }
     ensures grown { OnOk result (vec_len nodes.new ≡ vec_len nodes.old + 1) }
     ensures cause { IfErr result
         (λ fault. LacksRoom (vec_len nodes.old) (data_at at.source id) fault) }
 {
     let node = source_node(other, nodes, id);
-    let first = node.first_child.get();
-    let content = copy_data(node, nodes.len())?;
+    let number = nodes.len();
+    if let Some(text) = copy_text(node, number) {
+        let made = add_below(nodes, parent, text)?;
+        return Ok(made);
+    }
+    if let Some(element) = copy_element(node, number) {
+        let made = add_below(nodes, parent, element)?;
+        return Ok(made);
+    }
+    let content = copy_data(node, number)?;
     let made = add_below(nodes, parent, content)?;
-    push_row(rows, first, made)?;
     Ok(made)
 }
 
 /// A node of the source.
+#[inline(always)]
 fn source_node<'a>(other: Option<&'a [TreeNode]>, nodes: &'a [TreeNode], id: NodeId) -> &'a TreeNode
     requires { id < length (read_nodes other nodes.now) }
     ensures { (at : Copying) → IsUnderWay at other.entry nodes.now → id < length at.source.content
@@ -321,6 +406,22 @@ fn source_node<'a>(other: Option<&'a [TreeNode]>, nodes: &'a [TreeNode], id: Nod
         Some(read) => &read[id.value()],
         None => &nodes[id.value()],
     }
+}
+
+/// The data of a node's copy, where it is a short text.
+#[inline(always)]
+fn copy_text(node: &TreeNode, number: usize) -> Option<NodeData>
+    ensures { IfSome result (λ made. made ≡ copied_data number node.now.content) }
+{
+    node.content.short_text()
+}
+
+/// The data of a node's copy, where it is a bare element.
+#[inline(always)]
+fn copy_element(node: &TreeNode, number: usize) -> Option<NodeData>
+    ensures { IfSome result (λ made. made ≡ copied_data number node.now.content) }
+{
+    node.content.bare_element()
 }
 
 /// The data of a node's copy with that number.
@@ -365,6 +466,7 @@ fn with_contents(content: NodeData, contents: NodeId) -> NodeData
 }
 
 /// Makes a node as the last child of another, or standing alone.
+#[inline(always)]
 fn add_below(
     nodes: &mut Vec<TreeNode>,
     parent: Option<NodeId>,
@@ -387,16 +489,14 @@ fn add_below(
 }
 
 /// Notes the row that begins at a node, if any.
-fn push_row(rows: &mut Vec<Row>, first: Option<NodeId>, parent: NodeId) -> Result<(), EditFault>
-    ensures ok { OnOk result (rows.new.items ≡ rows.old.items ++ row_from first parent) }
-    ensures err { OnErr result (rows.new.items ≡ rows.old.items) }
+#[inline(always)]
+fn push_row(rows: &mut Rows, first: Option<NodeId>, parent: NodeId) -> Result<(), EditFault>
+    ensures ok { OnOk result (rows.new ≡ rows.old ++ row_from first parent) }
+    ensures err { OnErr result (rows.new ≡ rows.old) }
     ensures cause { IfErr result (λ fault. fault ≡ Memory) }
 {
     let Some(first) = first else {
         return Ok(());
     };
-    match rows.push(Row { first, parent }) {
-        Ok(()) => Ok(()),
-        Err(_) => Err(EditFault::Memory),
-    }
+    rows.push(Row { first, parent })
 }

@@ -65,6 +65,7 @@ impl TreeNodeOps {
 
 /// Makes a node that stands alone, behind the others. Whether its contents are free is the caller's
 /// condition for a forest.
+#[inline(always)]
 pub(crate) fn push_alone(nodes: &mut Vec<TreeNode>, content: NodeData) -> Result<NodeId, EditFault>
     requires linked { IsArenaOf (forest_of nodes.old.items) nodes.old.items }
     ensures ok { OnOk result (Created nodes.old.items nodes.new.items content) }

@@ -1,7 +1,7 @@
 //! Copies of nodes that go to a place in an arena: all that asks for memory comes before a link of
 //! an old node changes.
 
-ghost use Rattle.std.specs.Prelude.{◌≡◌, ◌<◌, false, length, true};
+ghost use Rattle.std.specs.Prelude.{◌≡◌, ◌<◌, ◌∷◌, [], false, length, true};
 ghost use Rattle.dom_links.specs.Forest.{IsArenaOf, forest_of};
 ghost use Rattle.dom_links.specs.Insertions.{Inserted, Placed, around_it, gap_at, placed};
 ghost use Rattle.dom_links.specs.ListMoves.{AllowedList, AreNodes, MovedList, element_at};
@@ -11,7 +11,7 @@ ghost use Rattle.dom_links.specs.Sound.{IsSoundArena, is_open, target};
 
 use crate::gap::{Gap, Place};
 use crate::ops::TreeNodeOps;
-use crate::ops::copies::{copy_nodes, merge};
+use crate::ops::copies::{copy_nodes, merge, merge_one};
 use crate::ops::lists::{remove_children, wrap_node};
 use crate::ops::moves::put_at;
 use dom_nodes::fault::EditFault;
@@ -20,6 +20,49 @@ use dom_nodes::node_id::NodeId;
 
 /// Makes copies of nodes of another arena, which go to a place: all or none.
 pub fn merge_at(
+    nodes: &mut Vec<TreeNode>,
+    x: NodeId,
+    place: Place,
+    other: &[TreeNode],
+    ids: &[NodeId],
+) -> Result<(), EditFault>
+    requires sound { IsSoundArena nodes.old.items }
+    requires known { x < length (forest_of nodes.old.items).content }
+    requires open { is_open (gap_at place x) (forest_of nodes.old.items) ≡ true }
+    requires other { IsSoundArena other.now }
+    ensures { Inserted result (forest_of other.now) ids.now place x nodes.old.items
+        nodes.new.items }
+{
+    if let [id] = ids {
+        return merge_one_at(nodes, x, place, other, ids, *id);
+    }
+    merge_all_at(nodes, x, place, other, ids)
+}
+
+/// As `merge_at`, of one node: no list is made of its copy's number.
+fn merge_one_at(
+    nodes: &mut Vec<TreeNode>,
+    x: NodeId,
+    place: Place,
+    other: &[TreeNode],
+    ids: &[NodeId],
+    id: NodeId,
+) -> Result<(), EditFault>
+    requires sound { IsSoundArena nodes.old.items }
+    requires known { x < length (forest_of nodes.old.items).content }
+    requires open { is_open (gap_at place x) (forest_of nodes.old.items) ≡ true }
+    requires other { IsSoundArena other.now }
+    requires one { ids.now ≡ id ∷ [] }
+    ensures { Inserted result (forest_of other.now) ids.now place x nodes.old.items
+        nodes.new.items }
+{
+    let made = merge_one(nodes, other, ids, id)?;
+    put_copies(nodes, x, place, &[made]);
+    Ok(())
+}
+
+/// As `merge_at`, of any number of nodes.
+fn merge_all_at(
     nodes: &mut Vec<TreeNode>,
     x: NodeId,
     place: Place,

@@ -13,6 +13,7 @@ ghost use Rattle.dom_markup.specs.Refusals.{IsFaultAt, Refused};
 ghost use Rattle.dom_markup.specs.Setters.{putting, replacing};
 
 use crate::document::Document;
+use crate::document::tops::Tops;
 use dom_links::gap::Place;
 use dom_nodes::fault::{EditFault, MarkupFault, MarkupFaultKind, OutOfMemory};
 use dom_nodes::node_id::NodeId;
@@ -26,7 +27,7 @@ use std::marker::Model;
 #[derive(Drop)]
 pub struct Snippet {
     tree: Tree,
-    tops: Vec<NodeId>,
+    tops: Tops,
 }
 
 impl Model for Snippet {
@@ -38,7 +39,7 @@ impl Model for Snippet {
 
     ghost view = { λ snippet. snippet.tree };
 
-    ghost invariant = { λ snippet. snippet.tops.items ≡ top_nodes snippet.tree };
+    ghost invariant = { λ snippet. snippet.tops ≡ top_nodes snippet.tree };
 }
 
 impl Snippet {
@@ -71,14 +72,14 @@ impl Snippet {
         ensures { Edits result tree.old tree.new (putting place id.now self.now) }
     {
         self.tree.nodes();
-        tree.merge_at(id, place, &self.tree, &self.tops)
+        tree.merge_at(id, place, &self.tree, self.tops.as_slice())
     }
 
     /// Where the nodes go that take the place of a node: none take none.
     pub(crate) fn replacing(&self) -> Place
         ensures { result ≡ replacing (top_nodes self.now) }
     {
-        if self.tops.is_empty() {
+        if self.tops.as_slice().is_empty() {
             Place::Before
         } else {
             Place::InsteadOfNode
@@ -91,15 +92,15 @@ impl Snippet {
         ensures cause { IfErr result
             (λ fault. FragmentCause html_element self.now (top_nodes self.now) fault) }
     {
-        Tree::fragment_of(&self.tree, &self.tops)
+        Tree::fragment_of(&self.tree, self.tops.as_slice())
     }
 }
 
 /// The nodes at the top of what was read, but for doctypes.
-fn top_nodes(tree: &Tree) -> Result<Vec<NodeId>, OutOfMemory>
-    ensures { IfOk result (λ tops. tops.items ≡ top_nodes tree.now) }
+fn top_nodes(tree: &Tree) -> Result<Tops, OutOfMemory>
+    ensures { IfOk result (λ tops. tops ≡ top_nodes tree.now) }
 {
-    let mut tops = Vec::new(tree.allocator());
+    let mut tops = Tops::new(tree.allocator());
     for id in tree.child_ids_of_it(&NodeId::root(), false) {
         if !is_doctype(tree, id) {
             tops.push(id)?;

@@ -1,6 +1,6 @@
 //! Copies of nodes with all that is below them, and of a whole tree.
 
-ghost use Rattle.std.specs.Prelude.{◌≡◌, IfErr, IfOk, MatchResult};
+ghost use Rattle.std.specs.Prelude.{◌≡◌, [], IfErr, IfOk, MatchResult};
 ghost use Rattle.dom_nodes.specs.declared.fault.EditFault.TheVariants.{Memory};
 ghost use Rattle.dom_links.specs.Copies.{FragmentCause, fragment_of};
 ghost use Rattle.dom_trees.specs.Edits.{Copies};
@@ -60,11 +60,20 @@ impl Tree {
 fn cloned(alloc: Global, nodes: &[TreeNode]) -> Result<Vec<TreeNode>, OutOfMemory>
     ensures { IfOk result (λ made. made.items ≡ nodes.now) }
 {
-    let mut made = Vec::with_capacity(alloc, nodes.len())?;
-    for node in nodes {
-        made.push(node.try_clone()?)?;
-    }
+    let mut made = with_room(alloc, nodes.len())?;
+    TreeNode::push_copies(&mut made, nodes)?;
     Ok(made)
+}
+
+/// No nodes, with room for so many, and for half as many more where there is memory for them: a
+/// copy is mostly made to be changed, and then isn't moved by the first node that comes.
+fn with_room(alloc: Global, count: usize) -> Result<Vec<TreeNode>, OutOfMemory>
+    ensures { IfOk result (λ made. made.items ≡ []) }
+{
+    match Vec::with_capacity(alloc, count.saturating_add(count / 2)) {
+        Ok(made) => Ok(made),
+        Err(_) => Ok(Vec::with_capacity(alloc, count)?),
+    }
 }
 
 /// An element `html`. Refused as `Memory`.

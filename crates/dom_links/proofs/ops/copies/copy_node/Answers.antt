@@ -37,11 +37,11 @@ pub returns-clause-rows : goal.returns-clause-rows
 returns-clause-rows g c =
     let way = c.requires.0 in
     let fewer : length g.at.base.content ≤ vec_len c.args.nodes.now = omega (arith, way.kept.longer, count_is g.at c.args.other c.args.nodes.now.items (vec_len c.args.nodes.now) way (omega arith)) in
-    let one : AreRows g.at (vec_len c.copy_alone.new.nodes) c.copy_alone.new.rows.items = rw c.in_ok-made.ensures.rows (rows_pushed g.at (vec_len c.copy_alone.new.nodes) c.args.rows.now.items (first (children_of g.at.source c.args.id)) (vec_len c.args.nodes.now)
-    (rows_more g.at (vec_len c.args.nodes.now) (vec_len c.copy_alone.new.nodes) c.args.rows.now.items (omega (arith, c.in_ok-made.ensures.grown)) c.requires.1.1.1) (first_inside g.at.source c.args.id way.good) fewer (omega (arith, c.in_ok-made.ensures.grown))) in
+    let one : AreRows g.at (vec_len c.copy_alone.new.nodes) c.copy_alone.new.rows = rw c.in_ok-made.ensures.rows (rows_pushed g.at (vec_len c.copy_alone.new.nodes) c.args.rows.now (first (children_of g.at.source c.args.id)) (vec_len c.args.nodes.now)
+    (rows_more g.at (vec_len c.args.nodes.now) (vec_len c.copy_alone.new.nodes) c.args.rows.now (omega (arith, c.in_ok-made.ensures.grown)) c.requires.1.1.1) (first_inside g.at.source c.args.id way.good) fewer (omega (arith, c.in_ok-made.ensures.grown))) in
     elim c.match-held.branch [
-      | in-Some+in_ok-copy_alone w ↦ rw (w.nodes-is, w.rows-is, w.in_ok-copy_alone.ensures.rows) (rows_pushed g.at (vec_len w.copy_alone-in-Some.new.nodes) c.copy_alone.new.rows.items (first (children_of g.at.source w.in-Some.contents)) (vec_len c.copy_alone.new.nodes)
-          (rows_more g.at (vec_len c.copy_alone.new.nodes) (vec_len w.copy_alone-in-Some.new.nodes) c.copy_alone.new.rows.items (omega (arith, w.in_ok-copy_alone.ensures.grown)) one) (first_inside g.at.source w.in-Some.contents way.good) (omega (arith, fewer, c.in_ok-made.ensures.grown)) (omega (arith, w.in_ok-copy_alone.ensures.grown)))
+      | in-Some+in_ok-copy_alone w ↦ rw (w.nodes-is, w.rows-is, w.in_ok-copy_alone.ensures.rows) (rows_pushed g.at (vec_len w.copy_alone-in-Some.new.nodes) c.copy_alone.new.rows (first (children_of g.at.source w.in-Some.contents)) (vec_len c.copy_alone.new.nodes)
+          (rows_more g.at (vec_len c.copy_alone.new.nodes) (vec_len w.copy_alone-in-Some.new.nodes) c.copy_alone.new.rows (omega (arith, w.in_ok-copy_alone.ensures.grown)) one) (first_inside g.at.source w.in-Some.contents way.good) (omega (arith, fewer, c.in_ok-made.ensures.grown)) (omega (arith, w.in_ok-copy_alone.ensures.grown)))
       | in_default w ↦ rw (w.nodes-is, w.rows-is) one
     ]
 
@@ -54,10 +54,10 @@ returns-clause-made g c =
     let count1 : vec_len c.copy_alone.new.nodes ≡ length (forest_of c.copy_alone.new.nodes.items).content = count_is g.at c.args.other c.copy_alone.new.nodes.items (vec_len c.copy_alone.new.nodes) c.in_ok-made.ensures.under_way (omega arith) in
     elim c.match-held.branch [
       | in-Some+in_ok-copy_alone w ↦ rw (w.nodes-is, w.rows-is)
-          (held_made g.at.source c.args.rows.now.items c.copy_alone.new.rows.items w.copy_alone-in-Some.new.rows.items c.args.id w.in-Some.contents (vec_len c.args.nodes.now) (vec_len c.copy_alone.new.nodes) c.args.parent
+          (held_made g.at.source c.args.rows.now c.copy_alone.new.rows w.copy_alone-in-Some.new.rows c.args.id w.in-Some.contents (vec_len c.args.nodes.now) (vec_len c.copy_alone.new.nodes) c.args.parent
           (forest_of c.args.nodes.now.items) (forest_of c.copy_alone.new.nodes.items) (forest_of w.copy_alone-in-Some.new.nodes.items) way.good c.requires.1.0 (held ∙ w.in-Some.is) count count1
           c.in_ok-made.ensures.rows w.in_ok-copy_alone.ensures.rows c.in_ok-made.ensures.made w.in_ok-copy_alone.ensures.made)
       | in_default w ↦ rw (w.nodes-is, w.rows-is)
-          (plain_made g.at.source c.args.rows.now.items c.copy_alone.new.rows.items c.args.id (vec_len c.args.nodes.now) c.args.parent (forest_of c.args.nodes.now.items) (forest_of c.copy_alone.new.nodes.items) way.good c.requires.1.0 (held ∙ w.in_default.is) count
+          (plain_made g.at.source c.args.rows.now c.copy_alone.new.rows c.args.id (vec_len c.args.nodes.now) c.args.parent (forest_of c.args.nodes.now.items) (forest_of c.copy_alone.new.nodes.items) way.good c.requires.1.0 (held ∙ w.in_default.is) count
           c.in_ok-made.ensures.rows c.in_ok-made.ensures.made)
     ]

@@ -12,7 +12,7 @@ copy_node-requires g c =
     let row = c.requires.1.0 in
     let node = lent_node g.at c.args.other c.args.nodes.now.items c.deref.result.now c.args.row.first c.source_node.result.now c.deref.ensures.value way row.known c.source_node.ensures in
     let next : IfSome c.get-next.result (λ n. n < length g.at.source.content) = subst (λ (o : Option ℕ). IfSome o (λ n. n < length g.at.source.content)) (sym (c.get-next.ensures ∙ node.next_is)) (next_known g.at.source c.args.row.first way.good) in
-    let rows : AreRows g.at (vec_len c.args.nodes.now) c.push_row.new.rows.items = rw c.in_ok-push_row.ensures.ok (rows_pushed g.at (vec_len c.args.nodes.now) c.args.rows.now.items c.get-next.result c.args.row.parent c.requires.1.1 next row.new row.made) in
+    let rows : AreRows g.at (vec_len c.args.nodes.now) c.push_row.new.rows = rw c.in_ok-push_row.ensures.ok (rows_pushed g.at (vec_len c.args.nodes.now) c.args.rows.now c.get-next.result c.args.row.parent c.requires.1.1 next row.new row.made) in
     (way, (row.known, ((row.new, row.made), rows)))
 
 pub returns-in_err-copy_node-clause-cause : goal.returns-in_err-copy_node-clause-cause
@@ -26,5 +26,5 @@ returns-clause-made g c =
     let way = c.requires.0 in
     let row = c.requires.1.0 in
     let node = lent_node g.at c.args.other c.args.nodes.now.items c.deref.result.now c.args.row.first c.source_node.result.now c.deref.ensures.value way row.known c.source_node.ensures in
-    row_made g.at.source c.args.rows.now.items c.push_row.new.rows.items c.copy_node.new.rows.items c.args.row c.get-next.result (forest_of c.args.nodes.now.items) (forest_of c.copy_node.new.nodes.items) way.good row.known (c.get-next.ensures ∙ node.next_is) c.in_ok-push_row.ensures.ok
+    row_made g.at.source c.args.rows.now c.push_row.new.rows c.copy_node.new.rows c.args.row c.get-next.result (forest_of c.args.nodes.now.items) (forest_of c.copy_node.new.nodes.items) way.good row.known (c.get-next.ensures ∙ node.next_is) c.in_ok-push_row.ensures.ok
     c.in_ok-copy_node.ensures.made

@@ -1,26 +1,31 @@
-use Rattle.std.proofs.Common.{arith, vec_len}
+use Rattle.std.proofs.Common.{arith, subst, vec_len}
 use Rattle.std.proofs.lemmas.Result.{err_from_is_err_and}
-use Rattle.dom_links.specs.Copying.{IsTooLarge, with_rows}
+use Rattle.dom_links.specs.Copying.{AreRows, IsTooLarge, with_rows}
 use Rattle.dom_links.specs.Forest.{forest_of}
-use Rattle.dom_links.proofs.Copied.{count_is, fault_passed, rows_left, rows_refused, rows_step}
+use Rattle.dom_links.proofs.Copied.{count_is, fault_passed, rows_left, rows_popped, rows_refused, rows_step}
 use Rattle.dom_links.proofs.ops.copies.copy_rows.Goals as goal
 
 pub loop-row-smaller : goal.loop-row-smaller
 loop-row-smaller g c =
-    let whole = with_rows g.at.source c.args.rows.items (forest_of c.args.nodes.now.items) in
-    let left = rows_step g.at.source c.loop-row.rows.items c.pop.new.self.items c.copy_row.new.rows.items c.in-Some.row (forest_of c.loop-row.nodes.items) (forest_of c.copy_row.new.nodes.items) whole c.in-Some.ensures.items c.in_ok-copy_row.ensures.made c.loop-row.invariant.left in
+    let whole = with_rows g.at.source c.args.rows (forest_of c.args.nodes.now.items) in
+    let left = rows_step g.at.source c.loop-row.rows c.pop.new.self c.copy_row.new.rows c.in-Some.row (forest_of c.loop-row.nodes.items) (forest_of c.copy_row.new.nodes.items) whole c.in-Some.ensures c.in_ok-copy_row.ensures.made c.loop-row.invariant.left in
     let count = count_is g.at c.args.other c.copy_row.new.nodes.items (vec_len c.copy_row.new.nodes) c.copy_row.ensures.under_way (omega arith) in
-    omega (arith, c.in_ok-copy_row.ensures.grown, rows_left g.at.source c.copy_row.new.rows.items (forest_of c.copy_row.new.nodes.items) whole left, count)
+    omega (arith, c.in_ok-copy_row.ensures.grown, rows_left g.at.source c.copy_row.new.rows (forest_of c.copy_row.new.nodes.items) whole left, count)
 
 pub loop-row-preserved : goal.loop-row-preserved
 loop-row-preserved g c = record {
   under_way = c.copy_row.ensures.under_way;
   rows = c.in_ok-copy_row.ensures.rows;
-  left = rows_step g.at.source c.loop-row.rows.items c.pop.new.self.items c.copy_row.new.rows.items c.in-Some.row (forest_of c.loop-row.nodes.items) (forest_of c.copy_row.new.nodes.items) (with_rows g.at.source c.args.rows.items (forest_of c.args.nodes.now.items))
-      c.in-Some.ensures.items c.in_ok-copy_row.ensures.made c.loop-row.invariant.left;
+  left = rows_step g.at.source c.loop-row.rows c.pop.new.self c.copy_row.new.rows c.in-Some.row (forest_of c.loop-row.nodes.items) (forest_of c.copy_row.new.nodes.items) (with_rows g.at.source c.args.rows (forest_of c.args.nodes.now.items))
+      c.in-Some.ensures c.in_ok-copy_row.ensures.made c.loop-row.invariant.left;
 }
 
 pub returns-in_err-copy_row-clause-cause : goal.returns-in_err-copy_row-clause-cause
 returns-in_err-copy_row-clause-cause g c =
-    fault_passed c.from_residual.result c.in_err-copy_row.field-0.0 (IsTooLarge (with_rows g.at.source c.args.rows.items (forest_of c.args.nodes.now.items))) (err_from_is_err_and c.from_residual.result c.from_residual.ensures.1)
-    (rows_refused g.at.source c.loop-row.rows.items c.pop.new.self.items c.in-Some.row (forest_of c.loop-row.nodes.items) (with_rows g.at.source c.args.rows.items (forest_of c.args.nodes.now.items)) c.in_err-copy_row.field-0.0 c.in-Some.ensures.items c.loop-row.invariant.left c.in_err-copy_row.ensures.cause)
+    fault_passed c.from_residual.result c.in_err-copy_row.field-0.0 (IsTooLarge (with_rows g.at.source c.args.rows (forest_of c.args.nodes.now.items))) (err_from_is_err_and c.from_residual.result c.from_residual.ensures.1)
+    (rows_refused g.at.source c.loop-row.rows c.pop.new.self c.in-Some.row (forest_of c.loop-row.nodes.items) (with_rows g.at.source c.args.rows (forest_of c.args.nodes.now.items)) c.in_err-copy_row.field-0.0 c.in-Some.ensures c.loop-row.invariant.left c.in_err-copy_row.ensures.cause)
+
+pub copy_row-requires : goal.copy_row-requires
+copy_row-requires g c =
+    let popped = rows_popped g.at (vec_len c.loop-row.nodes) c.pop.new.self c.in-Some.row (subst (AreRows g.at (vec_len c.loop-row.nodes)) c.in-Some.ensures c.loop-row.invariant.rows) in
+    (c.loop-row.invariant.under_way, (popped.1, popped.0))

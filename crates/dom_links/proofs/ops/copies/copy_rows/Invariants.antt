@@ -10,9 +10,9 @@ ghost-copy_row g a = g.at
 abbrev pub invariant-loop-row : goal.invariant-loop-row
 invariant-loop-row g l = record {
   under_way : IsUnderWay g.at l.other l.nodes.items;
-  rows : AreRows g.at (vec_len l.nodes) l.rows.items;
-  left : with_rows g.at.source l.rows.items (forest_of l.nodes.items) ≡ with_rows g.at.source l.fn.rows.items (forest_of l.fn.nodes.items);
+  rows : AreRows g.at (vec_len l.nodes) l.rows;
+  left : with_rows g.at.source l.rows (forest_of l.nodes.items) ≡ with_rows g.at.source l.fn.rows (forest_of l.fn.nodes.items);
 }
 
 abbrev pub decreases-loop-row : goal.decreases-loop-row
-decreases-loop-row g l = length (with_rows g.at.source l.fn.rows.items (forest_of l.fn.nodes.items)).content - vec_len l.nodes
+decreases-loop-row g l = length (with_rows g.at.source l.fn.rows (forest_of l.fn.nodes.items)).content - vec_len l.nodes

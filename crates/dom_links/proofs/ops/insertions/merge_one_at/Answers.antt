@@ -1,0 +1,14 @@
+use Rattle.std.proofs.Common.{◌∙◌, ◌∷◌, [], ap}
+use Rattle.dom_links.specs.Forest.{forest_of}
+use Rattle.dom_links.proofs.Fresh.{fresh_here}
+use Rattle.dom_links.proofs.ops.insertions.merge_one_at.Goals as goal
+
+pub put_copies-requires-clause-new : goal.put_copies-requires-clause-new
+put_copies-requires-clause-new c =
+    (fresh_here (forest_of c.args.other.now) c.args.ids.now c.args.nodes.now.items c.deref_mut.result.now c.args.place c.args.x (c.in_ok-made.made ∷ []) c.requires.other.forest c.requires.sound c.in_ok-made.ensures.allowed c.requires.known c.requires.open
+    (ap forest_of c.deref_mut.ensures.value ∙ c.in_ok-made.ensures.made) c.in_ok-made.ensures.numbers).0
+
+pub put_copies-requires-clause-allowed : goal.put_copies-requires-clause-allowed
+put_copies-requires-clause-allowed c =
+    (fresh_here (forest_of c.args.other.now) c.args.ids.now c.args.nodes.now.items c.deref_mut.result.now c.args.place c.args.x (c.in_ok-made.made ∷ []) c.requires.other.forest c.requires.sound c.in_ok-made.ensures.allowed c.requires.known c.requires.open
+    (ap forest_of c.deref_mut.ensures.value ∙ c.in_ok-made.ensures.made) c.in_ok-made.ensures.numbers).1
