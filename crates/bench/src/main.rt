@@ -1,6 +1,6 @@
-//! Times calls over the markup on standard input, in this process: `bench CALL RUNS SELECTOR` prints
-//! the best of so many runs in nanoseconds and what the call counted. Without arguments each call is
-//! done once, and its count alone is printed.
+//! Times calls over the markup on standard input, in this process: `bench CALL RUNS SELECTOR`
+//! prints the best of so many runs in nanoseconds and what the call counted. Without arguments each
+//! call is done once, and its count alone is printed.
 #![tactic(auto)]
 
 use dom_query::{
@@ -171,8 +171,8 @@ fn count_of(rt: &HostRuntime, page: &Page, call: Call) -> Option<usize> {
     }
 }
 
-/// Copies the document, and puts markup behind the children of each node that is selected; tells how
-/// many those were.
+/// Copies the document, and puts markup behind the children of each node that is selected; tells
+/// how many those were.
 fn append_to_all(page: &Page) -> Option<usize> {
     let mut document = page.document.try_clone().ok()?;
     let found = select_below(&document.tree, &NodeId::root(), &page.matcher).ok()?;

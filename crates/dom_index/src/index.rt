@@ -23,7 +23,8 @@ use std::marker::Model;
 
 /// The nodes of a tree in order: the runs by the numbers of their first nodes, each node before its
 /// children, and where they stand among their siblings. It borrows the tree, so that no edit comes
-/// between two questions. A contract sees the tree, and how many tests the last selection has asked.
+/// between two questions. A contract sees the tree, and how many tests the last selection has
+/// asked.
 #[derive(Drop)]
 pub struct TreeIndex<'a> {
     layout: Layout<'a>,
@@ -104,8 +105,9 @@ impl<'a> TreeIndex<'a> {
         is_within(&self.layout, x.value(), y.value())
     }
 
-    /// The index of a node among its siblings; 1 for an unknown number. The first question of a kind
-    /// makes a table of that kind, if memory isn't refused, and each writes there what it counts.
+    /// The index of a node among its siblings; 1 for an unknown number. The first question of a
+    /// kind makes a table of that kind, if memory isn't refused, and each writes there what it
+    /// counts.
     pub fn index_at(&mut self, id: &NodeId, kind: IndexKind) -> u64
         ensures is { result ≡ index_at kind self.old.tree.now id.now }
         ensures kept { self.new ≡ self.old }

@@ -20,8 +20,8 @@ use dom_nodes::link::Link;
 use dom_nodes::node_id::NodeId;
 use dom_trees::tree::Tree;
 
-/// A tree, its nodes in order and the parent of each in that order, and by number the place of each,
-/// that of the last node at or below it, and what tells its name.
+/// A tree, its nodes in order and the parent of each in that order, and by number the place of
+/// each, that of the last node at or below it, and what tells its name.
 #[derive(Drop)]
 pub(crate) struct Layout<'a> {
     pub(crate) tree: &'a Tree,

@@ -43,7 +43,8 @@ pub(crate) fn is_element_at(layout: &Layout<'_>, n: usize) -> bool
     layout.names[n] != NO_ELEMENT
 }
 
-/// The number of a name that a compound begins with, and whether the compound asks for nothing else.
+/// The number of a name that a compound begins with, and whether the compound asks for nothing
+/// else.
 #[derive(Clone, Copy)]
 pub(crate) struct WantedName {
     pub(crate) number: u8,
@@ -109,7 +110,8 @@ pub(crate) fn are_known(table: &[bool], bytes: &[u8]) -> bool
     !unknown
 }
 
-/// Whether a compound that begins with this name holds of the node, where the node's name tells that.
+/// Whether a compound that begins with this name holds of the node, where the node's name tells
+/// that.
 pub(crate) fn told_by_name(
     layout: &Layout<'_>,
     n: usize,

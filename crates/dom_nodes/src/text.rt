@@ -64,8 +64,8 @@ impl Text {
         }
     }
 
-    /// Adds the bytes of another text at the end. The text is unchanged after a refusal. The room of
-    /// a long text doubles, so a text that grows piece by piece is copied but a few times.
+    /// Adds the bytes of another text at the end. The text is unchanged after a refusal. The room
+    /// of a long text doubles, so a text that grows piece by piece is copied but a few times.
     pub fn push_str(&mut self, more: &str) -> Result<(), OutOfMemory>
         ensures ok { OnOk result (self.new ≡ self.old ++ more.now) }
         ensures err { OnErr result (self.new ≡ self.old) }

@@ -1,6 +1,6 @@
 //! A parser of another markup, which fills a document by the calls of a sink alone. An element is
-//! written `(name text)`, its attributes behind the name as `name@key=value@key=value`; a space ends
-//! that. Without a name the attributes are added to the element around.
+//! written `(name text)`, its attributes behind the name as `name@key=value@key=value`; a space
+//! ends that. Without a name the attributes are added to the element around.
 
 use crate::fault::TourFault;
 use dom_query::{

@@ -359,7 +359,8 @@ fn copy_alone(
     Ok(made)
 }
 
-/// Copies a node alone. Short texts and bare elements, which most nodes are, are made where they go.
+/// Copies a node alone. Short texts and bare elements, which most nodes are, are made where they
+/// go.
 #[inline(always)]
 fn add_copy(
     nodes: &mut Vec<TreeNode>,

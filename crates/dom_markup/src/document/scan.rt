@@ -95,8 +95,8 @@ fn high_len(bytes: &[u8]) -> usize
     low.trailing_zeros() as usize
 }
 
-/// How many bytes of a name stand at the front. Those above `>` are told by 16 at once, and they are
-/// the whole of most names.
+/// How many bytes of a name stand at the front. Those above `>` are told by 16 at once, and they
+/// are the whole of most names.
 #[inline(always)]
 fn name_len(bytes: &[u8]) -> usize
     ensures { result ≡ prefix_len is_name_byte bytes.now }

@@ -85,6 +85,7 @@ impl Snippet {
             Place::InsteadOfNode
         }
     }
+
     /// The fragment that holds copies of the nodes at the top, but for doctypes, with all that is
     /// below them. Refused as `TooManyNodes` or `Memory`.
     pub(super) fn fragment(&self) -> Result<Tree, EditFault>

@@ -11,8 +11,8 @@ use dom_nodes::node_id::NodeId;
 use dom_trees::node_ref::NodeRef;
 
 impl<'a> Writer<'a> {
-    /// Begins a quote; quotes that hold nothing but a quote are written with it, so that its text is
-    /// copied once.
+    /// Begins a quote; quotes that hold nothing but a quote are written with it, so that its text
+    /// is copied once.
     pub(super) fn begin_quote(&mut self, id: NodeId) -> Result<(), OutOfMemory> {
         let mut inner = id;
         let mut depth: usize = 1;

@@ -141,8 +141,8 @@ fn lacks_name(compound: &Compound, tree: &Tree, id: &NodeId) -> bool
     }
 }
 
-/// Whether the compound holds of the node. Names come first, since most nodes bear another one; of a
-/// type alone nothing else is looked at.
+/// Whether the compound holds of the node. Names come first, since most nodes bear another one; of
+/// a type alone nothing else is looked at.
 #[cycle(matching)]
 fn holds(compound: &Compound, tree: &Tree, caches: &mut SelectorCaches<'_>, id: NodeId) -> bool
     requires { caches.old ≡ tree.now }

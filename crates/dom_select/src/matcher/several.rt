@@ -120,8 +120,8 @@ fn mark(marks: &mut Vec<bool>, id: NodeId) -> bool
 }
 
 /// The elements below some nodes that a selector means, each once, in the order of the walks.
-/// Making it takes memory, and later only sibling indexes do, where many are asked for and memory isn't
-/// refused.
+/// Making it takes memory, and later only sibling indexes do, where many are asked for and memory
+/// isn't refused.
 #[derive(Drop)]
 pub struct Matches<'a, 'b, 'r> {
     ids: FirstMet<'a, 'r>,

@@ -1,5 +1,5 @@
-//! What a parser makes of a tree while it fills it: elements with their flags, texts that are joined
-//! to texts, attributes that are still missing.
+//! What a parser makes of a tree while it fills it: elements with their flags, texts that are
+//! joined to texts, attributes that are still missing.
 
 ghost use Rattle.dom_trees.specs.Edits.{Edits, Makes, appending, making};
 ghost use Rattle.dom_trees.specs.Growing.{adding_attrs, adding_text, making_element};

@@ -346,7 +346,8 @@ fn reads_many_attributes(rt: HostRuntime) -> Result<(), Fail> {
     Ok(())
 }
 
-/// Shows that what is written of a document is read as one of that many nodes, and written so again.
+/// Shows that what is written of a document is read as one of that many nodes, and written so
+/// again.
 fn shows_again(rt: &impl Abort, document: &Document, html: String) -> Result<(), Fail> {
     let again = Document::parse(document.tree.allocator(), html.as_str())?;
     shows_length(rt, &again, document.tree.len());
