@@ -5,7 +5,7 @@
 
 use dom_query::{
     Document, DocumentMd, DocumentSelect, EditFault, Matcher, MiniSelect, NodeId, NodeMarkup,
-    NodeMd, NodeMutMarkup, Tokens, Tree, TreeIndex,
+    NodeMd, Place, Snippet, Tokens, Tree, TreeIndex,
 };
 use dom_select::matcher::descendants::select_below;
 use std::env;
@@ -171,14 +171,14 @@ fn count_of(rt: &HostRuntime, page: &Page, call: Call) -> Option<usize> {
     }
 }
 
-/// Copies the document, and puts markup behind the children of each node that is selected; tells
-/// how many those were.
+/// Copies the document, and puts markup, which is read once, behind the children of each node that
+/// is selected; tells how many those were.
 fn append_to_all(page: &Page) -> Option<usize> {
     let mut document = page.document.try_clone().ok()?;
     let found = select_below(&document.tree, &NodeId::root(), &page.matcher).ok()?;
+    let snippet = Snippet::read(document.tree.allocator(), "<i>x</i>").ok()?;
     for id in &found {
-        let mut node = document.tree.node_mut(id)?;
-        node.append_html("<i>x</i>").ok()?;
+        snippet.put_at(&mut document.tree, id, Place::AtEnd).ok()?;
     }
     Some(found.len())
 }
