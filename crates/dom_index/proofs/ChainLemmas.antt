@@ -1,9 +1,9 @@
 -- A table of the nodes that a chain of compounds reaches, from the table of one compound less.
-use Rattle.std.proofs.Common.{◌≡◌, ◌⊎◌, ◌<◌, ℕ, List, [], ◌∷◌, ◌++◌, Bool, true, false, true≢false, Option, Some, None, inl, inr, refl, sym, ap, ◌∙◌, subst, length, slice_get, reverse}
+use Rattle.std.proofs.Common.{◌≡◌, ◌↔◌, ◌⊎◌, ◌<◌, ℕ, List, [], ◌∷◌, ◌++◌, Bool, true, false, true≢false, Option, Some, None, inl, inr, refl, sym, ap, ◌∙◌, subst, length, slice_get, reverse, append_assoc}
 use Rattle.std.specs.Prelude.{◌&&◌, ◌==◌}
 use Rattle.std.specs.Option.{option_map_or}
 use Rattle.std.proofs.lemmas.Bool.{cases_lt, eqb-true, eq-eqb, or_right, or_cases}
-use Rattle.std.proofs.lemmas.List.{get_or_past}
+use Rattle.std.proofs.lemmas.List.{append-nil, get_or_past, get_or-replicate, length-replicate}
 use Rattle.dom_nodes.specs.declared.node_data.NodeData.{NodeData}
 use Rattle.dom_nodes.specs.declared.node_data.NodeData.TheVariants.{Document, Fragment, Doctype, Text, Comment, Element, ProcessingInstruction}
 use Rattle.dom_nodes.specs.Kinds.{is_top, may_bear}
@@ -28,6 +28,7 @@ use Rattle.dom_select.proofs.ReachLemmas.{from_reaches, to_reaches}
 use Rattle.dom_select.proofs.MeaningLemmas.{parts_unknown}
 use Rattle.dom_select.proofs.RowLemmas.{first_stands, parent_first}
 use Rattle.dom_selectors.specs.Spelling.{Decides}
+use Rattle.dom_index.specs.Asked.{AreHeld, everywhere}
 use Rattle.dom_index.specs.Tables.{AllHold, AreAsked, AreBoth, AreTold, AreToldWhere, truth_at, serves, IsLed}
 use Rattle.dom_index.proofs.LedLemmas.{told_by}
 
@@ -191,41 +192,54 @@ module _ (forest : Forest) (good : IsForest forest) (lines : AreLines forest) (f
       let t = told_true (truth_at table v) (ReachesIt forest first ss v) (told.each v known) here in
       ((v, stands, rw (must_serve forest good lines k v n p last.2.2.0, t) refl), last.1)
 
-  -- the table of one compound more, from the nodes that the table so far leads to
-  pub chain_told : (flags : List Bool) (n : ℕ) (b : Bool) → Decides (truth_at flags n) (IsLed forest k table n) → Decides b ((truth_at flags n ≡ true) × Holds c forest n) → Decides b (ReachesIt forest first (ss ++ (k, c) ∷ []) n)
-  chain_told flags n b led h = told_by b _ _
-      (λ x. chain_forth n (rw x.0 at led) x.1)
-      (λ r. let x = chain_back n r in (told_true (truth_at flags n) (IsLed forest k table n) led x.0, x.1)) h
+-- a compound behind those that were asked, and the nodes at which it is: it holds where all of them reach
+pub record Arrived (forest : Forest) (first : CompoundSelector) (all : Chain) (c : CompoundSelector) (left : Chain) (here : List Bool) : Type 0 where
+  pub front : Chain
+  pub split : all ≡ front ++ left
+  pub long : length here ≡ length forest.content
+  pub same : (n : ℕ) → n < length forest.content → ((truth_at here n ≡ true) × Holds c forest n) ↔ ReachesIt forest first front n
 
-pub chain_more : (forest : Forest) → IsForest forest → AreLines forest → (first : CompoundSelector) (ss more : Chain) (k : Combinator) (c : CompoundSelector) (table flags new : List Bool) → more ≡ ss ++ (k, c) ∷ [] →
-    AreTold table (length forest.content) (ReachesIt forest first ss) → AreTold flags (length forest.content) (IsLed forest k table) →
-    AreTold new (length forest.content) (λ n. (truth_at flags n ≡ true) × Holds c forest n) → AreTold new (length forest.content) (ReachesIt forest first more)
-chain_more forest good lines first ss more k c table flags new is told led asked = record {
-  long = asked.long;
-  each = λ n known. subst (λ z. Decides (truth_at new n) (ReachesIt forest first z n)) (sym is) (chain_told forest good lines first ss k c table told flags n (truth_at new n) (led.each n known) (asked.each n known));
+pub chain_start : (forest : Forest) (first : CompoundSelector) (all : Chain) (here : List Bool) → here ≡ everywhere forest → Arrived forest first all first all here
+chain_start forest first all here is = record {
+  front = [];
+  split = refl;
+  long = ap length is ∙ length-replicate (length forest.content) true;
+  same = λ n known. (λ x. (n, x.1, refl), λ r. (ap (λ cells. truth_at cells n) is ∙ get_or-replicate (length forest.content) n true false known, subst (Holds first forest) r.2 r.1));
 }
 
--- the same, where the last compound was asked of wanted nodes alone
-pub chain_where : (forest : Forest) → IsForest forest → AreLines forest → (first : CompoundSelector) (ss more : Chain) (k : Combinator) (c : CompoundSelector) (wanted table flags both new : List Bool) → more ≡ ss ++ (k, c) ∷ [] →
-    AreTold table (length forest.content) (ReachesIt forest first ss) → AreTold flags (length forest.content) (IsLed forest k table) → AreBoth both flags wanted →
-    AreTold new (length forest.content) (λ n. (truth_at both n ≡ true) × Holds c forest n) → AreToldWhere wanted new (length forest.content) (ReachesIt forest first more)
-chain_where forest good lines first ss more k c wanted table flags both new is told led narrowed asked = record {
-  long = asked.long;
-  each = λ n known here. subst (λ z. Decides (truth_at new n) (ReachesIt forest first z n)) (sym is) (chain_told forest good lines first ss k c table told flags n (truth_at new n) (led.each n known)
-      (told_by (truth_at new n) _ _
-      (λ x. ((both_true _ _ (sym (same n known) ∙ x.0)).0, x.1))
-      (λ x. (same n known ∙ (rw (x.0, here) refl), x.1))
-      (asked.each n known)));
-}
-  where
-    same : (n : ℕ) → n < length forest.content → truth_at both n ≡ (truth_at flags n && truth_at wanted n)
-    same n known = narrowed.each n (subst (λ (m : ℕ). n < m) (sym led.long) known)
+module _ (forest : Forest) (first : CompoundSelector) (all : Chain) (c : CompoundSelector) (left : Chain) (here : List Bool) (arrived : Arrived forest first all c left here) where
+  pub chain_held : (held : List Bool) → AreHeld c forest here held → AreTold held (length forest.content) (ReachesIt forest first arrived.front)
+  chain_held held asked = record {
+    long = asked.long;
+    each = λ n known. let same = arrived.same n known in told_by (truth_at held n) _ _ same.0 same.1 (asked.each n known);
+  }
 
-pub chain_first : (forest : Forest) (first : CompoundSelector) (wanted new : List Bool) → AreTold new (length forest.content) (λ n. (truth_at wanted n ≡ true) × Holds first forest n) → AreToldWhere wanted new (length forest.content) (ReachesIt forest first [])
-chain_first forest first wanted new asked = record {
-  long = asked.long;
-  each = λ n known here. told_by (truth_at new n) _ _ (λ x. (n, x.1, refl)) (λ r. (here, subst (Holds first forest) r.2 r.1)) (asked.each n known);
-}
+  pub chain_next : IsForest forest → AreLines forest → (k : Combinator) (next : CompoundSelector) (behind : Chain) (held there : List Bool) → left ≡ (k, next) ∷ behind → AreHeld c forest here held → AreTold there (length forest.content) (IsLed forest k held) →
+      Arrived forest first all next behind there
+  chain_next good lines k next behind held there is asked led =
+      let told = chain_held held asked in
+      record {
+        front = arrived.front ++ (k, next) ∷ [];
+        split = arrived.split ∙ (ap (λ (ss : Chain). arrived.front ++ ss) is ∙ sym (append_assoc arrived.front ((k, next) ∷ []) behind));
+        long = led.long;
+        same = λ n known. (λ x. chain_forth forest good lines first arrived.front k next held told n (rw x.0 at (led.each n known)) x.1,
+            λ r. let x = chain_back forest good lines first arrived.front k next held told n r in (told_true (truth_at there n) (IsLed forest k held n) (led.each n known) x.0, x.1));
+      }
+
+  pub chain_last : (wanted both new : List Bool) → left ≡ [] → AreBoth both here wanted → AreHeld c forest both new → AreToldWhere wanted new (length forest.content) (ReachesIt forest first all)
+  chain_last wanted both new none narrowed asked = record {
+    long = asked.long;
+    each = λ n known here_too.
+        let inside = subst (λ (m : ℕ). n < m) (sym arrived.long) known in
+        let cell = narrowed.each n inside in
+        let same = arrived.same n known in
+        let whole : all ≡ arrived.front = arrived.split ∙ (ap (λ (ss : Chain). arrived.front ++ ss) none ∙ append-nil arrived.front) in
+        subst (λ z. Decides (truth_at new n) (ReachesIt forest first z n)) (sym whole)
+        (told_by (truth_at new n) _ _
+        (λ x. same.0 ((both_true _ _ (sym cell ∙ x.0)).0, x.1))
+        (λ r. let x = same.1 r in (cell ∙ (rw (x.0, here_too) refl), x.1))
+        (asked.each n known));
+  }
 
 -- what was asked of those that may bear a compound's name, of all
 pub asked_told : (forest : Forest) (c : CompoundSelector) (count : ℕ) (wanted named new : List Bool) → length wanted ≡ count → AreAsked forest c named wanted → AreTold new count (λ n. (truth_at named n ≡ true) × Holds c forest n) →

@@ -1,3 +1,4 @@
+pub mod AskLemmas
 pub mod ChainLemmas
 pub mod FillLemmas
 pub mod LeadLemmas

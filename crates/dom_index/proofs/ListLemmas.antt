@@ -153,12 +153,5 @@ pub lists_cut : (i : ℕ) (lists : List Nested) (l : Nested) → i < length list
     lists_of (map read_nested (drop i lists)) ≡ nested (read_nested l) (lists_of (map read_nested (drop (i + 1) lists)))
 lists_cut i lists l known is = ap (λ ls. lists_of (map read_nested ls)) (row_cut i lists l known is)
 
-pub steps_cut : (i : ℕ) (steps : List Step) (s : Step) → i < length steps → s ≡ get_or steps i s →
-    steps_of (map read_step (drop i steps)) ≡ step s.combinator (read_compound s.compound) (steps_of (map read_step (drop (i + 1) steps)))
-steps_cut i steps s known is =
-    ap (λ ss. steps_of (map read_step ss)) (row_cut i steps s known is) ∙ ap (λ (r : Combinator × CompoundSelector). step r.0 r.1 (steps_of (map read_step (drop (i + 1) steps)))) (read_step_is s)
-
-pub steps_more : (i : ℕ) (steps : List Step) (s : Step) → i < length steps → s ≡ get_or steps i s →
-    map read_step (take (i + 1) steps) ≡ map read_step (take i steps) ++ (s.combinator, read_compound s.compound) ∷ []
-steps_more i steps s known is =
-    ap (map read_step) (row_more i steps s known is) ∙ (map-append read_step (take i steps) (s ∷ []) ∙ ap (λ (r : Combinator × CompoundSelector). map read_step (take i steps) ++ r ∷ []) (read_step_is s))
+pub steps_ahead : (left behind : List Step) (s : Step) → left ≡ s ∷ behind → map read_step left ≡ (s.combinator, read_compound s.compound) ∷ map read_step behind
+steps_ahead left behind s e = ap (map read_step) e ∙ ap (λ (r : Combinator × CompoundSelector). r ∷ map read_step behind) (read_step_is s)

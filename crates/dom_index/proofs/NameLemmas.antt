@@ -25,7 +25,7 @@ use Rattle.dom_selectors.proofs.Layers.{read_compound_is}
 use Rattle.dom_select.specs.Meaning.{Holds, PartsHold}
 use Rattle.dom_select.specs.Parts.{PartHolds, name_within, node_passes}
 use Rattle.dom_index.specs.declared.names.WantedName.{WantedName}
-use Rattle.dom_index.specs.Names.{AreElements, AreKnown, AreNamed, AreNames, BearsKnown, IsWanted, byte_at, tells_name}
+use Rattle.dom_index.specs.Names.{AreElements, AreKnown, AreNamed, AreNames, BearsKnown, IsWanted, byte_at, lists_in, tells_name}
 use Rattle.dom_index.specs.Tables.{AllHold, AreAsked, AreTold, truth_at}
 use Rattle.dom_index.proofs.FillLemmas.{same_told}
 
@@ -205,4 +205,5 @@ module _ (c : Compound) (p : Part) (name : List ℕ) (number : ℕ) (same : (ns 
     known = low;
     needs = name_needed;
     suffices = λ all. name_suffices (only all).0 (only all).1;
+    alone = λ all. ap lists_in (read_compound_is c) ∙ ap (λ ls. lists_of (map read_nested ls)) (nil_from_length c.nested.items (only all).1);
   }

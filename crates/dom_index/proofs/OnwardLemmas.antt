@@ -17,11 +17,13 @@ use Rattle.dom_selectors.proofs.Weights.{compound_weight, steps_weight}
 use Rattle.dom_select.specs.Chains.{Precedes}
 use Rattle.dom_select.specs.Meaning.{Holds, Leads, LeadsToSome, MayBeside}
 use Rattle.dom_select.proofs.FollowLemmas.{apart, precedes_then, stands_precedes}
+use Rattle.dom_index.specs.Asked.{CompoundAsks, Counts, OnwardAsks}
 use Rattle.dom_index.specs.Counts.{compound_count, steps_count}
 use Rattle.dom_index.specs.Onward.{LeadsOnward, Onward}
 use Rattle.dom_index.specs.Tables.{AreServing, AreTold, IsLeading, serves, truth_at}
 use Rattle.dom_index.proofs.ChainLemmas.{both_true, holds_inside, told_true, truth_inside}
 use Rattle.dom_index.proofs.LedLemmas.{told_by}
+use Rattle.dom_index.proofs.AskLemmas.{lead_asks}
 use Rattle.dom_index.proofs.ListLemmas.{spent}
 
 module _ (forest : Forest) (lines : AreLines forest) where
@@ -141,23 +143,32 @@ pub steps_apart : (left before : List Step) (s : Step) → left ≡ before ++ s 
 steps_apart left before s e =
     ap (map read_step) e ∙ (map-append read_step before (s ∷ []) ∙ ap (λ (r : Combinator × CompoundSelector). map read_step before ++ r ∷ []) (read_step_is s))
 
--- steps that are left, and those behind them, of which a table is told
-pub record Going (forest : Forest) (count : ℕ) (all left : Chain) (table : List Bool) : Type 0 where
+-- steps that are left, and those behind them, which were asked and of which a table is told
+pub record Going (forest : Forest) (count : ℕ) (all left : Chain) (table : List Bool) (old now : ℕ) : Type 0 where
   pub tail : Chain
   pub split : all ≡ left ++ tail
   pub told : AreTold table count (Onward (steps_of tail) forest)
+  pub asked : Counts old now (OnwardAsks (steps_of tail) forest)
 
-pub going_on : (forest : Forest) (count : ℕ) → count ≡ length forest.content → (all left before : Chain) (k : Combinator) (c : CompoundSelector) (wanted held flags table : List Bool) → Going forest count all left wanted → left ≡ before ++ (k, c) ∷ [] →
-    AreTold held count (λ n. (truth_at wanted n ≡ true) × Holds c forest n) → AreTold flags count (IsLeading forest k held) → AreServing forest k table flags → Going forest count all before table
-going_on forest count is all left before k c wanted held flags table going e asked led serving = record {
+pub going_on : (forest : Forest) (count : ℕ) → count ≡ length forest.content → (all left before : Chain) (k : Combinator) (c : CompoundSelector) (wanted held flags table : List Bool) (old now new : ℕ) → Going forest count all left wanted old now → left ≡ before ++ (k, c) ∷ [] →
+    AreTold held count (λ n. (truth_at wanted n ≡ true) × Holds c forest n) → AreTold flags count (IsLeading forest k held) → AreServing forest k table flags → Counts now new (CompoundAsks c forest wanted) →
+    Going forest count all before table old new
+going_on forest count is all left before k c wanted held flags table old now new going e asked led serving counted = record {
   tail = (k, c) ∷ going.tail;
   split = going.split ∙ (ap (λ (ss : Chain). ss ++ going.tail) e ∙ append_assoc before ((k, c) ∷ []) going.tail);
   told = onward_told forest count k c (steps_of going.tail) flags table (leads_told forest count is k c (steps_of going.tail) wanted held going.told asked flags led) serving;
+  asked = lead_asks forest c (steps_of going.tail) wanted old now new (subst (λ m. AreTold wanted m (Onward (steps_of going.tail) forest)) is going.told) going.asked counted;
 }
 
-pub going_all : (forest : Forest) (count : ℕ) (all left : Chain) (table : List Bool) → Going forest count all left table → left ≡ [] → AreTold table count (Onward (steps_of all) forest)
-going_all forest count all left table going e =
-    subst (λ (ss : Chain). AreTold table count (Onward (steps_of ss) forest)) (sym (going.split ∙ ap (λ (ss : Chain). ss ++ going.tail) e)) going.told
+module _ (forest : Forest) (count : ℕ) (all left : Chain) (table : List Bool) (old now : ℕ) (going : Going forest count all left table old now) (none : left ≡ []) where
+  abbrev whole : all ≡ going.tail
+  whole = going.split ∙ ap (λ (ss : Chain). ss ++ going.tail) none
+
+  pub going_all : AreTold table count (Onward (steps_of all) forest)
+  going_all = subst (λ (ss : Chain). AreTold table count (Onward (steps_of ss) forest)) (sym whole) going.told
+
+  pub asked_all : Counts old now (OnwardAsks (steps_of all) forest)
+  asked_all = subst (λ (ss : Chain). Counts old now (OnwardAsks (steps_of ss) forest)) (sym whole) going.asked
 
 -- the tests that were asked, and those that the steps left may ask
 pub steps_asked : (m old now new : ℕ) (all left before : List Step) (s : Step) → left ≡ before ++ s ∷ [] → now + steps_count (steps_of (map read_step left)) * m ≤ old + steps_count (steps_of (map read_step all)) * m →
@@ -166,13 +177,3 @@ steps_asked m old now new all left before s e so_far asked =
     let apart = ap (λ (ss : Chain). steps_count (steps_of ss)) (steps_apart left before s e) ∙ count_last (map read_step before) (s.combinator, read_compound s.compound) in
     let sum = subst (λ (n : ℕ). now + n * m ≤ old + steps_count (steps_of (map read_step all)) * m) apart so_far in
     spent (compound_count (read_compound s.compound)) (steps_count (steps_of (map read_step before))) m old now new (steps_count (steps_of (map read_step all))) sum asked
-
--- what was asked of the steps before the last one leaves as much as that may ask
-pub last_asked : (m old now first : ℕ) (all before : List Step) (s : Step) → all ≡ before ++ s ∷ [] → now ≤ old + (first + steps_count (steps_of (map read_step before))) * m →
-    now + compound_count (read_compound s.compound) * m ≤ old + (first + steps_count (steps_of (map read_step all))) * m
-last_asked m old now first all before s e asked =
-    let apart = ap (λ (ss : Chain). steps_count (steps_of ss)) (steps_apart all before s e) ∙ count_last (map read_step before) (s.combinator, read_compound s.compound) in
-    let front : ℕ = first + steps_count (steps_of (map read_step before)) in
-    let sum = add-mul front (compound_count (read_compound s.compound)) m in
-    let same : (first + steps_count (steps_of (map read_step all))) * m ≡ (front + compound_count (read_compound s.compound)) * m = ap (λ (n : ℕ). n * m) (omega arith) in
-    omega arith

@@ -5,7 +5,7 @@ use Rattle.dom_nodes.specs.declared.node_data.NodeData.{NodeData}
 use Rattle.dom_nodes.specs.declared.node_data.NodeData.TheVariants.{Element}
 use Rattle.dom_nodes.specs.KnownNames.{known_name}
 use Rattle.dom_links.specs.Forest.{Forest}
-use Rattle.dom_selectors.specs.Syntax.{CompoundSelector}
+use Rattle.dom_selectors.specs.Syntax.{CompoundSelector, compound, NestedLists, no_lists}
 use Rattle.dom_select.specs.Meaning.{Holds}
 use Rattle.dom_index.specs.declared.names.WantedName.{WantedName}
 use Rattle.dom_index.specs.Tables.{truth_at}
@@ -42,8 +42,13 @@ pub record AreElements (bytes : List ℕ) (table : List Bool) : Type 0 where
   pub long : length table ≡ length bytes
   pub each : (n : ℕ) → n < length bytes → truth_at table n ≡ not (byte_at bytes n == 255)
 
+-- the lists in a compound
+abbrev pub lists_in : CompoundSelector → NestedLists
+lists_in (compound parts lists) = lists
+
 -- where the compound holds the node bears the name, and where nothing else is asked it holds of each that does
 pub record IsWanted (c : CompoundSelector) (wanted : WantedName) : Type 0 where
   pub known : wanted.number < 247
   pub needs : (forest : Forest) (n : ℕ) (node : NodeData) → slice_get forest.content n ≡ Some node → Holds c forest n → BearsKnown wanted.number node
   pub suffices : wanted.is_all ≡ true → (forest : Forest) (n : ℕ) (node : NodeData) → slice_get forest.content n ≡ Some node → BearsKnown wanted.number node → Holds c forest n
+  pub alone : wanted.is_all ≡ true → lists_in c ≡ no_lists

@@ -5,6 +5,7 @@ ghost use Rattle.std.specs.Iterator.{YieldsFirst, item_count};
 ghost use Rattle.dom_links.specs.Indexes.{index_at};
 ghost use Rattle.dom_links.specs.Lists.{stands_in};
 ghost use Rattle.dom_links.specs.Trees.{walk_below};
+ghost use Rattle.dom_index.specs.Asked.{Counts, SelectorsAsk, everywhere};
 ghost use Rattle.dom_index.specs.Counts.{selectors_count};
 ghost use Rattle.dom_index.specs.Index.{Finds, IsLastBelow};
 ghost use Rattle.dom_index.specs.Preorder.{position};
@@ -63,8 +64,9 @@ impl<'a> TreeIndex<'a> {
     }
 
     /// The elements below the roots that one of the matcher's selectors means, each once, in the
-    /// order of the walks. Each compound is asked of each node once at most. After a refusal the
-    /// index is as it was, but for the tests.
+    /// order of the walks. Each compound is asked of each node once at most: of those that its
+    /// combinator leads to, and of a list in a compound where the compound may still hold. After a
+    /// refusal the index is as it was, but for the tests.
     pub fn select(
         &mut self,
         matcher: &Matcher,
@@ -72,6 +74,8 @@ impl<'a> TreeIndex<'a> {
     ) -> Result<Vec<NodeRef<'a>>, OutOfMemory>
         ensures found { IfOk result (λ found.
             Finds self.old.tree roots.now matcher.now found.items) }
+        ensures asked { IfOk result (λ _. Counts 0 self.new.tests
+            (SelectorsAsk matcher.now self.old.tree.now (everywhere self.old.tree.now))) }
         ensures tests { self.new.tests
             ≤ selectors_count matcher.now * length self.old.tree.now.content }
         ensures kept { self.new.tree ≡ self.old.tree }

@@ -6,18 +6,21 @@ ghost use Rattle.dom_selectors.specs.ValuesAsTrees.{read_compound, read_list, re
 ghost use Rattle.dom_selectors.specs.ValuesAsTrees.{read_step};
 ghost use Rattle.dom_select.specs.Meaning.{Holds, LeadsOn, LeadsToSome, ListHolds, ListsHold};
 ghost use Rattle.dom_select.specs.Meaning.{Means, Reaches};
+ghost use Rattle.dom_index.specs.Asked.{CompoundAsks, Counts, LeadAsks, LeadsAsk, ListAsks};
+ghost use Rattle.dom_index.specs.Asked.{ListsAsk, OnwardAsks, SelectorAsks, SelectorsAsk};
 ghost use Rattle.dom_index.specs.Counts.{compound_count, list_count, lists_count};
 ghost use Rattle.dom_index.specs.Counts.{selectors_count, steps_count};
 ghost use Rattle.dom_index.specs.Onward.{Onward};
 ghost use Rattle.dom_index.specs.Tables.{AreTold, AreToldWhere, truth_at};
 
 use crate::layout::{Layout, know_forest};
-use crate::truths::{elements, narrow, narrow_beside, narrow_by_name, tested, turn, widen};
+use crate::truths::{count_of, elements, narrow, narrow_beside, narrow_by_name, tested, turn, widen};
 use crate::ways::{leading, led};
 use dom_nodes::fault::OutOfMemory;
 use dom_selectors::syntax::{Combinator, Compound, Nested, Selector, Step};
 
-/// Where the table tells the truth and the compound holds.
+/// Where the table tells the truth and the compound holds. Each node that is wanted is asked, be it
+/// that its name or a list turns it away.
 #[cycle(tables)]
 fn compound_table(
     layout: &Layout<'_>,
@@ -29,15 +32,20 @@ fn compound_table(
     ensures table { IfOk result (λ table. AreTold table.items (length layout.now.tree.now.content)
         (λ n. (truth_at wanted.items n ≡ true)
         × Holds (read_compound compound.now) layout.now.tree.now n)) }
+    ensures counted { IfOk result (λ _. Counts tests.old tests.new
+        (CompoundAsks (read_compound compound.now) layout.now.tree.now wanted.items)) }
     ensures tests { tests.new ≤ tests.old
         + compound_count (read_compound compound.now) * length layout.now.tree.now.content }
 {
+    let asked = count_of(&wanted);
     let mut named = wanted;
-    if let Some(count) = narrow_by_name(layout, compound, &mut named) {
-        *tests = tests.saturating_add(count as u128);
+    if narrow_by_name(layout, compound, &mut named) {
+        *tests = tests.saturating_add(asked as u128);
         return Ok(named);
     }
     let narrowed = narrowed_table(layout, &compound.nested, named, tests)?;
+    let turned_away = asked - count_of(&narrowed);
+    *tests = tests.saturating_add(turned_away as u128);
     tested(layout, compound, narrowed, tests)
 }
 
@@ -53,6 +61,8 @@ fn narrowed_table(
     ensures table { IfOk result (λ table. AreTold table.items (length layout.now.tree.now.content)
         (λ n. (truth_at wanted.items n ≡ true)
         × ListsHold (lists_of (map read_nested lists.now)) layout.now.tree.now n)) }
+    ensures counted { IfOk result (λ _. Counts tests.old tests.new
+        (ListsAsk (lists_of (map read_nested lists.now)) layout.now.tree.now wanted.items)) }
     ensures tests { tests.new ≤ tests.old
         + lists_count (lists_of (map read_nested lists.now))
         * length layout.now.tree.now.content }
@@ -77,6 +87,8 @@ fn nested_table(
     ensures table { IfOk result (λ table. AreToldWhere wanted.now table.items
         (length layout.now.tree.now.content)
         (ListHolds (read_nested list.now) layout.now.tree.now)) }
+    ensures counted { IfOk result (λ _. Counts tests.old tests.new
+        (ListAsks (read_nested list.now) layout.now.tree.now wanted.now)) }
     ensures tests { tests.new ≤ tests.old
         + list_count (read_nested list.now) * length layout.now.tree.now.content }
 {
@@ -103,6 +115,8 @@ pub(crate) fn list_table(
     ensures table { IfOk result (λ table. AreToldWhere wanted.now table.items
         (length layout.now.tree.now.content)
         (Means (read_list selectors.now) layout.now.tree.now)) }
+    ensures counted { IfOk result (λ _. Counts tests.old tests.new
+        (SelectorsAsk (read_list selectors.now) layout.now.tree.now wanted.now)) }
     ensures tests { tests.new ≤ tests.old
         + selectors_count (read_list selectors.now) * length layout.now.tree.now.content }
 {
@@ -115,7 +129,7 @@ pub(crate) fn list_table(
 }
 
 /// Which of the nodes that are wanted the compounds lead to. The last compound is asked of them
-/// alone.
+/// alone, each other one of all nodes that are led to.
 #[cycle(tables)]
 fn selector_table(
     layout: &Layout<'_>,
@@ -129,46 +143,26 @@ fn selector_table(
         (length layout.now.tree.now.content)
         (λ n. Reaches (Holds (read_compound first.now) layout.now.tree.now)
         (steps_of (map read_step steps.now)) layout.now.tree.now n n)) }
+    ensures counted { IfOk result (λ _. Counts tests.old tests.new
+        (SelectorAsks (read_compound first.now) (steps_of (map read_step steps.now))
+        layout.now.tree.now wanted.now)) }
     ensures tests { tests.new ≤ tests.old
         + (compound_count (read_compound first.now)
         + steps_count (steps_of (map read_step steps.now)))
         * length layout.now.tree.now.content }
 {
     know_forest(layout.tree);
-    let Some((last, before)) = steps.split_last() else {
-        let copy = Vec::from_slice(layout.tree.allocator(), wanted)?;
-        return compound_table(layout, first, copy, tests);
-    };
-    let table = chain_table(layout, first, before, tests)?;
-    let mut here = led(layout, last.combinator, &table)?;
-    narrow(&mut here, wanted);
-    compound_table(layout, &last.compound, here, tests)
-}
-
-/// Which nodes the compounds lead to, from the first to the last.
-#[cycle(tables)]
-fn chain_table(
-    layout: &Layout<'_>,
-    first: &Compound,
-    steps: &[Step],
-    tests: &mut u128,
-) -> Result<Vec<bool>, OutOfMemory>
-    ensures table { IfOk result (λ table. AreTold table.items (length layout.now.tree.now.content)
-        (λ n. Reaches (Holds (read_compound first.now) layout.now.tree.now)
-        (steps_of (map read_step steps.now)) layout.now.tree.now n n)) }
-    ensures tests { tests.new ≤ tests.old
-        + (compound_count (read_compound first.now)
-        + steps_count (steps_of (map read_step steps.now)))
-        * length layout.now.tree.now.content }
-{
-    know_forest(layout.tree);
-    let all = vec![in layout.tree.allocator(); true; layout.order.len()]?;
-    let mut table = compound_table(layout, first, all, tests)?;
-    for step in steps {
-        let wanted = led(layout, step.combinator, &table)?;
-        table = compound_table(layout, &step.compound, wanted, tests)?;
+    let mut here = vec![in layout.tree.allocator(); true; layout.order.len()]?;
+    let mut compound = first;
+    let mut left = steps;
+    while let Some((step, behind)) = left.split_first() {
+        let held = compound_table(layout, compound, here, tests)?;
+        here = led(layout, step.combinator, &held)?;
+        compound = &step.compound;
+        left = behind;
     }
-    Ok(table)
+    narrow(&mut here, wanted);
+    compound_table(layout, compound, here, tests)
 }
 
 /// From which nodes one of the selectors leads to an element.
@@ -180,6 +174,8 @@ fn has_table(
 ) -> Result<Vec<bool>, OutOfMemory>
     ensures table { IfOk result (λ table. AreTold table.items (length layout.now.tree.now.content)
         (LeadsOn (read_list selectors.now) layout.now.tree.now)) }
+    ensures counted { IfOk result (λ _. Counts tests.old tests.new
+        (LeadsAsk (read_list selectors.now) layout.now.tree.now)) }
     ensures tests { tests.new ≤ tests.old
         + selectors_count (read_list selectors.now) * length layout.now.tree.now.content }
 {
@@ -209,6 +205,9 @@ fn leading_table(
     ensures table { IfOk result (λ table. AreTold table.items (length layout.now.tree.now.content)
         (LeadsToSome lead (read_compound first.now) (steps_of (map read_step steps.now))
         layout.now.tree.now)) }
+    ensures counted { IfOk result (λ _. Counts tests.old tests.new
+        (LeadAsks (read_compound first.now) (steps_of (map read_step steps.now))
+        layout.now.tree.now)) }
     ensures tests { tests.new ≤ tests.old
         + (compound_count (read_compound first.now)
         + steps_count (steps_of (map read_step steps.now)))
@@ -229,6 +228,8 @@ fn onward_table(
 ) -> Result<Vec<bool>, OutOfMemory>
     ensures table { IfOk result (λ table. AreTold table.items (length layout.now.tree.now.content)
         (Onward (steps_of (map read_step steps.now)) layout.now.tree.now)) }
+    ensures counted { IfOk result (λ _. Counts tests.old tests.new
+        (OnwardAsks (steps_of (map read_step steps.now)) layout.now.tree.now)) }
     ensures tests { tests.new ≤ tests.old
         + steps_count (steps_of (map read_step steps.now))
         * length layout.now.tree.now.content }

@@ -3,12 +3,14 @@
 ghost use Rattle.std.specs.Prelude.{◌≡◌, ◌<◌, ◌≤◌, ◌+◌, ◌^◌, ℕ, true, length, map, IfOk, IfSome};
 ghost use Rattle.dom_selectors.specs.declared.syntax.Combinator.TheVariants.{Sibling};
 ghost use Rattle.dom_selectors.specs.ListsAsTrees.{lists_of};
+ghost use Rattle.dom_selectors.specs.Syntax.{no_lists};
 ghost use Rattle.dom_selectors.specs.ValuesAsTrees.{read_compound, read_nested};
 ghost use Rattle.dom_links.specs.ListMoves.{element_at};
 ghost use Rattle.dom_selectors.specs.Spelling.{Decides};
 ghost use Rattle.dom_select.specs.Answers.{AreAnswers};
 ghost use Rattle.dom_select.specs.Meaning.{Holds, ListsHold};
-ghost use Rattle.dom_index.specs.Names.{AreElements, IsWanted};
+ghost use Rattle.dom_index.specs.Asked.{Counts, truths};
+ghost use Rattle.dom_index.specs.Names.{AreElements, IsWanted, lists_in};
 ghost use Rattle.dom_index.specs.Tables.{AllHold, AreAsked, AreBoth, AreEither, AreServing};
 ghost use Rattle.dom_index.specs.Tables.{AreTold, AreTurned, truth_at};
 
@@ -36,7 +38,9 @@ pub(crate) fn tested(
     ensures table { IfOk result (λ table. AreTold table.items (length layout.now.tree.now.content)
         (λ n. (truth_at wanted.items n ≡ true)
         × Holds (read_compound compound.now) layout.now.tree.now n)) }
-    ensures tests { tests.new ≤ tests.old + length layout.now.tree.now.content }
+    ensures counted { IfOk result (λ _.
+        Counts tests.old tests.new (λ asked. asked ≡ truths wanted.items)) }
+    ensures tests { tests.new ≤ tests.old + truths wanted.items }
 {
     let question = Question {
         compound,
@@ -47,9 +51,10 @@ pub(crate) fn tested(
     let mut table = wanted;
     let mut asked = 0;
     for n in 0..table.len() {
-        if table[n] {
-            table[n] = is_met(layout, &question, n, &mut caches, &mut asked);
+        if !table[n] {
+            continue;
         }
+        table[n] = is_met(layout, &question, n, &mut caches, &mut asked);
     }
     *tests = tests.saturating_add(asked);
     Ok(table)
@@ -122,35 +127,30 @@ pub(crate) fn narrow(table: &mut Vec<bool>, other: &[bool])
     }
 }
 
-/// Keeps the truths of the nodes that may bear the name that the compound begins with. Where the
-/// compound asks for nothing else, and each node's byte tells its name, it holds of those that are
-/// kept: then this tells how many nodes were asked.
+/// Keeps the truths of the nodes that may bear the name that the compound begins with. Whether the
+/// compound holds of those that are kept: it asks for nothing else, and each node's byte tells its
+/// name.
 pub(crate) fn narrow_by_name(
     layout: &Layout<'_>,
     compound: &Compound,
     table: &mut Vec<bool>,
-) -> Option<usize>
+) -> bool
     requires { length table.old.items ≡ length layout.now.tree.now.content }
     ensures asked { AreAsked layout.now.tree.now (read_compound compound.now) table.new.items
         table.old.items }
-    ensures told { IfSome result (λ count. (count ≤ length layout.now.tree.now.content)
-        × AllHold layout.now.tree.now (read_compound compound.now) table.new.items) }
+    ensures told { result ≡ true → (lists_in (read_compound compound.now) ≡ no_lists)
+        × AllHold layout.now.tree.now (read_compound compound.now) table.new.items }
 {
-    let wanted = wanted_name(compound)?;
-    let count = count_of(table);
+    let Some(wanted) = wanted_name(compound) else {
+        return false;
+    };
     keep_named(table, &layout.names, wanted.number);
-    if !wanted.is_all {
-        return None;
-    }
-    if !are_known(table, &layout.names) {
-        return None;
-    }
-    Some(count)
+    wanted.is_all && are_known(table, &layout.names)
 }
 
 /// Of how many nodes the table tells the truth.
-fn count_of(table: &[bool]) -> usize
-    ensures { result ≤ length table.now }
+pub(crate) fn count_of(table: &[bool]) -> usize
+    ensures { result ≡ truths table.now }
 {
     let mut count: usize = 0;
     for n in 0..table.len() {

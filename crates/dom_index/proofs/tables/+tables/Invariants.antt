@@ -1,10 +1,12 @@
-use Rattle.std.proofs.Common.{◌≤◌, ◌+◌, ◌*◌, length, map, drop, take}
+use Rattle.std.proofs.Common.{◌≤◌, ◌+◌, ◌*◌, length, map, drop}
 use Rattle.dom_selectors.specs.ListsAsTrees.{lists_of, steps_of}
-use Rattle.dom_select.specs.Meaning.{Holds, LeadsOn, Means, Reaches}
+use Rattle.dom_select.specs.Meaning.{LeadsOn, Means}
 use Rattle.dom_selectors.specs.ValuesAsTrees.{read_compound, read_list, read_nested, read_step}
+use Rattle.dom_index.specs.Asked.{LeadsAsk, ListsAsk, SelectorAsks, SelectorsAsk}
 use Rattle.dom_index.specs.Counts.{compound_count, lists_count, selectors_count, steps_count}
-use Rattle.dom_index.specs.Tables.{AreTold}
 use Rattle.dom_selectors.proofs.Weights.{compound_weight, lists_weight, list_weight, selectors_weight, steps_weight}
+use Rattle.dom_index.proofs.AskLemmas.{Asking, NextAsks}
+use Rattle.dom_index.proofs.ChainLemmas.{Arrived}
 use Rattle.dom_index.proofs.ListLemmas.{Anywhere, Narrowed, Wanted, Widened}
 use Rattle.dom_index.proofs.OnwardLemmas.{Going}
 use Rattle.dom_index.proofs.tables.+tables.Given as goal
@@ -33,9 +35,6 @@ decreases-onward_table l = 1 + steps_weight (steps_of (map read_step l.steps.now
 abbrev pub decreases-selector_table : goal.decreases-selector_table
 decreases-selector_table l = 8 + compound_weight (read_compound l.first.now) + steps_weight (steps_of (map read_step l.steps.now))
 
-abbrev pub decreases-chain_table : goal.decreases-chain_table
-decreases-chain_table l = 8 + compound_weight (read_compound l.first.now) + steps_weight (steps_of (map read_step l.steps.now))
-
 abbrev pub invariant-list_table-loop-selector : goal.invariant-list_table-loop-selector
 invariant-list_table-loop-selector l =
     let all = read_list l.selectors in
@@ -43,6 +42,7 @@ invariant-list_table-loop-selector l =
     let count = length l.layout.tree.now.content in
     record {
       table : Widened (Wanted l.wanted) count l.table.items (Means all l.layout.tree.now) (Means left l.layout.tree.now);
+      asking : Asking l.fn.tests l.tests (SelectorsAsk all l.layout.tree.now l.wanted) (SelectorsAsk left l.layout.tree.now l.wanted);
       tests : l.tests + selectors_count left * count ≤ l.fn.tests + selectors_count all * count;
       light : selectors_weight left ≤ selectors_weight all;
     }
@@ -54,6 +54,7 @@ invariant-has_table-loop-selector l =
     let count = length l.layout.tree.now.content in
     record {
       table : Widened Anywhere count l.table.items (LeadsOn all l.layout.tree.now) (LeadsOn left l.layout.tree.now);
+      asking : Asking l.fn.tests l.tests (LeadsAsk all l.layout.tree.now) (LeadsAsk left l.layout.tree.now);
       tests : l.tests + selectors_count left * count ≤ l.fn.tests + selectors_count all * count;
       light : selectors_weight left ≤ selectors_weight all;
     }
@@ -65,7 +66,7 @@ invariant-onward_table-loop-step l =
     let left = map read_step l.left in
     let count = length l.layout.tree.now.content in
     record {
-      going : Going l.layout.tree.now count all left l.table.items;
+      going : Going l.layout.tree.now count all left l.table.items l.fn.tests l.tests;
       tests : l.tests + steps_count (steps_of left) * count ≤ l.fn.tests + steps_count (steps_of all) * count;
       light : steps_weight (steps_of left) ≤ steps_weight (steps_of all);
     }
@@ -80,17 +81,26 @@ invariant-narrowed_table-loop-list l =
     let count = length l.layout.tree.now.content in
     record {
       table : Narrowed l.layout.tree.now count l.fn.wanted.items l.table.items all left;
+      asking : Asking l.fn.tests l.tests (ListsAsk all l.layout.tree.now l.fn.wanted.items) (ListsAsk left l.layout.tree.now l.table.items);
       tests : l.tests + lists_count left * count ≤ l.fn.tests + lists_count all * count;
       light : lists_weight left ≤ lists_weight all;
     }
 
-abbrev pub invariant-chain_table-loop-step : goal.invariant-chain_table-loop-step
-invariant-chain_table-loop-step l =
-    let all = steps_of (map read_step l.steps) in
-    let left = steps_of (map read_step (drop l.step-index l.steps)) in
-    let count = length l.layout.tree.now.content in
+-- the compound that is asked next, and those behind it
+abbrev pub invariant-selector_table-loop-step : goal.invariant-selector_table-loop-step
+invariant-selector_table-loop-step l =
+    let first = read_compound l.first in
+    let all = map read_step l.steps in
+    let c = read_compound l.compound in
+    let left = map read_step l.left in
+    let forest = l.layout.tree.now in
+    let count = length forest.content in
     record {
-      table : AreTold l.table.items count (λ n. Reaches (Holds (read_compound l.first) l.layout.tree.now) (steps_of (map read_step (take l.step-index l.steps))) l.layout.tree.now n n);
-      tests : l.tests + steps_count left * count ≤ l.fn.tests + (compound_count (read_compound l.first) + steps_count all) * count;
-      light : steps_weight left ≤ steps_weight all;
+      arrived : Arrived forest first all c left l.here.items;
+      asking : Asking l.fn.tests l.tests (SelectorAsks first (steps_of all) forest l.wanted) (NextAsks c (steps_of left) forest l.here.items l.wanted);
+      tests : l.tests + (compound_count c + steps_count (steps_of left)) * count ≤ l.fn.tests + (compound_count first + steps_count (steps_of all)) * count;
+      light : compound_weight c + steps_weight (steps_of left) ≤ compound_weight first + steps_weight (steps_of all);
     }
+
+abbrev pub decreases-selector_table-loop-step : goal.decreases-selector_table-loop-step
+decreases-selector_table-loop-step l = length l.left
