@@ -14,7 +14,7 @@ use Rattle.dom_selectors.specs.Spelling.{Decides}
 use Rattle.dom_selectors.specs.Syntax.{CompoundSelector, NestedList, SelectorList, alternative, Steps, no_steps, step}
 use Rattle.dom_select.specs.Meaning.{ListHolds, ListsHold}
 use Rattle.dom_selectors.proofs.Layers.{read_compound_is}
-use Rattle.dom_index.specs.Asked.{AreHeld, AreKept, CompoundAsks, Counts, IsWorth, LeadAsks, LeadsAsk, ListsAsk, OnwardAsks, SelectorAsks, SelectorsAsk, StepsAsk, everywhere, truths}
+use Rattle.dom_index.specs.Asked.{AreHeld, AreKept, CompoundAsks, Counts, IsCalledFor, LeadAsks, LeadsAsk, ListsAsk, OnwardAsks, SelectorAsks, SelectorsAsk, StepsAsk, everywhere, truths}
 use Rattle.dom_index.specs.Counts.{compound_count, lists_count}
 use Rattle.dom_index.specs.Onward.{Onward}
 use Rattle.dom_index.specs.Tables.{AreAsked, AreBoth, AreTold, AreToldWhere, IsLed, truth_at}
@@ -102,14 +102,14 @@ told_itself false = λ e. true≢false (sym e)
 -- a compound that is led to at the nodes of a table, and those behind it
 abbrev pub NextAsks : CompoundSelector → Steps → Forest → List Bool → List Bool → ℕ → Type 0
 NextAsks c rest forest led wanted tests =
-    (here : List Bool) × (held : List Bool) × (one : ℕ) × (behind : ℕ) × AreTold here (length forest.content) (λ n. (truth_at led n ≡ true) × IsWorth rest wanted n)
+    (here : List Bool) × (held : List Bool) × (one : ℕ) × (behind : ℕ) × AreTold here (length forest.content) (λ n. (truth_at led n ≡ true) × IsCalledFor rest wanted n)
     × CompoundAsks c forest here one × AreHeld c forest here held × StepsAsk rest forest held wanted behind × (tests ≡ one + behind)
 
 module _ (forest : Forest) (c : CompoundSelector) (rest : Steps) (led wanted : List Bool) where
   -- a selector's first compound is led to everywhere
   pub asks_first : led ≡ everywhere forest → (tests : ℕ) → NextAsks c rest forest led wanted tests → SelectorAsks c rest forest wanted tests
   asks_first all tests (here, held, one, behind, told, asks, holds, steps, sum) = (here, held, one, behind,
-      recast here (length forest.content) _ (IsWorth rest wanted) told (λ n known. (λ x. x.1, λ w. (ap (λ cells. truth_at cells n) all ∙ get_or-replicate (length forest.content) n true false known, w))), asks, holds, steps, sum)
+      recast here (length forest.content) _ (IsCalledFor rest wanted) told (λ n known. (λ x. x.1, λ w. (ap (λ cells. truth_at cells n) all ∙ get_or-replicate (length forest.content) n true false known, w))), asks, holds, steps, sum)
 
   -- each other one from the compound before
   pub asks_next : (k : Combinator) (before : List Bool) → AreTold led (length forest.content) (IsLed forest k before) → (tests : ℕ) → NextAsks c rest forest led wanted tests → StepsAsk (step k c rest) forest before wanted tests

@@ -23,10 +23,10 @@ AreKept list forest wanted left = AreTold left (length forest.content) (λ n. (t
 abbrev pub AreHeld : CompoundSelector → Forest → List Bool → List Bool → Type 0
 AreHeld c forest wanted held = AreTold held (length forest.content) (λ n. (truth_at wanted n ≡ true) × Holds c forest n)
 
--- of a selector's last compound, behind which there are no steps, only what is wanted is asked
-abbrev pub IsWorth : Steps → List Bool → ℕ → Type 0
-IsWorth no_steps wanted n = truth_at wanted n ≡ true
-IsWorth (step k c more) wanted n = Unit {0}
+-- a compound before these steps is called for wherever it is led to, but the last one of a selector only where that is wanted
+abbrev pub IsCalledFor : Steps → List Bool → ℕ → Type 0
+IsCalledFor no_steps wanted n = truth_at wanted n ≡ true
+IsCalledFor (step k c more) wanted n = Unit {0}
 
 abbrev mutual
   -- the compound is asked once of each node that is wanted, and its lists of some of these, at least of those of which it holds
@@ -49,14 +49,14 @@ abbrev mutual
   pub SelectorsAsk : SelectorList → Forest → List Bool → ℕ → Type 0
   SelectorsAsk no_selectors forest wanted tests = tests ≡ 0
   SelectorsAsk (alternative lead first rest more) forest wanted tests =
-      (here : List Bool) × (held : List Bool) × (one : ℕ) × (behind : ℕ) × (others : ℕ) × AreTold here (length forest.content) (IsWorth rest wanted)
+      (here : List Bool) × (held : List Bool) × (one : ℕ) × (behind : ℕ) × (others : ℕ) × AreTold here (length forest.content) (IsCalledFor rest wanted)
       × CompoundAsks first forest here one × AreHeld first forest here held × StepsAsk rest forest held wanted behind × SelectorsAsk more forest wanted others × (tests ≡ (one + behind) + others)
 
   -- each compound behind it at the nodes that are led to from those of which the one before holds
   pub StepsAsk : Steps → Forest → List Bool → List Bool → ℕ → Type 0
   StepsAsk no_steps forest before wanted tests = tests ≡ 0
   StepsAsk (step k c more) forest before wanted tests =
-      (here : List Bool) × (held : List Bool) × (one : ℕ) × (behind : ℕ) × AreTold here (length forest.content) (λ n. IsLed forest k before n × IsWorth more wanted n)
+      (here : List Bool) × (held : List Bool) × (one : ℕ) × (behind : ℕ) × AreTold here (length forest.content) (λ n. IsLed forest k before n × IsCalledFor more wanted n)
       × CompoundAsks c forest here one × AreHeld c forest here held × StepsAsk more forest held wanted behind × (tests ≡ one + behind)
 
   -- in `:has` each compound at the nodes from which those behind it lead to an element
@@ -74,7 +74,7 @@ abbrev mutual
 -- one selector of a list, and one of a list in `:has`
 abbrev pub SelectorAsks : CompoundSelector → Steps → Forest → List Bool → ℕ → Type 0
 SelectorAsks first rest forest wanted tests =
-    (here : List Bool) × (held : List Bool) × (one : ℕ) × (behind : ℕ) × AreTold here (length forest.content) (IsWorth rest wanted)
+    (here : List Bool) × (held : List Bool) × (one : ℕ) × (behind : ℕ) × AreTold here (length forest.content) (IsCalledFor rest wanted)
     × CompoundAsks first forest here one × AreHeld first forest here held × StepsAsk rest forest held wanted behind × (tests ≡ one + behind)
 
 abbrev pub LeadAsks : CompoundSelector → Steps → Forest → ℕ → Type 0

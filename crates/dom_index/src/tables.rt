@@ -6,8 +6,9 @@ ghost use Rattle.dom_selectors.specs.ValuesAsTrees.{read_compound, read_list, re
 ghost use Rattle.dom_selectors.specs.ValuesAsTrees.{read_step};
 ghost use Rattle.dom_select.specs.Meaning.{Holds, LeadsOn, LeadsToSome, ListHolds, ListsHold};
 ghost use Rattle.dom_select.specs.Meaning.{Means, Reaches};
-ghost use Rattle.dom_index.specs.Asked.{CompoundAsks, Counts, LeadAsks, LeadsAsk, ListAsks};
-ghost use Rattle.dom_index.specs.Asked.{ListsAsk, OnwardAsks, SelectorAsks, SelectorsAsk};
+ghost use Rattle.dom_index.specs.Asked.{AreHeld, CompoundAsks, Counts, LeadAsks, LeadsAsk};
+ghost use Rattle.dom_index.specs.Asked.{ListAsks, ListsAsk, OnwardAsks, SelectorAsks};
+ghost use Rattle.dom_index.specs.Asked.{SelectorsAsk};
 ghost use Rattle.dom_index.specs.Counts.{compound_count, list_count, lists_count};
 ghost use Rattle.dom_index.specs.Counts.{selectors_count, steps_count};
 ghost use Rattle.dom_index.specs.Onward.{Onward};
@@ -29,9 +30,8 @@ fn compound_table(
     tests: &mut u128,
 ) -> Result<Vec<bool>, OutOfMemory>
     requires { length wanted.items ≡ length layout.now.tree.now.content }
-    ensures table { IfOk result (λ table. AreTold table.items (length layout.now.tree.now.content)
-        (λ n. (truth_at wanted.items n ≡ true)
-        × Holds (read_compound compound.now) layout.now.tree.now n)) }
+    ensures table { IfOk result (λ table. AreHeld (read_compound compound.now) layout.now.tree.now
+        wanted.items table.items) }
     ensures counted { IfOk result (λ _. Counts tests.old tests.new
         (CompoundAsks (read_compound compound.now) layout.now.tree.now wanted.items)) }
     ensures tests { tests.new ≤ tests.old

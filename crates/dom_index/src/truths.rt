@@ -9,7 +9,7 @@ ghost use Rattle.dom_links.specs.ListMoves.{element_at};
 ghost use Rattle.dom_selectors.specs.Spelling.{Decides};
 ghost use Rattle.dom_select.specs.Answers.{AreAnswers};
 ghost use Rattle.dom_select.specs.Meaning.{Holds, ListsHold};
-ghost use Rattle.dom_index.specs.Asked.{Counts, truths};
+ghost use Rattle.dom_index.specs.Asked.{AreHeld, Counts, truths};
 ghost use Rattle.dom_index.specs.Names.{AreElements, IsWanted, lists_in};
 ghost use Rattle.dom_index.specs.Tables.{AllHold, AreAsked, AreBoth, AreEither, AreServing};
 ghost use Rattle.dom_index.specs.Tables.{AreTold, AreTurned, truth_at};
@@ -35,9 +35,8 @@ pub(crate) fn tested(
     requires lists { (n : ℕ) → n < length layout.now.tree.now.content
         → truth_at wanted.items n ≡ true →
         ListsHold (lists_of (map read_nested compound.now.nested.items)) layout.now.tree.now n }
-    ensures table { IfOk result (λ table. AreTold table.items (length layout.now.tree.now.content)
-        (λ n. (truth_at wanted.items n ≡ true)
-        × Holds (read_compound compound.now) layout.now.tree.now n)) }
+    ensures table { IfOk result (λ table. AreHeld (read_compound compound.now) layout.now.tree.now
+        wanted.items table.items) }
     ensures counted { IfOk result (λ _.
         Counts tests.old tests.new (λ asked. asked ≡ truths wanted.items)) }
     ensures tests { tests.new ≤ tests.old + truths wanted.items }

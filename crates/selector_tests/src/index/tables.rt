@@ -66,7 +66,7 @@ fn deep(alloc: Global) -> Result<Document, Fail> {
 /// Shows the tests in a small document.
 fn shows_small(rt: &(impl Abort + Alloc<A = Global>), tree: &Tree) -> Result<(), Fail> {
     shows_counts(rt, tree, "div p", (1, 7))?;
-    shows_counts(rt, tree, "div:has(> p):not(b)", (1, 5))
+    shows_counts(rt, tree, "div:has(> p):not(b)", (1, 9))
 }
 
 /// Shows the tests in a deep document.
