@@ -43,8 +43,11 @@ asking_last old now All Left asking none =
 
 -- what was asked at last
 pub asking_end : (old now new : ℕ) (All Left : ℕ → Type 0) → Asking old now All Left → Counts now new Left → Counts old new All
-asking_end old now new All Left asking (one, asked, counted) = (asking.so_far + one, asking.going one asked,
-    λ fits. let before : now ≡ old + asking.so_far = asking.counted (omega arith) in let after : new ≡ now + one = counted (omega arith) in omega arith)
+asking_end old now new All Left asking (one, asked, counted) = (
+  asking.so_far + one,
+  asking.going one asked,
+  λ fits. let before : now ≡ old + asking.so_far = asking.counted (omega arith) in let after : new ≡ now + one = counted (omega arith) in omega arith,
+)
 
 -- a table that tells the truth of fewer nodes
 pub fewer : (xs ys : List Bool) → length xs ≡ length ys → ((n : ℕ) → n < length ys → truth_at xs n ≡ true → truth_at ys n ≡ true) → truths xs ≤ truths ys
@@ -88,8 +91,11 @@ kept_told forest list wanted told left long holds both = record {
 -- compounds that lead on, and one before them
 pub lead_asks : (forest : Forest) (c : CompoundSelector) (rest : Steps) (here : List Bool) (old now new : ℕ) → AreTold here (length forest.content) (Onward rest forest) → Counts old now (OnwardAsks rest forest) → Counts now new (CompoundAsks c forest here) →
     Counts old new (LeadAsks c rest forest)
-lead_asks forest c rest here old now new told (behind, steps, before) (one, asked, after) = (behind + one, (here, one, behind, told, asked, steps, refl),
-    λ fits. let b : now ≡ old + behind = before (omega arith) in let a : new ≡ now + one = after (omega arith) in omega arith)
+lead_asks forest c rest here old now new told (behind, steps, before) (one, asked, after) = (
+  behind + one,
+  (here, one, behind, told, asked, steps, refl),
+  λ fits. let b : now ≡ old + behind = before (omega arith) in let a : new ≡ now + one = after (omega arith) in omega arith,
+)
 
 -- the same facts tell a table otherwise
 recast : (table : List Bool) (count : ℕ) (P Q : ℕ → Type 0) → AreTold table count P → ((n : ℕ) → n < count → P n ↔ Q n) → AreTold table count Q
@@ -108,22 +114,49 @@ NextAsks c rest forest led wanted tests =
 module _ (forest : Forest) (c : CompoundSelector) (rest : Steps) (led wanted : List Bool) where
   -- a selector's first compound is led to everywhere
   pub asks_first : led ≡ everywhere forest → (tests : ℕ) → NextAsks c rest forest led wanted tests → SelectorAsks c rest forest wanted tests
-  asks_first all tests (here, held, one, behind, told, asks, holds, steps, sum) = (here, held, one, behind,
-      recast here (length forest.content) _ (IsCalledFor rest wanted) told (λ n known. (λ x. x.1, λ w. (ap (λ cells. truth_at cells n) all ∙ get_or-replicate (length forest.content) n true false known, w))), asks, holds, steps, sum)
+  asks_first all tests (here, held, one, behind, told, asks, holds, steps, sum) = (
+    here,
+    held,
+    one,
+    behind,
+    recast here (length forest.content) _ (IsCalledFor rest wanted) told (λ n known. (λ x. x.1, λ w. (ap (λ cells. truth_at cells n) all ∙ get_or-replicate (length forest.content) n true false known, w))),
+    asks,
+    holds,
+    steps,
+    sum,
+  )
 
   -- each other one from the compound before
   pub asks_next : (k : Combinator) (before : List Bool) → AreTold led (length forest.content) (IsLed forest k before) → (tests : ℕ) → NextAsks c rest forest led wanted tests → StepsAsk (step k c rest) forest before wanted tests
-  asks_next k before is_led tests (here, held, one, behind, told, asks, holds, steps, sum) = (here, held, one, behind,
-      recast here (length forest.content) _ _ told (λ n known. (λ x. (rw x.0 at (is_led.each n known), x.1), λ x. (told_true (truth_at led n) (IsLed forest k before n) (is_led.each n known) x.0, x.1))), asks, holds, steps, sum)
+  asks_next k before is_led tests (here, held, one, behind, told, asks, holds, steps, sum) = (
+    here,
+    held,
+    one,
+    behind,
+    recast here (length forest.content) _ _ told (λ n known. (λ x. (rw x.0 at (is_led.each n known), x.1), λ x. (told_true (truth_at led n) (IsLed forest k before n) (is_led.each n known) x.0, x.1))),
+    asks,
+    holds,
+    steps,
+    sum,
+  )
 
   -- the last one where it is wanted
   pub asks_last : rest ≡ no_steps → (both held : List Bool) → length led ≡ length forest.content → AreBoth both led wanted → AreHeld c forest both held → (tests : ℕ) → CompoundAsks c forest both tests → NextAsks c rest forest led wanted tests
-  asks_last none both held long narrowed told tests asks = subst (λ steps. NextAsks c steps forest led wanted tests) (sym none) (both, held, tests, 0,
-      record {
-        long = narrowed.long ∙ long;
-        each = λ n known. told_by (truth_at both n) (truth_at both n ≡ true) ((truth_at led n ≡ true) × (truth_at wanted n ≡ true))
-            (λ t. both_true (truth_at led n) (truth_at wanted n) (sym (cell n known) ∙ t)) (λ x. cell n known ∙ (rw (x.0, x.1) refl)) (told_itself (truth_at both n));
-      }, asks, told, refl, omega arith)
+  asks_last none both held long narrowed told tests asks = subst (λ steps. NextAsks c steps forest led wanted tests) (sym none) (
+    both,
+    held,
+    tests,
+    0,
+    record {
+      long = narrowed.long ∙ long;
+      each = λ n known. told_by (truth_at both n) (truth_at both n ≡ true) ((truth_at led n ≡ true) × (truth_at wanted n ≡ true))
+          (λ t. both_true (truth_at led n) (truth_at wanted n) (sym (cell n known) ∙ t)) (λ x. cell n known ∙ (rw (x.0, x.1) refl)) (told_itself (truth_at both n));
+    },
+    asks,
+    told,
+    refl,
+    omega arith,
+  )
     where
       cell : (n : ℕ) → n < length forest.content → truth_at both n ≡ (truth_at led n && truth_at wanted n)
       cell n known = narrowed.each n (subst (λ (m : ℕ). n < m) (sym long) known)
@@ -131,9 +164,17 @@ module _ (forest : Forest) (c : CompoundSelector) (rest : Steps) (led wanted : L
 -- where others follow, a compound is asked wherever it is led to
 pub asks_more : (forest : Forest) (c next : CompoundSelector) (k : Combinator) (rest : Steps) (led there held wanted : List Bool) → length led ≡ length forest.content → AreHeld c forest led held → AreTold there (length forest.content) (IsLed forest k held) →
     (one behind : ℕ) → CompoundAsks c forest led one → NextAsks next rest forest there wanted behind → NextAsks c (step k next rest) forest led wanted (one + behind)
-asks_more forest c next k rest led there held wanted long told led_on one behind asks more = (led, held, one, behind,
-    record { long = long; each = λ n known. told_by (truth_at led n) (truth_at led n ≡ true) _ (λ t. (t, tt)) (λ x. x.0) (told_itself (truth_at led n)) },
-    asks, told, asks_next forest next rest there wanted k held led_on behind more, refl)
+asks_more forest c next k rest led there held wanted long told led_on one behind asks more = (
+  led,
+  held,
+  one,
+  behind,
+  record { long = long; each = λ n known. told_by (truth_at led n) (truth_at led n ≡ true) _ (λ t. (t, tt)) (λ x. x.0) (told_itself (truth_at led n)) },
+  asks,
+  told,
+  asks_next forest next rest there wanted k held led_on behind more,
+  refl,
+)
 
 -- a selector, and the others of its list
 pub asks_selectors : (lead : Combinator) (first : CompoundSelector) (rest : Steps) (more : SelectorList) (forest : Forest) (wanted : List Bool) (one others : ℕ) → SelectorAsks first rest forest wanted one → SelectorsAsk more forest wanted others →
@@ -165,12 +206,15 @@ module _ (forest : Forest) (c : Compound) (wanted named narrowed : List Bool) (l
   pub counts_compound : (old lists_asked turned new all left : ℕ) → all ≡ truths wanted → left ≡ truths narrowed → Counts old lists_asked (ListsAsk (lists_of (map read_nested c.nested.items)) forest named) →
       turned ≡ min (lists_asked + (all - left)) (2 ^ 128 - 1) → Counts turned new (λ n. n ≡ truths narrowed) → Counts old new (CompoundAsks (read_compound c) forest wanted)
   counts_compound old lists_asked turned new all left is_all is_left (more, lists, before) sum (own, is_own, after) =
-      let few = left_fewer in
-      (truths wanted + more, compound_asks forest c wanted named more (truths wanted + more) asked lists refl, λ fits.
-          let b : lists_asked ≡ old + more = before (omega arith) in
-          let t : turned ≡ lists_asked + (all - left) = omega arith in
-          let a : new ≡ turned + own = after (omega arith) in
-          omega arith)
+      let few = left_fewer in (
+        truths wanted + more,
+        compound_asks forest c wanted named more (truths wanted + more) asked lists refl,
+        λ fits.
+            let b : lists_asked ≡ old + more = before (omega arith) in
+            let t : turned ≡ lists_asked + (all - left) = omega arith in
+            let a : new ≡ turned + own = after (omega arith) in
+            omega arith,
+      )
 
   pub most_of_compound : (old lists_asked turned new all left : ℕ) → all ≡ truths wanted → left ≡ truths narrowed → lists_asked ≤ old + lists_count (lists_of (map read_nested c.nested.items)) * length forest.content →
       turned ≡ min (lists_asked + (all - left)) (2 ^ 128 - 1) → new ≤ turned + truths narrowed → new ≤ old + compound_count (read_compound c) * length forest.content

@@ -222,8 +222,10 @@ module _ (forest : Forest) (first : CompoundSelector) (all : Chain) (c : Compoun
         front = arrived.front ++ (k, next) ∷ [];
         split = arrived.split ∙ (ap (λ (ss : Chain). arrived.front ++ ss) is ∙ sym (append_assoc arrived.front ((k, next) ∷ []) behind));
         long = led.long;
-        same = λ n known. (λ x. chain_forth forest good lines first arrived.front k next held told n (rw x.0 at (led.each n known)) x.1,
-            λ r. let x = chain_back forest good lines first arrived.front k next held told n r in (told_true (truth_at there n) (IsLed forest k held n) (led.each n known) x.0, x.1));
+        same = λ n known. (
+          λ x. chain_forth forest good lines first arrived.front k next held told n (rw x.0 at (led.each n known)) x.1,
+          λ r. let x = chain_back forest good lines first arrived.front k next held told n r in (told_true (truth_at there n) (IsLed forest k held n) (led.each n known) x.0, x.1),
+        );
       }
 
   pub chain_last : (wanted both new : List Bool) → left ≡ [] → AreBoth both here wanted → AreHeld c forest both new → AreToldWhere wanted new (length forest.content) (ReachesIt forest first all)

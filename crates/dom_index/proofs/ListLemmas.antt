@@ -2,7 +2,7 @@
 use Rattle.std.proofs.Common.{◌≡◌, ◌⊎◌, ◌↔◌, ◌<◌, ◌≤◌, ◌+◌, ◌*◌, ℕ, List, [], ◌∷◌, ◌++◌, Bool, true, false, true≢false, MatchBool, inl, inr, refl, sym, ap, ◌∙◌, subst, length, arith, suc, map, take, drop, get_or, add-one}
 use Rattle.std.proofs.Math.Nat.{add-mul}
 use Rattle.std.proofs.Math.Seq.{drop-cons}
-use Rattle.std.proofs.lemmas.List.{take_more, map-append}
+use Rattle.std.proofs.lemmas.List.{take_more}
 use Rattle.std.specs.Prelude.{◌&&◌, ◌||◌, not}
 use Rattle.dom_links.specs.Forest.{Forest}
 use Rattle.dom_select.specs.Meaning.{ListHolds, ListsHold, Means}
@@ -12,7 +12,7 @@ use Rattle.dom_selectors.specs.declared.syntax.Selector.{Selector, out-Selector}
 use Rattle.dom_selectors.specs.declared.syntax.Step.{Step}
 use Rattle.dom_selectors.specs.ListsAsTrees.{lists_of, steps_of}
 use Rattle.dom_selectors.specs.ValuesAsTrees.{read_compound, read_list, read_nested, read_step}
-use Rattle.dom_selectors.specs.Syntax.{CompoundSelector, NestedLists, no_lists, nested, NestedList, none_means, SelectorList, alternative, Steps, step}
+use Rattle.dom_selectors.specs.Syntax.{CompoundSelector, NestedLists, no_lists, nested, NestedList, none_means, SelectorList, alternative, Steps}
 use Rattle.dom_selectors.proofs.Layers.{read_selector_is, read_step_is}
 use Rattle.dom_selectors.specs.Spelling.{Decides}
 use Rattle.dom_index.specs.Tables.{AreBoth, AreEither, AreTold, AreToldWhere, AreTurned, truth_at}

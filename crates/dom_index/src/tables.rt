@@ -15,7 +15,9 @@ ghost use Rattle.dom_index.specs.Onward.{Onward};
 ghost use Rattle.dom_index.specs.Tables.{AreTold, AreToldWhere, truth_at};
 
 use crate::layout::{Layout, know_forest};
-use crate::truths::{count_of, elements, narrow, narrow_beside, narrow_by_name, tested, turn, widen};
+use crate::truths::{
+    count_of, elements, narrow, narrow_beside, narrow_by_name, tested, turn, widen,
+};
 use crate::ways::{leading, led};
 use dom_nodes::fault::OutOfMemory;
 use dom_selectors::syntax::{Combinator, Compound, Nested, Selector, Step};

@@ -264,7 +264,7 @@ narrowed_table-returns-clause-counted t c =
 pub leading_table-returns-clause-counted : goal.leading_table-returns-clause-counted
 leading_table-returns-clause-counted t c =
     let counted = lead_asks c.args.layout.now.tree.now (read_compound c.args.first.now) (steps_of (map read_step c.args.steps.now)) c.in_ok-wanted.wanted.items c.args.tests.now c.onward_table.new.tests c.compound_table.new.tests
-        c.in_ok-wanted.ensures.table c.in_ok-wanted.ensures.counted c.in_ok-held.ensures.counted in
+    c.in_ok-wanted.ensures.table c.in_ok-wanted.ensures.counted c.in_ok-held.ensures.counted in
     IfOk-weaker c.leading.result _ _ (λ flags led. counted) c.leading.ensures
 
 pub nested_table-returns-in-Is-clause-counted : goal.nested_table-returns-in-Is-clause-counted
