@@ -1,5 +1,5 @@
 -- What an index has written down of an order.
-use Rattle.std.specs.Prelude.{ℕ, ◌≡◌, ◌≢◌, ◌<◌, ◌+◌, false, true, List, ◌∷◌, Some, None, length, slice_get, slice_index_or, slice_range}
+use Rattle.std.specs.Prelude.{ℕ, ◌≡◌, ◌≢◌, ◌<◌, ◌+◌, Bool, false, true, List, ◌∷◌, Some, None, length, slice_get, slice_index_or, slice_range}
 use Rattle.dom_nodes.specs.declared.node_data.NodeData.{NodeData}
 use Rattle.dom_links.specs.Forest.{Forest, parent, siblings}
 use Rattle.dom_links.specs.Lists.{before, stands_in}
@@ -7,6 +7,7 @@ use Rattle.dom_links.specs.Trees.{ancestors, walk_below}
 use Rattle.dom_index.specs.declared.layout.Sweep.{Sweep}
 use Rattle.dom_index.specs.Names.{byte_at, tells_name}
 use Rattle.dom_index.specs.Preorder.{preorder, run_past}
+use Rattle.dom_index.specs.Tables.{truth_at}
 
 abbrev pub number_at : List ℕ → ℕ → ℕ
 number_at numbers i = slice_index_or numbers i 0
@@ -53,3 +54,8 @@ pub record AreSpans (forest : Forest) (order places lasts : List ℕ) : Type 0 w
   pub last : (n : ℕ) → n < length forest.content → number_at lasts n ≡ number_at places n + length (walk_below forest n)
   pub fits : (n : ℕ) → n < length forest.content → number_at lasts n < length forest.content
   pub below : (n : ℕ) → n < length forest.content → slice_range order (number_at places n + 1) (number_at lasts n + 1) ≡ walk_below forest n
+
+-- of the nodes at the first `count` places whose truth the table tells, the walks below them go up to the place before `end`
+pub record IsEnd (forest : Forest) (places lasts : List ℕ) (table : List Bool) (count end : ℕ) : Type 0 where
+  pub reached : 0 < end → (v : ℕ) × (v < length forest.content) × (truth_at table v ≡ true) × (number_at places v < count) × (number_at lasts v + 1 ≡ end)
+  pub all : (v : ℕ) → v < length forest.content → truth_at table v ≡ true → number_at places v < count → number_at lasts v < end
