@@ -10,4 +10,5 @@ pub mod OrderLemmas
 pub mod PickLemmas
 pub mod PlaceLemmas
 pub mod PositionLemmas
+pub mod SpanLemmas
 pub mod SweepLemmas

@@ -1,8 +1,7 @@
 -- The order of a forest's nodes: each node stands in it once, behind its parent and behind the sibling before it.
-use Rattle.std.proofs.Common.{◌≡◌, ◌≢◌, ◌<◌, ◌≤◌, ◌+◌, ◌⊎◌, ℕ, zero, suc, List, [], ◌∷◌, ◌++◌, Bool, true, false, cond, true≢false, Option, Some, None, inl, inr, refl, sym, ap, ◌∙◌, subst, length, arith, append_assoc, append-nil, length-append, take, drop, set, ◌-◌}
+use Rattle.std.proofs.Common.{◌≡◌, ◌<◌, ◌≤◌, ◌+◌, ◌⊎◌, ℕ, zero, suc, List, [], ◌∷◌, ◌++◌, Bool, true, false, cond, true≢false, Option, Some, None, inl, inr, refl, sym, ap, ◌∙◌, subst, length, arith, append_assoc, append-nil, length-append, take, drop, ◌-◌}
 use Rattle.std.proofs.Math.Seq.{take-append_seam}
-use Rattle.std.specs.Option.{option_or}
-use Rattle.std.proofs.lemmas.List.{get_or-set_same, get_or-set_other, get_or-take, get_or-drop}
+use Rattle.std.proofs.lemmas.List.{get_or-take, get_or-drop}
 use Rattle.std.specs.Prelude.{◌==◌, ◌||◌, ◌&&◌}
 use Rattle.std.specs.Option.{is_none}
 use Rattle.std.proofs.lemmas.Bool.{cases_Bool, cases_lt, eq-eqb, eqb-true, or_cases, or_right}
@@ -14,20 +13,19 @@ use Rattle.dom_links.specs.Trees.{ancestors, trees, walk, walk_below}
 use Rattle.dom_links.specs.Walk.{IsWithin, later, rest_after, row_on}
 use Rattle.dom_links.proofs.Apart.{Under, compared, parted, walk_apart, walk_under, under_inside}
 use Rattle.dom_links.proofs.Depth.{parent_inside}
-use Rattle.dom_links.proofs.Neighbours.{before_here, distinct-append, last-cons_cons, last-stands, last-cons, stands_in-append}
+use Rattle.dom_links.proofs.Neighbours.{before_here, distinct-append, stands_in-append}
 use Rattle.dom_links.proofs.Places.{cases_Option, siblings_child, siblings_run}
 use Rattle.dom_links.proofs.SiblingWalks.{beside_itself, is_first}
 use Rattle.dom_links.proofs.Places.{Beside, siblings_once}
 use Rattle.dom_links.proofs.SiblingWalks.{Along, along}
 use Rattle.dom_links.proofs.Sounds.{after_before}
 use Rattle.std.specs.Prelude.{slice_range}
-use Rattle.dom_links.specs.Lists.{last}
-use Rattle.dom_index.specs.Orders.{AreSpans, IsOrder, last_from, number_at}
-use Rattle.dom_index.proofs.PlaceLemmas.{IsBehind, all_counted, number_after, behind_in, found_at, in_place, same_or_not}
+use Rattle.dom_index.specs.Orders.{AreSpans, IsOrder, number_at}
+use Rattle.dom_index.proofs.PlaceLemmas.{IsBehind, all_counted, number_after, behind_in, found_at, in_place}
 use Rattle.dom_index.specs.Preorder.{preorder, preorder_to, starts_run, walk_from}
 
 module _ (forest : Forest) (good : IsForest forest) (lines : AreLines forest) (laws : AreTrees forest) where
-  from_is : (n : ℕ) → n < length forest.content → walk_from forest n ≡ n ∷ (walk_below forest n ++ walk (trees forest (later forest false n)))
+  pub from_is : (n : ℕ) → n < length forest.content → walk_from forest n ≡ n ∷ (walk_below forest n ++ walk (trees forest (later forest false n)))
   from_is n known = ap walk (lines.row_trees n known)
 
   -- x, what is below it, and what is at and below its later siblings, in one piece
@@ -347,49 +345,11 @@ module _ (forest : Forest) (good : IsForest forest) (lines : AreLines forest) (l
       behind_sibling = λ n m known link. let h = sibling_behind n m known link in (h.0, behind_places n m h.1);
     }
 
--- a walk along a row: what is pushed and what is to come
-module _ (forest : Forest) (lines : AreLines forest) (at : ℕ) (o next : Option ℕ) (is : o ≡ Some at) (link : next ≡ after (siblings forest at) at) where
-  pub next_rest : row_on forest false o ≡ at ∷ row_on forest false next
-  next_rest = ap (row_on forest false) is ∙ ap (λ ns. at ∷ ns) (lines.beside false at ∙ ap (row_on forest false) (sym link))
-
-  pub next_within : IsWithin forest next
-  next_within = subst (IsWithin forest) (sym link) (lines.beside_known false at)
-
-  pub next_shorter : length (row_on forest false next) < length (row_on forest false o)
-  next_shorter = let e = ap length next_rest in omega arith
-
-  pub next_pushed : at < length forest.content → (old pushed new top : List ℕ) → pushed ≡ old ++ at ∷ [] → new ≡ pushed ++ walk_below forest at → old ++ walk (trees forest (row_on forest false o)) ≡ top →
-      new ++ walk (trees forest (row_on forest false next)) ≡ top
-  next_pushed known old pushed new top e f h =
-      let rest = walk (trees forest (row_on forest false next)) in
-      let whole : walk (trees forest (row_on forest false o)) ≡ at ∷ (walk_below forest at ++ rest) =
-      ap (λ p. walk (trees forest (row_on forest false p))) is ∙ (ap walk (lines.row_trees at known) ∙ ap (λ ns. at ∷ (walk_below forest at ++ walk (trees forest ns))) (lines.beside false at ∙ ap (row_on forest false) (sym link))) in
-      ap (λ ns. ns ++ rest) (f ∙ ap (λ ns. ns ++ walk_below forest at) e) ∙ (append_assoc (old ++ at ∷ []) (walk_below forest at) rest ∙ (append_assoc old (at ∷ []) (walk_below forest at ++ rest) ∙ (ap (λ ns. old ++ ns) (sym whole) ∙ h)))
-
-or_some : (o : Option ℕ) (x : ℕ) → option_or o (Some x) ≡ None → ⊥
-or_some None x e = cc
-or_some (Some y) x e = cc
-
-last_none : (ns : List ℕ) → last ns ≡ None → ns ≡ []
-last_none [] e = refl
-last_none (x ∷ xs) e = absurd (or_some (last xs) x (sym (last-cons x xs) ∙ e))
-
 cut_range : (front walk back : List ℕ) (n : ℕ) → take (length walk) (drop (suc (length front)) (front ++ n ∷ (walk ++ back))) ≡ walk
 cut_range [] walk back n = take-append_seam walk back
 cut_range (x ∷ front) walk back n = cut_range front walk back n
 
 module _ (forest : Forest) (good : IsForest forest) (lines : AreLines forest) (laws : AreTrees forest) where
-  -- the walk of some nodes ends with the last of them and what is below it
-  last_walk : (ns : List ℕ) (k : ℕ) → ((m : ℕ) → stands_in m ns ≡ true → m < length forest.content) → last ns ≡ Some k → (front : List ℕ) × (walk (trees forest ns) ≡ front ++ k ∷ walk_below forest k)
-  last_walk [] k known e = cc
-  last_walk (n ∷ []) k known e =
-      let same : n ≡ k = cc in
-      let none : walk (trees forest []) ≡ [] = ap walk laws.no_trees in
-      ([], ap walk (laws.a_tree n [] known) ∙ (ap (λ ns. n ∷ (walk_below forest n ++ ns)) none ∙ (ap (λ ns. n ∷ ns) (append-nil (walk_below forest n)) ∙ ap (λ m. m ∷ walk_below forest m) same)))
-  last_walk (n ∷ m ∷ ms) k known e =
-      let rest = last_walk (m ∷ ms) k (λ x s. known x (or_right (n == x) (stands_in x (m ∷ ms)) s)) (sym (last-cons_cons n m ms) ∙ e) in
-      (n ∷ walk_below forest n ++ rest.0, ap walk (laws.a_tree n (m ∷ ms) known) ∙ (ap (λ ns. n ∷ (walk_below forest n ++ ns)) rest.1 ∙ ap (λ ns. n ∷ ns) (sym (append_assoc (walk_below forest n) rest.0 (k ∷ walk_below forest k)))))
-
   module _ (places : List ℕ) (order : IsOrder forest (preorder forest) places) where
     -- where the order is cut, the front is as long as the place says
     place_is : (x : ℕ) (front back : List ℕ) → x < length forest.content → preorder forest ≡ front ++ x ∷ back → number_at places x ≡ length front
@@ -415,29 +375,6 @@ module _ (forest : Forest) (good : IsForest forest) (lines : AreLines forest) (l
         c.is ∙ (ap (λ ns. c.front ++ (ns ++ c.back)) (from_is forest good lines laws x known) ∙ ap (λ ns. c.front ++ x ∷ ns) (append_assoc (walk_below forest x) rest c.back)) in
         record { front = c.front; back = rest ++ c.back; is = is; at = place_is x c.front (walk_below forest x ++ (rest ++ c.back)) known is }
 
-    children_inside : (n m : ℕ) → stands_in m (children_of forest n) ≡ true → m < length forest.content
-    children_inside n m s = (good.once.in_children n m s).0
-
-    -- the last place at or below a node is that of its last child
-    pub last_told : (n : ℕ) (lasts : List ℕ) (o : Option ℕ) → n < length forest.content → last (children_of forest n) ≡ o →
-        ((k : ℕ) → o ≡ Some k → number_at lasts k ≡ number_at places k + length (walk_below forest k)) →
-        last_from (number_at lasts) (number_at places n) o ≡ number_at places n + length (walk_below forest n)
-    last_told n lasts None known e told =
-        let none : children_of forest n ≡ [] = last_none (children_of forest n) e in
-        let empty : walk_below forest n ≡ [] = ap (λ ns. walk (trees forest ns)) none ∙ ap walk laws.no_trees in
-        let short = ap length empty in omega arith
-    last_told n lasts (Some k) known e told =
-        let s = spanned n known in
-        let w = last_walk (children_of forest n) k (children_inside n) e in
-        let k_known = children_inside n k (last-stands (children_of forest n) k e) in
-        let whole : preorder forest ≡ (s.front ++ n ∷ w.0) ++ k ∷ (walk_below forest k ++ s.back) =
-        s.is ∙ (ap (λ ns. s.front ++ n ∷ (ns ++ s.back)) w.1 ∙ (ap (λ ns. s.front ++ n ∷ ns) (append_assoc w.0 (k ∷ walk_below forest k) s.back) ∙ sym (append_assoc s.front (n ∷ w.0) (k ∷ (walk_below forest k ++ s.back))))) in
-        let at_k = place_is k (s.front ++ n ∷ w.0) (walk_below forest k ++ s.back) k_known whole in
-        let front_long = length-append s.front (n ∷ w.0) in
-        let walk_long = ap length w.1 ∙ length-append w.0 (k ∷ walk_below forest k) in
-        let at_n = s.at in
-        told k refl ∙ (omega arith)
-
     span_fits : (n : ℕ) → n < length forest.content → number_at places n + length (walk_below forest n) < length forest.content
     span_fits n known =
         let s = spanned n known in
@@ -454,28 +391,6 @@ module _ (forest : Forest) (good : IsForest forest) (lines : AreLines forest) (l
         let from : number_at places n + 1 ≡ suc (length s.front) = omega arith in
         ap (λ a. take a (drop (number_at places n + 1) (preorder forest))) wide ∙ (ap (λ b. take (length (walk_below forest n)) (drop b (preorder forest))) from
         ∙ (ap (λ ns. take (length (walk_below forest n)) (drop (suc (length s.front)) ns)) s.is ∙ cut_range s.front (walk_below forest n) s.back n))
-
-    -- one more of the last places is told, from the back
-    pub lasts_more : (lasts : List ℕ) (i at n v : ℕ) → at + i + 1 ≡ length forest.content → n ≡ number_at (preorder forest) at → length lasts ≡ length forest.content →
-        ((m : ℕ) → m < length forest.content → length forest.content ≤ number_at places m + i → number_at lasts m ≡ number_at places m + length (walk_below forest m)) →
-        v ≡ last_from (number_at lasts) (number_at places n) (last (children_of forest n)) →
-        (m : ℕ) → m < length forest.content → length forest.content ≤ number_at places m + (i + 1) → number_at (set lasts n v) m ≡ number_at places m + length (walk_below forest m)
-    lasts_more lasts i at n v counts is long told e m known far =
-        let inside : at < length forest.content = omega arith in
-        let n_known : n < length forest.content = subst (λ (j : ℕ). j < length forest.content) (sym is) (order.known at inside) in
-        let place : number_at places n ≡ at = ap (number_at places) is ∙ order.placed at inside in
-        let here : v ≡ number_at places n + length (walk_below forest n) = e ∙ last_told n lasts (last (children_of forest n)) n_known refl
-        (λ k so. let up = good.once.in_children n k (last-stands (children_of forest n) k so) in let behind = (order.behind_parent k n up.0 up.1).1 in told k up.0 (omega arith)) in
-        elim (same_or_not m n) [
-          | inl same ↦ ap (number_at (set lasts n v)) same ∙ (get_or-set_same lasts n v 0 (omega arith) ∙ (here ∙ ap (λ j. number_at places j + length (walk_below forest j)) (sym same)))
-          | inr other ↦ get_or-set_other lasts n m v 0 other ∙ told m known (nearer m known other far)
-        ]
-      where
-        nearer : (m : ℕ) → m < length forest.content → m ≢ n → length forest.content ≤ number_at places m + (i + 1) → length forest.content ≤ number_at places m + i
-        nearer m known other far = elim (same_or_not (number_at places m) at) [
-          | inl so ↦ absurd (other (sym (order.ordered m known) ∙ (ap (number_at (preorder forest)) so ∙ sym is)))
-          | inr apart ↦ omega arith
-        ]
 
     pub are_spans : (lasts : List ℕ) → length lasts ≡ length forest.content → ((n : ℕ) → n < length forest.content → number_at lasts n ≡ number_at places n + length (walk_below forest n)) → AreSpans forest (preorder forest) places lasts
     are_spans lasts long told = record {

@@ -139,19 +139,8 @@ all_counted order count once inside all =
     told : (n : ℕ) → n < count → (at n < length order) × (number_at order (at n) ≡ n)
     told n known = told_at n known (cases_lt n count)
 
--- one more value is pushed
-module _ {A : Type 0} (d : A) where
-  front_stays : (xs ys : List A) (m : ℕ) → m < length xs → get_or (xs ++ ys) m d ≡ get_or xs m d
-  front_stays [] ys m known = absurd (omega arith)
-  front_stays (x ∷ xs) ys zero known = refl
-  front_stays (x ∷ xs) ys (suc m) known = front_stays xs ys m (omega arith)
-
-  end_is : (xs : List A) (v : A) → get_or (xs ++ v ∷ []) (length xs) d ≡ v
-  end_is [] v = refl
-  end_is (x ∷ xs) v = end_is xs v
-
-  pub one_pushed : (f : ℕ → A) (xs new : List A) (n : ℕ) (v : A) → length xs ≡ n → new ≡ xs ++ v ∷ [] → ((m : ℕ) → m < n → get_or xs m d ≡ f m) → v ≡ f n → (m : ℕ) → m < n + 1 → get_or new m d ≡ f m
-  one_pushed f xs new n v long is told here m below = ap (λ ys. get_or ys m d) is ∙ (elim (same_or_not m n) [
-    | inl e ↦ ap (λ k. get_or (xs ++ v ∷ []) k d) (e ∙ sym long) ∙ (end_is xs v ∙ (here ∙ ap f (sym e)))
-    | inr other ↦ front_stays xs (v ∷ []) m (omega arith) ∙ told m (omega arith)
-  ])
+-- the front of a list stays where it is
+pub front_stays : {A : Type 0} (d : A) (xs ys : List A) (m : ℕ) → m < length xs → get_or (xs ++ ys) m d ≡ get_or xs m d
+front_stays d [] ys m known = absurd (omega arith)
+front_stays d (x ∷ xs) ys zero known = refl
+front_stays d (x ∷ xs) ys (suc m) known = front_stays d xs ys m (omega arith)

@@ -1,88 +1,187 @@
 -- What a sweep has written down, node by node.
-use Rattle.std.proofs.Common.{◌≡◌, ◌≢◌, ◌<◌, ℕ, List, [], ◌∷◌, ◌++◌, Bool, true, false, true≢false, Option, None, Some, slice_get, ◌⊎◌, inl, inr, refl, sym, ap, ◌∙◌, length, map, set, get_or, arith, append_assoc, append-nil, length-append, cond, zero, suc, ◌+◌, ◌-◌}
-use Rattle.std.specs.Prelude.{◌==◌, ◌||◌}
-use Rattle.std.proofs.lemmas.Bool.{cases_Bool, eq-eqb, eqb-true, or_right}
-use Rattle.std.proofs.lemmas.List.{get_or-map, get_or-set_other, get_or-set_same, length-set, map-append}
-use Rattle.dom_links.specs.Forest.{Forest, children_of, parent}
-use Rattle.dom_links.specs.Lists.{last, stands_in}
-use Rattle.dom_links.proofs.Neighbours.{stands_in-append}
-use Rattle.std.proofs.lemmas.Option.{same_Some}
+use Rattle.std.proofs.Common.{◌≡◌, ◌≢◌, ◌<◌, ◌≤◌, ◌⊎◌, ℕ, zero, suc, ◌+◌, ◌-◌, List, [], ◌∷◌, ◌++◌, Bool, true, false, true≢false, Option, None, Some, is_some, slice_get, inl, inr, refl, sym, ap, ◌∙◌, subst, length, set, get_or, map, arith, append_assoc, append-nil, length-append, cond, drop}
+use Rattle.std.specs.Prelude.{◌==◌, ◌||◌, ◌&&◌}
+use Rattle.std.specs.Option.{is_none}
+use Rattle.std.proofs.lemmas.Bool.{eq-eqb, eqb-true, or_cases, or_right}
+use Rattle.std.proofs.lemmas.Grind.{same_number_lists}
+use Rattle.std.proofs.lemmas.List.{get_or-map, get_or-set_other, get_or-set_same, length-map, length-set, same_lists}
+use Rattle.std.proofs.lemmas.Option.{same_Some, slice_get_within}
 use Rattle.dom_nodes.specs.declared.node_data.NodeData.{NodeData}
-use Rattle.dom_index.specs.Names.{byte_at, tells_name}
+use Rattle.dom_links.specs.Forest.{Forest, children_of, parent, siblings}
+use Rattle.dom_links.specs.Laws.{AreLines, AreTrees}
+use Rattle.dom_links.specs.Lists.{IsDistinct, after, first, stands_in}
+use Rattle.dom_links.specs.Sound.{IsForest}
+use Rattle.dom_links.specs.Trees.{ancestors, trees, upward, walk, walk_below}
+use Rattle.dom_links.specs.Walk.{IsWithin, later, row_on}
+use Rattle.dom_links.proofs.Depth.{parent_inside}
+use Rattle.dom_index.specs.Names.{AreNames, byte_at, tells_name}
 use Rattle.dom_index.specs.declared.layout.Sweep.{Sweep}
-use Rattle.dom_index.specs.Orders.{IsSwept, number_at}
-use Rattle.dom_index.specs.Preorder.{preorder, preorder_to, starts_run, walk_from}
-use Rattle.std.proofs.lemmas.List.{nil_from_length}
-use Rattle.dom_index.proofs.PlaceLemmas.{same_or_not}
+use Rattle.dom_index.specs.Orders.{AreEnded, ArePlaces, AreSpans, IsOrder, IsSwept, number_at}
+use Rattle.dom_index.specs.Preorder.{above_it, preorder, preorder_to, run_on, run_past, starts_run, walk_from}
+use Rattle.dom_index.proofs.OrderLemmas.{are_spans, from_is}
+use Rattle.dom_index.proofs.PlaceLemmas.{distinct_places, found_at, front_stays, in_place, placed_more, same_or_not}
 
-or_none : (a b : Bool) → b ≡ false → (a || (b || false)) ≡ a
-or_none true b e = refl
-or_none false true e = absurd (true≢false e)
-or_none false false e = refl
+-- a node and its ancestors, if there is one
+abbrev pub path_from : Forest → Option ℕ → List ℕ
+path_from forest None = []
+path_from forest (Some n) = n ∷ ancestors forest n
 
-or_none_back : (a b : Bool) → (b ≡ true → ⊥) → (a || (b || false)) ≡ true → a ≡ true
-or_none_back true b none s = refl
-or_none_back false true none s = absurd (none refl)
-or_none_back false false none s = s
+module _ (forest : Forest) (good : IsForest forest) (lines : AreLines forest) (laws : AreTrees forest) where
+  -- what a run still gives from a node on: the node, what is below it, and what is past it and its ancestors
+  pub run_cut : (n : ℕ) → n < length forest.content → run_on forest (Some n) ≡ n ∷ (walk_below forest n ++ run_past forest (n ∷ ancestors forest n))
+  run_cut n known =
+      ap (λ ns. ns ++ run_past forest (ancestors forest n)) (from_is forest good lines laws n known) ∙ ap (λ ns. n ∷ ns) (append_assoc (walk_below forest n) (walk (trees forest (later forest false n))) (run_past forest (ancestors forest n)))
 
-module _ (forest : Forest) (old new : Sweep) (n : ℕ) (known : n < length forest.content) (swept : IsSwept forest old) (order : new.order.items ≡ old.order.items ++ n ∷ []) where
-  marked_now : (marks : List Bool) → marks ≡ set old.marks.items n true → (m : ℕ) → m < length forest.content → get_or marks m false ≡ stands_in m new.order.items
-  marked_now marks e m inside = ap (λ bs. get_or bs m false) e ∙ (told ∙ (sym (stands_in-append old.order.items (n ∷ []) m) ∙ ap (stands_in m) (sym order)))
+  -- down to the first child
+  pub down : (n : ℕ) (child : Option ℕ) → n < length forest.content → child ≡ first (children_of forest n) → is_some child ≡ true →
+      (IsWithin forest child) × (above_it forest child ≡ n ∷ ancestors forest n) × (run_on forest (Some n) ≡ n ∷ run_on forest child)
+  down n None known e some = absurd (true≢false (sym some))
+  down n (Some f) known e some =
+      let row : children_of forest n ≡ row_on forest false (Some f) = lines.below false n ∙ ap (row_on forest false) (sym e) in
+      let there : stands_in f (children_of forest n) ≡ true = ap (stands_in f) row ∙ ap (λ b. b || stands_in f (later forest false f)) (eq-eqb f f refl) in
+      let up : ancestors forest f ≡ n ∷ ancestors forest n = lines.up f n (good.once.in_children n f there).1 in
+      let below : walk_below forest n ≡ walk_from forest f = ap (λ ns. walk (trees forest ns)) row in
+      ((good.once.in_children n f there).0, up, run_cut n known ∙ (ap (λ ns. n ∷ (ns ++ run_past forest (n ∷ ancestors forest n))) below ∙ ap (λ ps. n ∷ (walk_from forest f ++ run_past forest ps)) (sym up)))
+
+  -- nothing is below a node without a first child
+  pub at_leaf : (n : ℕ) (child : Option ℕ) → n < length forest.content → child ≡ first (children_of forest n) → is_some child ≡ false → run_on forest (Some n) ≡ n ∷ run_past forest (n ∷ ancestors forest n)
+  at_leaf n (Some f) known e none = absurd (true≢false none)
+  at_leaf n None known e none =
+      let row : children_of forest n ≡ [] = lines.below false n ∙ ap (row_on forest false) (sym e) in
+      let empty : walk_below forest n ≡ [] = ap (λ ns. walk (trees forest ns)) row ∙ ap walk laws.no_trees in
+      run_cut n known ∙ ap (λ ns. n ∷ (ns ++ run_past forest (n ∷ ancestors forest n))) empty
+
+  -- on to the sibling behind
+  pub aside : (n : ℕ) (next : Option ℕ) → next ≡ after (siblings forest n) n → is_some next ≡ true →
+      (IsWithin forest next) × (above_it forest next ≡ ancestors forest n) × (run_past forest (n ∷ ancestors forest n) ≡ run_on forest next)
+  aside n None e some = absurd (true≢false (sym some))
+  aside n (Some s) e some =
+      let row : later forest false n ≡ row_on forest false (Some s) = lines.beside false n ∙ ap (row_on forest false) (sym e) in
+      let same : ancestors forest s ≡ ancestors forest n = ap (upward forest) (lines.together false n s (sym e)) in (
+        subst (IsWithin forest) (sym e) (lines.beside_known false n),
+        same,
+        ap (λ ns. walk (trees forest ns) ++ run_past forest (ancestors forest n)) row ∙ ap (λ ps. walk_from forest s ++ run_past forest ps) (sym same),
+      )
+
+  -- nothing is past a node without a sibling behind it
+  pub past_last : (n : ℕ) (next : Option ℕ) → next ≡ after (siblings forest n) n → is_some next ≡ false → run_past forest (n ∷ ancestors forest n) ≡ run_past forest (ancestors forest n)
+  past_last n (Some s) e none = absurd (true≢false none)
+  past_last n None e none =
+      let row : later forest false n ≡ [] = lines.beside false n ∙ ap (row_on forest false) (sym e) in
+      let empty : walk (trees forest (later forest false n)) ≡ [] = ap (λ ns. walk (trees forest ns)) row ∙ ap walk laws.no_trees in
+      ap (λ ns. ns ++ run_past forest (ancestors forest n)) empty
+
+  -- up to the parent
+  pub up_path : (n : ℕ) (up : Option ℕ) → up ≡ parent forest n → path_from forest up ≡ ancestors forest n
+  up_path n None e = sym (lines.top n (sym e))
+  up_path n (Some p) e = sym (lines.up n p (sym e))
+
+  pub up_within : (n : ℕ) (up : Option ℕ) → up ≡ parent forest n → IsWithin forest up
+  up_within n None e = tt
+  up_within n (Some p) e = parent_inside forest n p good (sym e)
+
+-- last places
+module _ (forest : Forest) (once : IsDistinct (preorder forest)) (long : length (preorder forest) ≡ length forest.content) (met : ℕ) (lasts : List ℕ) (n : ℕ) where
+  -- a node is met
+  pub met_now : (ahead : ℕ) → (wide : run_on forest (Some n) ≡ n ∷ (walk_below forest n ++ run_past forest (n ∷ ancestors forest n))) → number_at (preorder forest) met ≡ n →
+      AreEnded forest (ancestors forest n) met (length (run_on forest (Some n))) lasts → suc ahead ≡ length (run_on forest (Some n)) → AreEnded forest (n ∷ ancestors forest n) (met + 1) ahead lasts
+  met_now ahead wide here ended counts = record {
+    long = ended.long;
+    begun = λ m s. elim (or_cases (n == m) (stands_in m (ancestors forest n)) s) [
+      | inl same ↦ subst Begun (eqb-true n m same) (met, omega arith, here, (let w = ap length wide ∙ ap suc (length-append (walk_below forest n) (run_past forest (n ∷ ancestors forest n))) in omega arith))
+      | inr above ↦ (let b = ended.begun m above in let less = b.1 in let e = b.3 in (b.0, omega arith, b.2, omega arith))
+    ];
+    told = λ i below none. ended.told i (nearer i below none) (no_other (n == number_at (preorder forest) i) _ none);
+  }
     where
-      told : get_or (set old.marks.items n true) m false ≡ (stands_in m old.order.items || ((n == m) || false))
-      told = elim (same_or_not m n) [
-        | inl same ↦ (let here : get_or (set old.marks.items n true) m false ≡ true = ap (λ k. get_or (set old.marks.items n true) k false) same ∙ get_or-set_same old.marks.items n true false (let long = swept.long in omega arith) in
-            here ∙ sym (or_right (stands_in m old.order.items) ((n == m) || false) (ap (λ b. b || false) (eq-eqb n m (sym same)))))
-        | inr other ↦ get_or-set_other old.marks.items n m true false other ∙ (swept.marked m inside ∙ sym (or_none (stands_in m old.order.items) (n == m) (apart other)))
+      Begun : ℕ → Type 0
+      Begun m = (i : ℕ) × (i < met + 1) × (number_at (preorder forest) i ≡ m) × (i + 1 + length (walk_below forest m) + length (run_past forest (m ∷ ancestors forest m)) ≡ met + 1 + ahead)
+
+      no_other : (a b : Bool) → (a || b) ≡ false → b ≡ false
+      no_other true b e = absurd (true≢false e)
+      no_other false b e = e
+
+      nearer : (i : ℕ) → i < met + 1 → stands_in (number_at (preorder forest) i) (n ∷ ancestors forest n) ≡ false → i < met
+      nearer i below none = elim (same_or_not i met) [
+        | inr other ↦ omega arith
+        | inl same ↦ (let is : n ≡ number_at (preorder forest) i = sym here ∙ ap (number_at (preorder forest)) (sym same) in
+            let so : stands_in (number_at (preorder forest) i) (n ∷ ancestors forest n) ≡ true = ap (λ b. b || stands_in (number_at (preorder forest) i) (ancestors forest n)) (eq-eqb n (number_at (preorder forest) i) is) in
+            absurd (true≢false (sym so ∙ none)))
       ]
-        where
-          apart : m ≢ n → (n == m) ≡ false
-          apart other = elim (cases_Bool (n == m)) [
-            | inl t ↦ absurd (other (sym (eqb-true n m t)))
-            | inr f ↦ f
-          ]
 
-  named_now : (byte : ℕ) (node : NodeData) → slice_get forest.content n ≡ Some node → tells_name node byte ≡ true → new.names.items ≡ set old.names.items n byte → (m : ℕ) (other : NodeData) → stands_in m new.order.items ≡ true →
-      slice_get forest.content m ≡ Some other → (m ≡ n) ⊎ (m ≢ n) → tells_name other (byte_at new.names.items m) ≡ true
-  named_now byte node found told names m other s is (inl same) =
-      let here : byte_at new.names.items m ≡ byte = ap (λ bs. get_or bs m 0) names ∙ (ap (λ k. get_or (set old.names.items n byte) k 0) same ∙ get_or-set_same old.names.items n byte 0 (let long = swept.names_long in omega arith)) in
-      let one : node ≡ other = same_Some node other (sym found ∙ (ap (slice_get forest.content) (sym same) ∙ is)) in
-      ap (tells_name other) here ∙ (ap (λ x. tells_name x byte) (sym one) ∙ told)
-  named_now byte node found told names m other s is (inr apart) =
-      let there : byte_at new.names.items m ≡ byte_at old.names.items m = ap (λ bs. get_or bs m 0) names ∙ get_or-set_other old.names.items n m byte 0 apart in
-      let before : stands_in m old.order.items ≡ true = or_none_back (stands_in m old.order.items) (n == m) (λ t. apart (sym (eqb-true n m t))) (sym (stands_in-append old.order.items (n ∷ []) m) ∙ (ap (stands_in m) (sym order) ∙ s)) in
-      ap (tells_name other) there ∙ swept.named m other before is
+  -- all is met that is at or below a node
+  pub ended_now : (last : ℕ) → last + 1 ≡ met → met ≤ length forest.content → n < length forest.content → AreEnded forest (n ∷ ancestors forest n) met (length (run_past forest (n ∷ ancestors forest n))) lasts →
+      AreEnded forest (ancestors forest n) met (length (run_past forest (n ∷ ancestors forest n))) (set lasts n last)
+  ended_now last e few known ended = record {
+    long = length-set lasts n last ∙ ended.long;
+    begun = λ m s. ended.begun m (or_right (n == m) (stands_in m (ancestors forest n)) s);
+    told = λ i below none. elim (same_or_not (number_at (preorder forest) i) n) [
+      | inl same ↦ (let b = ended.begun n (ap (λ t. t || stands_in n (ancestors forest n)) (eq-eqb n n refl)) in
+          let less = b.1 in
+          let counts = b.3 in
+          let here : i ≡ b.0 = distinct_places (preorder forest) i b.0 once (omega arith) (omega arith) (same ∙ sym b.2) in
+          let is : last ≡ i + length (walk_below forest n) = omega arith in
+          ap (number_at (set lasts n last)) same ∙ (get_or-set_same lasts n last 0 (let l = ended.long in omega arith) ∙ (is ∙ ap (λ m. i + length (walk_below forest m)) (sym same))))
+      | inr other ↦ get_or-set_other lasts n (number_at (preorder forest) i) last 0 other ∙ ended.told i below (not_it (n == number_at (preorder forest) i) _ (λ t. other (sym (eqb-true n (number_at (preorder forest) i) t))) none)
+    ];
+  }
+    where
+      not_it : (a b : Bool) → (a ≡ true → ⊥) → b ≡ false → (a || b) ≡ false
+      not_it true b none e = absurd (none refl)
+      not_it false b none e = e
 
-  pub swept_more : (byte : ℕ) (node : NodeData) → slice_get forest.content n ≡ Some node → tells_name node byte ≡ true → new.names.items ≡ set old.names.items n byte → new.above.items ≡ old.above.items ++ parent forest n ∷ [] → new.ends.items ≡ old.ends.items ++ last (children_of forest n) ∷ [] → new.marks.items ≡ set old.marks.items n true → IsSwept forest new
-  swept_more byte node found told names above ends marks = record {
-    above = above ∙ (ap (λ ns. ns ++ parent forest n ∷ []) swept.above ∙ (sym (map-append (parent forest) old.order.items (n ∷ [])) ∙ ap (map (parent forest)) (sym order)));
-    ends = ends ∙ (ap (λ ns. ns ++ last (children_of forest n) ∷ []) swept.ends ∙ (sym (map-append (λ m. last (children_of forest m)) old.order.items (n ∷ [])) ∙ ap (map (λ m. last (children_of forest m))) (sym order)));
-    long = ap length marks ∙ (length-set old.marks.items n true ∙ swept.long);
-    marked = marked_now new.marks.items marks;
+pub ended_same : (forest : Forest) (path other : List ℕ) (met ahead more : ℕ) (lasts : List ℕ) → path ≡ other → ahead ≡ more → AreEnded forest path met ahead lasts → AreEnded forest other met more lasts
+ended_same forest path other met ahead more lasts e f ended = subst (λ p. AreEnded forest p met more lasts) e (subst (λ a. AreEnded forest path met a lasts) f ended)
+
+-- one more value is written at the next place
+set_next : {A : Type 0} (d : A) (f : ℕ → A) (xs : List A) (n : ℕ) (v : A) → n < length xs → ((i : ℕ) → i < n → get_or xs i d ≡ f i) → v ≡ f n → (i : ℕ) → i < n + 1 → get_or (set xs n v) i d ≡ f i
+set_next d f xs n v inside told is i below = elim (same_or_not i n) [
+  | inl same ↦ ap (λ k. get_or (set xs n v) k d) same ∙ (get_or-set_same xs n v d inside ∙ (is ∙ ap f (sym same)))
+  | inr other ↦ get_or-set_other xs n i v d other ∙ told i (omega arith)
+]
+
+-- one more node is written down
+module _ (forest : Forest) (once : IsDistinct (preorder forest)) (long : length (preorder forest) ≡ length forest.content) (old new : Sweep) (n : ℕ) (known : n < length forest.content) (room : old.met < length forest.content) (here : number_at (preorder forest) old.met ≡ n) (swept : IsSwept forest old) where
+  named_now : (byte : ℕ) (node : NodeData) → slice_get forest.content n ≡ Some node → tells_name node byte ≡ true → (i : ℕ) (other : NodeData) → i < old.met + 1 → slice_get forest.content (number_at (preorder forest) i) ≡ Some other → (i ≡ old.met) ⊎ (i ≢ old.met) →
+      tells_name other (byte_at (set old.names.items n byte) (number_at (preorder forest) i)) ≡ true
+  named_now byte node found told i other below is (inl same) =
+      let at : number_at (preorder forest) i ≡ n = ap (number_at (preorder forest)) same ∙ here in
+      let written : byte_at (set old.names.items n byte) (number_at (preorder forest) i) ≡ byte = ap (byte_at (set old.names.items n byte)) at ∙ get_or-set_same old.names.items n byte 0 (let l = swept.names_long in omega arith) in
+      let one : node ≡ other = same_Some node other (sym found ∙ (ap (slice_get forest.content) (sym at) ∙ is)) in
+      ap (tells_name other) written ∙ (ap (λ x. tells_name x byte) (sym one) ∙ told)
+  named_now byte node found told i other below is (inr apart) =
+      let elsewhere : number_at (preorder forest) i ≢ n = λ e. apart (distinct_places (preorder forest) i old.met once (omega arith) (omega arith) (e ∙ sym here)) in
+      ap (tells_name other) (get_or-set_other old.names.items n (number_at (preorder forest) i) byte 0 elsewhere) ∙ swept.named i other (omega arith) is
+
+  unmet_now : (byte m : ℕ) → m < length forest.content → byte_at (set old.names.items n byte) m ≢ 253 → (i : ℕ) × (i < old.met + 1) × (number_at (preorder forest) i ≡ m)
+  unmet_now byte m inside other = elim (same_or_not m n) [
+    | inl same ↦ (old.met, omega arith, here ∙ sym same)
+    | inr apart ↦ (let p = swept.unmet m inside (λ e. other (get_or-set_other old.names.items n m byte 0 apart ∙ e)) in let less = p.1 in (p.0, omega arith, p.2))
+  ]
+
+  pub swept_more : (byte : ℕ) (node : NodeData) → slice_get forest.content n ≡ Some node → tells_name node byte ≡ true → new.met ≡ old.met + 1 → new.order.items ≡ set old.order.items old.met n → new.above.items ≡ set old.above.items old.met (parent forest n) → new.places.items ≡ set old.places.items n old.met → new.names.items ≡ set old.names.items n byte → IsSwept forest new
+  swept_more byte node found told met order above places names = record {
+    order_long = ap length order ∙ (length-set old.order.items old.met n ∙ swept.order_long);
+    above_long = ap length above ∙ (length-set old.above.items old.met (parent forest n) ∙ swept.above_long);
+    places_long = ap length places ∙ (length-set old.places.items n old.met ∙ swept.places_long);
     names_long = ap length names ∙ (length-set old.names.items n byte ∙ swept.names_long);
-    named = λ m other s is. named_now byte node found told names m other s is (same_or_not m n);
+    order = λ i below. ap (λ xs. number_at xs i) order ∙ set_next 0 (number_at (preorder forest)) old.order.items old.met n (let l = swept.order_long in omega arith) swept.order (sym here) i (omega arith);
+    above = λ i below. ap (λ xs. get_or xs i None) above ∙ set_next None (λ j. parent forest (number_at (preorder forest) j)) old.above.items old.met (parent forest n) (let l = swept.above_long in omega arith) swept.above (ap (parent forest) (sym here)) i (omega arith);
+    placed = λ i below. ap (λ xs. number_at xs (number_at (preorder forest) i)) places ∙ placed_more (preorder forest) old.places.items old.met n once (omega arith) (sym here) (let l = swept.places_long in omega arith) swept.placed i (omega arith);
+    named = λ i other below is. ap (λ xs. tells_name other (byte_at xs (number_at (preorder forest) i))) names ∙ named_now byte node found told i other (omega arith) is (same_or_not i old.met);
+    unmet = λ m inside apart. (let p = unmet_now byte m inside (λ e. apart (ap (λ xs. byte_at xs m) names ∙ e)) in let less = p.1 in (p.0, omega arith, p.2));
   }
 
-pub link_at : (f : ℕ → Option ℕ) (links : List (Option ℕ)) (order : List ℕ) (i : ℕ) → links ≡ map f order → i < length order → get_or links i None ≡ f (number_at order i)
-link_at f links order i e known = ap (λ os. get_or os i None) e ∙ get_or-map f order i 0 None known
+-- where a list is cut
+pub drop_cut : (xs : List ℕ) (i x : ℕ) (ys : List ℕ) → drop i xs ≡ x ∷ ys → (i < length xs) × (number_at xs i ≡ x) × (drop (suc i) xs ≡ ys)
+drop_cut [] zero x ys e = cc
+drop_cut [] (suc i) x ys e = cc
+drop_cut (y ∷ xs) zero x ys e = let one : y ≡ x = cc in let rest : xs ≡ ys = cc in (omega arith, one, rest)
+drop_cut (y ∷ xs) (suc i) x ys e = let p = drop_cut xs i x ys e in let less = p.0 in (omega arith, p.1, p.2)
 
--- a walk in which a node is met: what was met, and what is to come
-module _ (left more : List ℕ) (n : ℕ) (step : left ≡ n ∷ more) where
-  pub first_inside : (count : ℕ) → ((m : ℕ) → stands_in m left ≡ true → m < count) → n < count
-  first_inside count inside = inside n (ap (stands_in n) step ∙ ap (λ b. b || stands_in n more) (eq-eqb n n refl))
-
-  pub rest_inside : (count : ℕ) → ((m : ℕ) → stands_in m left ≡ true → m < count) → (m : ℕ) → stands_in m more ≡ true → m < count
-  rest_inside count inside m s = inside m (ap (stands_in m) step ∙ or_right (n == m) (stands_in m more) s)
-
-  pub met_more : (old new all : List ℕ) → old ++ left ≡ all → new ≡ old ++ n ∷ [] → new ++ more ≡ all
-  met_more old new all e met = ap (λ ns. ns ++ more) met ∙ (append_assoc old (n ∷ []) more ∙ (ap (λ ns. old ++ ns) (sym step) ∙ e))
-
--- a node that was met starts no run, so the order goes on without it
-pub none_started : (forest : Forest) (n : ℕ) (order : List ℕ) → starts_run forest n ≡ false → order ≡ preorder_to forest n → order ≡ preorder_to forest (n + 1)
-none_started forest n order none is =
-    let more : preorder_to forest (suc n) ≡ preorder_to forest n = ap (λ b. preorder_to forest n ++ cond b (walk_from forest n) []) none ∙ append-nil (preorder_to forest n) in
-    let next : suc n ≡ n + 1 = omega arith in
-    is ∙ (sym more ∙ ap (preorder_to forest) next)
+drop_front : (xs ys : List ℕ) → drop (length xs) (xs ++ ys) ≡ ys
+drop_front [] ys = refl
+drop_front (x ∷ xs) ys = drop_front xs ys
 
 -- the order up to a number goes on to the order up to a greater one
 order_grows : (forest : Forest) (n k m : ℕ) → m ≡ k + n → (rest : List ℕ) × (preorder_to forest m ≡ preorder_to forest n ++ rest)
@@ -96,20 +195,89 @@ order_grows forest n (suc k) m e =
     let run : List ℕ = cond (starts_run forest p) (walk_from forest p) [] in
     (before.0 ++ run, ap (preorder_to forest) next ∙ (ap (λ ns. ns ++ run) before.1 ∙ append_assoc (preorder_to forest n) before.0 run))
 
--- the walk of a run is what the order goes on by
-pub one_started : (forest : Forest) (n : ℕ) (order new : List ℕ) → starts_run forest n ≡ true → order ≡ preorder_to forest n → new ≡ order ++ walk_from forest n → new ≡ preorder_to forest (n + 1)
-one_started forest n order new starts is pushed =
-    let more : preorder_to forest (suc n) ≡ preorder_to forest n ++ walk_from forest n = ap (λ b. preorder_to forest n ++ cond b (walk_from forest n) []) starts in
-    let next : suc n ≡ n + 1 = omega arith in
-    pushed ∙ (ap (λ ns. ns ++ walk_from forest n) is ∙ (sym more ∙ ap (preorder_to forest) next))
+-- a node that starts no run adds nothing to the order
+pub none_started : (forest : Forest) (n : ℕ) → starts_run forest n ≡ false → preorder_to forest (n + 1) ≡ preorder_to forest n
+none_started forest n none =
+    let next : n + 1 ≡ suc n = omega arith in
+    ap (preorder_to forest) next ∙ (ap (λ b. preorder_to forest n ++ cond b (walk_from forest n) []) none ∙ append-nil (preorder_to forest n))
 
--- where all nodes are met the order is whole
-pub all_met : (forest : Forest) (n : ℕ) (order : List ℕ) → order ≡ preorder_to forest (n + 1) → n < length forest.content → length order ≡ length forest.content → length (preorder forest) ≡ length forest.content → order ≡ preorder forest
-all_met forest n order is known met whole =
-    let k : ℕ = length forest.content - (n + 1) in
-    let at : length forest.content ≡ k + (n + 1) = omega arith in
-    let grown = order_grows forest (n + 1) k (length forest.content) at in
-    let all : preorder forest ≡ order ++ grown.0 = grown.1 ∙ ap (λ ns. ns ++ grown.0) (sym is) in
-    let long : length (preorder forest) ≡ length order + length grown.0 = ap length all ∙ length-append order grown.0 in
-    let none : grown.0 ≡ [] = nil_from_length grown.0 (omega arith) in
-    sym (all ∙ (ap (λ ns. order ++ ns) none ∙ append-nil order))
+one_started : (forest : Forest) (n : ℕ) → starts_run forest n ≡ true → preorder_to forest (n + 1) ≡ preorder_to forest n ++ walk_from forest n
+one_started forest n starts =
+    let next : n + 1 ≡ suc n = omega arith in
+    ap (preorder_to forest) next ∙ ap (λ b. preorder_to forest n ++ cond b (walk_from forest n) []) starts
+
+-- a node that was met before stands in the walk of an earlier run
+pub met_before : (forest : Forest) (n i : ℕ) → n < length forest.content → i < length (preorder_to forest n) → number_at (preorder forest) i ≡ n → stands_in n (preorder_to forest n) ≡ true
+met_before forest n i known below is =
+    let grown = order_grows forest n (length forest.content - n) (length forest.content) (omega arith) in
+    let at : number_at (preorder_to forest n) i ≡ n = sym (ap (λ ns. number_at ns i) grown.1 ∙ front_stays 0 (preorder_to forest n) grown.0 i below) ∙ is in
+    subst (λ m. stands_in m (preorder_to forest n) ≡ true) at (in_place (preorder_to forest n) i below)
+
+no_parent : (o : Option ℕ) (b : Bool) → (is_none o && b) ≡ true → o ≡ None
+no_parent None b e = refl
+no_parent (Some p) b e = absurd (true≢false (sym e))
+
+-- the first node of a run, where the order goes on
+pub record Begins (forest : Forest) (n : ℕ) : Type 0 where
+  pub top : ancestors forest n ≡ []
+  pub rest : List ℕ
+  pub cut : drop (length (preorder_to forest n)) (preorder forest) ≡ run_on forest (Some n) ++ rest
+  pub counted : length (preorder_to forest n) + length (run_on forest (Some n)) ≡ length (preorder_to forest (n + 1))
+
+pub run_begins : (forest : Forest) (n : ℕ) → AreLines forest → n < length forest.content → starts_run forest n ≡ true → Begins forest n
+run_begins forest n lines known starts =
+    let top = lines.top n (no_parent (parent forest n) _ starts) in
+    let run : run_on forest (Some n) ≡ walk_from forest n = ap (λ ps. walk_from forest n ++ run_past forest ps) top ∙ append-nil (walk_from forest n) in
+    let more : preorder_to forest (n + 1) ≡ preorder_to forest n ++ run_on forest (Some n) = one_started forest n starts ∙ ap (λ ns. preorder_to forest n ++ ns) (sym run) in
+    let grown = order_grows forest (n + 1) (length forest.content - (n + 1)) (length forest.content) (omega arith) in
+    record {
+      top = top;
+      rest = grown.0;
+      cut = ap (drop (length (preorder_to forest n))) (grown.1 ∙ (ap (λ ns. ns ++ grown.0) more ∙ append_assoc (preorder_to forest n) (run_on forest (Some n)) grown.0)) ∙ drop_front (preorder_to forest n) (run_on forest (Some n) ++ grown.0);
+      counted = sym (ap length more ∙ length-append (preorder_to forest n) (run_on forest (Some n)));
+    }
+
+-- the next node of a walk that is under way, and what is left after it
+pub goes_on : (forest : Forest) (met n : ℕ) (o : Option ℕ) (rest ns : List ℕ) → o ≡ Some n → run_on forest (Some n) ≡ n ∷ ns → drop met (preorder forest) ≡ run_on forest o ++ rest →
+    (met < length (preorder forest)) × (number_at (preorder forest) met ≡ n) × (drop (suc met) (preorder forest) ≡ ns ++ rest)
+goes_on forest met n o rest ns is steps left = drop_cut (preorder forest) met n (ns ++ rest) (left ∙ (ap (λ p. run_on forest p ++ rest) is ∙ ap (λ ms. ms ++ rest) steps))
+
+-- where no node's walk is under way, it doesn't matter how many are ahead
+pub ended_afresh : (forest : Forest) (path : List ℕ) (met ahead more : ℕ) (lasts : List ℕ) → path ≡ [] → AreEnded forest [] met ahead lasts → AreEnded forest path met more lasts
+ended_afresh forest path met ahead more lasts e ended = subst (λ p. AreEnded forest p met more lasts) (sym e) (record { long = ended.long; begun = λ n s. absurd (true≢false (sym s)); told = ended.told })
+
+same_default : {A : Type 0} (xs : List A) (k : ℕ) (d e : A) → k < length xs → get_or xs k d ≡ get_or xs k e
+same_default [] k d e below = absurd (omega arith)
+same_default (x ∷ xs) zero d e below = refl
+same_default (x ∷ xs) (suc k) d e below = same_default xs k d e (omega arith)
+
+-- where all nodes are met
+module _ (forest : Forest) (sweep : Sweep) (swept : IsSwept forest sweep) (met : sweep.met ≡ length forest.content) (long : length (preorder forest) ≡ length forest.content) where
+  pub whole_order : sweep.order.items ≡ preorder forest
+  whole_order = same_number_lists sweep.order.items (preorder forest) (swept.order_long ∙ sym long) (λ k below. swept.order k (let l = swept.order_long in omega arith))
+
+  pub whole_above : sweep.above.items ≡ map (parent forest) sweep.order.items
+  whole_above = same_lists sweep.above.items (map (parent forest) sweep.order.items) (swept.above_long ∙ sym (length-map sweep.order.items (parent forest) ∙ swept.order_long)) (λ k d below.
+      let l = swept.above_long in
+      let m = swept.order_long in
+      let inside : k < length sweep.order.items = omega arith in
+      let told : get_or sweep.above.items k None ≡ parent forest (number_at (preorder forest) k) = swept.above k (omega arith) in
+      same_default sweep.above.items k d None below ∙ (told ∙ (ap (λ ns. parent forest (number_at ns k)) (sym whole_order) ∙ sym (get_or-map (parent forest) sweep.order.items k 0 d inside))))
+
+  pub whole_places : ArePlaces forest (preorder forest) sweep.places.items
+  whole_places = (swept.places_long, λ i known. swept.placed i (omega arith))
+
+  pub whole_names : ((n : ℕ) → n < length forest.content → stands_in n (preorder forest) ≡ true) → AreNames forest sweep.names.items
+  whole_names all = record {
+    long = swept.names_long;
+    each = λ n node is.
+        let p = found_at n (preorder forest) (all n (slice_get_within forest.content n node is)) in
+        let less = p.1 in
+        subst (λ m. tells_name node (byte_at sweep.names.items m) ≡ true) p.2 (swept.named p.0 node (omega arith) (ap (slice_get forest.content) p.2 ∙ is));
+  }
+
+  pub whole_spans : IsForest forest → AreLines forest → AreTrees forest → IsOrder forest (preorder forest) sweep.places.items → AreEnded forest [] sweep.met 0 sweep.lasts.items → AreSpans forest (preorder forest) sweep.places.items sweep.lasts.items
+  whole_spans good lines laws order ended = are_spans forest good lines laws sweep.places.items order sweep.lasts.items ended.long (λ n known.
+      let inside = order.inside n known in
+      let told = ended.told (number_at sweep.places.items n) (omega arith) refl in
+      subst (λ m. number_at sweep.lasts.items m ≡ number_at sweep.places.items n + length (walk_below forest m)) (order.ordered n known) told)

@@ -1,9 +1,10 @@
 -- The order of a forest's nodes: the runs in the order of their first nodes' numbers, each node before its children.
 use Rattle.std.specs.Prelude.{ℕ, zero, suc, ◌+◌, ◌==◌, ◌&&◌, Bool, false, List, [], ◌∷◌, ◌++◌, Option, Some, None, length, if◌then◌else◌}
+use Rattle.std.specs.List.{flat_map}
 use Rattle.std.specs.Option.{is_none, option_map}
 use Rattle.dom_links.specs.Forest.{Forest, parent, siblings}
 use Rattle.dom_links.specs.Lists.{before}
-use Rattle.dom_links.specs.Trees.{trees, walk}
+use Rattle.dom_links.specs.Trees.{ancestors, trees, walk}
 use Rattle.dom_links.specs.Walk.{later}
 
 -- n is the first node of a run
@@ -21,6 +22,21 @@ preorder_to forest (suc n) = preorder_to forest n ++ (if starts_run forest n the
 
 abbrev pub preorder : Forest → List ℕ
 preorder forest = preorder_to forest (length forest.content)
+
+-- the walks of the later siblings of these
+abbrev pub run_past : Forest → List ℕ → List ℕ
+run_past forest ns = flat_map (λ n. walk (trees forest (later forest false n))) ns
+
+-- what the walk of a run still gives from a node on: what is at and below it and its later siblings, and then what the later siblings
+-- of each of its ancestors give
+abbrev pub run_on : Forest → Option ℕ → List ℕ
+run_on forest None = []
+run_on forest (Some n) = walk_from forest n ++ run_past forest (ancestors forest n)
+
+-- the ancestors of a node, if there is one
+abbrev pub above_it : Forest → Option ℕ → List ℕ
+above_it forest None = []
+above_it forest (Some n) = ancestors forest n
 
 -- the place at which a number stands first in a list, counted from 0
 abbrev pub place_in : List ℕ → ℕ → Option ℕ

@@ -1,19 +1,21 @@
 //! The order of a tree's nodes.
 
-ghost use Rattle.std.specs.Prelude.{◌≡◌, ◌<◌, ◌≤◌, ◌++◌, ◌∷◌, ℕ, List, [], length, map, true};
-ghost use Rattle.std.specs.Prelude.{false, IfOk, OnOk, Some};
+ghost use Rattle.std.specs.Prelude.{◌≡◌, ◌<◌, ◌≤◌, ◌+◌, ◌∷◌, ℕ, List, [], length, map, true};
+ghost use Rattle.std.specs.Prelude.{false, IfOk, MatchOption, Some};
 ghost use Rattle.dom_links.specs.Forest.{children_of, parent};
 ghost use Rattle.dom_links.specs.Laws.{AreLines, AreTrees};
-ghost use Rattle.dom_links.specs.Lists.{IsDistinct, last, stands_in};
+ghost use Rattle.dom_links.specs.Lists.{IsDistinct, first, stands_in};
 ghost use Rattle.dom_links.specs.Sound.{IsForest};
-ghost use Rattle.dom_links.specs.Trees.{walk_below};
-ghost use Rattle.dom_index.specs.Orders.{ArePlaces, AreSpans, IsOrder, IsSwept, last_from};
+ghost use Rattle.dom_links.specs.Trees.{ancestors, walk_below};
+ghost use Rattle.dom_links.specs.Walk.{IsWithin};
 ghost use Rattle.dom_index.specs.Names.{AreNames};
+ghost use Rattle.dom_index.specs.Orders.{AreEnded, ArePlaces, AreSpans, IsOrder, IsSwept};
 ghost use Rattle.dom_index.specs.Orders.{number_at};
-ghost use Rattle.dom_index.specs.Preorder.{preorder, preorder_to, starts_run, walk_from};
+ghost use Rattle.dom_index.specs.Preorder.{above_it, preorder, preorder_to, run_on, run_past};
+ghost use Rattle.dom_index.specs.Preorder.{starts_run};
 
 use crate::names::{NO_ELEMENT, name_byte};
-use dom_links::iters::{next_sibling_id, node_at, parent_id, prev_sibling_id};
+use dom_links::iters::{node_at, parent_id, prev_sibling_id};
 use dom_links::laws::{lines_of_a_forest, trees_of_a_forest};
 use dom_nodes::fault::OutOfMemory;
 use dom_nodes::link::Link;
@@ -57,67 +59,111 @@ fn starts_run(tree: &Tree, id: NodeId) -> bool
     parent_id(nodes, &id).is_none() && prev_sibling_id(nodes, &id).is_none()
 }
 
-/// What one sweep over the nodes writes down: each that was met, its parent, its last child, and at
-/// its number a mark and what tells its name.
+/// What one sweep over the nodes writes down: by place each node that was met and its parent, and
+/// by number its place, that of the last node at or below it, and what tells its name.
 #[derive(Drop)]
 struct Sweep {
+    met: usize,
     order: Vec<NodeId>,
     above: Vec<Link>,
-    ends: Vec<Link>,
-    marks: Vec<bool>,
+    places: Vec<u32>,
+    lasts: Vec<u32>,
     names: Vec<u8>,
 }
+
+/// Stands for the name of a node that wasn't met.
+const NOT_MET: u8 = 253;
 
 impl Sweep {
     /// A sweep that has met no node of the tree.
     fn new(tree: &Tree) -> Result<Sweep, OutOfMemory>
-        ensures none { IfOk result (λ sweep. sweep.order.items ≡ []) }
+        ensures none { IfOk result (λ sweep. sweep.met ≡ 0) }
         ensures swept { IfOk result (IsSwept tree.now) }
+        ensures ended { IfOk result (λ sweep. AreEnded tree.now [] 0 0 sweep.lasts.items) }
     {
         let alloc = tree.allocator();
+        let count = tree.len();
         Ok(Sweep {
-            order: Vec::with_capacity(alloc, tree.len())?,
-            above: Vec::with_capacity(alloc, tree.len())?,
-            ends: Vec::with_capacity(alloc, tree.len())?,
-            marks: vec![in alloc; false; tree.len()]?,
-            names: vec![in alloc; NO_ELEMENT; tree.len()]?,
+            met: 0,
+            order: vec![in alloc; NodeId::root(); count]?,
+            above: vec![in alloc; Link::new(None); count]?,
+            places: vec![in alloc; 0; count]?,
+            lasts: vec![in alloc; 0; count]?,
+            names: vec![in alloc; NOT_MET; count]?,
         })
     }
 
-    /// Meets a node.
-    fn push(&mut self, tree: &Tree, id: NodeId) -> Result<(), OutOfMemory>
+    /// Meets the node that is next in the order. Its first child.
+    #[inline(always)]
+    fn meet(&mut self, tree: &Tree, id: NodeId) -> Option<NodeId>
         requires known { id < length tree.now.content }
+        requires room { self.old.met < length tree.now.content }
+        requires next { number_at (preorder tree.now) self.old.met ≡ id }
         requires swept { IsSwept tree.now self.old }
-        ensures order { OnOk result (self.new.order.items ≡ self.old.order.items ++ id ∷ []) }
-        ensures swept { OnOk result (IsSwept tree.now self.new) }
+        ensures first { result ≡ first (children_of tree.now id) }
+        ensures met { self.new.met ≡ self.old.met + 1 }
+        ensures swept { IsSwept tree.now self.new }
+        ensures kept { self.new.lasts ≡ self.old.lasts }
     {
+        know_order(tree);
         let node = node_at(tree.nodes(), id);
-        self.order.push(id)?;
-        self.above.push(node.parent)?;
-        self.ends.push(node.last_child)?;
-        self.marks[id.value()] = true;
-        self.names[id.value()] = name_byte(&node.content);
-        Ok(())
+        let n = id.value();
+        let place = self.met;
+        self.order[place] = id;
+        self.above[place] = node.parent;
+        self.places[n] = place as u32;
+        self.names[n] = name_byte(&node.content);
+        self.met = place + 1;
+        node.first_child.get()
     }
+}
+
+/// Writes down that the last node at or below this one, below which there is no more, is the last
+/// that was met, and so for each above it that ends with it. The node that is next in the run.
+#[inline(always)]
+fn end_at(tree: &Tree, id: NodeId, last: u32, lasts: &mut Vec<u32>) -> Option<NodeId>
+    requires known { id < length tree.now.content }
+    requires met { last < length tree.now.content }
+    requires ended { AreEnded tree.now (id ∷ ancestors tree.now id) (last + 1) (length
+        (run_past tree.now (id ∷ ancestors tree.now id))) lasts.old.items }
+    ensures within { IsWithin tree.now result }
+    ensures next { run_past tree.now (id ∷ ancestors tree.now id) ≡ run_on tree.now result }
+    ensures ended { AreEnded tree.now (above_it tree.now result) (last + 1) (length
+        (run_on tree.now result)) lasts.new.items }
+{
+    know_order(tree);
+    know_forest(tree);
+    let mut ended = Some(id);
+    while let Some(at) = ended {
+        lasts[at.value()] = last;
+        let node = node_at(tree.nodes(), at);
+        let next = node.next_sibling.get();
+        if next.is_some() {
+            return next;
+        }
+        ended = node.parent.get();
+    }
+    None
 }
 
 /// The sweep over all nodes in order. A node that was met starts no run, so each is looked at once,
 /// but for those of a run that comes before its first node by number.
 fn swept(tree: &Tree) -> Result<Sweep, OutOfMemory>
-    ensures order { IfOk result (λ sweep. sweep.order.items ≡ preorder tree.now) }
+    ensures all { IfOk result (λ sweep. sweep.met ≡ length tree.now.content) }
     ensures swept { IfOk result (IsSwept tree.now) }
+    ensures ended { IfOk result (λ sweep. AreEnded tree.now [] sweep.met 0 sweep.lasts.items) }
 {
     know_started(tree);
     know_order(tree);
     let mut sweep = Sweep::new(tree)?;
     for n in 0..tree.len() {
-        if sweep.marks[n] {
+        if sweep.names[n] != NOT_MET {
             continue;
         }
         let id = numbered(tree, n);
         if starts_run(tree, id) {
-            push_from(tree, id, &mut sweep)?;
-            if sweep.order.len() == tree.len() {
+            meet_run(tree, id, &mut sweep);
+            if sweep.met == tree.len() {
                 return Ok(sweep);
             }
         }
@@ -145,84 +191,74 @@ pub(crate) fn numbered(tree: &Tree, n: usize) -> NodeId
     }
 }
 
-/// Meets a node, those below it, and so for each sibling after it.
-fn push_from(tree: &Tree, id: NodeId, sweep: &mut Sweep) -> Result<(), OutOfMemory>
+/// Meets a node and writes down what ends with it. The node that is next in the run.
+#[inline(always)]
+fn pass(tree: &Tree, id: NodeId, sweep: &mut Sweep) -> Option<NodeId>
     requires known { id < length tree.now.content }
+    requires room { sweep.old.met < length tree.now.content }
+    requires next { number_at (preorder tree.now) sweep.old.met ≡ id }
     requires swept { IsSwept tree.now sweep.old }
-    ensures order { OnOk result
-        (sweep.new.order.items ≡ sweep.old.order.items ++ walk_from tree.now id) }
-    ensures swept { OnOk result (IsSwept tree.now sweep.new) }
+    requires ended { AreEnded tree.now (ancestors tree.now id) sweep.old.met (length
+        (run_on tree.now (Some id))) sweep.old.lasts.items }
+    ensures within { IsWithin tree.now result }
+    ensures steps { run_on tree.now (Some id) ≡ id ∷ run_on tree.now result }
+    ensures met { sweep.new.met ≡ sweep.old.met + 1 }
+    ensures swept { IsSwept tree.now sweep.new }
+    ensures ended { AreEnded tree.now (above_it tree.now result) sweep.new.met (length
+        (run_on tree.now result)) sweep.new.lasts.items }
 {
+    know_order(tree);
     know_forest(tree);
-    let mut next = Some(id);
+    let last = sweep.met as u32;
+    let first = sweep.meet(tree, id);
+    if first.is_some() {
+        return first;
+    }
+    end_at(tree, id, last, &mut sweep.lasts)
+}
+
+/// Meets the nodes of a run, from its first one on.
+fn meet_run(tree: &Tree, first: NodeId, sweep: &mut Sweep)
+    requires known { first < length tree.now.content }
+    requires starts { starts_run tree.now first ≡ true }
+    requires met { sweep.old.met ≡ length (preorder_to tree.now first) }
+    requires swept { IsSwept tree.now sweep.old }
+    requires ended { AreEnded tree.now [] sweep.old.met 0 sweep.old.lasts.items }
+    ensures met { sweep.new.met ≡ length (preorder_to tree.now (first + 1)) }
+    ensures swept { IsSwept tree.now sweep.new }
+    ensures ended { AreEnded tree.now [] sweep.new.met 0 sweep.new.lasts.items }
+{
+    know_order(tree);
+    know_forest(tree);
+    let mut next = Some(first);
     while let Some(at) = next {
-        sweep.push(tree, at)?;
-        push_below(tree, at, sweep)?;
-        next = next_sibling_id(tree.nodes(), &at);
+        let follower = pass(tree, at, sweep);
+        next = foreseen(follower, at.value() + 1);
     }
-    Ok(())
 }
 
-/// Meets the nodes below a node.
-fn push_below(tree: &Tree, id: NodeId, sweep: &mut Sweep) -> Result<(), OutOfMemory>
-    requires { IsSwept tree.now sweep.old }
-    ensures order { OnOk result
-        (sweep.new.order.items ≡ sweep.old.order.items ++ walk_below tree.now id) }
-    ensures swept { OnOk result (IsSwept tree.now sweep.new) }
+/// The same link, told by the number `behind` where it leads there. A tree that was read has its
+/// nodes in order, so that the next node mostly has the number behind the current one: a processor
+/// that foresees this goes on to it before it has read the links that lead there.
+#[inline(always)]
+fn foreseen(next: Option<NodeId>, behind: usize) -> Option<NodeId>
+    ensures { result ≡ next }
 {
-    know_forest(tree);
-    for below in tree.descendant_ids_of_it(&id) {
-        sweep.push(tree, below)?;
+    let number = next?.value();
+    if number == behind {
+        return NodeId::new(behind);
     }
-    Ok(())
+    leap(number)
 }
 
-/// The place of each node in the order.
-fn places_of(tree: &Tree, order: &[NodeId]) -> Result<Vec<u32>, OutOfMemory>
-    requires long { length order.now ≡ length tree.now.content }
-    requires once { IsDistinct order.now }
-    requires inside { (n : ℕ) → stands_in n order.now ≡ true → n < length tree.now.content }
-    ensures { IfOk result (λ places. ArePlaces tree.now order.now places.items) }
+/// The node of that number. It stands apart so that a compiler doesn't see that what is foreseen is
+/// what is linked, and so asks for the link in each step.
+#[cold]
+#[inline(never)]
+fn leap(number: usize) -> Option<NodeId>
+    ensures { MatchOption result (4294967295 ≤ number) (λ id. id ≡ number) }
 {
-    know_forest(tree);
-    let mut places = vec![in tree.allocator(); 0; order.len()]?;
-    for i in 0..order.len() {
-        places[order[i].value()] = i as u32;
-    }
-    Ok(places)
-}
-
-/// The place of the last node at or below each node, the last nodes first.
-fn lasts_of(
-    tree: &Tree,
-    order: &[NodeId],
-    ends: &[Link],
-    places: &[u32],
-) -> Result<Vec<u32>, OutOfMemory>
-    requires is_preorder { order.now ≡ preorder tree.now }
-    requires ends { ends.now ≡ map (λ n. last (children_of tree.now n)) order.now }
-    requires good { IsOrder tree.now order.now places.now }
-    ensures { IfOk result (λ lasts. AreSpans tree.now order.now places.now lasts.items) }
-{
-    know_forest(tree);
-    let mut lasts = vec![in tree.allocator(); 0; order.len()]?;
-    for i in 0..order.len() {
-        let at = order.len() - 1 - i;
-        let n = order[at].value();
-        lasts[n] = last_of(&lasts, ends[at], at as u32);
-    }
-    Ok(lasts)
-}
-
-/// The place of the last node at or below one with this place and this last child.
-fn last_of(lasts: &[u32], end: Link, place: u32) -> u32
-    requires { (child : ℕ) → end ≡ Some child → child < length lasts.now }
-    ensures { result ≡ last_from (number_at lasts.now) place end }
-{
-    match end.get() {
-        Some(child) => lasts[child.value()],
-        None => place,
-    }
+    NodeId::new(number)
 }
 
 impl<'a> Layout<'a> {
@@ -230,13 +266,14 @@ impl<'a> Layout<'a> {
     pub(crate) fn new(tree: &'a Tree) -> Result<Layout<'a>, OutOfMemory>
         ensures { IfOk result (λ layout. layout.tree ≡ tree.entry) }
     {
+        know_forest(tree);
         know_order(tree);
         let sweep = swept(tree)?;
-        let places = places_of(tree, &sweep.order)?;
-        let lasts = lasts_of(tree, &sweep.order, &sweep.ends, &places)?;
         let Sweep {
             order,
             above,
+            places,
+            lasts,
             names,
             ..
         } = sweep;

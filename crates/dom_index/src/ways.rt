@@ -1,9 +1,11 @@
 //! Which nodes are led to from those that a table tells, and which lead to them, as a combinator
 //! says.
 
-ghost use Rattle.std.specs.Prelude.{◌≡◌, ◌<◌, length, IfOk};
+ghost use Rattle.std.specs.Prelude.{◌≡◌, ◌<◌, ◌+◌, length, IfOk};
+ghost use Rattle.dom_selectors.specs.declared.syntax.Combinator.TheVariants.{Descendant};
 ghost use Rattle.dom_select.specs.Leftward.{left_of};
 ghost use Rattle.dom_links.specs.Forest.{parent};
+ghost use Rattle.dom_index.specs.Orders.{IsEnd, number_at};
 ghost use Rattle.dom_index.specs.Tables.{AreTold, IsLeading, IsLed, is_led, passes_on, told_too};
 
 use crate::layout::{Layout, know_forest};
@@ -79,9 +81,64 @@ fn is_led(
     }
 }
 
+/// For each node whether some node that the table tells stands to it as the combinator says.
+pub(crate) fn led(
+    layout: &Layout<'_>,
+    combinator: Combinator,
+    table: &[bool],
+) -> Result<Vec<bool>, OutOfMemory>
+    requires { length table.now ≡ length layout.now.tree.now.content }
+    ensures { IfOk result (λ flags. AreTold flags.items (length layout.now.tree.now.content)
+        (IsLed layout.now.tree.now combinator table.now)) }
+{
+    match combinator {
+        Combinator::Descendant => led_below(layout, table),
+        _ => led_on(layout, combinator, table),
+    }
+}
+
+/// For each node whether some node that the table tells is above it: those up to the last place at
+/// or below a node are below it.
+fn led_below(layout: &Layout<'_>, table: &[bool]) -> Result<Vec<bool>, OutOfMemory>
+    requires { length table.now ≡ length layout.now.tree.now.content }
+    ensures { IfOk result (λ flags. AreTold flags.items (length layout.now.tree.now.content)
+        (IsLed layout.now.tree.now Descendant table.now)) }
+{
+    know_forest(layout.tree);
+    let order = layout.order.as_slice();
+    let mut flags = vec![in layout.tree.allocator(); false; table.len()]?;
+    let mut end = 0;
+    for i in 0..order.len() {
+        let n = order[i].value();
+        flags[n] = i < end;
+        end = end_with(layout, table, n, end);
+    }
+    Ok(flags)
+}
+
+/// Where the walks below told nodes end, with one more node, whose place is behind theirs.
+#[inline(always)]
+fn end_with(layout: &Layout<'_>, table: &[bool], n: usize, end: usize) -> usize
+    requires known { n < length layout.now.tree.now.content }
+    requires long { length table.now ≡ length layout.now.tree.now.content }
+    requires ends { IsEnd layout.now.tree.now layout.now.places.items layout.now.lasts.items
+        table.now (number_at layout.now.places.items n) end }
+    ensures { IsEnd layout.now.tree.now layout.now.places.items layout.now.lasts.items
+        table.now (number_at layout.now.places.items n + 1) result }
+{
+    if !table[n] {
+        return end;
+    }
+    let past = layout.lasts[n] as usize + 1;
+    if past <= end {
+        return end;
+    }
+    past
+}
+
 /// For each node whether some node that the table tells stands to it as the combinator says: first
 /// to last, each from the next one on its left.
-pub(crate) fn led(
+fn led_on(
     layout: &Layout<'_>,
     combinator: Combinator,
     table: &[bool],

@@ -1,17 +1,42 @@
-use Rattle.std.proofs.Common.{◌≡◌, ◌<◌, ◌++◌, ◌∙◌, true, length, ap, sym, arith}
-use Rattle.dom_index.specs.Preorder.{starts_run, walk_from}
-use Rattle.dom_index.proofs.SweepLemmas.{all_met, one_started}
+use Rattle.std.proofs.Common.{◌≡◌, ◌<◌, ◌+◌, ◌∙◌, [], false, ap, sym, subst, length, arith}
+use Rattle.std.proofs.lemmas.List.{get_or_read}
+use Rattle.dom_index.specs.declared.layout.Sweep.{Sweep}
+use Rattle.dom_index.specs.Orders.{AreEnded, IsSwept}
+use Rattle.dom_index.specs.Preorder.{preorder_to, starts_run}
+use Rattle.dom_index.proofs.SweepLemmas.{met_before, none_started}
 use Rattle.dom_index.proofs.layout.swept.Goals as goal
+use Rattle.dom_index.proofs.layout.swept.Goals.{then-starts_run+else-sweep-len, else-starts_run}
 
-pub returns-then-len-clause-order : goal.returns-then-len-clause-order
-returns-then-len-clause-order c =
+pub loop-n-preserved-then-index : goal.loop-n-preserved-then-index
+loop-n-preserved-then-index c =
     let forest = c.args.tree.now in
     let n = c.loop-n.n in
-    let old = c.loop-n.sweep.order.items in
-    let new = c.push_from.new.sweep.order.items in
-    let at = c.numbered-id.ensures in
-    let starts : starts_run forest n ≡ true = ap (starts_run forest) (sym at) ∙ (sym c.starts_run.ensures ∙ c.if-starts_run.true) in
-    let pushed : new ≡ old ++ walk_from forest n = c.in_ok-push_from.ensures.order ∙ ap (λ m. old ++ walk_from forest m) at in
+    let sweep = c.loop-n.sweep in
+    let swept = c.loop-n.invariant.swept in
+    let byte = get_or_read sweep.names.items n _ (omega (arith, swept.names_long)) c.index.ensures 0 in
     let known : n < length forest.content = omega arith in
-    let met : length new ≡ length forest.content = omega arith in
-    all_met forest n new (one_started forest n old new starts c.loop-n.invariant.order pushed) known met c.know_order.ensures.long
+    let before = swept.unmet n known (λ e. omega (arith, byte, c.if-index.true)) in
+    let none : starts_run forest n ≡ false = c.know_started.ensures n known (met_before forest n before.0 known (subst (λ m. before.0 < m) c.loop-n.invariant.met before.1) before.2) in
+    record {
+      met = c.loop-n.invariant.met ∙ ap length (sym (none_started forest n none));
+      swept = swept;
+      ended = c.loop-n.invariant.ended;
+    }
+
+pub loop-n-preserved : goal.loop-n-preserved
+loop-n-preserved c =
+    let forest = c.args.tree.now in
+    let n = c.loop-n.n in
+    elim c.if-starts_run.branch [
+      | then-starts_run+else-sweep-len w ↦ record {
+        met = ap (λ v. v.met) w.sweep-is ∙ (w.meet_run.ensures.met ∙ ap (λ m. length (preorder_to forest (m + 1))) c.numbered-id.ensures);
+        swept = subst (IsSwept forest) (sym w.sweep-is) w.meet_run.ensures.swept;
+        ended = subst (λ (v : Sweep). AreEnded forest [] v.met 0 v.lasts.items) (sym w.sweep-is) w.meet_run.ensures.ended;
+      }
+      | else-starts_run w ↦ (let none : starts_run forest n ≡ false = ap (starts_run forest) (sym c.numbered-id.ensures) ∙ (sym c.starts_run.ensures ∙ w.if-starts_run.false) in
+          record {
+            met = ap (λ v. v.met) w.sweep-is ∙ (c.loop-n.invariant.met ∙ ap length (sym (none_started forest n none)));
+            swept = subst (IsSwept forest) (sym w.sweep-is) c.loop-n.invariant.swept;
+            ended = subst (λ (v : Sweep). AreEnded forest [] v.met 0 v.lasts.items) (sym w.sweep-is) c.loop-n.invariant.ended;
+          })
+    ]

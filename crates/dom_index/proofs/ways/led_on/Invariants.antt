@@ -2,7 +2,7 @@ use Rattle.std.proofs.Common.{◌≡◌, ◌<◌, ℕ, length}
 use Rattle.dom_index.specs.Orders.{number_at}
 use Rattle.dom_selectors.specs.Spelling.{Decides}
 use Rattle.dom_index.specs.Tables.{IsLed, truth_at}
-use Rattle.dom_index.proofs.ways.led.Given as goal
+use Rattle.dom_index.proofs.ways.led_on.Given as goal
 
 -- the nodes whose places are behind are told
 abbrev pub invariant-loop-i : goal.invariant-loop-i

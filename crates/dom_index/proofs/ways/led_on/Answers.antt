@@ -3,7 +3,7 @@ use Rattle.std.proofs.lemmas.List.{length-set, get_or_read}
 use Rattle.dom_index.specs.Tables.{is_led}
 use Rattle.dom_index.proofs.FillLemmas.{led_more}
 use Rattle.dom_index.specs.Orders.{number_at}
-use Rattle.dom_index.proofs.ways.led.Goals as goal
+use Rattle.dom_index.proofs.ways.led_on.Goals as goal
 
 pub loop-i-preserved : goal.loop-i-preserved
 loop-i-preserved c =
