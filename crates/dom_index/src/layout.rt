@@ -118,8 +118,8 @@ impl Sweep {
     }
 }
 
-/// Writes down that the last node at or below this one, below which there is no more, is the last
-/// that was met, and so for each above it that ends with it. The node that is next in the run.
+/// Writes the place `last`, which was met last, for a node below which there is no more, and for
+/// each above it that ends with it. The node that is next in the run.
 #[inline(always)]
 fn end_at(tree: &Tree, id: NodeId, last: u32, lasts: &mut Vec<u32>) -> Option<NodeId>
     requires known { id < length tree.now.content }
@@ -191,7 +191,8 @@ pub(crate) fn numbered(tree: &Tree, n: usize) -> NodeId
     }
 }
 
-/// Meets a node and writes down what ends with it. The node that is next in the run.
+/// Meets a node, and writes the last places of those that end with it. The node that is next in the
+/// run.
 #[inline(always)]
 fn pass(tree: &Tree, id: NodeId, sweep: &mut Sweep) -> Option<NodeId>
     requires known { id < length tree.now.content }
