@@ -1,4 +1,4 @@
-use Rattle.std.proofs.Common.{◌∙◌, ◌∷◌, [], ℕ, ap, subst, sym}
+use Rattle.std.proofs.Common.{◌∙◌, subst}
 use Rattle.std.proofs.lemmas.Result.{IfOk-weaker}
 use Rattle.dom_links.specs.Lists.{IsDistinct}
 use Rattle.dom_links.proofs.GivenNodes.{given_nodes}
@@ -12,5 +12,5 @@ returns-clause-selected c =
     let walk = c.descendant_ids_of_it.ensures in
     let once = subst IsDistinct walk.all walk.once in
     IfOk-weaker c.pick_within.result _ _ (λ found. some_weaker found _ _ (λ ids h.
-        selected_below c.args.tree.now c.args.root.now c.args.matcher.now ids.items once
-        (picked_of_all (IsMatch c.args.matcher.now c.args.tree.now) _ ids.items _ (λ ns d. given_nodes c.descendant_ids_of_it.result ns d ∙ walk.all) h))) c.pick_within.ensures.picked
+    selected_below c.args.tree.now c.args.root.now c.args.matcher.now ids.items once
+    (picked_of_all (IsMatch c.args.matcher.now c.args.tree.now) _ ids.items _ (λ ns d. given_nodes c.descendant_ids_of_it.result ns d ∙ walk.all) h))) c.pick_within.ensures.picked
