@@ -1,7 +1,7 @@
 //! The order of a tree's nodes.
 
 ghost use Rattle.std.specs.Prelude.{◌≡◌, ◌<◌, ◌≤◌, ◌+◌, ◌∷◌, ℕ, List, [], length, map, true};
-ghost use Rattle.std.specs.Prelude.{false, IfOk, MatchOption, Some};
+ghost use Rattle.std.specs.Prelude.{false, IfOk, Some};
 ghost use Rattle.dom_links.specs.Forest.{children_of, parent};
 ghost use Rattle.dom_links.specs.Laws.{AreLines, AreTrees};
 ghost use Rattle.dom_links.specs.Lists.{IsDistinct, first, stands_in};
@@ -15,7 +15,7 @@ ghost use Rattle.dom_index.specs.Preorder.{above_it, preorder, preorder_to, run_
 ghost use Rattle.dom_index.specs.Preorder.{starts_run};
 
 use crate::names::{NO_ELEMENT, name_byte};
-use dom_links::iters::{node_at, parent_id, prev_sibling_id};
+use dom_links::iters::{foreseen, node_at, parent_id, prev_sibling_id};
 use dom_links::laws::{lines_of_a_forest, trees_of_a_forest};
 use dom_nodes::fault::OutOfMemory;
 use dom_nodes::link::Link;
@@ -236,30 +236,6 @@ fn meet_run(tree: &Tree, first: NodeId, sweep: &mut Sweep)
         let follower = pass(tree, at, sweep);
         next = foreseen(follower, at.value() + 1);
     }
-}
-
-/// The same link, told by the number `behind` where it leads there. A tree that was read has its
-/// nodes in order, so that the next node mostly has the number behind the current one: a processor
-/// that foresees this goes on to it before it has read the links that lead there.
-#[inline(always)]
-fn foreseen(next: Option<NodeId>, behind: usize) -> Option<NodeId>
-    ensures { result ≡ next }
-{
-    let number = next?.value();
-    if number == behind {
-        return NodeId::new(behind);
-    }
-    leap(number)
-}
-
-/// The node of that number. It stands apart so that a compiler doesn't see that what is foreseen is
-/// what is linked, and so asks for the link in each step.
-#[cold]
-#[inline(never)]
-fn leap(number: usize) -> Option<NodeId>
-    ensures { MatchOption result (4294967295 ≤ number) (λ id. id ≡ number) }
-{
-    NodeId::new(number)
 }
 
 impl<'a> Layout<'a> {

@@ -9,6 +9,7 @@ pub mod MeaningLemmas
 pub mod MiniMeetLemmas
 pub mod MiniPathLemmas
 pub mod MiniWalkLemmas
+pub mod PickLemmas
 pub mod ReachLemmas
 pub mod RowLemmas
 pub mod SelectionLemmas

@@ -4,6 +4,7 @@ ghost use Rattle.std.specs.Prelude.{◌≡◌, ◌≤◌, length};
 ghost use Rattle.dom_links.specs.Forest.{children_of};
 ghost use Rattle.dom_links.specs.Lists.{IsDistinct};
 ghost use Rattle.dom_links.specs.Trees.{ancestors, in_order, limited, walk_below};
+ghost use Rattle.dom_links.specs.Walk.{leaves_among};
 
 use crate::tree::Tree;
 use dom_links::iters::{AncestorNodes, ChildNodes, DescendantNodes};
@@ -32,6 +33,7 @@ pub fn ancestor_nodes<'a>(
 pub fn descendant_nodes<'a>(tree: &'a Tree, id: &NodeId) -> DescendantNodes<'a>
     ensures all { result.left ≡ walk_below tree.now id.now }
     ensures whole { result.whole ≡ walk_below tree.now id.now }
+    ensures leaves { result.leaves ≡ leaves_among tree.now (walk_below tree.now id.now) }
     ensures once { IsDistinct result.left }
     ensures few { length result.left ≤ 4294967295 }
 {

@@ -18,7 +18,8 @@ use dom_nodes::fault::EditFault;
 use dom_nodes::node_data::TreeNode;
 use dom_nodes::node_id::NodeId;
 
-/// Makes copies of nodes of another arena, which go to a place: all or none.
+/// Makes copies of nodes of another arena, which go to a place: all or none. Of one node no list is
+/// made of its copy's number.
 pub fn merge_at(
     nodes: &mut Vec<TreeNode>,
     x: NodeId,
@@ -34,48 +35,10 @@ pub fn merge_at(
         nodes.new.items }
 {
     if let [id] = ids {
-        return merge_one_at(nodes, x, place, other, ids, *id);
+        let one = merge_one(nodes, other, ids, *id)?;
+        put_copies(nodes, x, place, &[one]);
+        return Ok(());
     }
-    merge_all_at(nodes, x, place, other, ids)
-}
-
-/// As `merge_at`, of one node: no list is made of its copy's number.
-fn merge_one_at(
-    nodes: &mut Vec<TreeNode>,
-    x: NodeId,
-    place: Place,
-    other: &[TreeNode],
-    ids: &[NodeId],
-    id: NodeId,
-) -> Result<(), EditFault>
-    requires sound { IsSoundArena nodes.old.items }
-    requires known { x < length (forest_of nodes.old.items).content }
-    requires open { is_open (gap_at place x) (forest_of nodes.old.items) ≡ true }
-    requires other { IsSoundArena other.now }
-    requires one { ids.now ≡ id ∷ [] }
-    ensures { Inserted result (forest_of other.now) ids.now place x nodes.old.items
-        nodes.new.items }
-{
-    let made = merge_one(nodes, other, ids, id)?;
-    put_copies(nodes, x, place, &[made]);
-    Ok(())
-}
-
-/// As `merge_at`, of any number of nodes.
-fn merge_all_at(
-    nodes: &mut Vec<TreeNode>,
-    x: NodeId,
-    place: Place,
-    other: &[TreeNode],
-    ids: &[NodeId],
-) -> Result<(), EditFault>
-    requires sound { IsSoundArena nodes.old.items }
-    requires known { x < length (forest_of nodes.old.items).content }
-    requires open { is_open (gap_at place x) (forest_of nodes.old.items) ≡ true }
-    requires other { IsSoundArena other.now }
-    ensures { Inserted result (forest_of other.now) ids.now place x nodes.old.items
-        nodes.new.items }
-{
     let made = merge(nodes, other, ids)?;
     put_copies(nodes, x, place, &made);
     Ok(())

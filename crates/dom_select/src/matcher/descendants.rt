@@ -1,12 +1,12 @@
 //! Which nodes a selector selects.
 
-ghost use Rattle.std.specs.Prelude.{◌≡◌, ◌∷◌, [], ℕ, List, length, IfOk, IfSome};
-ghost use Rattle.std.specs.Iterator.{at_most};
+ghost use Rattle.std.specs.Prelude.{◌≡◌, ◌∷◌, ◌-◌, ◌^◌, [], ℕ, List, length, IfOk, IfSome, IsSome};
+ghost use Rattle.std.specs.Iterator.{Drains, IsFinite, at_most};
 ghost use Rattle.dom_links.specs.Trees.{walk_below};
 ghost use Rattle.dom_select.specs.Descendants.{GivesMatch, IsMatch, ToCome};
 ghost use Rattle.dom_select.specs.Ends.{EndsAmong};
 ghost use Rattle.dom_select.specs.Meaning.{MeansType};
-ghost use Rattle.dom_select.specs.Selected.{Selected, walks_below};
+ghost use Rattle.dom_select.specs.Selected.{Picks, Selected, walks_below};
 ghost use Rattle.dom_selectors.specs.Spelling.{Decides};
 
 use crate::matcher::Matcher;
@@ -101,16 +101,10 @@ pub fn select_below(
     if let Some(name) = matcher.type_alone() {
         return named_below(tree, root, matcher, name);
     }
-    let names = matcher.last_names();
-    let mut caches = SelectorCaches::late(tree);
-    let mut picked = Vec::new(tree.allocator());
-    for id in tree.descendant_ids_of_it(root) {
-        if !is_found(matcher, &names, &mut caches, id) {
-            continue;
-        }
-        picked.push(id)?;
+    match select_below_within(tree, root, matcher, u64::MAX)? {
+        Some(picked) => Ok(picked),
+        None => unreachable!(),
     }
-    Ok(picked)
 }
 
 /// The elements below the root that bear the name, which is all that the selector asks.
@@ -133,20 +127,39 @@ fn named_below(
     Ok(named)
 }
 
-/// The same, or None where more than so many steps were taken.
+/// The elements below the root that the selector means, or None where more than so many steps were
+/// taken.
 pub(crate) fn select_below_within(
     tree: &Tree,
     root: &NodeId,
     matcher: &Matcher,
     steps: u64,
 ) -> Result<Option<Vec<NodeId>>, OutOfMemory>
-    ensures { IfOk result (λ found. IfSome found
+    ensures selected { IfOk result (λ found. IfSome found
         (λ ids. Selected tree.now (root.now ∷ []) matcher.now ids.items)) }
+    ensures no_limit { steps ≡ 2 ^ 64 - 1 → IfOk result (λ found. IsSome found) }
+{
+    pick_within(tree, tree.descendant_ids_of_it(root), matcher, steps)
+}
+
+/// The elements among those nodes that the selector means, or None where more than so many steps
+/// were taken: to the left of nodes, and to those that `:has` looks at. That is asked after each
+/// node, so that what takes many is given up early.
+pub(crate) fn pick_within<I: Iterator<Item = NodeId> + Drop>(
+    tree: &Tree,
+    ids: I,
+    matcher: &Matcher,
+    steps: u64,
+) -> Result<Option<Vec<NodeId>>, OutOfMemory>
+    requires { I.can_next ids × IsFinite (I.remaining ids) }
+    ensures picked { IfOk result (λ found. IfSome found (λ picked. (ns : List ℕ)
+        × Drains I.next_gives ids ns × Picks (IsMatch matcher.now tree.now) ns picked.items)) }
+    ensures no_limit { steps ≡ 2 ^ 64 - 1 → IfOk result (λ found. IsSome found) }
 {
     let names = matcher.last_names();
     let mut caches = SelectorCaches::late(tree);
     let mut picked = Vec::new(tree.allocator());
-    for id in tree.descendant_ids_of_it(root) {
+    for id in ids {
         if caches.steps() > steps {
             return Ok(None);
         }

@@ -1,7 +1,8 @@
 //! What a selector means below several nodes, each node once.
 
 ghost use Rattle.std.specs.Prelude.{◌≡◌, ◌∷◌, [], ℕ, Bool, List, length, false, true, slice_set};
-ghost use Rattle.std.specs.Prelude.{slice_index_or, IfOk, IfSome, MatchBool, MatchOption};
+ghost use Rattle.std.specs.Prelude.{◌-◌, ◌^◌, slice_index_or, IfOk, IfSome, IsSome};
+ghost use Rattle.std.specs.Prelude.{MatchBool, MatchOption};
 ghost use Rattle.std.specs.Iterator.{YieldsFirst, at_most, item_count};
 ghost use Rattle.dom_links.specs.Laws.{AreTrees};
 ghost use Rattle.dom_select.specs.Descendants.{GivesMatch, ToCome};
@@ -10,7 +11,7 @@ ghost use Rattle.dom_select.specs.Selected.{Selected, walks_below};
 
 use crate::matcher::Matcher;
 use crate::matcher::caches::SelectorCaches;
-use crate::matcher::descendants::{is_selected_with, select_below_within};
+use crate::matcher::descendants::{is_selected_with, pick_within, select_below_within};
 use dom_links::iters::DescendantNodes;
 use dom_links::laws::trees_of_a_forest;
 use dom_nodes::fault::OutOfMemory;
@@ -203,11 +204,10 @@ pub fn select_below_all(
 ) -> Result<Vec<NodeId>, OutOfMemory>
     ensures { IfOk result (λ ids. Selected tree.now roots.now matcher.now ids.items) }
 {
-    let mut picked = Vec::new(tree.allocator());
-    for node in Matches::new(tree, roots, matcher)? {
-        picked.push(node.id)?;
+    match select_all_within(tree, roots, matcher, u64::MAX)? {
+        Some(picked) => Ok(picked),
+        None => unreachable!(),
     }
-    Ok(picked)
 }
 
 /// The same, or None where more than so many steps were taken: to the left of nodes, and to those
@@ -218,8 +218,9 @@ pub fn select_within(
     matcher: &Matcher,
     steps: u64,
 ) -> Result<Option<Vec<NodeId>>, OutOfMemory>
-    ensures { IfOk result (λ found. IfSome found
+    ensures selected { IfOk result (λ found. IfSome found
         (λ ids. Selected tree.now roots.now matcher.now ids.items)) }
+    ensures no_limit { steps ≡ 2 ^ 64 - 1 → IfOk result (λ found. IsSome found) }
 {
     match roots {
         [root] => select_below_within(tree, root, matcher, steps),
@@ -234,21 +235,11 @@ fn select_all_within(
     matcher: &Matcher,
     steps: u64,
 ) -> Result<Option<Vec<NodeId>>, OutOfMemory>
-    ensures { IfOk result (λ found. IfSome found
+    ensures selected { IfOk result (λ found. IfSome found
         (λ ids. Selected tree.now roots.now matcher.now ids.items)) }
+    ensures no_limit { steps ≡ 2 ^ 64 - 1 → IfOk result (λ found. IsSome found) }
 {
-    let mut caches = SelectorCaches::late(tree);
-    let mut picked = Vec::new(tree.allocator());
-    for id in first_met(tree, roots)? {
-        if caches.steps() > steps {
-            return Ok(None);
-        }
-        if !is_selected_with(matcher, &mut caches, id) {
-            continue;
-        }
-        picked.push(id)?;
-    }
-    Ok(Some(picked))
+    pick_within(tree, first_met(tree, roots)?, matcher, steps)
 }
 
 /// The nodes below the roots, each once, in the order of the walks.

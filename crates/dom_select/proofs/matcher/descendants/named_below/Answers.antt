@@ -22,10 +22,10 @@ loop-id-preserved c = λ ids h.
     let meant : P n = bears_wanted c.args.name.now c.args.matcher.now c.args.tree.now n c.requires c.if-not-bears_name.ensures in
     let added = ap (λ (ns : List ℕ). ns ++ ids) c.in_ok-push.ensures.items ∙ append_assoc c.loop-id.named.items (n ∷ []) ids in
     subst (λ (ns : List ℕ). Selected c.args.tree.now (c.args.root.now ∷ []) c.args.matcher.now ns) (sym added)
-    (c.loop-id.invariant (n ∷ ids) (subst (λ (ns : List ℕ). Picks P ns (n ∷ ids)) (sym c.in-Some.ensures.steps) (inl (meant, ids, refl, h))))
+    (c.loop-id.invariant (n ∷ ids) (subst (λ (ns : List ℕ). Picks P ns (n ∷ ids)) (sym c.in-Some.ensures.steps.first) (inl (meant, ids, refl, h))))
 
 pub returns : goal.returns
 returns c =
     let P = IsMatch c.args.matcher.now c.args.tree.now in
     subst (λ (ns : List ℕ). Selected c.args.tree.now (c.args.root.now ∷ []) c.args.matcher.now ns) (append-nil c.loop-id.named.items)
-    (c.loop-id.invariant [] (subst (λ (ns : List ℕ). Picks P ns []) (sym c.in-None.ensures.steps.0) refl))
+    (c.loop-id.invariant [] (subst (λ (ns : List ℕ). Picks P ns []) (sym c.in-None.ensures.steps.first.0) refl))

@@ -1,37 +1,16 @@
-use Rattle.std.proofs.Common.{List, ◌∷◌, [], ℕ, ◌++◌, append_assoc, append-nil, ap, sym, ◌∙◌, subst, refl, inl}
-use Rattle.dom_links.specs.Forest.{Forest}
+use Rattle.std.proofs.Common.{◌∙◌, subst}
+use Rattle.std.proofs.lemmas.Result.{IfOk-weaker}
 use Rattle.dom_links.specs.Lists.{IsDistinct}
-use Rattle.dom_links.specs.Walk.{Walk}
+use Rattle.dom_links.proofs.GivenNodes.{given_nodes}
 use Rattle.dom_select.specs.Descendants.{IsMatch}
-use Rattle.dom_select.specs.Selected.{Picks, Selected}
+use Rattle.dom_select.proofs.PickLemmas.{picked_of_all, some_weaker}
 use Rattle.dom_select.proofs.SelectionLemmas.{selected_below}
 use Rattle.dom_select.proofs.matcher.descendants.select_below_within.Goals as goal
 
-pub loop-id-init : goal.loop-id-init
-loop-id-init c = record {
-  kept = c.late-caches.ensures;
-  so_far = λ ids h.
-      subst (λ (ns : List ℕ). Selected c.args.tree.now (c.args.root.now ∷ []) c.args.matcher.now (ns ++ ids)) (sym c.new-picked.ensures.items)
-      (let walk = c.descendant_ids_of_it-id-items.ensures in
-      let all = ap (λ (it : Walk). it.left) c.into_iter-id-iterator.ensures.into_iter_gives ∙ walk.all in
-      selected_below c.args.tree.now c.args.root.now c.args.matcher.now ids (subst IsDistinct walk.all walk.once)
-      (subst (λ (ns : List ℕ). Picks (IsMatch c.args.matcher.now c.args.tree.now) ns ids) all h));
-}
-
-pub loop-id-preserved : goal.loop-id-preserved
-loop-id-preserved c = record {
-  kept = c.is_found.ensures.same ∙ c.loop-id.invariant.kept;
-  so_far = λ ids h.
-      let n = c.in-Some.id in
-      let P = IsMatch c.args.matcher.now c.args.tree.now in
-      let meant : P n = subst (λ (forest : Forest). IsMatch c.args.matcher.now forest n) c.loop-id.invariant.kept c.if-not-is_found.ensures.is in
-      let added = ap (λ (ns : List ℕ). ns ++ ids) c.in_ok-push.ensures.items ∙ append_assoc c.loop-id.picked.items (n ∷ []) ids in
-      subst (λ (ns : List ℕ). Selected c.args.tree.now (c.args.root.now ∷ []) c.args.matcher.now ns) (sym added)
-      (c.loop-id.invariant.so_far (n ∷ ids) (subst (λ (ns : List ℕ). Picks P ns (n ∷ ids)) (sym c.in-Some.ensures.steps) (inl (meant, ids, refl, h))));
-}
-
-pub returns : goal.returns
-returns c =
-    let P = IsMatch c.args.matcher.now c.args.tree.now in
-    subst (λ (ns : List ℕ). Selected c.args.tree.now (c.args.root.now ∷ []) c.args.matcher.now ns) (append-nil c.loop-id.picked.items)
-    (c.loop-id.invariant.so_far [] (subst (λ (ns : List ℕ). Picks P ns []) (sym c.in-None.ensures.steps.0) refl))
+pub returns-clause-selected : goal.returns-clause-selected
+returns-clause-selected c =
+    let walk = c.descendant_ids_of_it.ensures in
+    let once = subst IsDistinct walk.all walk.once in
+    IfOk-weaker c.pick_within.result _ _ (λ found. some_weaker found _ _ (λ ids h.
+    selected_below c.args.tree.now c.args.root.now c.args.matcher.now ids.items once
+    (picked_of_all (IsMatch c.args.matcher.now c.args.tree.now) _ ids.items _ (λ ns d. given_nodes c.descendant_ids_of_it.result ns d ∙ walk.all) h))) c.pick_within.ensures.picked

@@ -16,13 +16,13 @@ loop-next-init c =
 
 pub returns-then-begins_among-2 : goal.returns-then-begins_among-2
 returns-then-begins_among-2 c =
-    sym (found_first c.args.tree.now c.as_bytes-wanted.result.now c.text_at-in-Some.result.now c.in-Some.next c.loop-next.rest.left c.next.new.self.left c.text_at-in-Some.ensures c.in-Some.ensures.steps _ c.begins_among-in-Some.ensures c.if-begins_among-2.true)
+    sym (found_first c.args.tree.now c.as_bytes-wanted.result.now c.text_at-in-Some.result.now c.in-Some.next c.loop-next.rest.left c.next.new.self.left c.text_at-in-Some.ensures c.in-Some.ensures.steps.first _ c.begins_among-in-Some.ensures c.if-begins_among-2.true)
     ∙ c.loop-next.invariant
 
 pub loop-next-preserved : goal.loop-next-preserved
 loop-next-preserved c =
-    sym (passed_first c.args.tree.now c.as_bytes-wanted.result.now c.text_at-in-Some.result.now c.in-Some.next c.loop-next.rest.left c.next.new.self.left c.text_at-in-Some.ensures c.in-Some.ensures.steps _ c.begins_among-in-Some.ensures c.if-begins_among-2.false)
+    sym (passed_first c.args.tree.now c.as_bytes-wanted.result.now c.text_at-in-Some.result.now c.in-Some.next c.loop-next.rest.left c.next.new.self.left c.text_at-in-Some.ensures c.in-Some.ensures.steps.first _ c.begins_among-in-Some.ensures c.if-begins_among-2.false)
     ∙ c.loop-next.invariant
 
 pub returns : goal.returns
-returns c = within_none c.args.tree.now c.as_bytes-wanted.result.now c.loop-next.rest.left _ c.in_default.ensures.steps.0 c.is_empty.ensures ∙ c.loop-next.invariant
+returns c = within_none c.args.tree.now c.as_bytes-wanted.result.now c.loop-next.rest.left _ c.in_default.ensures.steps.first.0 c.is_empty.ensures ∙ c.loop-next.invariant

@@ -164,4 +164,4 @@ leads_to_some-returns-clause-is t c = (
 
 pub leads_within-returns-then-reaches-2-clause-is : goal.leads_within-returns-then-reaches-2-clause-is
 leads_within-returns-then-reaches-2-clause-is t c =
-    (c.in-Some.y, inr (c.loop-y.invariant.among c.in-Some.y (ap (stands_in c.in-Some.y) c.in-Some.ensures.steps ∙ stands_first c.in-Some.y _)), c.reaches-in-loop-y.ensures.is.0 c.if-reaches-2.true)
+    (c.in-Some.y, inr (c.loop-y.invariant.among c.in-Some.y (ap (stands_in c.in-Some.y) c.in-Some.ensures.steps.first ∙ stands_first c.in-Some.y _)), c.reaches-in-loop-y.ensures.is.0 c.if-reaches-2.true)

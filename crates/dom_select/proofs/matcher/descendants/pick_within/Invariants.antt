@@ -1,0 +1,10 @@
+use Rattle.std.proofs.Common.{◌≡◌}
+use Rattle.dom_select.specs.Descendants.{IsMatch}
+use Rattle.dom_select.specs.Selected.{Picks}
+use Rattle.dom_select.proofs.matcher.descendants.pick_within.Given as goal
+
+abbrev pub invariant-loop-id : goal.invariant-loop-id
+invariant-loop-id g l = record {
+  kept : l.caches ≡ l.tree;
+  so_far : Picks (IsMatch l.matcher l.tree) l.yielded l.picked.items;
+}
