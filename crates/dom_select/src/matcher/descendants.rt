@@ -129,6 +129,7 @@ fn named_below(
 
 /// The elements below the root that the selector means, or None where more than so many steps were
 /// taken.
+#[inline(always)]
 pub(crate) fn select_below_within(
     tree: &Tree,
     root: &NodeId,
@@ -144,7 +145,9 @@ pub(crate) fn select_below_within(
 
 /// The elements among those nodes that the selector means, or None where more than so many steps
 /// were taken: to the left of nodes, and to those that `:has` looks at. That is asked after each
-/// node, so that what takes many is given up early.
+/// node, so that what takes many is given up early. Inlined, so that nothing is asked where any
+/// number of steps may be taken.
+#[inline(always)]
 pub(crate) fn pick_within<I: Iterator<Item = NodeId> + Drop>(
     tree: &Tree,
     ids: I,
