@@ -81,18 +81,18 @@ def fault_of(case):
     return None if got == wanted else f"wanted {wanted}, got {got}"
 
 
-def table():
-    """Runs the program on every case, and returns how many passed and failed."""
+def run_cases(what, files, fault_of):
+    """Has each line of the files asked, and returns how many passed and failed."""
     passed = failed = 0
-    for file in sorted((ROOT / "cases").glob("*.jsonl")):
+    for file in sorted(files):
         for number, line in enumerate(file.read_text(encoding="utf-8").splitlines(), 1):
             fault = fault_of(json.loads(line))
             if fault is None:
                 passed += 1
             else:
                 failed += 1
-                print(f"cases/{file.name}:{number}: {fault}")
-    print(f"the program's cases: {passed} passed, {failed} failed")
+                print(f"{file.relative_to(ROOT)}:{number}: {fault}")
+    print(f"{what}: {passed} passed, {failed} failed")
     return passed, failed if passed else failed + 1
 
 
@@ -108,19 +108,14 @@ def path_fault(case):
     return None if got == wanted else f"wanted {wanted}, got {got}"
 
 
+def table():
+    """Runs the program on every case, and returns how many passed and failed."""
+    return run_cases("the program's cases", (ROOT / "cases").glob("*.jsonl"), fault_of)
+
+
 def paths():
     """Runs the program `paths` on its cases, and returns how many passed and failed."""
-    passed = failed = 0
-    for file in sorted((ROOT / "cases" / "paths").glob("*.jsonl")):
-        for number, line in enumerate(file.read_text(encoding="utf-8").splitlines(), 1):
-            fault = path_fault(json.loads(line))
-            if fault is None:
-                passed += 1
-            else:
-                failed += 1
-                print(f"cases/paths/{file.name}:{number}: {fault}")
-    print(f"cases of paths: {passed} passed, {failed} failed")
-    return passed, failed if passed else failed + 1
+    return run_cases("cases of paths", (ROOT / "cases" / "paths").glob("*.jsonl"), path_fault)
 
 
 def refusals():

@@ -3,7 +3,6 @@ use Rattle.std.proofs.Common.{◌≡◌, ◌↔◌, ◌<◌, ◌≤◌, ℕ, Boo
 use Rattle.std.specs.Borrow.{Bor}
 use Rattle.std.specs.Option.{option_map_or}
 use Rattle.std.specs.Prelude.{◌==◌, IsTrue, not}
-use Rattle.std.proofs.lemmas.Option.{none-some, same_Some}
 use Rattle.dom_nodes.specs.declared.node_data.NodeData.{NodeData}
 use Rattle.dom_nodes.specs.declared.node_data.NodeData.TheVariants.{Comment, Doctype, Document, Element as AnElement, Fragment, ProcessingInstruction, Text}
 use Rattle.dom_nodes.specs.Kinds.{is_element}
@@ -12,13 +11,14 @@ use Rattle.dom_links.specs.ListMoves.{element_at}
 use Rattle.dom_selectors.specs.declared.syntax.Compound.{Compound}
 use Rattle.dom_selectors.specs.declared.syntax.Part.{Part}
 use Rattle.dom_selectors.specs.declared.syntax.Selector.{Selector, out-Selector}
-use Rattle.dom_selectors.specs.ListsAsTrees.{lists_of, selector_list, steps_of}
+use Rattle.dom_selectors.specs.ListsAsTrees.{selector_list, steps_of}
 use Rattle.dom_selectors.specs.Syntax.{SelectorList, alternative, compound, no_lists, no_selectors, no_steps}
-use Rattle.dom_selectors.specs.ValuesAsTrees.{read_compound, read_list, read_nested, read_step}
-use Rattle.dom_selectors.proofs.Layers.{read_compound_is, read_selector_is}
+use Rattle.dom_selectors.specs.ValuesAsTrees.{read_compound, read_list, read_step}
+use Rattle.dom_selectors.proofs.Layers.{read_selector_is}
 use Rattle.dom_select.specs.Descendants.{IsMatch}
 use Rattle.dom_select.specs.Meaning.{Holds, Means, MeansType, PartsHold}
-use Rattle.dom_select.specs.Parts.{PartHolds, node_passes}
+use Rattle.dom_select.specs.Parts.{node_passes}
+use Rattle.dom_select.proofs.EndLemmas.{begins_as}
 use Rattle.dom_select.proofs.FollowLemmas.{is_nil}
 
 -- a selector that is a type alone means what bears the name
@@ -67,16 +67,8 @@ bears_wanted name list forest n means held = (type_is_element name forest n held
 -- a compound that begins with a type holds of nothing that doesn't bear its name
 pub lacks_first : (name : List ℕ) (c : Compound) (parts : List Part) (p : Part) (forest : Forest) (n : ℕ) (b : Bool) → parts ≡ c.parts.items → Some p ≡ slice_get parts 0 → p ≡ Part.«Type» name →
     MatchBool b (PartsHold (Part.«Type» name ∷ []) forest n) (PartsHold (Part.«Type» name ∷ []) forest n → ⊥) → IsTrue (not b) → Holds (read_compound c) forest n → ⊥
-unfolding PartsHold
 lacks_first name c parts p forest n b same is named out lacks held = bears b out lacks
   where
-    all : Holds (compound c.parts.items (lists_of (map read_nested c.nested.items))) forest n
-    all = subst (λ k. Holds k forest n) (read_compound_is c) held
-
-    first : (qs : List Part) → Some p ≡ slice_get qs 0 → PartsHold qs forest n → PartsHold (Part.«Type» name ∷ []) forest n
-    first [] none h = absurd (none-some p (sym none))
-    first (q ∷ qs) at h = (h.0, (subst (λ r. PartHolds r forest n) (same_Some q p (sym at) ∙ named) h.1.0, tt))
-
     bears : (b : Bool) → MatchBool b (PartsHold (Part.«Type» name ∷ []) forest n) (PartsHold (Part.«Type» name ∷ []) forest n → ⊥) → IsTrue (not b) → ⊥
     bears true bears_it lacks = true≢false (sym lacks)
-    bears false none lacks = none (first c.parts.items (is ∙ ap (λ qs. slice_get qs 0) same) all.0)
+    bears false none lacks = none (begins_as name c parts p same is named forest n held)
