@@ -26,7 +26,7 @@ HEAD = re.compile(r"(\s*)(?:pub(?:\([^)]*\))? )?(?:const )?(?:unsafe )?fn (\w+)"
 TOLD = re.compile(r"(?:note: )?(?:\./)?(src/\S+?):(\d+):\d+: ")
 FUNCTION = re.compile(r"fn (\S+): (?:no proof|not proved)")
 CALLS = re.compile(r"it calls `.*`, which (?:is|are) not proved")
-MET = re.compile(r'"part/Rattle-\w+-proofs\.([\w.]+)\.Met"')
+MET = re.compile(r'"(?:part/)?Rattle-\w+-proofs\.([\w.]+)\.Met"')
 
 
 def toolchain():

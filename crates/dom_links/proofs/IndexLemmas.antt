@@ -8,8 +8,8 @@ use Rattle.std.proofs.lemmas.Option.{slice_get_within}
 use Rattle.std.proofs.lemmas.Bool.{cases_Bool, eqb-true, eq-eqb, true≢false}
 use Rattle.dom_nodes.specs.declared.node_data.NodeData.{NodeData}
 use Rattle.dom_nodes.specs.declared.node_data.TreeNode.{TreeNode}
-use Rattle.dom_links.specs.declared.indexes.IndexKind.{IndexKind}
-use Rattle.dom_links.specs.declared.indexes.IndexKind.TheVariants.{Child, LastChild, OfType, LastOfType}
+use Rattle.dom_nodes.specs.declared.indexes.IndexKind.{IndexKind}
+use Rattle.dom_nodes.specs.declared.indexes.IndexKind.TheVariants.{Child, LastChild, OfType, LastOfType}
 use Rattle.dom_nodes.specs.Kinds.{is_element}
 use Rattle.dom_links.specs.Forest.{Forest, siblings}
 use Rattle.dom_links.specs.Indexes.{counts, index_at, is_from_first, of_one_type, passes}

@@ -14,8 +14,8 @@ use Rattle.dom_nodes.specs.declared.name.Namespace.TheVariants.{Html, Svg, MathM
 use Rattle.dom_nodes.specs.declared.name.QualName.{QualName}
 use Rattle.dom_nodes.specs.declared.node_data.NodeData.{NodeData}
 use Rattle.dom_nodes.specs.declared.node_data.NodeData.TheVariants.{Element}
-use Rattle.dom_links.specs.declared.indexes.IndexKind.{IndexKind}
-use Rattle.dom_links.specs.declared.indexes.IndexKind.TheVariants.{Child, LastChild, OfType, LastOfType}
+use Rattle.dom_nodes.specs.declared.indexes.IndexKind.{IndexKind}
+use Rattle.dom_nodes.specs.declared.indexes.IndexKind.TheVariants.{Child, LastChild, OfType, LastOfType}
 use Rattle.dom_links.specs.Forest.{Forest}
 use Rattle.dom_links.specs.Indexes.{AreIndexes, counts, index_at, index_known, is_from_first, of_one_type}
 use Rattle.dom_links.specs.Walk.{later, row_on}

@@ -5,10 +5,10 @@ use Rattle.dom_nodes.specs.declared.node_data.NodeData.{NodeData}
 use Rattle.dom_nodes.specs.declared.node_data.NodeData.TheVariants.{Element}
 use Rattle.dom_nodes.specs.Kinds.{is_element}
 use Rattle.dom_nodes.specs.Names.{same_name}
-use Rattle.dom_links.specs.declared.indexes.IndexKind.{IndexKind}
-use Rattle.dom_links.specs.declared.indexes.IndexKind.TheVariants.{Child, LastChild, OfType, LastOfType}
-use Rattle.dom_links.specs.declared.indexes.Nth.{Nth}
-use Rattle.dom_links.specs.declared.indexes.Signed.{Signed}
+use Rattle.dom_nodes.specs.declared.indexes.IndexKind.{IndexKind}
+use Rattle.dom_nodes.specs.declared.indexes.IndexKind.TheVariants.{Child, LastChild, OfType, LastOfType}
+use Rattle.dom_nodes.specs.declared.indexes.Nth.{Nth}
+use Rattle.dom_nodes.specs.declared.indexes.Signed.{Signed}
 use Rattle.dom_links.specs.Forest.{Forest}
 use Rattle.dom_links.specs.ListMoves.{element_at}
 use Rattle.dom_links.specs.Walk.{later}

@@ -8,35 +8,9 @@ ghost use Rattle.dom_links.specs.Sound.{IsSoundArena};
 
 use crate::iters::{find_node, node_at};
 use crate::ops::siblings::neighbour;
+pub use dom_nodes::indexes::{IndexKind, Nth, Signed};
 use dom_nodes::node_data::{NodeData, TreeNode};
 use dom_nodes::node_id::NodeId;
-
-/// How a node's siblings are counted.
-#[derive(Clone, Copy, PartialEq, Eq, Debug, Drop)]
-pub enum IndexKind {
-    /// The elements before it.
-    Child,
-    /// The elements after it.
-    LastChild,
-    /// The elements of its name before it.
-    OfType,
-    /// The elements of its name after it.
-    LastOfType,
-}
-
-/// A whole number by its sign.
-#[derive(Clone, Copy, PartialEq, Eq, Debug, Drop)]
-pub struct Signed {
-    pub is_negative: bool,
-    pub magnitude: u32,
-}
-
-/// The indexes `a * k + b`, for each whole k from 0 on.
-#[derive(Clone, Copy, PartialEq, Eq, Debug, Drop)]
-pub struct Nth {
-    pub a: Signed,
-    pub b: Signed,
-}
 
 /// One more than how many of the siblings on one side of the node count. An unknown number has
 /// index 1.

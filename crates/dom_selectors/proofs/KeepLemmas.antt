@@ -3,7 +3,7 @@ use Rattle.std.proofs.Common.{ℕ, zero, suc, ◌+◌, ◌≤◌, List, [], ◌�
 use Rattle.std.specs.Char.{is_ascii_whitespace}
 use Rattle.std.specs.List.{prefix_len}
 use Rattle.dom_nodes.specs.Ascii.{left_parenthesis, right_parenthesis}
-use Rattle.dom_links.specs.declared.indexes.Signed.{Signed}
+use Rattle.dom_nodes.specs.declared.indexes.Signed.{Signed}
 use Rattle.dom_selectors.specs.declared.syntax.Combinator.{Combinator}
 use Rattle.dom_selectors.specs.declared.syntax.Combinator.TheVariants.{Descendant}
 use Rattle.dom_selectors.specs.declared.syntax.Pseudo.{Pseudo}

@@ -1,8 +1,8 @@
 -- `an+b` has one reading.
 use Rattle.std.proofs.Common.{◌≡◌, ℕ, List, Bool, true, false, drop, sym, ap, ◌∙◌, subst, MatchBool}
 use Rattle.std.proofs.lemmas.Bool.Decides.{when_false, when_true}
-use Rattle.dom_links.specs.declared.indexes.Nth.{Nth}
-use Rattle.dom_links.specs.declared.indexes.Signed.{Signed}
+use Rattle.dom_nodes.specs.declared.indexes.Nth.{Nth}
+use Rattle.dom_nodes.specs.declared.indexes.Signed.{Signed}
 use Rattle.dom_selectors.specs.Characters.{after_white, begins}
 use Rattle.dom_selectors.specs.Nth.{SpellsNumber, SpellsOffset, SpellsAfterNumber, SpellsUnsigned, SpellsNth, begins_even, begins_odd, every_second, is_minus, after_sign, is_n, is_sign, signed}
 use Rattle.dom_selectors.specs.Spelling.{SpellsNone}

@@ -3,7 +3,7 @@ use Rattle.std.proofs.Common.{◌≡◌, ◌<◌, ◌||◌, Bool, ℕ, zero, suc
 use Rattle.std.proofs.lemmas.Bool.Decides.{when_true, when_false}
 use Rattle.dom_selectors.specs.declared.syntax.Part.{Part}
 use Rattle.dom_selectors.specs.declared.syntax.Pseudo.{Pseudo}
-use Rattle.dom_links.specs.declared.indexes.IndexKind.{IndexKind}
+use Rattle.dom_nodes.specs.declared.indexes.IndexKind.{IndexKind}
 use Rattle.dom_selectors.specs.declared.syntax.Quantifier.{Quantifier}
 use Rattle.dom_selectors.specs.declared.syntax.Room.{Room}
 use Rattle.dom_selectors.specs.declared.syntax.TextTest.{TextTest}

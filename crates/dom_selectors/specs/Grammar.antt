@@ -6,7 +6,7 @@ use Rattle.std.specs.Borrow.{Bor}
 use Rattle.std.specs.Char.{is_ascii_whitespace}
 use Rattle.std.specs.List.{list_all}
 use Rattle.dom_nodes.specs.Ascii.{asterisk, colon, comma, dot, greater_than, left_bracket, left_parenthesis, number_sign, plus_sign, right_parenthesis, tilde}
-use Rattle.dom_links.specs.declared.indexes.Nth as indexes
+use Rattle.dom_nodes.specs.declared.indexes.Nth as indexes
 use Rattle.dom_selectors.specs.declared.fault.SelectorFault.{SelectorFault}
 use Rattle.dom_selectors.specs.declared.fault.SelectorFault.TheVariants.{Syntax, UnknownPseudoClass, Number, NestedHas, TooDeep, Memory}
 use Rattle.dom_selectors.specs.declared.syntax.Bare.{Bare}

@@ -1,8 +1,8 @@
 -- The pseudo-classes by their names, and what each stands for.
 use Rattle.std.specs.Prelude.{ℕ, List, cond, ◌||◌, Bool, true, false, Option, Some, None, codes}
 use Rattle.std.specs.Str.{str_eq_ignore_ascii_case}
-use Rattle.dom_links.specs.declared.indexes.IndexKind.{IndexKind}
-use Rattle.dom_links.specs.declared.indexes.IndexKind.TheVariants.{Child, LastChild, OfType, LastOfType}
+use Rattle.dom_nodes.specs.declared.indexes.IndexKind.{IndexKind}
+use Rattle.dom_nodes.specs.declared.indexes.IndexKind.TheVariants.{Child, LastChild, OfType, LastOfType}
 use Rattle.dom_selectors.specs.declared.syntax.Bare.{Bare}
 use Rattle.dom_selectors.specs.declared.syntax.Part as parts
 use Rattle.dom_selectors.specs.declared.syntax.Pseudo.{Pseudo}

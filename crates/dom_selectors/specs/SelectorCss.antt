@@ -4,10 +4,10 @@ use Rattle.std.specs.List.{flat_map}
 use Rattle.dom_nodes.specs.Ascii.{backslash, space}
 use Rattle.dom_nodes.specs.declared.case_sensitivity.CaseSensitivity.{CaseSensitivity}
 use Rattle.dom_nodes.specs.declared.case_sensitivity.CaseSensitivity.TheVariants.{CaseSensitive, AsciiCaseInsensitive}
-use Rattle.dom_links.specs.declared.indexes.IndexKind.{IndexKind}
-use Rattle.dom_links.specs.declared.indexes.IndexKind.TheVariants as kinds
-use Rattle.dom_links.specs.declared.indexes.Nth.{Nth}
-use Rattle.dom_links.specs.declared.indexes.Signed.{Signed}
+use Rattle.dom_nodes.specs.declared.indexes.IndexKind.{IndexKind}
+use Rattle.dom_nodes.specs.declared.indexes.IndexKind.TheVariants as kinds
+use Rattle.dom_nodes.specs.declared.indexes.Nth.{Nth}
+use Rattle.dom_nodes.specs.declared.indexes.Signed.{Signed}
 use Rattle.dom_selectors.specs.Characters.{is_name_char, is_name_start, replacement_character}
 use Rattle.dom_selectors.specs.Css.{css_text, hex_of}
 use Rattle.dom_selectors.specs.Syntax.{CompoundSelector, compound, NestedLists, no_lists, nested, NestedList, some_means, none_means, leads_on, SelectorList, no_selectors, alternative, Steps, no_steps, step}

@@ -10,7 +10,7 @@ ghost use Rattle.dom_selectors.specs.Spelling.{Takes, large_stands, same};
 
 use crate::fault::SelectorFault;
 use crate::names::{after_white, digit_value};
-use dom_links::indexes::{Nth, Signed};
+use dom_nodes::indexes::{Nth, Signed};
 
 fn begins_sign(text: &[char]) -> bool
     ensures { result ≡ begins is_sign text.now }

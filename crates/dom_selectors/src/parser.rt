@@ -35,7 +35,7 @@ use crate::syntax::{
     Bare, Combinator, Compound, Item, Nested, Part, Position, Pseudo, Quantifier, Room, Selector,
     Step, TextTest,
 };
-use dom_links::indexes::Nth;
+use dom_nodes::indexes::Nth;
 use dom_nodes::text::Text;
 use std::alloc::{AllocError, Global};
 

@@ -7,7 +7,7 @@ ghost use Rattle.dom_selectors.specs.Pseudos.{quantified, quantifier_of, text_pa
 ghost use Rattle.dom_selectors.specs.ValuesAsTrees.{read_item, read_list, read_nested};
 
 use crate::syntax::{Bare, Item, Nested, Part, Position, Pseudo, Quantifier, Selector, TextTest};
-use dom_links::indexes::{IndexKind, Nth, Signed};
+use dom_nodes::indexes::{IndexKind, Nth, Signed};
 use dom_nodes::text::Text;
 
 fn is_word(name: &str, word: &str) -> bool

@@ -20,7 +20,7 @@ use crate::syntax::{
     AttrOperator, Attribute, Combinator, Comparison, Compound, Nested, Part, Position, Selector,
     Step,
 };
-use dom_links::indexes::{IndexKind, Nth, Signed};
+use dom_nodes::indexes::{IndexKind, Nth, Signed};
 use dom_nodes::case_sensitivity::CaseSensitivity;
 use dom_nodes::fault::OutOfMemory;
 use std::alloc::{AllocError, Global};

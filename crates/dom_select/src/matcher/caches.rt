@@ -26,8 +26,8 @@ pub struct SelectorCaches<'t> {
 impl<'t> Model for SelectorCaches<'t> {
     ghost use Rattle.dom_links.specs.Forest.{Forest};
     ghost use Rattle.dom_links.specs.Indexes.{AreIndexes};
-    ghost use Rattle.dom_links.specs.declared.indexes.IndexKind.TheVariants.{Child, LastChild};
-    ghost use Rattle.dom_links.specs.declared.indexes.IndexKind.TheVariants.{OfType, LastOfType};
+    ghost use Rattle.dom_nodes.specs.declared.indexes.IndexKind.TheVariants.{Child, LastChild};
+    ghost use Rattle.dom_nodes.specs.declared.indexes.IndexKind.TheVariants.{OfType, LastOfType};
 
     ghost Value = { Forest };
 
