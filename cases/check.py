@@ -19,6 +19,7 @@ for line but for its indentation, and one of text in the stdout of one of the tw
 A caller that must not compile is a file cases/must-not-compile/NAME-WHAT.txt, a program that uses the crate NAME alone. One
 line of it ends in '// refused: WORDS': with that line the compiler refuses the program with those words, without it it runs."""
 import json
+import os
 import pathlib
 import re
 import resource
@@ -27,6 +28,7 @@ import subprocess
 import sys
 import tempfile
 import textwrap
+import time
 
 sys.dont_write_bytecode = True
 import edits  # noqa: E402
@@ -37,29 +39,68 @@ SECONDS = 60
 LIMITED = 256 * 1024 * 1024
 
 
-def gate():
+class Clock:
+    """How long each part of a run took: by the wall, and of a processor, that of the programs that it started."""
+
+    def __init__(self):
+        self.parts, self.begun = [], time.monotonic()
+
+    def note(self, part, wall, processor):
+        self.parts.append((part, wall, processor))
+
+    def timed(self, part, call):
+        """Does the call, notes how long it took, and returns what it returns."""
+        begun, before = time.monotonic(), used()
+        counted = call()
+        self.note(part, time.monotonic() - begun, used() - before)
+        return counted
+
+    def show(self):
+        for part, wall, processor in self.parts:
+            took = "" if processor is None else f", {processor / 60:.1f} of a processor"
+            print(f"time of {part}: {wall / 60:.1f} minutes{took}")
+
+
+def used(of=None):
+    """The processor time of a program that ended, or of all that ended so far, in seconds."""
+    of = of or resource.getrusage(resource.RUSAGE_CHILDREN)
+    return of.ru_utime + of.ru_stime
+
+
+def gate(clock):
     """Runs the gate, shows what it says, and has the edits of each crate tried that it proved. Returns how many of its
     checks passed and failed, and how many of the edits."""
     rt = shutil.which("rt")
     if rt is None:
         print("check: no command rt: the kit's folder bin must be on the PATH")
         return [(0, 1)]
-    trials = edits.Trials()
+    trials, begun, before = edits.Trials(), time.monotonic(), used()
     ran = subprocess.Popen([rt, "ci"], cwd=ROOT, stdout=subprocess.PIPE, stderr=subprocess.STDOUT, text=True)
-    last = ""
+    last, proved_at = "", begun
     for line in ran.stdout:
+        proved = re.fullmatch(r"rt: (\w+)(?:: its tests are)? proved", line.strip())
+        if proved:
+            proved_at = time.monotonic()
+            line = f"{line.rstrip()} (after {(proved_at - begun) / 60:.1f} minutes)\n"
+            if "tests" not in line:
+                trials.built(proved[1])
         sys.stdout.write(line)
         sys.stdout.flush()
         last = line.strip() or last
-        proved = re.fullmatch(r"rt: (\w+) proved", line.strip())
-        if proved:
-            trials.built(proved[1])
-    status, tried = ran.wait(), trials.finish()
+    _, status, of_gate = os.wait4(ran.pid, 0)
+    ran.returncode = os.waitstatus_to_exitcode(status)
+    ended = time.monotonic()
+    tried = trials.finish()
+    clock.note("the gate's proofs", proved_at - begun, None)
+    clock.note("the gate's runs behind them", ended - proved_at, None)
+    clock.note("the gate", ended - begun, used(of_gate))
+    clock.note("the edits, once the gate had ended", time.monotonic() - ended, None)
+    clock.note("the edits", time.monotonic() - begun, used() - before - used(of_gate))
     counted = re.fullmatch(r"(\d+) passed, (\d+) failed", last)
     if counted is None:
         return [(0, 1), tried]
     passed, failed = int(counted[1]), int(counted[2])
-    return [(passed, failed if status == 0 or failed else 1), tried]
+    return [(passed, failed if ran.returncode == 0 or failed else 1), tried]
 
 
 def given(case, name):
@@ -194,6 +235,19 @@ def snippets():
     return passed, failed if passed else failed + 1
 
 
+def wrong_bodies():
+    """Looks for each must-fail edit that docs/PROVED.md names, and returns how many are there and how many aren't."""
+    text = (ROOT / "docs" / "PROVED.md").read_text(encoding="utf-8")
+    table = text.partition("# Wrong bodies")[2].partition("\n# ")[0]
+    there = {file.stem for file in (ROOT / "cases" / "must-fail").rglob("*.edit")}
+    named = set(re.findall(r"`(\w+-[\w-]+)`", table))
+    for name in sorted(named - there):
+        print(f"PROVED.md: there is no must-fail edit {name}")
+    passed, failed = len(named & there), len(named - there)
+    print(f"wrong bodies: {passed} passed, {failed} failed")
+    return passed, failed if passed else failed + 1
+
+
 def tried(rt, root, name, source):
     """Runs the source as a program that uses that crate, in the workspace, without a proof."""
     caller = root / "crates" / "caller"
@@ -242,9 +296,13 @@ def refused_callers():
 
 
 def main():
-    cases_alone = sys.argv[1:] == ["--cases"]
-    counts = [] if cases_alone else gate()
-    counts += [table(), paths(), refusals(), full_device(), snippets(), refused_callers()]
+    clock, cases_alone = Clock(), sys.argv[1:] == ["--cases"]
+    counts = [] if cases_alone else gate(clock)
+    tables = [table, paths, refusals, full_device, snippets, wrong_bodies]
+    counts += clock.timed("the cases", lambda: [each() for each in tables])
+    counts += [clock.timed("the callers that must not compile", refused_callers)]
+    clock.note("all", time.monotonic() - clock.begun, used())
+    clock.show()
     passed, failed = (sum(column) for column in zip(*counts))
     print(f"{passed} passed, {failed} failed")
     return 1 if failed else 0

@@ -3,14 +3,19 @@ must refuse that function: a function that calls it doesn't count, nor does the 
 
 An edit is a file cases/must-fail/CRATE/NAME.edit, in the form of `rt must-fail`: a line 'file: src/FILE.rt', then pairs
 of lines 'old: TEXT' and 'new: TEXT', where the old text stands in the file once. The edits of different functions are
-put into one copy of the crate, and the copy is checked once over the libraries that the gate built. Where a function
-calls another that is refused, the prover says no more of it, so what wasn't shown is tried again with what is left. What
-is still not shown, and an edit of no function (a constant), is tried alone, as `rt must-fail` does it: over the whole
-crate, any refusal will do, and it is told as one elsewhere.
+put into one copy of the crate, which is checked over the libraries that the gate built. A proof cites the contracts of
+what it calls and no code, so in that copy every other function has an endless loop for a body and a hole for a proof,
+which cost next to nothing; functions of a cycle of calls, which have one proof, stay as they are. A caller of a function
+that is refused says no more of itself, so what wasn't shown is tried again with what is left, and what is still not
+shown, and an edit of no function (a constant), alone, as `rt must-fail` does it: over the whole crate, any refusal will
+do, and it is reported as one elsewhere.
+
+`edits.py --control [CRATE ..]` tries the same functions without their edits: the prover must refuse none of them.
 
 `edits.py [CRATE ..]` tries the edits of these crates, or of all, over what stands built in the workspace."""
 import importlib.machinery
 import importlib.util
+import itertools
 import os
 import pathlib
 import re
@@ -24,6 +29,8 @@ ROOT = pathlib.Path(__file__).resolve().parent.parent
 EDITS = ROOT / "cases" / "must-fail"
 HEAD = re.compile(r"(\s*)(?:pub(?:\([^)]*\))? )?(?:const )?(?:unsafe )?fn (\w+)")
 TOLD = re.compile(r"(?:note: )?(?:\./)?(src/\S+?):(\d+):\d+: ")
+IMPL = re.compile(r"impl\b(?:<.*?>)? (?:(\w+)(?:<.*>)? for )?(\w+)")
+HOLE = "use Rattle.{0}.Statement.{{statement}}\n\npub {1}_spec : {{M : Type 1}} → statement M\n{1}_spec = ?\n"
 FUNCTION = re.compile(r"fn (\S+): (?:no proof|not proved)")
 CALLS = re.compile(r"it calls `.*`, which (?:is|are) not proved")
 MET = re.compile(r'"(?:part/)?Rattle-\w+-proofs\.([\w.]+)\.Met"')
@@ -61,6 +68,43 @@ def function_at(lines, at):
     return None
 
 
+def owner_of(lines, first):
+    """The name under which the prover knows the `impl` that the function at that line stands in, or None."""
+    if not lines[first].startswith(" "):
+        return None
+    found = next((IMPL.match(line) for line in reversed(lines[:first]) if IMPL.match(line)), None)
+    return found and found[2] + (found[1] or "")
+
+
+def body_of(lines, first):
+    """The lines of the brace that opens the body of the function at that line, and of the one that closes it, or None."""
+    indent, has_contract = HEAD.match(lines[first])[1], False
+    for at in range(first, len(lines)):
+        has_contract = has_contract or bool(re.match(r"\s*(requires|ensures|ghost)\b", lines[at]))
+        if lines[at] == f"{indent}{{" or lines[at].endswith(" {") and not has_contract:
+            return at, lines.index(f"{indent}}}", at)
+        if not lines[at] or lines[at].endswith(("}", ";")) and not has_contract or lines[at] == f"{indent}}}":
+            return None
+    return None
+
+
+def is_plain(lines, first):
+    """Whether the function at that line can lose its body: none of a cycle of calls, and none that constants are made by."""
+    above = itertools.takewhile(lambda line: line.strip().startswith(("#[", "///")), reversed(lines[:first]))
+    return " const fn " not in f" {lines[first]}" and not any("#[cycle" in line for line in above)
+
+
+def without_bodies(text, kept):
+    """The text with an endless loop for the body of each function but those that begin at the lines kept."""
+    lines = text.split("\n")
+    for first, line in enumerate(lines):
+        body = body_of(lines, first) if HEAD.match(line) and first not in kept and is_plain(lines, first) else None
+        if body and body[1] - body[0] > 1:
+            indent = HEAD.match(line)[1]
+            lines[body[0] + 1 : body[1]] = [f"{indent}    loop {{}}", *[""] * (body[1] - body[0] - 2)]
+    return "\n".join(lines)
+
+
 class Edit:
     """An edit of one file: the lines that it changes, by their place, and the functions that it turns."""
 
@@ -82,6 +126,7 @@ class Edit:
         was, now = before.split("\n"), source.split("\n")
         self.lines = {at: line for at, line in enumerate(now) if line != was[at]}
         self.places = {function_at(was, at) for at in self.lines}
+        self.owners = {place[0]: owner_of(was, place[1]) for place in self.places if place}
         if not self.lines:
             self.fault = "it changes nothing"
 
@@ -132,30 +177,58 @@ class Trial:
         built = (pathlib.Path(crate.rlib) / "toolchain" / "checked.json").read_text(encoding="utf-8")
         self.functions = [path.split(".") for path in MET.findall(built)]
 
-    def flags_and_answers(self, edits):
-        """What has the prover look at the functions of these names alone, and the files of answers, with none in them,
-        that have it offer no proofs of them: nothing for one edit, which is tried over the whole crate."""
-        names = {place and place[0] for edit in edits for place in edit.places}
-        asked = [path for path in self.functions if path[-1] in names]
-        if len(edits) == 1 or names - {path[-1] for path in asked}:
-            return [], []
-        only = [word for path in asked for word in ("--only", "::".join([self.crate.name, *path]))]
-        offered = [path for path in asked if not list((self.folder / "proofs" / pathlib.Path(*path)).glob("*.antt"))]
-        return only, [f"proofs/{'/'.join(path)}/Answers.antt" for path in offered]
+    def has_proof(self, path):
+        """Whether the function has a file of a proof of its own, or has one proof with others."""
+        return any((self.folder / "proofs").joinpath(*path).glob("*.antt")) or self.is_cyclic(path)
 
-    def said_of(self, edits, kept):
+    def is_cyclic(self, path):
+        """Whether the function stands in a module that has the one proof of a cycle of calls."""
+        proofs = self.folder / "proofs"
+        return any(any(proofs.joinpath(*path[:depth]).glob("+*")) for depth in range(len(path)))
+
+    def asked_by(self, edits):
+        """The functions that the edits change, by their paths; None where one isn't known."""
+        asked = []
+        for edit in edits:
+            for name, owner in (edit.owners or {None: None}).items():
+                known = [path for path in self.functions if path[-1] == name]
+                asked += [path for path in known if owner in path or not owner] or known or [None]
+        return asked
+
+    def write_copy(self, room, edits, asked):
+        """Writes the crate with the edits, and with holes in place of the other functions where some are asked for."""
+        for part in ("src", "specs", "proofs"):
+            shutil.copytree(self.folder / part, room / part)
+        texts, names = texts_with(edits, self.folder), {path[-1] for path in asked}
+        for file in (room / "src").rglob("*.rt") if asked else ():
+            path = str(file.relative_to(room))
+            kept = {place[1] for edit in edits if edit.path == path for place in edit.places}
+            texts[path] = without_bodies(texts.get(path) or file.read_text(encoding="utf-8"), kept)
+        for path, text in texts.items():
+            (room / path).write_text(text, encoding="utf-8")
+        for path in self.functions if asked else ():
+            proofs = room / "proofs" / pathlib.Path(*path)
+            if path in asked and not self.has_proof(path):
+                # with a file of answers, if without any, the prover looks for none to offer
+                proofs.mkdir(parents=True, exist_ok=True)
+                (proofs / "Answers.antt").write_text("-- none\n", encoding="utf-8")
+            elif not names & {*path} and path[-1] != "TheImpl" and "+" not in str(proofs) and not self.is_cyclic(path):
+                shutil.rmtree(proofs, ignore_errors=True)
+                proofs.mkdir(parents=True)
+                module = f"{self.crate.name}.proofs.{'.'.join(path)}"
+                (proofs / "Proof.antt").write_text(HOLE.format(module, path[-1]), encoding="utf-8")
+
+    def said_of(self, edits, kept, is_whole=False):
         """What the prover says of the crate with these edits, in lines: none where it was not reached."""
-        flags, answers = self.flags_and_answers(edits)
-        texts = texts_with(edits, self.folder)
+        asked = [] if is_whole else self.asked_by(edits)
+        asked = [] if None in asked else asked
+        only = [word for path in asked for word in ("--only", "::".join([self.crate.name, *path]))]
         with tempfile.TemporaryDirectory(prefix="edits-copy-") as room:
             crate = self.rt.copy.copy(self.crate)
             crate.folder = room
-            for part in ("src", "specs", "proofs"):
-                shutil.copytree(self.folder / part, f"{room}/{part}")
-            for file in answers:
-                (pathlib.Path(room) / file).parent.mkdir(parents=True, exist_ok=True)
-                (pathlib.Path(room) / file).write_text("-- none\n", encoding="utf-8")
-            ran = self.rt.checked(crate, texts, [*flags, "--jobs", str(self.jobs())], kept)
+            self.write_copy(pathlib.Path(room), edits, asked)
+            flags = [*only, *(["--allow-holes"] if asked else []), "--jobs", str(self.jobs())]
+            ran = self.rt.checked(crate, {}, flags, kept)
         said = ran.stdout.splitlines() or [""]
         return said if ran.returncode == 1 and re.match("logic=not-proved|only=", said[-1]) else []
 
@@ -164,8 +237,11 @@ class Trial:
         that are to be tried again."""
         begun = time.monotonic()
         said = self.said_of(edits, kept)
-        print(f"edits of {self.crate.name}: {len(edits)} at once, {time.monotonic() - begun:.0f} s", flush=True)
         shown = {it: it.refusal(said) for it in edits if it.refusal(said)}
+        if len(edits) == 1 and not shown:
+            said = self.said_of(edits, kept, is_whole=True)
+            shown = {it: it.refusal(said) for it in edits if it.refusal(said)}
+        print(f"edits of {self.crate.name}: {len(edits)} at once, {time.monotonic() - begun:.0f} s", flush=True)
         if len(edits) == 1 and said and not shown:
             shown = {edits[0]: f"elsewhere: {next(filter(TOLD.match, said), said[-1])}"}
         for edit, line in shown.items():
