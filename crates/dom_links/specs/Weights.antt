@@ -1,5 +1,5 @@
 -- How many steps a pass over trees takes that enters and leaves each node.
-use Rattle.std.specs.Prelude.{ℕ, ◌+◌, Option}
+use Rattle.std.specs.Prelude.{ℕ, ◌+◌, Option, false}
 use Rattle.dom_links.specs.Forest.{Forest, children_of}
 use Rattle.dom_links.specs.Trees.{Trees, NoTrees, Tree, contents_list, trees}
 use Rattle.dom_links.specs.Walk.{row_on}
