@@ -7,17 +7,16 @@ use Rattle.dom_nodes.specs.declared.node_data.Element.{Element}
 use Rattle.std.specs.Prelude.{codes, ◌==◌}
 use Rattle.std.specs.Str.{bytes_eq}
 use Rattle.std.proofs.lemmas.Bool.{cases_Bool, eqb-true}
-use Rattle.std.proofs.lemmas.Option.{slice_get_past}
+use Rattle.std.proofs.lemmas.Option.{slice_get_past, slice_get_within}
 use Rattle.dom_links.proofs.Nodes.{children_past}
 use Rattle.dom_links.proofs.Depth.{trees-none, trees-some}
-use Rattle.dom_markup.proofs.RowLemmas.{known_node}
 use Rattle.std.proofs.Common.{inl, inr}
 use Rattle.dom_links.specs.Forest.{Forest, children_of}
 use Rattle.dom_links.specs.Sound.{IsForest}
 use Rattle.dom_links.specs.Trees.{NoTrees, trees, trees_to}
 use Rattle.dom_links.specs.Walk.{IsNodeOf, IsWithin, row_on}
 use Rattle.dom_links.proofs.Later.{begins, follows, tree_at}
-use Rattle.dom_markup.specs.Pending.{row_weight, trees_weight, weight_below}
+use Rattle.dom_links.specs.Weights.{row_weight, trees_weight, weight_below}
 use Rattle.dom_md.specs.declared.formatting.stack.FormatOp.{FormatOp}
 use Rattle.dom_md.specs.declared.formatting.stack.FormatOp.TheVariants.{Open, Close}
 use Rattle.dom_nodes.specs.Kinds.{is_top}
@@ -270,7 +269,7 @@ pub node-all : (forest tree : Forest) → IsForest forest → forest ≡ tree �
     ops_events forest new ≡ rest_events forest n node.content ++ ops_events forest ops → IsFolded start begin (first_events forest n node.content) → IsFolded begin text (ops_events forest new) → text ≡ formatted_node tree n
 unfolding formatted_node
 node-all forest tree good same n node is other start begin text empty ops new none pushed_is began done =
-    let known = known_node forest.content n node.content is.content_is in
+    let known = slice_get_within forest.content n node.content is.content_is in
     let one = trees-some forest n [] good (λ m s. elim (cases_Bool (n == m)) [
       | inl t ↦ subst (λ (k : ℕ). k < length forest.content) (eqb-true n m t) known
       | inr f ↦ (let missing = rw f at s in absurd (cc))
@@ -304,9 +303,9 @@ node-unknown forest tree n good same past = ap (λ f. formatted_node f n) (sym s
 
 -- ---- results
 
-pub on_ok-one : {T E P Q : Type 0} (r : Result T E) → (P → Q) → OnOk r P → OnOk r Q
-on_ok-one (Ok x) f p = f p
-on_ok-one (Err e) f p = tt
+pub on_ok-any : {T E P : Type 0} (r : Result T E) → P → OnOk r P
+on_ok-any (Ok x) p = p
+on_ok-any (Err e) p = tt
 
 pub on_ok-both : {T E P Q R : Type 0} (r : Result T E) → (P → Q → R) → OnOk r P → OnOk r Q → OnOk r R
 on_ok-both (Ok x) f p q = f p q

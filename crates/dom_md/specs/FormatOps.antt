@@ -8,7 +8,7 @@ use Rattle.dom_links.specs.Forest.{Forest}
 use Rattle.dom_links.specs.Texts.{text_of}
 use Rattle.dom_links.specs.Trees.{trees}
 use Rattle.dom_links.specs.Walk.{row_on}
-use Rattle.dom_markup.specs.Pending.{row_weight}
+use Rattle.dom_links.specs.Weights.{row_weight}
 use Rattle.dom_md.specs.declared.formatting.stack.FormatOp.{FormatOp}
 use Rattle.dom_md.specs.declared.formatting.stack.FormatOp.TheVariants.{Open, Close}
 use Rattle.dom_md.specs.Formatted.{Event, events, events_below, folded}

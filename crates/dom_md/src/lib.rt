@@ -9,4 +9,4 @@ pub mod formatting;
 pub mod node_md;
 pub mod serializer;
 
-pub use dom_markup::escaping::html_escape;
+pub use dom_nodes::escaping::html_escape;

@@ -8,7 +8,7 @@ ghost use Rattle.dom_links.specs.Forest.{forest_of};
 ghost use Rattle.dom_links.specs.Sound.{IsSoundArena};
 ghost use Rattle.dom_links.specs.Texts.{text_of};
 ghost use Rattle.dom_links.specs.Walk.{IsNodeOf, IsWithin};
-ghost use Rattle.dom_markup.specs.Pending.{row_weight, weight_below};
+ghost use Rattle.dom_links.specs.Weights.{row_weight, weight_below};
 ghost use Rattle.dom_md.specs.Formatted.{events_below, formatted_node};
 ghost use Rattle.dom_md.specs.FormatOps.{AreWithin, Formats, FormatsSome, IsFolded};
 ghost use Rattle.dom_md.specs.FormatOps.{IsOpWithin, first_events};

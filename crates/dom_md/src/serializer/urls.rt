@@ -2,7 +2,7 @@
 
 use crate::context::FormatOpts;
 use crate::serializer::texts::push_text;
-use dom_markup::escaping::html_escape;
+use dom_nodes::escaping::html_escape;
 use dom_nodes::fault::OutOfMemory;
 
 /// Adds an address and, where there is one, a title, in parentheses.

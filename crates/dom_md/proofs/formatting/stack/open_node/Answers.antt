@@ -1,7 +1,8 @@
 use Rattle.dom_links.specs.Forest.{forest_of}
-use Rattle.dom_markup.specs.Pending.{row_weight}
+use Rattle.dom_links.specs.Weights.{row_weight}
 use Rattle.dom_md.specs.FormatOps.{ops_events, row_events, weight}
-use Rattle.dom_md.proofs.StackLemmas.{next-within, opened, opened-weight, on_ok-both, on_ok-one}
+use Rattle.std.proofs.lemmas.Result.{on_ok_weaker}
+use Rattle.dom_md.proofs.StackLemmas.{next-within, opened, opened-weight, on_ok-both}
 use Rattle.std.proofs.Common.{◌+◌, ◌++◌, ◌∙◌, ap, string_bytes}
 use Rattle.dom_md.proofs.formatting.stack.open_node.Goals as goal
 
@@ -18,6 +19,6 @@ returns-clause-text c =
 pub returns-clause-weight : goal.returns-clause-weight
 returns-clause-weight c =
     let forest = forest_of c.args.nodes.now in
-    on_ok-one c.begin_node.result
+    on_ok_weaker c.begin_node.result
     (λ more. opened-weight forest c.requires.sound.forest c.args.id c.node_at-node.result.now c.node_at-node.ensures c.requires.known (weight forest c.args.ops.now.items) (weight forest c.push_open.new.ops.items) (weight forest c.begin_node.new.ops.items) (c.in_ok-push_open.ensures.weight ∙ ap (λ at. row_weight forest at + weight forest c.args.ops.now.items) c.get.ensures) more)
     c.begin_node.ensures.weight
