@@ -7,7 +7,8 @@ use Rattle.std.specs.Str.{chars}
 use Rattle.std.proofs.lemmas.Bool.{not_from_false, and_from, ne_eqb, eqb-false}
 use Rattle.std.proofs.lemmas.List.Folds.{list_all-append}
 use Rattle.std.proofs.lemmas.Str.{inside_one}
-use Rattle.dom_markup.specs.Escaping.{text_char, value_char, spaced_char, escaped_text, escaped_value, lacks}
+use Rattle.dom_nodes.specs.Escaping.{value_char, spaced_char, escaped_value}
+use Rattle.dom_markup.specs.Escaping.{text_char, escaped_text, lacks}
 
 pub lacks_from : (byte : ℕ) (xs : List ℕ) → ((k : ℕ) → k < length xs → get_or xs k 0 ≡ byte → ⊥) → lacks byte xs ≡ true
 lacks_from byte [] none = refl

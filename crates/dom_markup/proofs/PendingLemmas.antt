@@ -12,7 +12,8 @@ use Rattle.dom_links.specs.Laws.{AreLines}
 use Rattle.dom_markup.specs.declared.serializing.stack.SerializeOp.{SerializeOp}
 use Rattle.dom_markup.specs.declared.serializing.stack.SerializeOp.TheVariants.{Open, Close}
 use Rattle.dom_markup.specs.Html.{closing, end_tag, is_void_node, is_void, is_raw, keeps_texts, opening, trees_text}
-use Rattle.dom_markup.specs.Pending.{AreWithin, IsOpWithin, op_text, op_weight, ops_text, row_text, row_weight, text_below, trees_weight, weight, weight_below, weight_following}
+use Rattle.dom_links.specs.Weights.{row_weight, trees_weight, weight_below}
+use Rattle.dom_markup.specs.Pending.{AreWithin, IsOpWithin, op_text, op_weight, ops_text, row_text, text_below, weight, weight_following}
 use Rattle.dom_markup.proofs.RowLemmas.{contents_row}
 
 -- ---- pushing

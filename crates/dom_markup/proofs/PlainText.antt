@@ -10,7 +10,8 @@ use Rattle.dom_markup.specs.Bytes.{is_name_byte, is_letter, is_whitespace, folde
 use Rattle.dom_nodes.specs.Words.{is_among}
 use Rattle.dom_markup.specs.Names.{markup, text_of, raw_text_of, mode_in, void_names, raw_names, text_names}
 use Rattle.dom_markup.specs.References.{decoded}
-use Rattle.dom_markup.specs.Escaping.{escaped_text, escaped_value, lacks}
+use Rattle.dom_nodes.specs.Escaping.{escaped_value}
+use Rattle.dom_markup.specs.Escaping.{escaped_text, lacks}
 use Rattle.dom_markup.specs.Html.{attr_text, end_tag}
 use Rattle.dom_markup.specs.Numbered.{read_attr}
 use Rattle.dom_markup.specs.ValueTrees.{Attribute, ValueTrees}

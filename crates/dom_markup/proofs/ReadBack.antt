@@ -6,7 +6,8 @@ use Rattle.std.specs.List.{flat_map}
 use Rattle.std.specs.Str.{chars, encode_utf8_all, IsUtf8}
 use Rattle.std.proofs.lemmas.Bool.{eqb-true}
 use Rattle.std.proofs.lemmas.Str.{encodes-chars}
-use Rattle.dom_markup.specs.Escaping.{text_char, value_char, spaced_char, escaped_text, escaped_value}
+use Rattle.dom_nodes.specs.Escaping.{value_char, spaced_char, escaped_value}
+use Rattle.dom_markup.specs.Escaping.{text_char, escaped_text}
 use Rattle.dom_markup.specs.References.{decoded}
 use Rattle.dom_markup.proofs.InertLemmas.{encode_lacks}
 use Rattle.dom_markup.proofs.ReferenceLemmas.{decoded-plain}

@@ -14,7 +14,8 @@ use Rattle.dom_links.specs.Forest.{Forest, children_of, parent}
 use Rattle.dom_links.specs.Trees.{Trees, NoTrees, Tree, trees}
 use Rattle.dom_nodes.specs.Words.{is_among}
 use Rattle.dom_markup.specs.Names.{void_names, raw_names}
-use Rattle.dom_markup.specs.Escaping.{escaped_text, escaped_value}
+use Rattle.dom_nodes.specs.Escaping.{escaped_value}
+use Rattle.dom_markup.specs.Escaping.{escaped_text}
 
 -- ---- names
 

@@ -5,8 +5,9 @@ use Rattle.std.specs.Option.{option_map_or}
 use Rattle.dom_nodes.specs.declared.node_data.NodeData.{NodeData}
 use Rattle.dom_nodes.specs.declared.node_data.NodeData.TheVariants.{Document, Fragment, Element}
 use Rattle.dom_links.specs.Forest.{Forest, children_of}
-use Rattle.dom_links.specs.Trees.{Trees, NoTrees, Tree, contents_list, trees}
+use Rattle.dom_links.specs.Trees.{contents_list, trees}
 use Rattle.dom_links.specs.Walk.{row_on}
+use Rattle.dom_links.specs.Weights.{row_weight, trees_weight, weight_below}
 use Rattle.dom_markup.specs.declared.serializing.stack.SerializeOp.{SerializeOp}
 use Rattle.dom_markup.specs.declared.serializing.stack.SerializeOp.TheVariants.{Open, Close}
 use Rattle.dom_markup.specs.Html.{closing, following, is_void, keeps_texts, trees_text}
@@ -34,13 +35,6 @@ AreWithin forest [] = Unit {0}
 AreWithin forest (op ∷ ops) = IsOpWithin forest op × AreWithin forest ops
 
 -- how many steps are left: two for each node, one for each end tag
-abbrev pub trees_weight : Trees → ℕ
-trees_weight NoTrees = 0
-trees_weight (Tree n contents children later) = 2 + trees_weight contents + trees_weight children + trees_weight later
-
-abbrev pub row_weight : Forest → Option ℕ → ℕ
-row_weight forest first = trees_weight (trees forest (row_on forest false first))
-
 abbrev pub op_weight : Forest → SerializeOp → ℕ
 op_weight forest (Open id raw) = row_weight forest (Some id)
 op_weight forest (Close id) = 1
@@ -53,10 +47,6 @@ weight forest (op ∷ ops) = op_weight forest op + weight forest ops
 abbrev pub text_below : Forest → ℕ → NodeData → List ℕ
 text_below forest n content =
     following content (trees_text forest false (trees forest (contents_list forest n))) (trees_text forest (keeps_texts content) (trees forest (children_of forest n)))
-
--- the steps that its contents and children take
-abbrev pub weight_below : Forest → ℕ → ℕ
-weight_below forest n = trees_weight (trees forest (contents_list forest n)) + trees_weight (trees forest (children_of forest n))
 
 -- the steps that follow the opening of node n: its children's, and for an element that isn't void its contents' and one for
 -- its end tag

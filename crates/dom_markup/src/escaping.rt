@@ -1,24 +1,16 @@
 //! Texts in which the characters that markup would read are written by their names.
 
-ghost use Rattle.std.specs.Prelude.{◌≡◌, ◌∷◌, [], IfOk, string_bytes};
+ghost use Rattle.std.specs.Prelude.{◌≡◌, ◌∷◌, []};
 ghost use Rattle.dom_markup.specs.Cutting.{Cuts};
-ghost use Rattle.dom_markup.specs.Escaping.{escaped_text, escaped_value, spaced};
+ghost use Rattle.dom_nodes.specs.Escaping.{escaped_value};
+ghost use Rattle.dom_markup.specs.Escaping.{escaped_text, spaced};
 ghost use Rattle.dom_markup.specs.Writing.{Writes};
 
-use crate::writing::{PutText, ToText};
-use dom_nodes::fault::OutOfMemory;
+use crate::writing::PutText;
 use memchr::memmem::Finder;
 use memchr::{memchr, memchr2, memchr3};
-use std::alloc::Global;
 
-/// The text, escaped as an attribute's value is.
-pub fn html_escape(alloc: Global, text: &str) -> Result<String, OutOfMemory>
-    ensures { IfOk result (λ escaped. string_bytes escaped ≡ escaped_value text.now) }
-{
-    let mut escaped = String::new(alloc);
-    Escaper::new().put_value::<ToText, String>(&mut escaped, text)?;
-    Ok(escaped)
-}
+pub use dom_nodes::escaping::html_escape;
 
 /// Writes escaped texts. It holds the search for a no-break space, which is made once for all
 /// texts.

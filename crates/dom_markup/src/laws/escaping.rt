@@ -3,7 +3,8 @@
 ghost use Rattle.std.specs.Prelude.{◌≡◌, true, ℕ, List};
 ghost use Rattle.std.specs.Str.{IsUtf8};
 ghost use Rattle.dom_nodes.specs.Ascii.{double_quote, greater_than, less_than};
-ghost use Rattle.dom_markup.specs.Escaping.{escaped_text, escaped_value, lacks};
+ghost use Rattle.dom_nodes.specs.Escaping.{escaped_value};
+ghost use Rattle.dom_markup.specs.Escaping.{escaped_text, lacks};
 ghost use Rattle.dom_markup.specs.References.{decoded};
 
 /// An escaped text begins no tag and ends none.

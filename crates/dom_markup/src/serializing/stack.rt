@@ -8,7 +8,8 @@ ghost use Rattle.dom_links.specs.Walk.{IsNodeOf, IsWithin};
 ghost use Rattle.dom_markup.specs.Html.{html_of, inner_html_of, is_kept};
 ghost use Rattle.dom_markup.specs.Pending.{AreWithin, IsOpWithin, Pushes, Steps};
 ghost use Rattle.dom_markup.specs.Pending.{op_text, op_weight, ops_text};
-ghost use Rattle.dom_markup.specs.Pending.{row_text, row_weight, text_below, weight_following};
+ghost use Rattle.dom_links.specs.Weights.{row_weight};
+ghost use Rattle.dom_markup.specs.Pending.{row_text, text_below, weight_following};
 ghost use Rattle.dom_markup.specs.Writing.{Writes};
 
 use crate::escaping::Escaper;

@@ -1,7 +1,7 @@
 use Rattle.std.proofs.Common.{◌≡◌, ℕ, List, ◌++◌, length}
 use Rattle.std.specs.Io.KnownBytes.{Appends}
 use Rattle.std.specs.Str.{IsUtf8}
-use Rattle.dom_markup.specs.Escaping.{escaped_value}
+use Rattle.dom_nodes.specs.Escaping.{escaped_value}
 use Rattle.dom_markup.proofs.escaping.Escaper.put_named.Given as goal
 
 abbrev pub invariant-loop-named : goal.invariant-loop-named

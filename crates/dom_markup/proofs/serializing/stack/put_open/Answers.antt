@@ -1,6 +1,7 @@
 use Rattle.std.proofs.Common.{◌+◌, ◌++◌, ◌∙◌, ap}
 use Rattle.dom_links.specs.Forest.{forest_of}
-use Rattle.dom_markup.specs.Pending.{ops_text, row_text, row_weight, weight}
+use Rattle.dom_links.specs.Weights.{row_weight}
+use Rattle.dom_markup.specs.Pending.{ops_text, row_text, weight}
 use Rattle.dom_markup.proofs.PendingLemmas.{next-within, opened-text, opened-weight, on_ok-any}
 use Rattle.dom_markup.proofs.WritingLemmas.{some-written}
 use Rattle.dom_markup.proofs.serializing.stack.put_open.Goals as goal

@@ -1,7 +1,7 @@
 use Rattle.std.proofs.Common.{◌++◌, ap, refl}
 use Rattle.std.specs.Prelude.{codes}
 use Rattle.std.proofs.lemmas.Result.{err_from_is_err_and}
-use Rattle.dom_markup.specs.Escaping.{escaped_value}
+use Rattle.dom_nodes.specs.Escaping.{escaped_value}
 use Rattle.dom_markup.specs.Html.{prefix_text}
 use Rattle.dom_markup.proofs.TagLemmas.{attr-first, attr-value}
 use Rattle.dom_markup.proofs.WritingLemmas.{fault-first, fault-inside, then-writes, written-then}
