@@ -7,10 +7,9 @@ ghost use Rattle.dom_markup.specs.Escaping.{escaped_text, spaced};
 ghost use Rattle.dom_markup.specs.Writing.{Writes};
 
 use crate::writing::PutText;
+pub use dom_nodes::escaping::html_escape;
 use memchr::memmem::Finder;
 use memchr::{memchr, memchr2, memchr3};
-
-pub use dom_nodes::escaping::html_escape;
 
 /// Writes escaped texts. It holds the search for a no-break space, which is made once for all
 /// texts.

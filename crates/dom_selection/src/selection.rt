@@ -172,8 +172,9 @@ impl<'a> Selection<'a> {
         }
     }
 
-    /// Where memory comes from.
-    pub(crate) fn allocator(&self) -> Global {
+    /// Where the selection's memory comes from. No clause: a contract sees the selection as the list
+    /// of its nodes, and this says nothing of it.
+    pub fn allocator(&self) -> Global {
         match &self.nodes {
             Nodes::One(node) => node.tree.allocator(),
             Nodes::Several(nodes) => *nodes.allocator(),

@@ -4,11 +4,9 @@ ghost use Rattle.std.specs.Prelude.{◌≡◌, ◌++◌, IfOk, OnOk, string_byte
 ghost use Rattle.dom_nodes.specs.Words.{class_words, is_among};
 ghost use Rattle.dom_links.specs.Texts.{immediate_text_of, text_of};
 ghost use Rattle.dom_trees.specs.Views.{node_attrs};
-ghost use Rattle.dom_md.specs.Formatted.{formatted_node};
 ghost use Rattle.dom_selection.specs.Selections.{joined, some_node};
 
 use crate::selection::Selection;
-use dom_md::formatting::formatted_node;
 use dom_nodes::fault::OutOfMemory;
 
 impl<'a> Selection<'a> {
@@ -40,19 +38,6 @@ impl<'a> Selection<'a> {
         let mut joined = String::new(self.allocator());
         for node in self.nodes() {
             let text = node.immediate_text()?;
-            joined.push_str(&text)?;
-        }
-        Ok(joined)
-    }
-
-    /// The formatted texts of the nodes, each with its own tags and untrimmed, joined; a document
-    /// or a fragment gives nothing.
-    pub fn formatted_text(&self) -> Result<String, OutOfMemory>
-        ensures { IfOk result (λ text. string_bytes text ≡ joined formatted_node self.now) }
-    {
-        let mut joined = String::new(self.allocator());
-        for node in self.nodes() {
-            let text = formatted_node(node)?;
             joined.push_str(&text)?;
         }
         Ok(joined)
