@@ -1,20 +1,20 @@
 """The test command. It runs the gate, `rt ci`, which proves every crate from nothing and runs every test, and beside it
 tries the must-fail edits over each crate that the gate has proved (cases/edits.py). Then it runs the program that the
-gate built on the table of cases in cases/ and on a device that is full, compares the snippets of the documents with the
-crates `tour` and `uses`, and tries the callers that must not compile. Its last line counts all, and its status is 0
+gate built on the cases in cases/ and on a device that is full, compares the snippets of the documents with the
+crate `tour`, and tries the callers that must not compile. Its last line counts all, and its status is 0
 where nothing failed. `check --cases` leaves the gate and the edits out.
 
 A case is a line of a file cases/*.jsonl: `markup` is standard input and `script` the argument (`args` a list of
 arguments in its place; `markup_hex` and `script_hex` give bytes that are no text), `output` and `error` are what must
-stand on standard output and standard error, and `status` is the exit status, 0 if not given.
+stand on standard output and standard error, and `status` is the exit status, 0 if not given. A text may be given as a
+list of pieces, each a text and how often it stands there, with {n} in it for the number of each; an argument may be given
+with how often it stands there. A case of cases/calls is one of the program `calls`, whose arguments are calls of the library.
 
-A case of cases/paths is a `path` of mini selectors, the `markup` that it is followed through, and the `output` of the
-built crate `paths`.
+`calls limited` does each call that takes memory with ever more of it, in an address space of LIMITED bytes. Which public
+functions are called at all is counted by cases/coverage.py.
 
-The built crate `refusals` does each call that takes memory with ever more of it, in an address space of LIMITED bytes.
-
-A snippet is a block of README.md, docs/API.md or docs/SINK.md: one of rust stands in a file of crates/tour/src or crates/uses/src, line
-for line but for its indentation, and one of text in the stdout of one of the two, which the gate compares with what it prints.
+A snippet is a block of README.md, docs/API.md or docs/SINK.md: one of rust stands in a file of crates/tour/src, line for line
+but for its indentation, and one of text in its stdout, which the gate compares with what it prints.
 
 A caller that must not compile is a file cases/must-not-compile/NAME-WHAT.txt, a program that uses the crate NAME alone. One
 line of it ends in '// refused: WORDS': with that line the compiler refuses the program with those words, without it it runs."""
@@ -31,10 +31,10 @@ import textwrap
 import time
 
 sys.dont_write_bytecode = True
+import coverage  # noqa: E402
 import edits  # noqa: E402
 
 ROOT = pathlib.Path(__file__).resolve().parent.parent
-PROGRAM = ROOT / "crates" / "dq" / "out" / "dq"
 SECONDS = 60
 LIMITED = 256 * 1024 * 1024
 
@@ -103,31 +103,48 @@ def gate(clock):
     return [(passed, failed if ran.returncode == 0 or failed else 1), tried]
 
 
+def built(name):
+    """The program of that name that the gate built."""
+    return ROOT / "crates" / name / "out" / name
+
+
+def written(text):
+    """The bytes of a text, or of one that is given in pieces."""
+    pieces = [(text, 1)] if isinstance(text, str) else text
+    return "".join("".join(piece.replace("{n}", str(n)) for n in range(times)) for piece, times in pieces).encode()
+
+
 def given(case, name):
     """The bytes of a field that is a text, or that is given in hexadecimal."""
     if f"{name}_hex" in case:
         return bytes.fromhex(case[f"{name}_hex"])
-    return case.get(name, "").encode()
+    return written(case.get(name, ""))
 
 
-def fault_of(case):
+def arguments(words):
+    """The bytes of each argument; one that is given with a number stands so many times."""
+    repeated = [(word, 1) if isinstance(word, str) else word for word in words]
+    return [word.encode() for word, times in repeated for _ in range(times)]
+
+
+def fault_of(program, case):
     """What is wrong with the program's answer, or None."""
-    args = [word.encode() for word in case["args"]] if "args" in case else [given(case, "script")]
+    args = arguments(case["args"]) if "args" in case else [given(case, "script")]
     try:
-        ran = subprocess.run([PROGRAM, *args], input=given(case, "markup"), capture_output=True, timeout=SECONDS)
+        ran = subprocess.run([built(program), *args], input=given(case, "markup"), capture_output=True, timeout=SECONDS)
     except (OSError, subprocess.TimeoutExpired) as stopped:
         return str(stopped)
-    wanted = case.get("output", "").encode(), case.get("error", "").encode(), case.get("status", 0)
+    wanted = given(case, "output"), given(case, "error"), case.get("status", 0)
     got = ran.stdout, ran.stderr, ran.returncode
-    return None if got == wanted else f"wanted {wanted}, got {got}"
+    return None if got == wanted else f"wanted {wanted}, got {got}"[:2000]
 
 
-def run_cases(what, files, fault_of):
-    """Has each line of the files asked, and returns how many passed and failed."""
+def run_cases(what, program, files):
+    """Has the program asked each line of the files, and returns how many passed and failed."""
     passed = failed = 0
     for file in sorted(files):
         for number, line in enumerate(file.read_text(encoding="utf-8").splitlines(), 1):
-            fault = fault_of(json.loads(line))
+            fault = fault_of(program, json.loads(line))
             if fault is None:
                 passed += 1
             else:
@@ -137,42 +154,29 @@ def run_cases(what, files, fault_of):
     return passed, failed if passed else failed + 1
 
 
-def path_fault(case):
-    """What is wrong with what the program `paths` prints, or None."""
-    program = ROOT / "crates" / "paths" / "out" / "paths"
-    try:
-        ran = subprocess.run([program, case["path"]], input=case["markup"].encode(), capture_output=True, timeout=SECONDS)
-    except (OSError, subprocess.TimeoutExpired) as stopped:
-        return str(stopped)
-    wanted = case["output"].encode(), 0
-    got = ran.stdout, ran.returncode
-    return None if got == wanted else f"wanted {wanted}, got {got}"
-
-
 def table():
     """Runs the program on every case, and returns how many passed and failed."""
-    return run_cases("the program's cases", (ROOT / "cases").glob("*.jsonl"), fault_of)
+    return run_cases("the program's cases", "dq", (ROOT / "cases").glob("*.jsonl"))
 
 
-def paths():
-    """Runs the program `paths` on its cases, and returns how many passed and failed."""
-    return run_cases("cases of paths", (ROOT / "cases" / "paths").glob("*.jsonl"), path_fault)
+def calls():
+    """Runs the program `calls` on its cases, and returns how many passed and failed."""
+    return run_cases("cases of calls", "calls", (ROOT / "cases" / "calls").glob("*.jsonl"))
 
 
 def refusals():
-    """Runs the program `refusals` in a small address space, and returns how many calls were refused memory as they must
+    """Runs the program `calls` in a small address space, and returns how many calls were refused memory as they must
     be and then done, and how many weren't."""
-    program = ROOT / "crates" / "refusals" / "out" / "refusals"
     limit = lambda: resource.setrlimit(resource.RLIMIT_AS, (LIMITED, LIMITED))
     try:
-        ran = subprocess.run([program, "limited"], capture_output=True, text=True, timeout=SECONDS, preexec_fn=limit)
+        ran = subprocess.run([built("calls"), "limited"], capture_output=True, text=True, timeout=SECONDS, preexec_fn=limit)
     except (OSError, subprocess.SubprocessError) as stopped:
-        print(f"refusals: {stopped}")
+        print(f"calls limited: {stopped}")
         return 0, 1
     lines = ran.stdout.splitlines()
     wrong = [line for line in lines if not line.endswith(": refused, then done")]
     for line in wrong:
-        print(f"refusals: {line}")
+        print(f"calls limited: {line}")
     passed, failed = len(lines) - len(wrong), len(wrong)
     print(f"calls that memory is refused to: {passed} passed, {failed} failed")
     return passed, failed if passed and ran.returncode == 0 else failed + 1
@@ -186,7 +190,7 @@ def full_device():
         print("no device that is full")
         return 0, 0
     with device.open("wb") as full:
-        ran = subprocess.run([PROGRAM, "document"], input=b"<p>a</p>", stdout=full, stderr=subprocess.PIPE, timeout=SECONDS)
+        ran = subprocess.run([built("dq"), "document"], input=b"<p>a</p>", stdout=full, stderr=subprocess.PIPE, timeout=SECONDS)
     told = ran.stderr, ran.returncode
     if told == (b"dq: write failed\n", 5):
         return 1, 0
@@ -216,12 +220,11 @@ def stands_in(block, text):
 
 
 def snippets():
-    """Compares the documents' snippets with the crates `tour` and `uses`, and returns how many stand there and how many
-    don't."""
-    crates = [ROOT / "crates" / name for name in ("tour", "uses")]
+    """Compares the documents' snippets with the crate `tour`, and returns how many stand there and how many don't."""
+    crate = ROOT / "crates" / "tour"
     known = {
-        "rust": [file.read_text(encoding="utf-8") for crate in crates for file in sorted((crate / "src").glob("**/*.rt"))],
-        "text": [(crate / "stdout").read_text(encoding="utf-8") for crate in crates],
+        "rust": [file.read_text(encoding="utf-8") for file in sorted((crate / "src").glob("**/*.rt"))],
+        "text": [(crate / "stdout").read_text(encoding="utf-8")],
     }
     passed = failed = 0
     for document in (ROOT / "README.md", ROOT / "docs" / "API.md", ROOT / "docs" / "SINK.md"):
@@ -230,7 +233,7 @@ def snippets():
                 passed += 1
             else:
                 failed += 1
-                print(f"{document.name}:{start}: this {kind or 'plain'} block isn't in crates/tour or crates/uses")
+                print(f"{document.name}:{start}: this {kind or 'plain'} block isn't in crates/tour")
     print(f"snippets: {passed} passed, {failed} failed")
     return passed, failed if passed else failed + 1
 
@@ -298,7 +301,7 @@ def refused_callers():
 def main():
     clock, cases_alone = Clock(), sys.argv[1:] == ["--cases"]
     counts = [] if cases_alone else gate(clock)
-    tables = [table, paths, refusals, full_device, snippets, wrong_bodies]
+    tables = [table, calls, refusals, full_device, snippets, wrong_bodies, coverage.coverage]
     counts += clock.timed("the cases", lambda: [each() for each in tables])
     counts += [clock.timed("the callers that must not compile", refused_callers)]
     clock.note("all", time.monotonic() - clock.begun, used())

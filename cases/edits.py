@@ -33,6 +33,7 @@ IMPL = re.compile(r"impl\b(?:<.*?>)? (?:(\w+)(?:<.*>)? for )?(\w+)")
 HOLE = "use Rattle.{0}.Statement.{{statement}}\n\npub {1}_spec : {{M : Type 1}} → statement M\n{1}_spec = ?\n"
 FUNCTION = re.compile(r"fn (\S+): (?:no proof|not proved)")
 CALLS = re.compile(r"it calls `.*`, which (?:is|are) not proved")
+OWN = re.compile(r"did not prove `|it stands on `")
 MET = re.compile(r'"(?:part/)?Rattle-\w+-proofs\.([\w.]+)\.Met"')
 
 
@@ -136,7 +137,7 @@ class Edit:
 
     def refusal(self, said):
         """The line by which the prover refuses what the edit turns, or None."""
-        own = [line for line in said if not CALLS.search(line)]
+        own = [line for line in said if not CALLS.search(line) or OWN.search(line)]
         for line in own:
             told = TOLD.match(line)
             if told and told[1] == self.path and any(it and it[1] < int(told[2]) <= it[2] + 1 for it in self.places):

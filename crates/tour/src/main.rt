@@ -1,7 +1,9 @@
-//! The snippets of README.md, docs/API.md and docs/SINK.md, one after the other. `check` compares
-//! them with these files.
+//! The snippets of README.md, docs/API.md and docs/SINK.md, one after the other, and small whole
+//! programs over the library. `check` compares the documents with these files.
 #![tactic(auto)]
 
+mod addresses;
+mod article;
 mod changing;
 mod fault;
 mod finding;
@@ -9,6 +11,7 @@ mod links;
 mod many;
 mod parens;
 mod reading;
+mod rewriting;
 mod walking;
 mod writing;
 
@@ -24,5 +27,8 @@ fn main(rt: HostRuntime) -> Result<(), TourFault> {
     changing::print_changed(alloc, &mut out)?;
     many::print_marked(alloc, &mut out)?;
     writing::print_written(alloc, &mut out)?;
-    parens::print_read(alloc, &mut out)
+    parens::print_read(alloc, &mut out)?;
+    addresses::print_links(alloc, addresses::PAGE, &mut out)?;
+    rewriting::print_rewritten(alloc, rewriting::PAGE, &mut out)?;
+    article::print_article(alloc, article::PAGE, &mut out)
 }

@@ -1,0 +1,59 @@
+//! What `NodeSelect` answers of a node.
+
+use crate::printing::show;
+use crate::words::{cut, node_of};
+use dom_query::{
+    CaseSensitivity, CssLocalName, Namespace, NodeRef, NodeSelect, NonTSPseudoClass, Tree,
+};
+
+/// What a node is: `N`.
+pub fn show_kinds(rt: &HostRuntime, tree: &Tree, line: &str) -> Option<()> {
+    let node = NodeRef::new(node_of(line)?, tree);
+    show(rt, "is_root", NodeSelect::is_root(&node))?;
+    show(rt, "has_only_text", node.has_only_text())?;
+    show(rt, "is_empty_element", node.is_empty_element())?;
+    show(rt, "is_link", NodeSelect::is_link(&node))?;
+    show(rt, "has_namespace", node.has_namespace(&Namespace::Html))?;
+    let is_html = node.is_html_element_in_html_document();
+    show(rt, "is_html_element_in_html_document", is_html)
+}
+
+/// What it has of a name, an id and a text, and whether it is of the type of the first node: `N NAME
+/// ID TEXT`.
+pub fn show_named(rt: &HostRuntime, tree: &Tree, line: &str) -> Option<()> {
+    let (word, words) = cut(line);
+    let id = node_of(word)?;
+    let (name, rest) = cut(words);
+    let (value, text) = cut(rest);
+    let node = NodeRef::new(id, tree);
+    let name = CssLocalName::new(rt.alloc(), name).ok()?;
+    show(rt, "has_local_name", node.has_local_name(&name))?;
+    let value = CssLocalName::new(rt.alloc(), value).ok()?;
+    show(
+        rt,
+        "has_id",
+        node.has_id(&value, CaseSensitivity::CaseSensitive),
+    )?;
+    let is_alike = node.has_id(&value, CaseSensitivity::AsciiCaseInsensitive);
+    show(rt, "has_id without case", is_alike)?;
+    show(
+        rt,
+        "is_same_type",
+        node.is_same_type(&tree.root().first_child()?),
+    )?;
+    show(rt, "has_text", node.has_text(text))
+}
+
+/// What it answers to pseudo-classes: `N`.
+pub fn show_pseudos(rt: &HostRuntime, tree: &Tree, line: &str) -> Option<()> {
+    let node = NodeRef::new(node_of(line)?, tree);
+    for (name, pseudo) in [
+        ("any-link", NonTSPseudoClass::AnyLink),
+        ("link", NonTSPseudoClass::Link),
+        ("only-text", NonTSPseudoClass::OnlyText),
+        ("hover", NonTSPseudoClass::Hover),
+    ] {
+        show(rt, name, node.match_non_ts_pseudo_class(&pseudo))?;
+    }
+    Some(())
+}

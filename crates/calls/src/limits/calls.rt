@@ -1,0 +1,154 @@
+//! The calls, and how each ended.
+
+use crate::limits::editing::Edit;
+use crate::limits::memory::Taken;
+use crate::limits::{editing, markdown, mini, selectors};
+use dom_query::{Document, Matcher};
+use std::alloc::Global;
+
+/// How a call ended.
+#[derive(Clone, Copy, PartialEq, Eq, Debug, Drop)]
+pub enum Ending {
+    /// With the right answer.
+    Done,
+    /// With a refusal of memory, and what was handed in is as it was.
+    Refused,
+    /// In another way.
+    Wrong,
+}
+
+/// Whether the answer is right, as an ending.
+pub fn done_if(is_right: bool) -> Ending {
+    if is_right {
+        Ending::Done
+    } else {
+        Ending::Wrong
+    }
+}
+
+/// Whether a refusal is as it must be, as an ending.
+pub fn refused_if(is_right: bool) -> Ending {
+    if is_right {
+        Ending::Refused
+    } else {
+        Ending::Wrong
+    }
+}
+
+/// A call that asks for memory.
+#[derive(Clone, Copy, PartialEq, Eq, Debug, Drop)]
+pub enum Call {
+    Matcher,
+    Clone,
+    Css,
+    Caches,
+    Matches,
+    Select,
+    Is,
+    Mini,
+    Path,
+    MiniIs,
+    FindDescendants,
+    TryFind,
+    Find,
+    Chunk,
+    Cell,
+    Escape,
+    Prefix,
+    Md,
+    Serializer,
+    Formatted,
+    Edit(Edit),
+}
+
+pub const CALLS: [(&str, Call); 26] = [
+    ("Matcher::new", Call::Matcher),
+    ("Matcher::try_clone", Call::Clone),
+    ("InnerSelector::to_css", Call::Css),
+    ("match_element_with_caches", Call::Caches),
+    ("Matches::new", Call::Matches),
+    ("Document::select", Call::Select),
+    ("NodeRef::is", Call::Is),
+    ("parse_mini_selector", Call::Mini),
+    ("parse_selector_list", Call::Path),
+    ("mini_is", Call::MiniIs),
+    ("find_descendants", Call::FindDescendants),
+    ("try_find_descendants", Call::TryFind),
+    ("find", Call::Find),
+    ("push_escaped_chunk", Call::Chunk),
+    ("escape_table_cell_inplace", Call::Cell),
+    ("html_escape", Call::Escape),
+    ("ListContext::prefix", Call::Prefix),
+    ("md", Call::Md),
+    ("MDSerializer::serialize", Call::Serializer),
+    ("formatted_text", Call::Formatted),
+    ("SelectionMut::set_attr", Call::Edit(Edit::SetAttr)),
+    ("SelectionMut::set_text", Call::Edit(Edit::SetText)),
+    ("SelectionMut::append_html", Call::Edit(Edit::AppendHtml)),
+    ("append_selection", Call::Edit(Edit::AppendSelection)),
+    ("prepend_selection", Call::Edit(Edit::PrependSelection)),
+    (
+        "replace_with_selection",
+        Call::Edit(Edit::ReplaceWithSelection),
+    ),
+];
+
+/// What the calls are done on.
+#[derive(Drop)]
+pub struct Page {
+    pub document: Document,
+    pub matcher: Matcher,
+}
+
+const MARKUP: &str = "<div class=\"x y\"><h1>A *title* #</h1><p id=\"k\">one <b>two</b> three</p>\
+    <ul><li>four</li><li><a href=\"/5\" title=\"t\">five</a><ol><li>six</li></ol></li></ul>\
+    <table><tr><th>a|b</th></tr><tr><td>c</td></tr></table><blockquote>q</blockquote>\
+    <pre>code\n</pre><code>span</code></div>";
+
+/// A selector with parts of each kind that takes memory.
+pub const SELECTOR: &str = "div.x > p#k:not(b, i[title='a' i]):nth-child(2n), \
+    h1:has-text(\"title\"), :has(+ p), li:nth-child(2)";
+
+impl Page {
+    pub fn new(alloc: Global) -> Option<Page> {
+        Some(Page {
+            document: Document::parse(alloc, MARKUP).ok()?,
+            matcher: Matcher::new(alloc, SELECTOR).ok()?,
+        })
+    }
+}
+
+/// Takes all memory but so many bytes; nothing where no number is given.
+pub fn taken(alloc: Global, left: Option<usize>) -> Option<Taken> {
+    match left {
+        Some(left) => Taken::all_but(alloc, left),
+        None => Some(Taken::nothing(alloc)),
+    }
+}
+
+/// Does the call with so much memory.
+pub fn tried(alloc: Global, page: &Page, call: Call, left: Option<usize>) -> Option<Ending> {
+    match call {
+        Call::Matcher => selectors::reads(alloc, left),
+        Call::Clone => selectors::copies(alloc, page, left),
+        Call::Css => selectors::writes(alloc, page, left),
+        Call::Caches => selectors::asks_caches(alloc, page, left),
+        Call::Matches => selectors::walks(alloc, page, left),
+        Call::Select => selectors::selects(alloc, page, left),
+        Call::Is => selectors::asks(alloc, page, left),
+        Call::Mini => mini::reads(alloc, left),
+        Call::Path => mini::reads_path(alloc, left),
+        Call::MiniIs => mini::asks(alloc, page, left),
+        Call::FindDescendants => mini::finds(alloc, page, left),
+        Call::TryFind => mini::tries(alloc, page, left),
+        Call::Find => mini::finds_names(alloc, page, left),
+        Call::Chunk => markdown::pushes_chunk(alloc, left),
+        Call::Cell => markdown::escapes_cell(alloc, left),
+        Call::Escape => markdown::escapes(alloc, left),
+        Call::Prefix => markdown::makes_prefix(alloc, left),
+        Call::Md => markdown::writes(alloc, page, left),
+        Call::Serializer => markdown::serializes(alloc, page, left),
+        Call::Formatted => markdown::formats(alloc, page, left),
+        Call::Edit(edit) => editing::edits(alloc, edit, left),
+    }
+}

@@ -1,0 +1,71 @@
+//! Calls that edit each node of a selection.
+
+use crate::limits::calls::{Ending, done_if, refused_if, taken};
+use dom_query::{Document, EditFault, NodeId, NodeMarkup, SelectionFault, SelectionMut};
+use std::alloc::Global;
+
+const MARKUP: &str = "<div><b>given</b><i>too</i></div><p>1</p><p>2</p><p>3</p>";
+/// How many paragraphs there are.
+const NODES: usize = 3;
+/// A text that a node keeps apart.
+const LONG: &str = "a text that is too long to be kept within the value of a node";
+
+/// What is done at each node.
+#[derive(Clone, Copy, PartialEq, Eq, Debug, Drop)]
+pub enum Edit {
+    SetAttr,
+    SetText,
+    AppendHtml,
+    AppendSelection,
+    PrependSelection,
+    ReplaceWithSelection,
+}
+
+/// The numbers of the first paragraphs.
+fn paragraphs(alloc: Global, count: usize) -> Option<Vec<NodeId>> {
+    let mut ids = Vec::new(alloc);
+    for number in 0..count.min(NODES) {
+        ids.push(NodeId::new(6 + 2 * number)?).ok()?;
+    }
+    Some(ids)
+}
+
+/// Does it at each of the nodes.
+fn edited(document: &mut Document, nodes: Vec<NodeId>, edit: Edit) -> Result<(), SelectionFault> {
+    let mut selection = SelectionMut::new(&mut document.tree, nodes);
+    let (Some(bold), Some(slanted)) = (NodeId::new(2), NodeId::new(4)) else {
+        return Ok(());
+    };
+    let given = [bold, slanted];
+    match edit {
+        Edit::SetAttr => selection.set_attr("title", LONG),
+        Edit::SetText => selection.set_text(LONG),
+        Edit::AppendHtml => selection.append_html("<u class=long>one<b>two</b></u>"),
+        Edit::AppendSelection => selection.append_selection(&given),
+        Edit::PrependSelection => selection.prepend_selection(&given),
+        Edit::ReplaceWithSelection => selection.replace_with_selection(&given),
+    }
+}
+
+/// Does it at the paragraphs with so much memory: exactly the first that the stop counts are then done.
+pub fn edits(alloc: Global, edit: Edit, left: Option<usize>) -> Option<Ending> {
+    let mut document = Document::parse(alloc, MARKUP).ok()?;
+    let nodes = paragraphs(alloc, NODES)?;
+    let memory = taken(alloc, left)?;
+    let answer = edited(&mut document, nodes, edit);
+    drop(memory);
+    let done = match &answer {
+        Ok(()) => NODES,
+        Err(stop) if stop.fault == EditFault::Memory => stop.done,
+        Err(_) => return Some(Ending::Wrong),
+    };
+    let mut wanted = Document::parse(alloc, MARKUP).ok()?;
+    edited(&mut wanted, paragraphs(alloc, done)?, edit).ok()?;
+    let html = document.root().html().ok()?;
+    let is_right = html == wanted.root().html().ok()?;
+    Some(if answer.is_ok() {
+        done_if(is_right)
+    } else {
+        refused_if(is_right)
+    })
+}

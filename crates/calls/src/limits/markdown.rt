@@ -1,0 +1,90 @@
+//! Markdown and formatted text.
+
+use crate::limits::calls::{Ending, Page, done_if, refused_if, taken};
+use dom_query::{
+    DocumentMd, FormatOpts, ListContext, ListKind, MDSerializer, NodeMd, OutOfMemory,
+    escape_table_cell_inplace, html_escape, push_escaped_chunk,
+};
+use std::alloc::Global;
+
+/// More than a text keeps without asking for memory.
+const LONG: &str = "a text that is longer than what was asked for at first: ";
+
+pub fn pushes_chunk(alloc: Global, left: Option<usize>) -> Option<Ending> {
+    let mut text = String::from_str(alloc, LONG).ok()?;
+    let held = taken(alloc, left)?;
+    let answer = push_escaped_chunk(&mut text, "*a*_b_[c]|d|", true, false);
+    drop(held);
+    Some(match answer {
+        Ok(()) => done_if(text.as_str().ends_with(": \\*a\\*\\_b\\_\\[c\\]\\|d\\|")),
+        Err(OutOfMemory) => refused_if(text.as_str() == LONG),
+    })
+}
+
+pub fn escapes_cell(alloc: Global, left: Option<usize>) -> Option<Ending> {
+    let mut text = String::from_str(alloc, "a|b \\| c|").ok()?;
+    let held = taken(alloc, left)?;
+    let answer = escape_table_cell_inplace(&mut text);
+    drop(held);
+    Some(match answer {
+        Ok(()) => done_if(text.as_str() == "a\\|b \\| c\\|"),
+        Err(OutOfMemory) => refused_if(text.as_str() == "a|b \\| c|"),
+    })
+}
+
+pub fn escapes(alloc: Global, left: Option<usize>) -> Option<Ending> {
+    let held = taken(alloc, left)?;
+    let answer = html_escape(alloc, "/?q=\"a\"&b=\"c\"");
+    drop(held);
+    Some(match answer {
+        Ok(text) => done_if(text.as_str() == "/?q=&quot;a&quot;&amp;b=&quot;c&quot;"),
+        Err(OutOfMemory) => Ending::Refused,
+    })
+}
+
+pub fn makes_prefix(alloc: Global, left: Option<usize>) -> Option<Ending> {
+    let list = ListContext::new(FormatOpts::new(), ListKind::Ol(12));
+    let held = taken(alloc, left)?;
+    let answer = list.prefix(alloc);
+    drop(held);
+    Some(match answer {
+        Ok(text) => done_if(text.as_str() == "12. "),
+        Err(OutOfMemory) => Ending::Refused,
+    })
+}
+
+pub fn writes(alloc: Global, page: &Page, left: Option<usize>) -> Option<Ending> {
+    let held = taken(alloc, left)?;
+    let answer = page.document.md(None);
+    drop(held);
+    Some(match answer {
+        Ok(text) => done_if(is_markdown(text.as_str())),
+        Err(OutOfMemory) => Ending::Refused,
+    })
+}
+
+fn is_markdown(text: &str) -> bool {
+    text.starts_with("# A \\*title\\* \\#\n\none **two** three\n\n- four\n- [five](/5 \"t\")")
+        && text.ends_with("```\ncode\n```\n`span`")
+}
+
+pub fn serializes(alloc: Global, page: &Page, left: Option<usize>) -> Option<Ending> {
+    let root = page.document.root();
+    let held = taken(alloc, left)?;
+    let answer = MDSerializer::new(&root, Some(&["table"])).serialize(false);
+    drop(held);
+    Some(match answer {
+        Ok(text) => done_if(is_markdown(text.as_str())),
+        Err(OutOfMemory) => Ending::Refused,
+    })
+}
+
+pub fn formats(alloc: Global, page: &Page, left: Option<usize>) -> Option<Ending> {
+    let held = taken(alloc, left)?;
+    let answer = page.document.formatted_text();
+    drop(held);
+    Some(match answer {
+        Ok(text) => done_if(text.as_str().ends_with("q\n\ncode\n\n\nspan")),
+        Err(OutOfMemory) => Ending::Refused,
+    })
+}

@@ -1,0 +1,108 @@
+//! Selectors: reading, copying, writing, asking.
+
+use crate::limits::calls::{Ending, Page, SELECTOR, done_if, refused_if, taken};
+use dom_query::{
+    DocumentSelect, Matcher, Matches, NodeId, NodeRef, NodeSelect, OutOfMemory, SelectorCaches,
+    SelectorFault, ToCss, Tree,
+};
+use std::alloc::Global;
+
+pub fn reads(alloc: Global, left: Option<usize>) -> Option<Ending> {
+    let held = taken(alloc, left)?;
+    let answer = Matcher::new(alloc, SELECTOR);
+    drop(held);
+    Some(match answer {
+        Ok(matcher) => done_if(matcher.selectors().len() == 4),
+        Err(fault) => refused_if(fault == SelectorFault::Memory),
+    })
+}
+
+pub fn copies(alloc: Global, page: &Page, left: Option<usize>) -> Option<Ending> {
+    let held = taken(alloc, left)?;
+    let answer = page.matcher.try_clone();
+    drop(held);
+    Some(match answer {
+        Ok(copy) => done_if(copy.selectors().len() == 4),
+        Err(OutOfMemory) => Ending::Refused,
+    })
+}
+
+pub fn writes(alloc: Global, page: &Page, left: Option<usize>) -> Option<Ending> {
+    let mut text = String::from_str(alloc, "x").ok()?;
+    let selector = page.matcher.selectors().first()?;
+    let held = taken(alloc, left)?;
+    let answer = selector.to_css(&mut text);
+    drop(held);
+    Some(match answer {
+        Ok(()) => done_if(text.as_str().starts_with("xdiv.x > p#k")),
+        Err(OutOfMemory) => refused_if(text.as_str() == "x"),
+    })
+}
+
+/// Whether caches answer as no caches do, for each node.
+fn agree(tree: &Tree, matcher: &Matcher, caches: &mut SelectorCaches<'_>) -> bool {
+    for number in 0..tree.len() {
+        let Some(id) = NodeId::new(number) else {
+            return false;
+        };
+        let node = NodeRef::new(id, tree);
+        if matcher.match_element_with_caches(&node, caches) != matcher.match_element(&node) {
+            return false;
+        }
+    }
+    true
+}
+
+/// Caches are refused where they give no index a second time.
+pub fn asks_caches(alloc: Global, page: &Page, left: Option<usize>) -> Option<Ending> {
+    let tree = &page.document.tree;
+    let mut caches = SelectorCaches::new(tree);
+    let held = taken(alloc, left)?;
+    let first = agree(tree, &page.matcher, &mut caches);
+    let second = agree(tree, &page.matcher, &mut caches);
+    drop(held);
+    if caches.hits() == 0 {
+        return Some(refused_if(first && second));
+    }
+    Some(done_if(first && second))
+}
+
+fn count_of(matches: Matches<'_, '_, '_>) -> usize {
+    let mut count: usize = 0;
+    for _ in matches {
+        count = count.saturating_add(1);
+    }
+    count
+}
+
+pub fn walks(alloc: Global, page: &Page, left: Option<usize>) -> Option<Ending> {
+    let roots = [NodeId::root(), NodeId::new(1)?];
+    let held = taken(alloc, left)?;
+    let answer = Matches::new(&page.document.tree, &roots, &page.matcher);
+    drop(held);
+    Some(match answer {
+        Ok(matches) => done_if(count_of(matches) == 3),
+        Err(OutOfMemory) => Ending::Refused,
+    })
+}
+
+pub fn selects(alloc: Global, page: &Page, left: Option<usize>) -> Option<Ending> {
+    let held = taken(alloc, left)?;
+    let answer = page.document.select(SELECTOR);
+    drop(held);
+    Some(match answer {
+        Ok(found) => done_if(found.length() == 3),
+        Err(fault) => refused_if(fault == SelectorFault::Memory),
+    })
+}
+
+pub fn asks(alloc: Global, page: &Page, left: Option<usize>) -> Option<Ending> {
+    let node = NodeRef::new(NodeId::new(2)?, &page.document.tree);
+    let held = taken(alloc, left)?;
+    let answer = node.is(SELECTOR);
+    drop(held);
+    Some(match answer {
+        Ok(is_meant) => done_if(is_meant),
+        Err(OutOfMemory) => Ending::Refused,
+    })
+}

@@ -1,0 +1,160 @@
+//! Calls of the library, asked at a shell. `calls LINE ..` reads the markup on standard input, makes
+//! the call of each line on the document, in order, and prints what each answers: the rows of
+//! cases/calls. `calls` alone does each call of `limits` with ample memory, and `calls limited` with
+//! ever more of it. `calls time` takes the times of some.
+#![tactic(auto)]
+
+mod asking;
+mod css;
+mod indexes;
+mod lent;
+mod limits;
+mod many;
+mod minis;
+mod pages;
+mod printing;
+mod reading;
+mod selecting;
+mod selections;
+mod sinks;
+mod texts;
+mod timing;
+mod trees;
+mod walking;
+mod words;
+
+use dom_query::{Document, Tree};
+use std::env;
+use std::io::Read;
+use std::process::ExitCode;
+use words::cut;
+
+/// Makes a call that changes the document.
+fn change(rt: &HostRuntime, document: &mut Document, group: &str, line: &str) -> Option<()> {
+    match group {
+        "move" => trees::move_nodes(rt, &mut document.tree, line),
+        "make" => trees::make_node(rt, &mut document.tree, line),
+        "change" => trees::change_node(rt, &mut document.tree, line),
+        "copy" => trees::copy_nodes(rt, &mut document.tree, line),
+        "node" => lent::call(rt, &mut document.tree, line),
+        "nodes" => many::call(rt, &mut document.tree, line),
+        "snippet" => pages::put_snippet(rt, &mut document.tree, line),
+        "sink-make" => sinks::make(rt, document, line),
+        "sink-put" => sinks::put(rt, document, line),
+        "sink-change" => sinks::change(rt, document, line),
+        "sink-note" => sinks::note(rt, document, line),
+        _ => read(rt, document, group, line),
+    }
+}
+
+/// Makes a call that reads the document.
+fn read(rt: &HostRuntime, document: &Document, group: &str, line: &str) -> Option<()> {
+    match group {
+        "page" => pages::read(rt, document),
+        "print" => pages::print_page(rt, document),
+        "texts" => pages::print_texts(rt, document),
+        "html" => pages::print_html(rt, document),
+        "clone" => pages::print_copy(rt, document),
+        "to-fragment" => pages::make_fragment(rt, document, line),
+        "sink-ask" => sinks::ask(rt, document, line),
+        "select" => selecting::select(rt, document, line),
+        "selection" => selections::select(rt, document, line),
+        "step" => selections::step(rt, document, line),
+        "choose" => selections::choose(rt, document, line),
+        "combine" => selections::combine(rt, document, line),
+        "selected" => selections::read(rt, document, line),
+        "path" => minis::follow(rt, document, line),
+        _ => read_tree(rt, &document.tree, group, line),
+    }
+}
+
+/// Makes a call that reads the tree.
+fn read_tree(rt: &HostRuntime, tree: &Tree, group: &str, line: &str) -> Option<()> {
+    match group {
+        "read" => reading::read(rt, tree, line),
+        "around" => reading::look_around(rt, tree, line),
+        "children" => walking::list_children(rt, tree, line),
+        "walk" => walking::walk(rt, tree, line),
+        "count" => walking::count(rt, tree, line),
+        "htmls" => pages::write_html(rt, tree, line),
+        "md" => texts::write_node(rt, tree, line),
+        "without" => texts::write_without(rt, tree, line),
+        "formatted" => texts::format(rt, tree, line),
+        _ => ask(rt, tree, group, line),
+    }
+}
+
+/// Makes a call that asks nodes.
+fn ask(rt: &HostRuntime, tree: &Tree, group: &str, line: &str) -> Option<()> {
+    match group {
+        "select-below" => selecting::select_below_several(rt, tree, line),
+        "tests" => selecting::count_tests(rt, tree, line),
+        "ask" => selecting::ask(rt, tree, line),
+        "kinds" => asking::show_kinds(rt, tree, line),
+        "named" => asking::show_named(rt, tree, line),
+        "pseudos" => asking::show_pseudos(rt, tree, line),
+        "index" => indexes::ask(rt, tree, line),
+        "places" => indexes::show_places(rt, tree),
+        "find" => minis::find(rt, tree, line),
+        "names" => minis::find_names(rt, tree, line),
+        "mini-is" => minis::is_meant(rt, tree, line),
+        "mini-ask" => minis::ask(rt, tree, line),
+        _ => write(rt, group, line),
+    }
+}
+
+/// Makes a call of a text alone.
+fn write(rt: &HostRuntime, group: &str, line: &str) -> Option<()> {
+    match group {
+        "parse" => pages::read_document(rt, line),
+        "fragment-sink" => pages::print_sink(rt),
+        "fragment" => pages::read_fragment(rt, line),
+        "tokens" => texts::cut_tokens(rt, line),
+        "fault-of" => selecting::show_fault(rt, line),
+        "css" => css::write_selectors(rt, line),
+        "css-of" => css::write_values(rt, line),
+        "mini" => minis::read(rt, line),
+        "minis" => minis::read_list(rt, line),
+        "chunk" => texts::escape_chunk(rt, line),
+        "cell" => texts::escape_cell(rt, line),
+        "escape" => texts::escape_value(rt, line),
+        "fence" => texts::measure_fence(rt, line),
+        "list" => texts::number_list(rt, line),
+        "mark" => texts::read_mark(rt, line),
+        _ => None,
+    }
+}
+
+/// Makes the call of each line on the markup that standard input has.
+fn call_all(rt: &HostRuntime, lines: &[String]) -> Option<()> {
+    let mut markup = String::new(rt.alloc());
+    rt.stdin().read_to_string(&mut markup).ok()?;
+    let mut document = Document::parse(rt.alloc(), markup.as_str()).ok()?;
+    for line in lines {
+        let (group, rest) = cut(line.as_str());
+        change(rt, &mut document, group, rest)?;
+    }
+    Some(())
+}
+
+fn run(rt: &HostRuntime, lines: &[String]) -> Option<()> {
+    match lines {
+        [] => limits::try_all(rt, false),
+        [word] if word.as_str() == "limited" => limits::try_all(rt, true),
+        [word, words @ ..] if word.as_str() == "time" => timing::run(rt, words),
+        _ => call_all(rt, lines),
+    }
+}
+
+fn main(rt: HostRuntime) -> ExitCode {
+    let Ok(all) = env::args(&rt) else {
+        return ExitCode::from(64);
+    };
+    let Ok(lines) = all.skip(1).collect::<Vec<String>>(rt.alloc()) else {
+        return ExitCode::from(5);
+    };
+    match run(&rt, lines.as_slice()) {
+        Some(()) => ExitCode::from(0),
+        None => ExitCode::from(1),
+    }
+}

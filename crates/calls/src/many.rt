@@ -1,0 +1,69 @@
+//! Calls of `SelectionMut`, which change several nodes.
+
+use crate::printing::show_edit;
+use crate::words::{cut, nodes_of};
+use dom_query::{NodeId, SelectionFault, SelectionMut, Tree};
+
+/// A call at nodes: `N,M CALL WORDS`; nodes that are given are written `N,M` too.
+pub fn call(rt: &HostRuntime, tree: &mut Tree, line: &str) -> Option<()> {
+    let alloc = tree.allocator();
+    let (numbers, rest) = cut(line);
+    let (call, words) = cut(rest);
+    let mut nodes = SelectionMut::new(tree, nodes_of(alloc, numbers)?);
+    let edit = if call.ends_with("_selection") {
+        given(&mut nodes, call, &nodes_of(alloc, words)?)?
+    } else if call.ends_with("_html") {
+        put(&mut nodes, call, words)?
+    } else {
+        changed(&mut nodes, call, words)?
+    };
+    show_edit(rt, call, edit)
+}
+
+fn given(
+    nodes: &mut SelectionMut<'_>,
+    call: &str,
+    ids: &[NodeId],
+) -> Option<Result<(), SelectionFault>> {
+    Some(match call {
+        "append_selection" => nodes.append_selection(ids),
+        "prepend_selection" => nodes.prepend_selection(ids),
+        "replace_with_selection" => nodes.replace_with_selection(ids),
+        _ => return None,
+    })
+}
+
+/// Puts markup at each of the nodes.
+fn put(nodes: &mut SelectionMut<'_>, call: &str, html: &str) -> Option<Result<(), SelectionFault>> {
+    Some(match call {
+        "set_html" => nodes.set_html(html),
+        "append_html" => nodes.append_html(html),
+        "prepend_html" => nodes.prepend_html(html),
+        "before_html" => nodes.before_html(html),
+        "after_html" => nodes.after_html(html),
+        "replace_with_html" => nodes.replace_with_html(html),
+        _ => return None,
+    })
+}
+
+fn changed(
+    nodes: &mut SelectionMut<'_>,
+    call: &str,
+    words: &str,
+) -> Option<Result<(), SelectionFault>> {
+    let (name, value) = cut(words);
+    Some(match call {
+        "remove" => nodes.remove(),
+        "set_text" => nodes.set_text(words),
+        "strip_elements" => nodes.strip_elements(&[name, value]),
+        "set_attr" => nodes.set_attr(name, value),
+        "rename" => nodes.rename(name),
+        "add_class" => nodes.add_class(words),
+        "remove_class" => nodes.remove_class(words),
+        "remove_attr" => nodes.remove_attr(name),
+        "remove_attrs" => nodes.remove_attrs(&[name, value]),
+        "retain_attrs" => nodes.retain_attrs(&[name, value]),
+        "remove_all_attrs" => nodes.remove_all_attrs(),
+        _ => return None,
+    })
+}

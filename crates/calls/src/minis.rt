@@ -1,0 +1,107 @@
+//! Mini selectors and paths of them.
+
+use crate::printing::{show, show_ids, show_nodes, show_some};
+use crate::words::{cut, node_of};
+use dom_query::{
+    Document, MatchNode, MiniSelect, MiniSelector, NodeId, NodeRef, Traversal, Tree,
+    parse_mini_selector, parse_selector_list,
+};
+
+/// Follows a path, and prints the id of each node that it finds, in order, or `-` where a node has
+/// none: `PATH`.
+pub fn follow(rt: &HostRuntime, document: &Document, line: &str) -> Option<()> {
+    match document.root().try_find_descendants(line) {
+        Ok(found) => {
+            for node in &found {
+                let id = node.id_attr().unwrap_or("-");
+                println!(rt; "{id}").ok()?;
+            }
+            Some(())
+        }
+        Err(fault) => println!(rt; "{fault:?}").ok(),
+    }
+}
+
+/// What a mini selector says, and what is left of the text: `TEXT`.
+pub fn read(rt: &HostRuntime, line: &str) -> Option<()> {
+    match parse_mini_selector(rt.alloc(), line) {
+        Ok((rest, mini)) => {
+            show_parts(rt, &mini)?;
+            show(rt, "rest", rest)
+        }
+        Err(fault) => println!(rt; "{fault:?}").ok(),
+    }
+}
+
+fn show_parts(rt: &HostRuntime, mini: &MiniSelector<'_>) -> Option<()> {
+    show_some(rt, "name", mini.name())?;
+    show_some(rt, "id", mini.id())?;
+    for class in mini.classes() {
+        show(rt, "class", *class)?;
+    }
+    for attr in mini.attrs() {
+        let value = attr.test.map(|(_, value)| value).unwrap_or("-");
+        show(rt, "attr", attr.key)?;
+        show(rt, "value", value)?;
+    }
+    let lead = mini.combinator();
+    println!(rt; "combinator: {lead:?}").ok()
+}
+
+/// How many steps a path has, and what is left of the text: `TEXT`.
+pub fn read_list(rt: &HostRuntime, line: &str) -> Option<()> {
+    match parse_selector_list(rt.alloc(), line) {
+        Ok((rest, list)) => {
+            show(rt, "steps", list.len())?;
+            show(rt, "rest", rest)
+        }
+        Err(fault) => println!(rt; "{fault:?}").ok(),
+    }
+}
+
+/// What a path finds below a node: `N PATH`.
+pub fn find(rt: &HostRuntime, tree: &Tree, line: &str) -> Option<()> {
+    let (word, path) = cut(line);
+    let id = node_of(word)?;
+    let node = NodeRef::new(id, tree);
+    show_nodes(rt, "find_descendants", &node.find_descendants(path).ok()?)?;
+    show_nodes(
+        rt,
+        "try_find_descendants",
+        &node.try_find_descendants(path).ok()?,
+    )
+}
+
+/// What names, each of a step, find below a node: `N NAME NAME`.
+pub fn find_names(rt: &HostRuntime, tree: &Tree, line: &str) -> Option<()> {
+    let (word, words) = cut(line);
+    let id = node_of(word)?;
+    let mut names = Vec::new(rt.alloc());
+    for name in words.split(' ') {
+        if !name.is_empty() {
+            names.push(name).ok()?;
+        }
+    }
+    show_nodes(rt, "find", &NodeRef::new(id, tree).find(&names).ok()?)?;
+    let all = Traversal::find_descendant_elements(rt.alloc(), tree.nodes(), id, &names).ok()?;
+    show_ids(rt, "find_descendant_elements", &all)?;
+    let one = Traversal::find_descendant_element(tree.nodes(), id, &names);
+    show_some(rt, "find_descendant_element", one.map(NodeId::value))
+}
+
+/// Whether a text is a mini selector that means a node: `N TEXT`.
+pub fn is_meant(rt: &HostRuntime, tree: &Tree, line: &str) -> Option<()> {
+    let (word, text) = cut(line);
+    let id = node_of(word)?;
+    show(rt, "mini_is", NodeRef::new(id, tree).mini_is(text).ok()?)
+}
+
+/// Whether a mini selector means a node: `N TEXT`.
+pub fn ask(rt: &HostRuntime, tree: &Tree, line: &str) -> Option<()> {
+    let (word, text) = cut(line);
+    let id = node_of(word)?;
+    let node = NodeRef::new(id, tree);
+    let mini = MiniSelector::new(rt.alloc(), text).ok()?;
+    show(rt, "mini_match", node.mini_match(&mini))?;
+    show(rt, "match_node", mini.match_node(&node))
+}

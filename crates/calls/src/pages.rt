@@ -1,0 +1,107 @@
+//! Calls of `Document` and of the whole `Tree`.
+
+use crate::printing::{show, show_edit, show_node, show_some};
+use crate::words::{cut, node_of, nodes_of};
+use dom_query::{Document, DocumentMd, NodeFragment, NodeMarkup, Place, Snippet, Tree};
+
+/// What a document answers of all of it.
+pub fn read(rt: &HostRuntime, document: &Document) -> Option<()> {
+    show(rt, "len", document.tree.len())?;
+    show(rt, "root", document.root().id.value())?;
+    show_node(rt, "html_root", &document.html_root())?;
+    show_node(rt, "head", &document.head())?;
+    show_node(rt, "body", &document.body())?;
+    show_some(rt, "base_uri", document.base_uri())?;
+    read_texts(rt, document)?;
+    read_tree(rt, &document.tree)
+}
+
+fn read_texts(rt: &HostRuntime, document: &Document) -> Option<()> {
+    show(rt, "text", document.text().ok()?)?;
+    show(rt, "html", document.html().ok()?)?;
+    show(rt, "inner_html", document.inner_html().ok()?)?;
+    show(rt, "try_html", document.try_html()?)?;
+    show(rt, "try_inner_html", document.try_inner_html()?)
+}
+
+fn read_tree(rt: &HostRuntime, tree: &Tree) -> Option<()> {
+    show_node(rt, "html_root", &tree.html_root())?;
+    show_node(rt, "head", &tree.head())?;
+    show_node(rt, "body", &tree.body())?;
+    show_some(rt, "base_uri", tree.base_uri())?;
+    show(rt, "nodes", tree.nodes().len())?;
+    show(rt, "validate", tree.validate().is_ok())
+}
+
+/// The number of nodes of a document, and its HTML.
+pub fn print_page(rt: &HostRuntime, document: &Document) -> Option<()> {
+    show(rt, "len", document.tree.len())?;
+    show(rt, "html", document.html().ok()?)
+}
+
+/// The HTML of a document.
+pub fn print_html(rt: &HostRuntime, document: &Document) -> Option<()> {
+    show(rt, "html", document.html().ok()?)
+}
+
+/// The formatted text of a document, and its Markdown.
+pub fn print_texts(rt: &HostRuntime, document: &Document) -> Option<()> {
+    show(rt, "formatted_text", document.formatted_text().ok()?)?;
+    show(rt, "md", document.md(None).ok()?)
+}
+
+/// The number of nodes of a copy, and its HTML.
+pub fn print_copy(rt: &HostRuntime, document: &Document) -> Option<()> {
+    print_page(rt, &document.try_clone().ok()?)
+}
+
+/// The fragment that a parser fills, before it does.
+pub fn print_sink(rt: &HostRuntime) -> Option<()> {
+    print_page(rt, &Document::fragment_sink(rt.alloc()).ok()?)
+}
+
+/// The fragment that is read of a text, or why it is refused.
+pub fn read_fragment(rt: &HostRuntime, markup: &str) -> Option<()> {
+    match Document::fragment(rt.alloc(), markup) {
+        Ok(fragment) => print_page(rt, &fragment),
+        Err(fault) => show(rt, "fragment", fault),
+    }
+}
+
+/// The document that is read of a text, or why it is refused.
+pub fn read_document(rt: &HostRuntime, markup: &str) -> Option<()> {
+    match Document::parse(rt.alloc(), markup) {
+        Ok(document) => print_page(rt, &document),
+        Err(fault) => {
+            let (kind, at) = (fault.kind, fault.at);
+            println!(rt; "{fault}: {kind:?} at {at}").ok()
+        }
+    }
+}
+
+/// The fragment of a node: `N`.
+pub fn make_fragment(rt: &HostRuntime, document: &Document, line: &str) -> Option<()> {
+    match document.tree.get_unchecked(&node_of(line)?).to_fragment() {
+        Ok(fragment) => print_page(rt, &fragment),
+        Err(fault) => show(rt, "to_fragment", fault),
+    }
+}
+
+/// Puts markup, which is read once, behind the children of nodes: `N,M HTML`.
+pub fn put_snippet(rt: &HostRuntime, tree: &mut Tree, line: &str) -> Option<()> {
+    let (numbers, html) = cut(line);
+    let snippet = Snippet::read(rt.alloc(), html).ok()?;
+    for id in &nodes_of(rt.alloc(), numbers)? {
+        show_edit(rt, "put_at", snippet.put_at(tree, id, Place::AtEnd))?;
+    }
+    Some(())
+}
+
+/// The HTML of a node, and of what is below it, by each call: `N`.
+pub fn write_html(rt: &HostRuntime, tree: &Tree, line: &str) -> Option<()> {
+    let node = tree.get_unchecked(&node_of(line)?);
+    show(rt, "html", node.html().ok()?)?;
+    show(rt, "inner_html", node.inner_html().ok()?)?;
+    show(rt, "try_html", node.try_html()?)?;
+    show(rt, "try_inner_html", node.try_inner_html()?)
+}

@@ -1,0 +1,95 @@
+//! What `NodeRef` reads of a node.
+
+use crate::printing::{show, show_node, show_some};
+use crate::words::{cut, node_of};
+use dom_query::{NodeRef, Tree};
+
+/// What a node is, has and says: `N`, or `N WORD` for the attribute, class or name of that word.
+pub fn read(rt: &HostRuntime, tree: &Tree, line: &str) -> Option<()> {
+    let (number, word) = cut(line);
+    let node = tree.get_unchecked(&node_of(number)?);
+    if !word.is_empty() {
+        return read_named(rt, &node, word);
+    }
+    read_kind(rt, &node)?;
+    read_kinds(rt, &node)?;
+    read_element(rt, &node)?;
+    read_texts(rt, &node)
+}
+
+/// Which kind of node it is.
+fn read_kind(rt: &HostRuntime, node: &NodeRef<'_>) -> Option<()> {
+    show(rt, "is_document", node.is_document())?;
+    show(rt, "is_fragment", node.is_fragment())?;
+    show(rt, "is_element", node.is_element())?;
+    show(rt, "is_text", node.is_text())?;
+    show(rt, "is_comment", node.is_comment())?;
+    show(rt, "is_doctype", node.is_doctype())
+}
+
+/// What it is besides.
+fn read_kinds(rt: &HostRuntime, node: &NodeRef<'_>) -> Option<()> {
+    show(rt, "is_root", node.is_root())?;
+    show(rt, "is_link", node.is_link())?;
+    show(rt, "may_have_children", node.may_have_children())?;
+    show(rt, "is_nonempty_text", node.is_nonempty_text())?;
+    show_some(rt, "query", node.query(|it| it.is_text()))?;
+    show(rt, "query_or", node.query_or(false, |it| it.is_text()))
+}
+
+/// What it has as an element.
+fn read_element(rt: &HostRuntime, node: &NodeRef<'_>) -> Option<()> {
+    show_some(rt, "node_name", node.node_name())?;
+    show_some(
+        rt,
+        "element_ref",
+        node.element_ref().map(|it| it.node_name()),
+    )?;
+    show_some(
+        rt,
+        "qual_name_ref",
+        node.qual_name_ref().map(|name| name.local.as_str()),
+    )?;
+    show(rt, "attrs", node.attrs().len())?;
+    show_some(rt, "class", node.class())?;
+    show_some(rt, "id_attr", node.id_attr())?;
+    show_some(rt, "base_uri", node.base_uri())
+}
+
+/// What it has of a name.
+fn read_named(rt: &HostRuntime, node: &NodeRef<'_>, word: &str) -> Option<()> {
+    show(rt, "has_name", node.has_name(word))?;
+    show(rt, "has_class", node.has_class(word))?;
+    show(rt, "has_attr", node.has_attr(word))?;
+    show_some(rt, "attr", node.attr(word))?;
+    show(rt, "attr_or", node.attr_or("id", "default"))
+}
+
+/// The texts that are read of it.
+fn read_texts(rt: &HostRuntime, node: &NodeRef<'_>) -> Option<()> {
+    show(rt, "text", node.text().ok()?)?;
+    show(rt, "immediate_text", node.immediate_text().ok()?)?;
+    show(rt, "normalized_char_count", node.normalized_char_count())
+}
+
+/// The nodes around a node: `N`.
+pub fn look_around(rt: &HostRuntime, tree: &Tree, line: &str) -> Option<()> {
+    let node = tree.get_unchecked(&node_of(line)?);
+    show_node(rt, "parent", &node.parent())?;
+    show_node(rt, "first_child", &node.first_child())?;
+    show_node(rt, "last_child", &node.last_child())?;
+    show_node(rt, "next_sibling", &node.next_sibling())?;
+    show_node(rt, "prev_sibling", &node.prev_sibling())?;
+    show_node(rt, "last_sibling", &node.last_sibling())?;
+    look_for_elements(rt, &node)
+}
+
+/// The elements around it.
+fn look_for_elements(rt: &HostRuntime, node: &NodeRef<'_>) -> Option<()> {
+    show_node(rt, "parent_element", &node.parent_element())?;
+    show_node(rt, "next_element_sibling", &node.next_element_sibling())?;
+    show_node(rt, "next_sibling_element", &node.next_sibling_element())?;
+    show_node(rt, "prev_element_sibling", &node.prev_element_sibling())?;
+    show_node(rt, "prev_sibling_element", &node.prev_sibling_element())?;
+    show_node(rt, "first_element_child", &node.first_element_child())
+}

@@ -1,0 +1,125 @@
+//! Selectors: what they select in a document, and what nodes answer to them.
+
+use crate::printing::{show, show_ids, show_nodes};
+use crate::words::{cut, node_of, nodes_of};
+use dom_index::selecting::select_nodes;
+use dom_query::{
+    DescendantMatches, Document, MatchNode, Matcher, MatcherIter, NodeId, NodeRef, NodeSelect,
+    SelectorCaches, Tree, TreeIndex,
+};
+use dom_select::matcher::descendants::select_below;
+use dom_select::matcher::several::select_below_all;
+
+/// What a selector selects below the root, by each call: `SELECTOR`; or why it is none.
+pub fn select(rt: &HostRuntime, document: &Document, line: &str) -> Option<()> {
+    match Matcher::new(rt.alloc(), line) {
+        Ok(matcher) => select_by_each(rt, &document.tree, &matcher),
+        Err(fault) => show(rt, "Matcher::new", fault),
+    }
+}
+
+fn select_by_each(rt: &HostRuntime, tree: &Tree, matcher: &Matcher) -> Option<()> {
+    let roots = [NodeId::root()];
+    show_ids(
+        rt,
+        "select_below",
+        &select_below(tree, &NodeId::root(), matcher).ok()?,
+    )?;
+    show_ids(
+        rt,
+        "select_below_all",
+        &select_below_all(tree, &roots, matcher).ok()?,
+    )?;
+    show_nodes(
+        rt,
+        "select_nodes",
+        &select_nodes(tree, &roots, matcher).ok()?,
+    )?;
+    let below = DescendantMatches::new(tree.root(), matcher);
+    show(rt, "DescendantMatches", below.count())?;
+    let found = MatcherIter::new(tree, &roots, matcher).ok()?;
+    show(rt, "MatcherIter", found.count())?;
+    select_by_tables(rt, tree, matcher)
+}
+
+/// What tables select.
+fn select_by_tables(rt: &HostRuntime, tree: &Tree, matcher: &Matcher) -> Option<()> {
+    let mut index = TreeIndex::new(tree).ok()?;
+    let found = index.select(matcher, &[NodeId::root()]).ok()?;
+    show_nodes(rt, "TreeIndex::select", &found)
+}
+
+/// How many tests tables take to select below the root: `SELECTOR`.
+pub fn count_tests(rt: &HostRuntime, tree: &Tree, line: &str) -> Option<()> {
+    let matcher = Matcher::new(rt.alloc(), line).ok()?;
+    let mut index = TreeIndex::new(tree).ok()?;
+    show(
+        rt,
+        "found",
+        index.select(&matcher, &[NodeId::root()]).ok()?.len(),
+    )?;
+    show(rt, "tests", index.tests())
+}
+
+/// What is selected below several roots: `N,M SELECTOR`.
+pub fn select_below_several(rt: &HostRuntime, tree: &Tree, line: &str) -> Option<()> {
+    let (numbers, text) = cut(line);
+    let roots = nodes_of(rt.alloc(), numbers)?;
+    let matcher = Matcher::new(rt.alloc(), text).ok()?;
+    show_ids(
+        rt,
+        "select_below_all",
+        &select_below_all(tree, &roots, &matcher).ok()?,
+    )?;
+    show_nodes(
+        rt,
+        "select_nodes",
+        &select_nodes(tree, &roots, &matcher).ok()?,
+    )?;
+    let mut index = TreeIndex::new(tree).ok()?;
+    show_nodes(
+        rt,
+        "TreeIndex::select",
+        &index.select(&matcher, &roots).ok()?,
+    )
+}
+
+/// Why a text is no selector, or that it is one: `SELECTOR`.
+pub fn show_fault(rt: &HostRuntime, line: &str) -> Option<()> {
+    match Matcher::new(rt.alloc(), line) {
+        Ok(_) => println!(rt; "read").ok(),
+        Err(fault) => println!(rt; "{fault}").ok(),
+    }
+}
+
+/// What a node answers to a selector: `N SELECTOR`.
+pub fn ask(rt: &HostRuntime, tree: &Tree, line: &str) -> Option<()> {
+    let (word, text) = cut(line);
+    let id = node_of(word)?;
+    let node = NodeRef::new(id, tree);
+    show(rt, "is", node.is(text).ok()?)?;
+    match Matcher::new(rt.alloc(), text) {
+        Ok(matcher) => ask_by_matcher(rt, &node, &matcher),
+        Err(fault) => show(rt, "Matcher::new", fault),
+    }
+}
+
+fn ask_by_matcher(rt: &HostRuntime, node: &NodeRef<'_>, matcher: &Matcher) -> Option<()> {
+    show(rt, "is_match", node.is_match(matcher))?;
+    show(rt, "match_element", matcher.match_element(node))?;
+    let mut caches = SelectorCaches::new(node.tree);
+    show(
+        rt,
+        "with caches",
+        matcher.match_element_with_caches(node, &mut caches),
+    )?;
+    show(
+        rt,
+        "with caches again",
+        matcher.match_element_with_caches(node, &mut caches),
+    )?;
+    for selector in matcher.selectors() {
+        show(rt, "match_node", selector.match_node(node))?;
+    }
+    Some(())
+}

@@ -1,0 +1,141 @@
+//! Calls of `Selection` and of `DocumentSelect`.
+
+use crate::printing::{show, show_nodes, show_some};
+use crate::words::cut;
+use dom_query::{Document, DocumentSelect, Matcher, OutOfMemory, Selection};
+use std::fmt::Display;
+
+/// Prints the nodes of a selection, or the fault in its place.
+fn show_found<F: Display + Drop>(
+    rt: &HostRuntime,
+    what: &str,
+    found: &Result<Selection<'_>, F>,
+) -> Option<()> {
+    match found {
+        Ok(found) => show_nodes(rt, what, found.nodes()),
+        Err(fault) => println!(rt; "{what}: {fault}").ok(),
+    }
+}
+
+/// Prints the nodes of a selection, or `-` where there is none.
+fn show_tried(
+    rt: &HostRuntime,
+    what: &str,
+    found: &Result<Option<Selection<'_>>, OutOfMemory>,
+) -> Option<()> {
+    match found {
+        Ok(Some(found)) => show_nodes(rt, what, found.nodes()),
+        Ok(None) => show(rt, what, "-"),
+        Err(_) => None,
+    }
+}
+
+/// What a document selects by each call: `SELECTOR`.
+pub fn select(rt: &HostRuntime, document: &Document, line: &str) -> Option<()> {
+    show_found(rt, "select", &document.select(line))?;
+    show_found(rt, "nip", &document.nip(line))?;
+    show_found(rt, "select_single", &document.select_single(line))?;
+    show_tried(rt, "try_select", &document.try_select(line))?;
+    let Ok(matcher) = Matcher::new(rt.alloc(), line) else {
+        return Some(());
+    };
+    show_found(rt, "select_matcher", &document.select_matcher(&matcher))?;
+    show_found(
+        rt,
+        "select_single_matcher",
+        &document.select_single_matcher(&matcher),
+    )
+}
+
+/// Where each step leads from the nodes that a selector selects: `SELECTOR`.
+pub fn step(rt: &HostRuntime, document: &Document, line: &str) -> Option<()> {
+    let all = document.select(line).ok()?;
+    show_found(rt, "parent", &all.parent())?;
+    show_found(rt, "children", &all.children())?;
+    show_found(rt, "ancestors", &all.ancestors(None))?;
+    show_found(rt, "ancestors 1", &all.ancestors(Some(1)))?;
+    show_found(rt, "next_sibling", &all.next_sibling())?;
+    show_found(rt, "prev_sibling", &all.prev_sibling())?;
+    show_found(rt, "try_clone", &all.try_clone())?;
+    show_nodes(rt, "first", all.first().nodes())?;
+    show_nodes(rt, "last", all.last().nodes())?;
+    list(rt, &all)
+}
+
+/// The nodes of a selection as a list.
+fn list(rt: &HostRuntime, all: &Selection<'_>) -> Option<()> {
+    show(rt, "length", all.length())?;
+    show(rt, "size", all.size())?;
+    show(rt, "exists", all.exists())?;
+    show(rt, "is_empty", all.is_empty())?;
+    show_some(rt, "get 1", all.get(1).map(|node| node.id.value()))?;
+    show_some(rt, "last id", all.ids().ok()?.last().map(|id| id.value()))?;
+    for one in all.iter() {
+        show_nodes(rt, "iter", one.nodes())?;
+    }
+    Some(())
+}
+
+/// What a selector chooses from the nodes that another selects: `CHOICE SELECTOR`.
+pub fn choose(rt: &HostRuntime, document: &Document, line: &str) -> Option<()> {
+    let (choice, text) = cut(line);
+    let all = document.select(text).ok()?;
+    show(rt, "is", all.is(choice).ok()?)?;
+    show_found(rt, "select", &all.select(choice))?;
+    show_found(rt, "nip", &all.nip(choice))?;
+    show_found(rt, "select_single", &all.select_single(choice))?;
+    show_found(rt, "filter", &all.filter(choice))?;
+    show_found(rt, "add", &all.add(choice))?;
+    show_tried(rt, "try_select", &all.try_select(choice))?;
+    show_tried(rt, "try_filter", &all.try_filter(choice))?;
+    show_tried(rt, "try_add", &all.try_add(choice))?;
+    match Matcher::new(rt.alloc(), choice) {
+        Ok(matcher) => choose_by_matcher(rt, &all, &matcher),
+        Err(fault) => show(rt, "Matcher::new", fault),
+    }
+}
+
+fn choose_by_matcher(rt: &HostRuntime, all: &Selection<'_>, matcher: &Matcher) -> Option<()> {
+    show(rt, "is_matcher", all.is_matcher(matcher))?;
+    show_found(rt, "select_matcher", &all.select_matcher(matcher))?;
+    show_found(
+        rt,
+        "select_single_matcher",
+        &all.select_single_matcher(matcher),
+    )?;
+    show_found(rt, "filter_matcher", &all.filter_matcher(matcher))?;
+    show_found(rt, "add_matcher", &all.add_matcher(matcher))
+}
+
+/// What the nodes of two selectors make together: `OTHER SELECTOR`.
+pub fn combine(rt: &HostRuntime, document: &Document, line: &str) -> Option<()> {
+    let (other, text) = cut(line);
+    let all = document.select(text).ok()?;
+    let other = document.select(other).ok()?;
+    show_found(rt, "filter_selection", &all.filter_selection(&other))?;
+    show_found(rt, "add_selection", &all.add_selection(&other))?;
+    show(rt, "is_selection", all.is_selection(&other).ok()?)
+}
+
+/// What is read of the nodes that a selector selects: `NAME SELECTOR`.
+pub fn read(rt: &HostRuntime, document: &Document, line: &str) -> Option<()> {
+    let (name, text) = cut(line);
+    let all = document.select(text).ok()?;
+    show(rt, "attrs", all.attrs().len())?;
+    show_some(rt, "attr", all.attr(name))?;
+    show(rt, "attr_or", all.attr_or("id", "default"))?;
+    show(rt, "has_attr", all.has_attr(name))?;
+    show_some(rt, "id", all.id())?;
+    show_some(rt, "class", all.class())?;
+    show(rt, "has_class", all.has_class(name))?;
+    read_texts(rt, &all)
+}
+
+fn read_texts(rt: &HostRuntime, all: &Selection<'_>) -> Option<()> {
+    show(rt, "text", all.text().ok()?)?;
+    show(rt, "immediate_text", all.immediate_text().ok()?)?;
+    show(rt, "html", all.html().ok()?)?;
+    show(rt, "inner_html", all.inner_html().ok()?)?;
+    show_some(rt, "try_html", all.try_html().ok()?)?;
+    show_some(rt, "try_inner_html", all.try_inner_html().ok()?)
+}

@@ -1,0 +1,102 @@
+//! Markdown and its pieces, and the tokens of a text.
+
+use crate::printing::show;
+use crate::words::{cut, node_of};
+use dom_md::formatting::formatted_node;
+use dom_query::{
+    EmphasisScope, FormatOpts, ListContext, ListKind, MDSerializer, NodeMd, NodeRef, Tokens, Tree,
+    escape_table_cell_inplace, fence_len, html_escape, push_escaped_chunk, serialize_md,
+};
+
+/// The Markdown of a node, by each call: `N`.
+pub fn write_node(rt: &HostRuntime, tree: &Tree, line: &str) -> Option<()> {
+    let node = NodeRef::new(node_of(line)?, tree);
+    show(rt, "md", node.md(None).ok()?)?;
+    show(rt, "serialize_md", serialize_md(&node, false, None).ok()?)?;
+    let serializer = MDSerializer::new(&node, None);
+    show(rt, "MDSerializer", serializer.serialize(true).ok()?)
+}
+
+/// The Markdown of a node without the elements of two names: `N NAME NAME`.
+pub fn write_without(rt: &HostRuntime, tree: &Tree, line: &str) -> Option<()> {
+    let (word, names) = cut(line);
+    let id = node_of(word)?;
+    let (name, other) = cut(names);
+    show(
+        rt,
+        "md",
+        NodeRef::new(id, tree).md(Some(&[name, other])).ok()?,
+    )
+}
+
+/// The formatted text of a node: `N`.
+pub fn format(rt: &HostRuntime, tree: &Tree, line: &str) -> Option<()> {
+    let node = NodeRef::new(node_of(line)?, tree);
+    show(rt, "formatted_text", node.formatted_text().ok()?)?;
+    show(rt, "formatted_node", formatted_node(&node).ok()?)
+}
+
+/// A chunk of text, escaped: `TEXT`.
+pub fn escape_chunk(rt: &HostRuntime, text: &str) -> Option<()> {
+    let mut chunk = String::from_str(rt.alloc(), "x").ok()?;
+    push_escaped_chunk(&mut chunk, text, true, true).ok()?;
+    show(rt, "push_escaped_chunk", chunk.as_str())
+}
+
+/// A cell of a table, escaped: `TEXT`.
+pub fn escape_cell(rt: &HostRuntime, text: &str) -> Option<()> {
+    let mut cell = String::from_str(rt.alloc(), text).ok()?;
+    escape_table_cell_inplace(&mut cell).ok()?;
+    show(rt, "escape_table_cell_inplace", cell.as_str())
+}
+
+/// A text, escaped as the value of an attribute: `TEXT`.
+pub fn escape_value(rt: &HostRuntime, text: &str) -> Option<()> {
+    show(rt, "html_escape", html_escape(rt.alloc(), text).ok()?)
+}
+
+/// How long the fence of a text is: `TEXT`.
+pub fn measure_fence(rt: &HostRuntime, text: &str) -> Option<()> {
+    show(rt, "fence_len 1", fence_len(text, 1))?;
+    show(rt, "fence_len 3", fence_len(text, 3))
+}
+
+/// A list that is numbered from here on at this offset, and one with marks: `NUMBER OFFSET`.
+pub fn number_list(rt: &HostRuntime, line: &str) -> Option<()> {
+    let (number, offset) = cut(line);
+    let opts = FormatOpts::new().offset(offset.parse::<usize>().ok()?);
+    let mut list = ListContext::new(opts, ListKind::Ol(number.parse::<u32>().ok()?));
+    show_list(rt, &list)?;
+    list.advance_ol_number();
+    show_list(rt, &list)?;
+    show_list(rt, &ListContext::new(opts, ListKind::Ul))?;
+    let end = list.linebreak();
+    println!(rt; "linebreak: {end:?}").ok()
+}
+
+fn show_list(rt: &HostRuntime, list: &ListContext) -> Option<()> {
+    show(rt, "prefix", list.prefix(rt.alloc()).ok()?)?;
+    show(rt, "offset", list.opts.offset)?;
+    show(rt, "list_indent_len", list.list_indent_len())
+}
+
+/// What a mark of emphasis stands for: `MARK`.
+pub fn read_mark(rt: &HostRuntime, mark: &str) -> Option<()> {
+    let scope = EmphasisScope::from(mark);
+    show(rt, "italic", scope.contains(EmphasisScope::ITALIC))?;
+    show(rt, "bold", scope.contains(EmphasisScope::BOLD))
+}
+
+/// The tokens of a text: `TEXT`.
+pub fn cut_tokens(rt: &HostRuntime, text: &str) -> Option<()> {
+    for token in Tokens::new(text) {
+        match token {
+            Ok(token) => {
+                let (kind, start, end) = (token.kind, token.start, token.end);
+                println!(rt; "{kind:?} {start} {end}: {}", token.text).ok()?;
+            }
+            Err(fault) => println!(rt; "{fault}").ok()?,
+        }
+    }
+    Some(())
+}

@@ -1,0 +1,227 @@
+//! Times of calls over the markup on standard input, in this process: `calls time CALL RUNS SELECTOR`
+//! prints the best of so many runs in nanoseconds and what the call counted. `calls time` does each
+//! call once and prints its count alone.
+
+use dom_query::{
+    Document, DocumentMd, DocumentSelect, EditFault, Matcher, MiniSelect, NodeId, NodeMarkup,
+    NodeMd, Place, Snippet, Tokens, Tree, TreeIndex,
+};
+use dom_select::matcher::descendants::select_below;
+use std::io::Read;
+use std::time::{Duration, Instant};
+
+/// What is timed.
+#[derive(Clone, Copy, PartialEq, Eq, Debug, Drop)]
+enum Call {
+    Parse,
+    Drop,
+    Tokens,
+    Walk,
+    Html,
+    Text,
+    Formatted,
+    Md,
+    Select,
+    Index,
+    Tables,
+    Find,
+    Edits,
+    Clone,
+    Append,
+}
+
+const CALLS: [(&str, Call); 15] = [
+    ("parse", Call::Parse),
+    ("drop", Call::Drop),
+    ("tokens", Call::Tokens),
+    ("walk", Call::Walk),
+    ("html", Call::Html),
+    ("text", Call::Text),
+    ("formatted", Call::Formatted),
+    ("md", Call::Md),
+    ("select", Call::Select),
+    ("index", Call::Index),
+    ("tables", Call::Tables),
+    ("find", Call::Find),
+    ("edits", Call::Edits),
+    ("clone", Call::Clone),
+    ("append", Call::Append),
+];
+
+fn call_named(name: &str) -> Option<Call> {
+    for (known, call) in CALLS {
+        if known == name {
+            return Some(call);
+        }
+    }
+    None
+}
+
+/// A run of a call: how long it took, and what it counted.
+#[derive(Clone, Copy)]
+struct Run {
+    took: Duration,
+    count: usize,
+}
+
+/// What the calls are done on.
+#[derive(Drop)]
+struct Page {
+    source: String,
+    document: Document,
+    matcher: Matcher,
+    /// The selector as a path of mini selectors.
+    path: String,
+}
+
+impl Page {
+    /// The markup on standard input, with the matcher of a selector.
+    fn read(rt: &HostRuntime, selector: &str) -> Option<Page> {
+        let mut source = String::new(rt.alloc());
+        rt.stdin().read_to_string(&mut source).ok()?;
+        let document = Document::parse(rt.alloc(), source.as_str()).ok()?;
+        let matcher = Matcher::new(rt.alloc(), selector).ok()?;
+        let path = String::from_str(rt.alloc(), selector).ok()?;
+        Some(Page {
+            source,
+            document,
+            matcher,
+            path,
+        })
+    }
+}
+
+/// Does a call once.
+fn run_once(rt: &HostRuntime, page: &Page, call: Call) -> Option<Run> {
+    match call {
+        Call::Drop | Call::Edits => run_fresh(rt, page.source.as_str(), call),
+        _ => {
+            let start = Instant::now(rt).ok()?;
+            let count = count_of(rt, page, call)?;
+            let took = start.elapsed(rt).ok()?;
+            Some(Run { took, count })
+        }
+    }
+}
+
+/// Does a call on a document of its own, whose reading isn't timed.
+fn run_fresh(rt: &HostRuntime, source: &str, call: Call) -> Option<Run> {
+    let mut document = Document::parse(rt.alloc(), source).ok()?;
+    let mut count = document.tree.len();
+    let start = Instant::now(rt).ok()?;
+    if call == Call::Edits {
+        count = move_all(&mut document.tree);
+    } else {
+        drop(document);
+    }
+    let took = start.elapsed(rt).ok()?;
+    Some(Run { took, count })
+}
+
+/// Moves each node to the end of the first node's children, where it may go there; answers how many
+/// moved.
+fn move_all(tree: &mut Tree) -> usize {
+    let mut moved: usize = 0;
+    let Some(first) = NodeId::new(1) else {
+        return moved;
+    };
+    for number in 2..tree.len() {
+        if let Some(id) = NodeId::new(number) {
+            if tree.append_child_of(&first, &id).is_ok() {
+                moved = moved.saturating_add(1);
+            }
+        }
+    }
+    moved
+}
+
+/// Does a call, and counts bytes or nodes of what it gives.
+fn count_of(rt: &HostRuntime, page: &Page, call: Call) -> Option<usize> {
+    let document = &page.document;
+    let source = page.source.as_str();
+    match call {
+        Call::Parse => Some(Document::parse(rt.alloc(), source).ok()?.tree.len()),
+        Call::Tokens => last_end(source),
+        Call::Walk => Some(document.root().descendants_it().count()),
+        Call::Html => Some(document.html().ok()?.len()),
+        Call::Text => Some(document.text().ok()?.len()),
+        Call::Formatted => Some(document.formatted_text().ok()?.len()),
+        Call::Md => Some(document.md(None).ok()?.len()),
+        Call::Clone => Some(document.try_clone().ok()?.tree.len()),
+        Call::Append => append_to_all(page),
+        Call::Index => TreeIndex::new(&document.tree)
+            .ok()?
+            .last_below(&NodeId::root()),
+        Call::Tables => {
+            let mut index = TreeIndex::new(&document.tree).ok()?;
+            let found = index.select(&page.matcher, &[NodeId::root()]).ok()?;
+            Some(found.len())
+        }
+        Call::Find => {
+            let found = document.root().find_descendants(page.path.as_str()).ok()?;
+            Some(found.len())
+        }
+        _ => {
+            let found = document.select_matcher(&page.matcher).ok()?;
+            Some(found.length())
+        }
+    }
+}
+
+/// Copies the document, and puts markup, which is read once, behind the children of each node that
+/// is selected; answers how many those were.
+fn append_to_all(page: &Page) -> Option<usize> {
+    let mut document = page.document.try_clone().ok()?;
+    let found = select_below(&document.tree, &NodeId::root(), &page.matcher).ok()?;
+    let snippet = Snippet::read(document.tree.allocator(), "<i>x</i>").ok()?;
+    for id in &found {
+        snippet.put_at(&mut document.tree, id, Place::AtEnd).ok()?;
+    }
+    Some(found.len())
+}
+
+/// Where the last token ends.
+fn last_end(source: &str) -> Option<usize> {
+    let mut end = 0;
+    for token in Tokens::new(source) {
+        end = token.ok()?.end;
+    }
+    Some(end)
+}
+
+/// Prints the best of so many runs.
+fn time(rt: &HostRuntime, page: &Page, name: &str, runs: u64) -> Option<()> {
+    let call = call_named(name)?;
+    let mut best = Duration::MAX;
+    let mut count = 0;
+    for _ in 0..runs {
+        let run = run_once(rt, page, call)?;
+        if run.took < best {
+            best = run.took;
+        }
+        count = run.count;
+    }
+    let nanos = best.as_nanos();
+    println!(rt; "{name} {nanos} ns n {count}").ok()
+}
+
+/// Prints what each call counts.
+fn count_all(rt: &HostRuntime, page: &Page) -> Option<()> {
+    for (name, call) in CALLS {
+        let count = run_once(rt, page, call)?.count;
+        println!(rt; "{name} {count}").ok()?;
+    }
+    Some(())
+}
+
+/// Does what the words say: nothing, or a call, how often, and a selector.
+pub fn run(rt: &HostRuntime, words: &[String]) -> Option<()> {
+    match words {
+        [] => count_all(rt, &Page::read(rt, "*")?),
+        [name, runs, selector] => {
+            let runs = runs.as_str().parse::<u64>().ok()?;
+            time(rt, &Page::read(rt, selector.as_str())?, name.as_str(), runs)
+        }
+        _ => None,
+    }
+}

@@ -1,0 +1,131 @@
+//! Calls of `Tree` that change it: moves, new nodes, texts and copies.
+
+use crate::printing::{show, show_answer, show_edit, show_ids};
+use crate::words::{cut, node_of, nodes_of};
+use dom_query::{EditFault, LocalName, NodeData, NodeEdit, NodeId, Place, Text, Tree};
+use dom_trees::names::html_name;
+
+/// A move: `CALL N M`, or `CALL N`.
+pub fn move_nodes(rt: &HostRuntime, tree: &mut Tree, line: &str) -> Option<()> {
+    let (call, rest) = cut(line);
+    let (word, behind) = cut(rest);
+    let id = node_of(word)?;
+    let edit = match node_of(behind) {
+        Some(other) => moved(tree, call, &id, &other)?,
+        None => cut_out(tree, call, &id)?,
+    };
+    show_edit(rt, call, edit)
+}
+
+fn moved(
+    tree: &mut Tree,
+    call: &str,
+    id: &NodeId,
+    other: &NodeId,
+) -> Option<Result<(), EditFault>> {
+    Some(match call {
+        "append_child_of" => tree.append_child_of(id, other),
+        "prepend_child_of" => tree.prepend_child_of(id, other),
+        "insert_before_of" => tree.insert_before_of(id, other),
+        "insert_after_of" => tree.insert_after_of(id, other),
+        "append_children_of" => tree.append_children_of(id, other),
+        "prepend_children_of" => tree.prepend_children_of(id, other),
+        "insert_siblings_before" => tree.insert_siblings_before(id, other),
+        "insert_siblings_after" => tree.insert_siblings_after(id, other),
+        "reparent_children_of" => tree.reparent_children_of(id, Some(*other)),
+        "replace_with" => tree.replace_with(id, other),
+        "wrap_node" => tree.wrap_node(id, other),
+        _ => return None,
+    })
+}
+
+fn cut_out(tree: &mut Tree, call: &str, id: &NodeId) -> Option<Result<(), EditFault>> {
+    Some(match call {
+        "remove_from_parent" => tree.remove_from_parent(id),
+        "remove_children_of" => tree.remove_children_of(id),
+        "reparent_children_of" => tree.reparent_children_of(id, None),
+        "unwrap_node" => tree.unwrap_node(id),
+        "normalize_of" => tree.normalize_of(id),
+        _ => return None,
+    })
+}
+
+/// A new node: `CALL TEXT`.
+pub fn make_node(rt: &HostRuntime, tree: &mut Tree, line: &str) -> Option<()> {
+    let (call, text) = cut(line);
+    let made = made(tree, call, text)?;
+    show_answer(rt, call, made.map(NodeId::value))
+}
+
+fn made(tree: &mut Tree, call: &str, text: &str) -> Option<Result<NodeId, EditFault>> {
+    Some(match call {
+        "new_element" => tree.new_element(text),
+        "new_element_qualname" => {
+            let local = LocalName::new(tree.allocator(), text).ok()?;
+            tree.new_element_qualname(html_name(local))
+        }
+        "new_text" => tree.new_text(text),
+        "new_comment" => tree.new_comment(text),
+        "new_fragment" => tree.create_node(NodeData::Fragment),
+        _ => return None,
+    })
+}
+
+/// A change of a node: `CALL N TEXT`.
+pub fn change_node(rt: &HostRuntime, tree: &mut Tree, line: &str) -> Option<()> {
+    let (call, rest) = cut(line);
+    let (word, text) = cut(rest);
+    let id = node_of(word)?;
+    let edit = match call {
+        "set_text_of" => tree.set_text_of(&id, text),
+        "update_node" => updated(tree, &id, text)?,
+        "strip_elements_of" => {
+            tree.strip_elements_of(&id, &[text]);
+            Ok(())
+        }
+        _ => return None,
+    };
+    show_edit(rt, call, edit)
+}
+
+/// Puts other contents into a node.
+fn updated(tree: &mut Tree, id: &NodeId, text: &str) -> Option<Result<(), EditFault>> {
+    let contents = Text::new(tree.allocator(), text).ok()?;
+    Some(tree.update_node(id, move |edit: &mut NodeEdit| edit.contents = contents))
+}
+
+/// Copies: `CALL N,M`, or `CALL N,M K` for copies that go behind the children of node K.
+pub fn copy_nodes(rt: &HostRuntime, tree: &mut Tree, line: &str) -> Option<()> {
+    let (call, rest) = cut(line);
+    let (words, at) = cut(rest);
+    let ids = nodes_of(tree.allocator(), words)?;
+    match node_of(at) {
+        Some(at) => show_edit(rt, call, put(tree, call, &ids, &at)?),
+        None => show_copies(rt, tree, call, &ids),
+    }
+}
+
+/// Puts copies of nodes of this tree, or of one that is the same, behind the children of another.
+fn put(tree: &mut Tree, call: &str, ids: &[NodeId], at: &NodeId) -> Option<Result<(), EditFault>> {
+    if call == "copy_at" {
+        return Some(tree.copy_at(at, Place::AtEnd, ids));
+    }
+    let other = tree.try_clone().ok()?;
+    Some(tree.merge_at(at, Place::AtEnd, &other, ids))
+}
+
+/// Copies nodes of this tree, or of one that is the same, which then stand alone.
+fn show_copies(rt: &HostRuntime, tree: &mut Tree, call: &str, ids: &[NodeId]) -> Option<()> {
+    let made = match call {
+        "copy_nodes" => tree.copy_nodes(ids),
+        "merge" => {
+            let other = tree.try_clone().ok()?;
+            tree.merge(&other, ids)
+        }
+        _ => return None,
+    };
+    match made {
+        Ok(made) => show_ids(rt, call, &made),
+        Err(fault) => show(rt, call, fault),
+    }
+}

@@ -1,0 +1,119 @@
+//! Lists of nodes, and calls of `Tree` that read nodes by their numbers.
+
+use crate::printing::{show, show_ids, show_node, show_nodes, show_some};
+use crate::words::{node_of, nodes_of};
+use dom_query::{
+    NodeId, NodeRef, Tree, TreeNodeOps, ancestor_nodes, child_nodes, descendant_nodes,
+};
+
+/// The lists of nodes above and below a node, and beside it by number: `N`.
+pub fn walk(rt: &HostRuntime, tree: &Tree, line: &str) -> Option<()> {
+    let id = node_of(line)?;
+    list_numbers(rt, tree, &id)?;
+    list_nodes(rt, &NodeRef::new(id, tree))?;
+    list_by_number(rt, tree, &id)?;
+    count_steps(rt, tree, &id)?;
+    begin(rt, tree, &id)?;
+    ask(rt, tree, &id)
+}
+
+/// The children of nodes: `N,M`.
+pub fn list_children(rt: &HostRuntime, tree: &Tree, line: &str) -> Option<()> {
+    for id in &nodes_of(rt.alloc(), line)? {
+        show_ids(rt, "child_ids_of", &tree.child_ids_of(id).ok()?)?;
+    }
+    Some(())
+}
+
+/// Numbers of nodes.
+fn list_numbers(rt: &HostRuntime, tree: &Tree, id: &NodeId) -> Option<()> {
+    show_ids(rt, "child_ids_of", &tree.child_ids_of(id).ok()?)?;
+    show_ids(rt, "ancestor_ids_of", &tree.ancestor_ids_of(id, None).ok()?)?;
+    show_ids(
+        rt,
+        "ancestor_ids_of 1",
+        &tree.ancestor_ids_of(id, Some(1)).ok()?,
+    )?;
+    show_ids(rt, "descendant_ids_of", &tree.descendant_ids_of(id).ok()?)
+}
+
+/// References to nodes.
+fn list_nodes(rt: &HostRuntime, node: &NodeRef<'_>) -> Option<()> {
+    show_nodes(rt, "children", &node.children().ok()?)?;
+    show_nodes(rt, "element_children", &node.element_children().ok()?)?;
+    show_nodes(rt, "ancestors", &node.ancestors(None).ok()?)?;
+    show_nodes(rt, "ancestors 1", &node.ancestors(Some(1)).ok()?)?;
+    show_nodes(rt, "descendants", &node.descendants().ok()?)
+}
+
+/// The same by the node's number, and the nodes beside it.
+fn list_by_number(rt: &HostRuntime, tree: &Tree, id: &NodeId) -> Option<()> {
+    show_nodes(rt, "children_of", &tree.children_of(id).ok()?)?;
+    show_nodes(rt, "ancestors_of", &tree.ancestors_of(id, None).ok()?)?;
+    show_node(rt, "parent_of", &tree.parent_of(id))?;
+    show_node(rt, "first_child_of", &tree.first_child_of(id))?;
+    show_node(rt, "last_child_of", &tree.last_child_of(id))?;
+    show_node(rt, "prev_sibling_of", &tree.prev_sibling_of(id))?;
+    show_node(rt, "next_sibling_of", &tree.next_sibling_of(id))?;
+    show_node(rt, "last_sibling_of", &tree.last_sibling_of(id))
+}
+
+/// How many nodes the walks from a node give: `N`.
+pub fn count(rt: &HostRuntime, tree: &Tree, line: &str) -> Option<()> {
+    count_steps(rt, tree, &node_of(line)?)
+}
+
+fn count_steps(rt: &HostRuntime, tree: &Tree, id: &NodeId) -> Option<()> {
+    show(rt, "child_nodes", child_nodes(tree, id, false).count())?;
+    show(rt, "ancestor_nodes", ancestor_nodes(tree, id, None).count())?;
+    show(rt, "descendant_nodes", descendant_nodes(tree, id).count())?;
+    show(
+        rt,
+        "child_ids_of_it",
+        tree.child_ids_of_it(id, true).count(),
+    )?;
+    show(
+        rt,
+        "ancestor_ids_of_it",
+        tree.ancestor_ids_of_it(id, None).count(),
+    )?;
+    let mut walk = tree.descendant_ids_of_it(id);
+    while walk.next().is_some() {}
+    show(rt, "reads", walk.reads())
+}
+
+/// The nodes that the walks begin with.
+fn begin(rt: &HostRuntime, tree: &Tree, id: &NodeId) -> Option<()> {
+    let node = NodeRef::new(*id, tree);
+    show_node(rt, "children_it", &node.children_it(false).next())?;
+    show_node(
+        rt,
+        "children_it from the end",
+        &node.children_it(true).next(),
+    )?;
+    show_node(rt, "ancestors_it", &node.ancestors_it(None).next())?;
+    show_node(rt, "descendants_it", &node.descendants_it().next())
+}
+
+/// What the tree answers of the node.
+fn ask(rt: &HostRuntime, tree: &Tree, id: &NodeId) -> Option<()> {
+    let root = tree.root_id();
+    show_some(rt, "query_node", tree.query_node(id, |node| node.is_text()))?;
+    show(
+        rt,
+        "query_node_or",
+        tree.query_node_or(id, true, |node| node.is_text()),
+    )?;
+    let alike = tree.compare_node(id, &root, |a, b| a.is_text() == b.is_text());
+    show_some(rt, "compare_node", alike)?;
+    show_some(
+        rt,
+        "get_name",
+        tree.get_name(id).map(|name| name.local.as_str()),
+    )?;
+    show(rt, "get", tree.get(id).is_some())?;
+    let is_valid = TreeNodeOps::is_valid_node_id(tree.nodes(), id);
+    show(rt, "is_valid_node_id", is_valid)?;
+    let is_marked = tree.is_mathml_annotation_xml_integration_point(id);
+    show(rt, "is_mathml_annotation_xml_integration_point", is_marked)
+}

@@ -1,0 +1,25 @@
+//! The words of a line.
+
+use dom_query::NodeId;
+use std::alloc::Global;
+
+/// The first word of a line, and what stands behind it.
+pub fn cut(line: &str) -> (&str, &str) {
+    line.split_once(' ').unwrap_or((line, ""))
+}
+
+/// The node of the number that a word spells.
+pub fn node_of(word: &str) -> Option<NodeId> {
+    NodeId::new(word.parse::<usize>().ok()?)
+}
+
+/// The nodes of the numbers that a word spells with commas between them.
+pub fn nodes_of(alloc: Global, word: &str) -> Option<Vec<NodeId>> {
+    let mut ids = Vec::new(alloc);
+    for number in word.split(',') {
+        if !number.is_empty() {
+            ids.push(node_of(number)?).ok()?;
+        }
+    }
+    Some(ids)
+}

@@ -1,4 +1,0 @@
-//! Tests of `dom_md`.
-
-mod markdown;
-mod pieces;

@@ -1,5 +1,0 @@
-//! Tests of `dom_selectors`.
-
-mod mini;
-mod reading;
-mod writing;

@@ -1,0 +1,4 @@
+//! Tests of `dom_nodes`.
+
+mod changes;
+mod values;

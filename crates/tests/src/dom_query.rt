@@ -1,0 +1,4 @@
+//! Tests of `dom_query`.
+
+mod streams;
+mod texts;

@@ -1,0 +1,179 @@
+//! Readers and writers that fail.
+
+use dom_query::{drive, run};
+use std::alloc::{AllocError, Global};
+use std::io;
+use std::io::{ErrorKind, Read, Write};
+use std::process::Abort;
+use std::test::Fail;
+
+/// A writer that takes so many writes, one byte at a time, and then fails.
+#[derive(Drop)]
+struct Failing {
+    left: usize,
+    taken: Vec<u8>,
+}
+
+impl Write for Failing {
+    fn write(&mut self, buf: &[u8]) -> io::Result<usize> {
+        if self.left == 0 {
+            return Err(io::Error::from(ErrorKind::BrokenPipe));
+        }
+        self.left -= 1;
+        match buf.first() {
+            Some(byte) => {
+                self.taken.push(*byte)?;
+                Ok(1)
+            }
+            None => Ok(0),
+        }
+    }
+
+    fn flush(&mut self) -> io::Result<()> {
+        Ok(())
+    }
+}
+
+/// A reader that fails in that way.
+#[derive(Drop)]
+struct NoReader(ErrorKind);
+
+impl Read for NoReader {
+    fn read(&mut self, _buf: &mut [u8]) -> io::Result<usize> {
+        Err(io::Error::from(self.0))
+    }
+}
+
+fn words(alloc: Global, texts: &[&str]) -> Result<Vec<String>, AllocError> {
+    let mut words = Vec::new(alloc);
+    for text in texts {
+        words.push(String::from_str(alloc, text)?)?;
+    }
+    Ok(words)
+}
+
+/// Shows that bytes are those of a text.
+fn shows_bytes(rt: &impl Abort, bytes: &[u8], wanted: &str) {
+    assert_eq!(rt; bytes, wanted.as_bytes());
+}
+
+/// Shows the status of a drive.
+fn shows_status(rt: &impl Abort, status: u8, wanted: u8) {
+    assert_eq!(rt; status, wanted);
+}
+
+/// Words, markup, and the status.
+const DRIVES: [(&[&str], &str, u8); 5] = [
+    (&["document"], "<p>a</p>", 0),
+    (&["x"], "<p>a</p>", 2),
+    (&["document"], "<p>", 3),
+    (&["before-html <i></i>"], "<p>a</p>", 4),
+    (&[], "<p>a</p>", 64),
+];
+
+/// Shows that no status waits on the line.
+fn shows_deaf(rt: &(impl Abort + Alloc<A = Global>), args: &[String], markup: &str, status: u8) {
+    let alloc = rt.alloc();
+    let mut input = markup.as_bytes();
+    let mut out: Vec<u8> = Vec::new(alloc);
+    let mut deaf = Failing {
+        left: 0,
+        taken: Vec::new(alloc),
+    };
+    let ended = drive(alloc, args, &mut input, &mut out, &mut deaf);
+    shows_status(rt, ended, status);
+}
+
+#[test]
+fn no_status_waits_on_the_line(rt: HostRuntime) -> Result<(), Fail> {
+    for (texts, markup, status) in DRIVES {
+        let args = words(rt.alloc(), texts)?;
+        shows_deaf(&rt, &args, markup, status);
+    }
+    Ok(())
+}
+
+/// Shows the line on standard error of a status.
+fn shows_line(rt: &impl Abort, status: u8, line_bytes: &[u8]) {
+    let line = if status == 0 {
+        ""
+    } else {
+        "dq: write failed\n"
+    };
+    shows_bytes(rt, line_bytes, line);
+}
+
+/// Shows what a writer took.
+fn shows_taken(rt: &impl Abort, taken: &[u8], whole: &str, left: usize) {
+    assert!(rt; whole.as_bytes().starts_with(taken));
+    assert!(rt; taken.len() == left);
+}
+
+/// The status where the writer takes so many bytes. What it took begins the whole output.
+fn status_with(
+    rt: &(impl Abort + Alloc<A = Global>),
+    args: &[String],
+    whole: &str,
+    left: usize,
+) -> u8 {
+    let alloc = rt.alloc();
+    let mut out = Failing {
+        left,
+        taken: Vec::new(alloc),
+    };
+    let mut err: Vec<u8> = Vec::new(alloc);
+    let mut input = "<p>a</p>".as_bytes();
+    let status = drive(alloc, args, &mut input, &mut out, &mut err);
+    shows_line(rt, status, err.as_slice());
+    shows_taken(rt, out.taken.as_slice(), whole, left);
+    status
+}
+
+/// Shows the status of each length that a writer may take.
+fn shows_lengths(
+    rt: &(impl Abort + Alloc<A = Global>),
+    word: &str,
+    whole: &str,
+) -> Result<(), Fail> {
+    let args = words(rt.alloc(), &[word])?;
+    for left in 0..whole.len() {
+        shows_status(rt, status_with(rt, &args, whole, left), 5);
+    }
+    shows_status(rt, status_with(rt, &args, whole, whole.len()), 0);
+    Ok(())
+}
+
+/// Shows the line of a reader that fails in that way.
+fn shows_no_reader(
+    rt: &(impl Abort + Alloc<A = Global>),
+    args: &[String],
+    kind: ErrorKind,
+    line: &str,
+) {
+    let alloc = rt.alloc();
+    let mut out: Vec<u8> = Vec::new(alloc);
+    let mut err: Vec<u8> = Vec::new(alloc);
+    let ended = drive(alloc, args, &mut NoReader(kind), &mut out, &mut err);
+    shows_status(rt, ended, 5);
+    shows_bytes(rt, err.as_slice(), line);
+    shows_bytes(rt, out.as_slice(), "");
+}
+
+#[test]
+fn streams_fail(rt: HostRuntime) -> Result<(), Fail> {
+    let args = words(rt.alloc(), &["document"])?;
+    for (kind, line) in [
+        (ErrorKind::BrokenPipe, "dq: read failed\n"),
+        (ErrorKind::OutOfMemory, "dq: out of memory\n"),
+    ] {
+        shows_no_reader(&rt, &args, kind, line);
+    }
+    for (word, whole) in [
+        ("html\nselect p\nhtml", "<p>a</p>\n<p>a</p>\n"),
+        ("select p\ntext\nformatted", "a\na\n\n\n"),
+        ("--md", "a\n"),
+    ] {
+        shows_lengths(&rt, word, whole)?;
+    }
+    Ok(())
+}

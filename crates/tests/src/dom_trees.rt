@@ -1,0 +1,4 @@
+//! Tests of `dom_trees`.
+
+mod making;
+mod raw_nodes;

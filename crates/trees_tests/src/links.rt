@@ -1,4 +1,0 @@
-//! Tests of `dom_links`.
-
-mod changes;
-mod slices;

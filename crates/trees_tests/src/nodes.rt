@@ -1,4 +1,0 @@
-//! Tests of `dom_nodes`.
-
-mod node_data;
-mod values;
