@@ -183,7 +183,7 @@ def refusals():
 
 
 def full_device():
-    """Whether the program tells of a device that is full, where there is such a device: it buffers, so only the last
+    """Whether the program reports a device that is full, where there is such a device: it buffers, so only the last
     flush fails."""
     device = pathlib.Path("/dev/full")
     if not device.is_char_device():
@@ -191,10 +191,10 @@ def full_device():
         return 0, 0
     with device.open("wb") as full:
         ran = subprocess.run([built("dq"), "document"], input=b"<p>a</p>", stdout=full, stderr=subprocess.PIPE, timeout=SECONDS)
-    told = ran.stderr, ran.returncode
-    if told == (b"dq: write failed\n", 5):
+    got = ran.stderr, ran.returncode
+    if got == (b"dq: write failed\n", 5):
         return 1, 0
-    print(f"a full device: got {told}")
+    print(f"a full device: got {got}")
     return 0, 1
 
 

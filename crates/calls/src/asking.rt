@@ -18,8 +18,8 @@ pub fn show_kinds(rt: &HostRuntime, tree: &Tree, line: &str) -> Option<()> {
     show(rt, "is_html_element_in_html_document", is_html)
 }
 
-/// What it has of a name, an id and a text, and whether it is of the type of the first node: `N NAME
-/// ID TEXT`.
+/// What it has of a name, an id and a text, and whether it is of the type of the first node: `N
+/// NAME ID TEXT`.
 pub fn show_named(rt: &HostRuntime, tree: &Tree, line: &str) -> Option<()> {
     let (word, words) = cut(line);
     let id = node_of(word)?;

@@ -1,7 +1,7 @@
-//! Calls of the library, asked at a shell. `calls LINE ..` reads the markup on standard input, makes
-//! the call of each line on the document, in order, and prints what each answers: the rows of
-//! cases/calls. `calls` alone does each call of `limits` with ample memory, and `calls limited` with
-//! ever more of it. `calls time` takes the times of some.
+//! Calls of the library, asked at a shell. `calls LINE ..` reads the markup on standard input,
+//! makes the call of each line on the document, in order, and prints what each answers: the rows of
+//! cases/calls. `calls` alone does each call of `limits` with ample memory, and `calls limited`
+//! with ever more of it. `calls time` takes the times of some.
 #![tactic(auto)]
 
 mod asking;

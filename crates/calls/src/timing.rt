@@ -1,6 +1,6 @@
-//! Times of calls over the markup on standard input, in this process: `calls time CALL RUNS SELECTOR`
-//! prints the best of so many runs in nanoseconds and what the call counted. `calls time` does each
-//! call once and prints its count alone.
+//! Times of calls over the markup on standard input, in this process: `calls time CALL RUNS
+//! SELECTOR` prints the best of so many runs in nanoseconds and what the call counted. `calls time`
+//! does each call once and prints its count alone.
 
 use dom_query::{
     Document, DocumentMd, DocumentSelect, EditFault, Matcher, MiniSelect, NodeId, NodeMarkup,

@@ -47,7 +47,8 @@ fn edited(document: &mut Document, nodes: Vec<NodeId>, edit: Edit) -> Result<(),
     }
 }
 
-/// Does it at the paragraphs with so much memory: exactly the first that the stop counts are then done.
+/// Does it at the paragraphs with so much memory: exactly the first that the stop counts are then
+/// done.
 pub fn edits(alloc: Global, edit: Edit, left: Option<usize>) -> Option<Ending> {
     let mut document = Document::parse(alloc, MARKUP).ok()?;
     let nodes = paragraphs(alloc, NODES)?;

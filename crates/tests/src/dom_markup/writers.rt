@@ -8,8 +8,8 @@ use std::io::{self, ErrorKind, Write};
 use std::process::Abort;
 use std::test::Fail;
 
-const PAGE: &str =
-    "<!DOCTYPE html><p title=\"a&quot;b&amp;<c>&nbsp;\" hidden=\"\">1 &lt; 2 &amp; \"3\"&nbsp;é\u{a9}&gt;\
+const PAGE: &str = "<!DOCTYPE html>\
+    <p title=\"a&quot;b&amp;<c>&nbsp;\" hidden=\"\">1 &lt; 2 &amp; \"3\"&nbsp;é\u{a9}&gt;\
     <a href=\"#x\"><!-- 1 < 2 --></a><br></p><script>a < b</script>";
 
 /// What is written of the paragraph.
