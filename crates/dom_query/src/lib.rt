@@ -1,14 +1,17 @@
 //! Scripts of lines, run over markup; the names of the crates below are handed on.
 #![tactic(auto)]
 
+mod document_md;
 mod driver;
 pub mod laws;
 mod markdown;
 mod numbers;
 mod runner;
 mod script;
+mod selection_md;
 mod telling;
 
+pub use document_md::DocumentMd;
 pub use dom_edits::edit::SelectionFault;
 pub use dom_edits::selection_mut::SelectionMut;
 pub use dom_index::index::{IndexedNodes, TreeIndex};
@@ -27,7 +30,7 @@ pub use dom_md::chunks::push_escaped_chunk;
 pub use dom_md::context::{EmphasisScope, FormatOpts, ListContext, ListKind};
 pub use dom_md::fences::fence_len;
 pub use dom_md::html_escape;
-pub use dom_md::node_md::{DocumentMd, NodeMd};
+pub use dom_md::node_md::NodeMd;
 pub use dom_md::serializer::{MDSerializer, serialize_md};
 pub use dom_nodes::case_sensitivity::CaseSensitivity;
 pub use dom_nodes::fault::{EditFault, MarkupFault, MarkupFaultKind, OutOfMemory};
@@ -60,3 +63,4 @@ pub use dom_trees::node_ref::{AncestorRefs, ChildRefs, DescendantRefs, Node, Nod
 pub use dom_trees::tree::Tree;
 pub use driver::drive;
 pub use runner::{RunFault, run};
+pub use selection_md::SelectionMd;

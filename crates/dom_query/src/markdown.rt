@@ -3,9 +3,9 @@
 ghost use Rattle.std.specs.Prelude.{IfErr, OnOk};
 ghost use Rattle.dom_query.specs.Markdown.{MarkdownTells, WroteMarkdown};
 
+use crate::document_md::DocumentMd;
 use crate::runner::{RunFault, read_markup};
 use dom_markup::writing::write_bytes;
-use dom_md::node_md::DocumentMd;
 use std::alloc::Global;
 use std::io::Write;
 

@@ -1,0 +1,41 @@
+//! What the Markdown's crate adds to documents.
+
+use dom_markup::document::Document;
+use dom_md::node_md::NodeMd;
+use dom_nodes::fault::OutOfMemory;
+
+/// The formatted text and the Markdown of a document.
+pub trait DocumentMd {
+    ghost use Rattle.std.specs.Prelude.{◌≡◌, IfOk, string_bytes};
+    ghost use Rattle.dom_links.specs.Forest.{Forest};
+    ghost use Rattle.dom_md.specs.Formatted.{formatted_below};
+    ghost use Rattle.dom_md.specs.Solid.{KeepsWords};
+    ghost use Rattle.dom_md.specs.Words.{ReadsAsWords};
+
+    // The forest of the document.
+    ghost forest: { Self → Forest };
+
+    /// The formatted text of what is below the root, without whitespace at its end. Without any
+    /// whitespace it is the text of the document without whitespace.
+    fn formatted_text(&self) -> Result<String, OutOfMemory>
+        ensures text { IfOk result (λ text. string_bytes text
+            ≡ formatted_below (forest self.now) 0) }
+        ensures words { IfOk result (λ text. KeepsWords (forest self.now) 0 (string_bytes text)) };
+
+    /// The Markdown of what is below the root. That of texts alone resolves to their words, joined
+    /// by one space.
+    fn md(&self, skip_tags: Option<&[&str]>) -> Result<String, OutOfMemory>
+        ensures { IfOk result (λ md. ReadsAsWords (forest self.now) 0 (string_bytes md)) };
+}
+
+impl DocumentMd for Document {
+    ghost forest = { λ document. document.tree };
+
+    fn formatted_text(&self) -> Result<String, OutOfMemory> {
+        self.root().formatted_text()
+    }
+
+    fn md(&self, skip_tags: Option<&[&str]>) -> Result<String, OutOfMemory> {
+        self.root().md(skip_tags)
+    }
+}
