@@ -3,9 +3,8 @@ use Rattle.std.proofs.Common.{◌≡◌, ◌<◌, ℕ, zero, suc, Bool, true, fa
 use Rattle.std.specs.List.{list_all}
 use Rattle.std.specs.Prelude.{◌&&◌}
 use Rattle.std.proofs.lemmas.Bool.{false≢true}
-use Rattle.dom_query.specs.declared.script.edit_line.EditLine.{EditLine}
 use Rattle.dom_query.specs.declared.script.edit_line.EditLine.TheVariants.{SetAttr, RemoveAttr, Rename, AddClass, RemoveClass, SetText, Strip, Put, Remove, Unwrap, Normalize}
-use Rattle.dom_query.specs.EditLine.{HasNoPair, HasPair, IsEdit, IsNoBareEdit, IsNoEdit, IsNoNamedEdit, IsNoPut, IsNoSetAttr, IsNoStrip, IsNoTextEdit, HasMarkup, HasNoMarkup, names_in}
+use Rattle.dom_query.specs.EditLine.{HasNoPair, HasPair, IsNoBareEdit, IsNoEdit, IsNoNamedEdit, IsNoPut, IsNoSetAttr, IsNoStrip, IsNoTextEdit, HasMarkup, HasNoMarkup, names_in}
 use Rattle.dom_query.specs.Words.{HasArgument, is_name}
 use Rattle.dom_links.specs.Forest.{Forest}
 use Rattle.dom_links.specs.declared.gap.Place.TheVariants.{After, Around, AtEnd, AtFront, Before, InsteadOfChildren, InsteadOfNode}

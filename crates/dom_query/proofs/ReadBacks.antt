@@ -1,10 +1,8 @@
 -- A document's text reads back as the document.
 use Rattle.std.proofs.Common.{◌≡◌, ℕ, List, [], ◌∷◌, ◌++◌, inl, inr, refl, sym, ◌∙◌, ap, append-nil, codes, subst}
-use Rattle.std.specs.Str.{IsUtf8}
 use Rattle.dom_links.specs.Forest.{Forest}
 use Rattle.dom_links.specs.Sound.{IsForest}
 use Rattle.dom_markup.specs.Html.{html_of}
-use Rattle.dom_markup.specs.Markup.{Spells}
 use Rattle.dom_markup.specs.Numbered.{document_of}
 use Rattle.dom_markup.specs.Plain.{IsPlain}
 use Rattle.dom_markup.specs.ReadingBack.{SpellsDocument}
@@ -13,9 +11,9 @@ use Rattle.dom_query.specs.declared.script.Command.{Command}
 use Rattle.dom_query.specs.declared.script.Command.TheVariants.{Show}
 use Rattle.dom_query.specs.declared.script.Showing.TheVariants.{Document}
 use Rattle.dom_query.specs.Out.{DoesAll, Ending}
-use Rattle.dom_query.specs.Out.Ending.{done, refused, bad_script, bad_markup}
+use Rattle.dom_query.specs.Out.Ending.{done}
 use Rattle.dom_query.specs.ReadBack.{ReadsBack}
-use Rattle.dom_query.specs.Script.{AreCommands, IsCommand}
+use Rattle.dom_query.specs.Script.{AreCommands}
 use Rattle.dom_query.specs.Showing.{line_of}
 use Rattle.dom_query.proofs.Scripts.{OneReading, OneSelector, command-once}
 
