@@ -34,7 +34,7 @@ HOLE = "use Rattle.{0}.Statement.{{statement}}\n\npub {1}_spec : {{M : Type 1}} 
 FUNCTION = re.compile(r"fn (\S+): (?:no proof|not proved)")
 CALLS = re.compile(r"it calls `.*`, which (?:is|are) not proved")
 OWN = re.compile(r"did not prove `|it stands on `")
-MET = re.compile(r'"(?:part/)?Rattle-\w+-proofs\.([\w.]+)\.Met"')
+MET = r'"(?:part/)?Rattle-{0}-proofs\.([\w.]+)\.Met"'
 
 
 def toolchain():
@@ -176,7 +176,7 @@ class Trial:
         self.rt, self.crate, self.jobs, self.wrong = rt, crate, jobs, []
         self.folder = pathlib.Path(crate.folder)
         built = (pathlib.Path(crate.rlib) / "toolchain" / "checked.json").read_text(encoding="utf-8")
-        self.functions = [path.split(".") for path in MET.findall(built)]
+        self.functions = [path.split(".") for path in re.findall(MET.format(crate.name), built)]
 
     def has_proof(self, path):
         """Whether the function has a file of a proof of its own, or has one proof with others."""
