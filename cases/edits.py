@@ -176,7 +176,11 @@ class Trial:
         self.rt, self.crate, self.jobs, self.wrong = rt, crate, jobs, []
         self.folder = pathlib.Path(crate.folder)
         built = (pathlib.Path(crate.rlib) / "toolchain" / "checked.json").read_text(encoding="utf-8")
-        self.functions = [path.split(".") for path in re.findall(MET.format(crate.name), built)]
+        # (what this crate hands on of another has proofs of that name, too, but no code here)
+        sources = {file.stem: file.read_text(encoding="utf-8") for file in (self.folder / "src").rglob("*.rt")}
+        own = {head[2] for text in sources.values() for head in map(HEAD.match, text.split("\n")) if head}
+        paths = [path.split(".") for path in re.findall(MET.format(crate.name), built)]
+        self.functions = [path for path in paths if path[-1] in own and (len(path) == 1 or path[0] in sources)]
 
     def has_proof(self, path):
         """Whether the function has a file of a proof of its own, or has one proof with others."""
