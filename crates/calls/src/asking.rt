@@ -29,18 +29,14 @@ pub fn show_named(rt: &HostRuntime, tree: &Tree, line: &str) -> Option<()> {
     let name = CssLocalName::new(rt.alloc(), name).ok()?;
     show(rt, "has_local_name", node.has_local_name(&name))?;
     let value = CssLocalName::new(rt.alloc(), value).ok()?;
-    show(
-        rt,
-        "has_id",
-        node.has_id(&value, CaseSensitivity::CaseSensitive),
-    )?;
+    let is_same = node.has_id(&value, CaseSensitivity::CaseSensitive);
+    show(rt, "has_id", is_same)?;
     let is_alike = node.has_id(&value, CaseSensitivity::AsciiCaseInsensitive);
     show(rt, "has_id without case", is_alike)?;
-    show(
-        rt,
-        "is_same_type",
-        node.is_same_type(&tree.root().first_child()?),
-    )?;
+    let Some(first) = tree.root().first_child() else {
+        return None;
+    };
+    show(rt, "is_same_type", node.is_same_type(&first))?;
     show(rt, "has_text", node.has_text(text))
 }
 

@@ -1,7 +1,9 @@
 //! What is written in CSS.
 
 use crate::printing::show;
-use dom_query::{CssLocalName, CssString, Matcher, NonTSPseudoClass, PseudoElement, ToCss};
+use dom_query::{
+    CssLocalName, CssString, InnerSelector, Matcher, NonTSPseudoClass, PseudoElement, ToCss,
+};
 
 /// Prints what is written of a value.
 fn show_css<C: ToCss>(rt: &HostRuntime, what: &str, value: &C) -> Option<()> {
@@ -12,8 +14,21 @@ fn show_css<C: ToCss>(rt: &HostRuntime, what: &str, value: &C) -> Option<()> {
 
 /// What is written of a copy of each selector of a list: `SELECTOR`.
 pub fn write_selectors(rt: &HostRuntime, line: &str) -> Option<()> {
-    let matcher = Matcher::new(rt.alloc(), line).ok()?.try_clone().ok()?;
-    for selector in matcher.selectors() {
+    match Matcher::new(rt.alloc(), line) {
+        Ok(matcher) => write_copy(rt, &matcher),
+        Err(fault) => show(rt, "Matcher::new", fault),
+    }
+}
+
+fn write_copy(rt: &HostRuntime, matcher: &Matcher) -> Option<()> {
+    match matcher.try_clone() {
+        Ok(copy) => write_each(rt, copy.selectors()),
+        Err(_) => None,
+    }
+}
+
+fn write_each(rt: &HostRuntime, selectors: &[InnerSelector]) -> Option<()> {
+    for selector in selectors {
         show_css(rt, "to_css", selector)?;
     }
     Some(())
@@ -21,10 +36,18 @@ pub fn write_selectors(rt: &HostRuntime, line: &str) -> Option<()> {
 
 /// What is written of copies of a text as a string, a name and in a pseudo-class: `TEXT`.
 pub fn write_values(rt: &HostRuntime, text: &str) -> Option<()> {
-    let string = CssString::new(rt.alloc(), text).ok()?;
-    show_css(rt, "CssString", &string.try_clone().ok()?)?;
-    let name = CssLocalName::new(rt.alloc(), text).ok()?;
-    show_css(rt, "CssLocalName", &name.try_clone().ok()?)?;
-    show_css(rt, "HasText", &NonTSPseudoClass::HasText(string))?;
+    write_string(rt, &CssString::new(rt.alloc(), text).ok()?)?;
+    write_name(rt, &CssLocalName::new(rt.alloc(), text).ok()?)?;
     show_css(rt, "PseudoElement", &PseudoElement)
+}
+
+fn write_string(rt: &HostRuntime, string: &CssString) -> Option<()> {
+    show_css(rt, "CssString", string)?;
+    let copy = NonTSPseudoClass::HasText(string.try_clone().ok()?);
+    show_css(rt, "HasText", &copy)
+}
+
+fn write_name(rt: &HostRuntime, name: &CssLocalName) -> Option<()> {
+    let copy = name.try_clone().ok()?;
+    show_css(rt, "CssLocalName", &copy)
 }

@@ -7,9 +7,9 @@ use dom_query::{NodeId, Tree, TreeIndex};
 
 /// What an index answers of two nodes: `N M`.
 pub fn ask(rt: &HostRuntime, tree: &Tree, line: &str) -> Option<()> {
-    let (word, word) = cut(line);
-    let id = node_of(word)?;
-    let other = node_of(word)?;
+    let (first, second) = cut(line);
+    let id = node_of(first)?;
+    let other = node_of(second)?;
     let mut index = TreeIndex::new(tree).ok()?;
     show_some(rt, "position", index.position(&id))?;
     show_some(rt, "last_below", index.last_below(&id))?;
@@ -30,14 +30,14 @@ fn list(rt: &HostRuntime, index: &TreeIndex<'_>, id: &NodeId) -> Option<()> {
 
 /// The indexes of a node among its siblings.
 fn count(rt: &HostRuntime, index: &mut TreeIndex<'_>, id: &NodeId) -> Option<()> {
-    show(rt, "child", index.index_at(id, IndexKind::Child))?;
-    show(rt, "last child", index.index_at(id, IndexKind::LastChild))?;
-    show(rt, "of type", index.index_at(id, IndexKind::OfType))?;
-    show(
-        rt,
-        "last of type",
-        index.index_at(id, IndexKind::LastOfType),
-    )
+    let child = index.index_at(id, IndexKind::Child);
+    let last = index.index_at(id, IndexKind::LastChild);
+    let of_type = index.index_at(id, IndexKind::OfType);
+    let last_of_type = index.index_at(id, IndexKind::LastOfType);
+    show(rt, "child", child)?;
+    show(rt, "last child", last)?;
+    show(rt, "of type", of_type)?;
+    show(rt, "last of type", last_of_type)
 }
 
 /// The position of each node.

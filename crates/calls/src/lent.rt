@@ -66,21 +66,21 @@ fn changed(node: &mut NodeMut<'_>, call: &str, words: &str) -> Option<Result<(),
         "add_class" => node.add_class(words),
         "remove_class" => node.remove_class(words),
         _ => {
-            changed_always(node, call, &[name, value])?;
+            changed_always(node, call, name, value)?;
             Ok(())
         }
     })
 }
 
 /// The changes that are never refused.
-fn changed_always(node: &mut NodeMut<'_>, call: &str, names: &[&str]) -> Option<()> {
+fn changed_always(node: &mut NodeMut<'_>, call: &str, name: &str, other: &str) -> Option<()> {
     match call {
-        "strip_elements" => node.strip_elements(names),
-        "remove_attr" => node.remove_attr(names.first()?),
-        "remove_attrs" => node.remove_attrs(names),
-        "retain_attrs" => node.retain_attrs(names),
+        "strip_elements" => node.strip_elements(&[name, other]),
+        "remove_attr" => node.remove_attr(name),
+        "remove_attrs" => node.remove_attrs(&[name, other]),
+        "retain_attrs" => node.retain_attrs(&[name, other]),
         "remove_all_attrs" => node.remove_all_attrs(),
-        "update" => update(node, names.first()?)?,
+        "update" => return update(node, name),
         _ => return None,
     }
     Some(())

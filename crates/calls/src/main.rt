@@ -141,7 +141,7 @@ fn run(rt: &HostRuntime, lines: &[String]) -> Option<()> {
     match lines {
         [] => limits::try_all(rt, false),
         [word] if word.as_str() == "limited" => limits::try_all(rt, true),
-        [word, words @ ..] if word.as_str() == "time" => timing::run(rt, words),
+        [word, words @ ..] if word.as_str() == "time" => timing::time_calls(rt, words),
         _ => call_all(rt, lines),
     }
 }

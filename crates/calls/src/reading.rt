@@ -62,7 +62,8 @@ fn read_named(rt: &HostRuntime, node: &NodeRef<'_>, word: &str) -> Option<()> {
     show(rt, "has_class", node.has_class(word))?;
     show(rt, "has_attr", node.has_attr(word))?;
     show_some(rt, "attr", node.attr(word))?;
-    show(rt, "attr_or", node.attr_or("id", "default"))
+    let value = node.attr_or("id", "default");
+    println!(rt; "attr_or: {value}").ok()
 }
 
 /// The texts that are read of it.

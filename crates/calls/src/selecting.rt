@@ -19,69 +19,59 @@ pub fn select(rt: &HostRuntime, document: &Document, line: &str) -> Option<()> {
 }
 
 fn select_by_each(rt: &HostRuntime, tree: &Tree, matcher: &Matcher) -> Option<()> {
-    let roots = [NodeId::root()];
+    let root = NodeId::root();
     show_ids(
         rt,
         "select_below",
-        &select_below(tree, &NodeId::root(), matcher).ok()?,
+        &select_below(tree, &root, matcher).ok()?,
     )?;
+    list_below(rt, tree, &[root], matcher)?;
+    let below = DescendantMatches::new(tree.root(), matcher);
+    show(rt, "DescendantMatches", below.count())?;
+    let found = MatcherIter::new(tree, &[root], matcher).ok()?;
+    show(rt, "MatcherIter", found.count())
+}
+
+/// What is selected below roots, by asking each node, by tables, and by the choice between them.
+fn list_below(rt: &HostRuntime, tree: &Tree, roots: &[NodeId], matcher: &Matcher) -> Option<()> {
     show_ids(
         rt,
         "select_below_all",
-        &select_below_all(tree, &roots, matcher).ok()?,
+        &select_below_all(tree, roots, matcher).ok()?,
     )?;
     show_nodes(
         rt,
         "select_nodes",
-        &select_nodes(tree, &roots, matcher).ok()?,
+        &select_nodes(tree, roots, matcher).ok()?,
     )?;
-    let below = DescendantMatches::new(tree.root(), matcher);
-    show(rt, "DescendantMatches", below.count())?;
-    let found = MatcherIter::new(tree, &roots, matcher).ok()?;
-    show(rt, "MatcherIter", found.count())?;
-    select_by_tables(rt, tree, matcher)
-}
-
-/// What tables select.
-fn select_by_tables(rt: &HostRuntime, tree: &Tree, matcher: &Matcher) -> Option<()> {
     let mut index = TreeIndex::new(tree).ok()?;
-    let found = index.select(matcher, &[NodeId::root()]).ok()?;
+    let found = index.select(matcher, roots).ok()?;
     show_nodes(rt, "TreeIndex::select", &found)
-}
-
-/// How many tests tables take to select below the root: `SELECTOR`.
-pub fn count_tests(rt: &HostRuntime, tree: &Tree, line: &str) -> Option<()> {
-    let matcher = Matcher::new(rt.alloc(), line).ok()?;
-    let mut index = TreeIndex::new(tree).ok()?;
-    show(
-        rt,
-        "found",
-        index.select(&matcher, &[NodeId::root()]).ok()?.len(),
-    )?;
-    show(rt, "tests", index.tests())
 }
 
 /// What is selected below several roots: `N,M SELECTOR`.
 pub fn select_below_several(rt: &HostRuntime, tree: &Tree, line: &str) -> Option<()> {
     let (numbers, text) = cut(line);
-    let roots = nodes_of(rt.alloc(), numbers)?;
-    let matcher = Matcher::new(rt.alloc(), text).ok()?;
-    show_ids(
-        rt,
-        "select_below_all",
-        &select_below_all(tree, &roots, &matcher).ok()?,
-    )?;
-    show_nodes(
-        rt,
-        "select_nodes",
-        &select_nodes(tree, &roots, &matcher).ok()?,
-    )?;
+    match Matcher::new(rt.alloc(), text) {
+        Ok(matcher) => list_below(rt, tree, &nodes_of(rt.alloc(), numbers)?, &matcher),
+        Err(fault) => show(rt, "Matcher::new", fault),
+    }
+}
+
+/// How many nodes tables select below the root, and how many tests that takes: `SELECTOR`.
+pub fn count_tests(rt: &HostRuntime, tree: &Tree, line: &str) -> Option<()> {
+    match Matcher::new(rt.alloc(), line) {
+        Ok(matcher) => show_tests(rt, tree, &matcher),
+        Err(fault) => show(rt, "Matcher::new", fault),
+    }
+}
+
+fn show_tests(rt: &HostRuntime, tree: &Tree, matcher: &Matcher) -> Option<()> {
     let mut index = TreeIndex::new(tree).ok()?;
-    show_nodes(
-        rt,
-        "TreeIndex::select",
-        &index.select(&matcher, &roots).ok()?,
-    )
+    let found = index.select(matcher, &[NodeId::root()]).ok()?.len();
+    let tests = index.tests();
+    show(rt, "found", found)?;
+    show(rt, "tests", tests)
 }
 
 /// Why a text is no selector, or that it is one: `SELECTOR`.

@@ -215,7 +215,7 @@ fn count_all(rt: &HostRuntime, page: &Page) -> Option<()> {
 }
 
 /// Does what the words say: nothing, or a call, how often, and a selector.
-pub fn run(rt: &HostRuntime, words: &[String]) -> Option<()> {
+pub fn time_calls(rt: &HostRuntime, words: &[String]) -> Option<()> {
     match words {
         [] => count_all(rt, &Page::read(rt, "*")?),
         [name, runs, selector] => {
