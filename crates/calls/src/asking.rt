@@ -1,6 +1,6 @@
 //! What `NodeSelect` answers of a node.
 
-use crate::printing::show;
+use crate::printing::{show, show_flags};
 use crate::words::{cut, node_of};
 use dom_query::{
     CaseSensitivity, CssLocalName, Namespace, NodeRef, NodeSelect, NonTSPseudoClass, Tree,
@@ -9,35 +9,48 @@ use dom_query::{
 /// What a node is: `N`.
 pub fn show_kinds(rt: &HostRuntime, tree: &Tree, line: &str) -> Option<()> {
     let node = NodeRef::new(node_of(line)?, tree);
-    show(rt, "is_root", NodeSelect::is_root(&node))?;
-    show(rt, "has_only_text", node.has_only_text())?;
-    show(rt, "is_empty_element", node.is_empty_element())?;
-    show(rt, "is_link", NodeSelect::is_link(&node))?;
-    show(rt, "has_namespace", node.has_namespace(&Namespace::Html))?;
     let is_html = node.is_html_element_in_html_document();
-    show(rt, "is_html_element_in_html_document", is_html)
+    let flags = [
+        ("is_root", NodeSelect::is_root(&node)),
+        ("has_only_text", node.has_only_text()),
+        ("is_empty_element", node.is_empty_element()),
+        ("is_link", NodeSelect::is_link(&node)),
+        ("has_namespace", node.has_namespace(&Namespace::Html)),
+        ("is_html_element_in_html_document", is_html),
+    ];
+    show_flags(rt, &flags)
 }
 
 /// What it has of a name, an id and a text, and whether it is of the type of the first node: `N
 /// NAME ID TEXT`.
 pub fn show_named(rt: &HostRuntime, tree: &Tree, line: &str) -> Option<()> {
     let (word, words) = cut(line);
-    let id = node_of(word)?;
+    let node = NodeRef::new(node_of(word)?, tree);
     let (name, rest) = cut(words);
     let (value, text) = cut(rest);
-    let node = NodeRef::new(id, tree);
-    let name = CssLocalName::new(rt.alloc(), name).ok()?;
-    show(rt, "has_local_name", node.has_local_name(&name))?;
-    let value = CssLocalName::new(rt.alloc(), value).ok()?;
-    let is_same = node.has_id(&value, CaseSensitivity::CaseSensitive);
-    show(rt, "has_id", is_same)?;
-    let is_alike = node.has_id(&value, CaseSensitivity::AsciiCaseInsensitive);
-    show(rt, "has_id without case", is_alike)?;
+    show_name(rt, &node, &CssLocalName::new(rt.alloc(), name).ok()?)?;
+    show_id(rt, &node, &CssLocalName::new(rt.alloc(), value).ok()?)?;
     let Some(first) = tree.root().first_child() else {
         return None;
     };
-    show(rt, "is_same_type", node.is_same_type(&first))?;
-    show(rt, "has_text", node.has_text(text))
+    let flags = [
+        ("is_same_type", node.is_same_type(&first)),
+        ("has_text", node.has_text(text)),
+    ];
+    show_flags(rt, &flags)
+}
+
+fn show_name(rt: &HostRuntime, node: &NodeRef<'_>, name: &CssLocalName) -> Option<()> {
+    show(rt, "has_local_name", node.has_local_name(name))
+}
+
+fn show_id(rt: &HostRuntime, node: &NodeRef<'_>, id: &CssLocalName) -> Option<()> {
+    let is_alike = node.has_id(id, CaseSensitivity::AsciiCaseInsensitive);
+    let flags = [
+        ("has_id", node.has_id(id, CaseSensitivity::CaseSensitive)),
+        ("has_id without case", is_alike),
+    ];
+    show_flags(rt, &flags)
 }
 
 /// What it answers to pseudo-classes: `N`.

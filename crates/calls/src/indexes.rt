@@ -8,14 +8,24 @@ use dom_query::{NodeId, Tree, TreeIndex};
 /// What an index answers of two nodes: `N M`.
 pub fn ask(rt: &HostRuntime, tree: &Tree, line: &str) -> Option<()> {
     let (first, second) = cut(line);
-    let id = node_of(first)?;
-    let other = node_of(second)?;
-    let mut index = TreeIndex::new(tree).ok()?;
-    show_some(rt, "position", index.position(&id))?;
-    show_some(rt, "last_below", index.last_below(&id))?;
-    show(rt, "is_below", index.is_below(&id, &other))?;
-    list(rt, &index, &id)?;
-    count(rt, &mut index, &id)
+    let ids = (node_of(first)?, node_of(second)?);
+    match TreeIndex::new(tree) {
+        Ok(mut index) => ask_index(rt, &mut index, &ids.0, &ids.1),
+        Err(_) => None,
+    }
+}
+
+fn ask_index(
+    rt: &HostRuntime,
+    index: &mut TreeIndex<'_>,
+    id: &NodeId,
+    other: &NodeId,
+) -> Option<()> {
+    show_some(rt, "position", index.position(id))?;
+    show_some(rt, "last_below", index.last_below(id))?;
+    show(rt, "is_below", index.is_below(id, other))?;
+    list(rt, index, id)?;
+    count(rt, index, id)
 }
 
 /// The nodes below one.
@@ -42,8 +52,14 @@ fn count(rt: &HostRuntime, index: &mut TreeIndex<'_>, id: &NodeId) -> Option<()>
 
 /// The position of each node.
 pub fn show_places(rt: &HostRuntime, tree: &Tree) -> Option<()> {
-    let index = TreeIndex::new(tree).ok()?;
-    for number in 0..tree.len() {
+    match TreeIndex::new(tree) {
+        Ok(index) => list_places(rt, &index, tree.len()),
+        Err(_) => None,
+    }
+}
+
+fn list_places(rt: &HostRuntime, index: &TreeIndex<'_>, many: usize) -> Option<()> {
+    for number in 0..many {
         let place = index.position(&NodeId::new(number)?)?;
         println!(rt; "place of {number}: {place}").ok()?;
     }

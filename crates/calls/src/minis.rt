@@ -6,6 +6,7 @@ use dom_query::{
     Document, MatchNode, MiniSelect, MiniSelector, NodeId, NodeRef, Traversal, Tree,
     parse_mini_selector, parse_selector_list,
 };
+use std::alloc::Global;
 
 /// Follows a path, and prints the id of each node that it finds, in order, or `-` where a node has
 /// none: `PATH`.
@@ -76,17 +77,28 @@ pub fn find(rt: &HostRuntime, tree: &Tree, line: &str) -> Option<()> {
 pub fn find_names(rt: &HostRuntime, tree: &Tree, line: &str) -> Option<()> {
     let (word, words) = cut(line);
     let id = node_of(word)?;
-    let mut names = Vec::new(rt.alloc());
-    for name in words.split(' ') {
-        if !name.is_empty() {
-            names.push(name).ok()?;
+    find_path(rt, &NodeRef::new(id, tree), &words_of(rt.alloc(), words)?)
+}
+
+fn find_path(rt: &HostRuntime, node: &NodeRef<'_>, names: &[&str]) -> Option<()> {
+    show_nodes(rt, "find", &node.find(names).ok()?)?;
+    let (nodes, id) = (node.tree.nodes(), node.id);
+    let one = Traversal::find_descendant_element(nodes, id, names);
+    show_some(rt, "find_descendant_element", one.map(NodeId::value))?;
+    let alloc = node.tree.allocator();
+    let all = Traversal::find_descendant_elements(alloc, nodes, id, names).ok()?;
+    show_ids(rt, "find_descendant_elements", &all)
+}
+
+/// The words of a line.
+fn words_of(alloc: Global, line: &str) -> Option<Vec<&str>> {
+    let mut words = Vec::new(alloc);
+    for word in line.split(' ') {
+        if !word.is_empty() {
+            words.push(word).ok()?;
         }
     }
-    show_nodes(rt, "find", &NodeRef::new(id, tree).find(&names).ok()?)?;
-    let all = Traversal::find_descendant_elements(rt.alloc(), tree.nodes(), id, &names).ok()?;
-    show_ids(rt, "find_descendant_elements", &all)?;
-    let one = Traversal::find_descendant_element(tree.nodes(), id, &names);
-    show_some(rt, "find_descendant_element", one.map(NodeId::value))
+    Some(words)
 }
 
 /// Whether a text is a mini selector that means a node: `N TEXT`.

@@ -2,7 +2,7 @@
 
 use crate::printing::{show, show_edit, show_node, show_some};
 use crate::words::{cut, node_of, nodes_of};
-use dom_query::{Document, DocumentMd, NodeFragment, NodeMarkup, Place, Snippet, Tree};
+use dom_query::{Document, DocumentMd, NodeFragment, NodeId, NodeMarkup, Place, Snippet, Tree};
 
 /// What a document answers of all of it.
 pub fn read(rt: &HostRuntime, document: &Document) -> Option<()> {
@@ -90,8 +90,14 @@ pub fn make_fragment(rt: &HostRuntime, document: &Document, line: &str) -> Optio
 /// Puts markup, which is read once, behind the children of nodes: `N,M HTML`.
 pub fn put_snippet(rt: &HostRuntime, tree: &mut Tree, line: &str) -> Option<()> {
     let (numbers, html) = cut(line);
-    let snippet = Snippet::read(rt.alloc(), html).ok()?;
-    for id in &nodes_of(rt.alloc(), numbers)? {
+    match Snippet::read(rt.alloc(), html) {
+        Ok(snippet) => put_at_each(rt, tree, &snippet, &nodes_of(rt.alloc(), numbers)?),
+        Err(fault) => show(rt, "Snippet::read", fault),
+    }
+}
+
+fn put_at_each(rt: &HostRuntime, tree: &mut Tree, snippet: &Snippet, ids: &[NodeId]) -> Option<()> {
+    for id in ids {
         show_edit(rt, "put_at", snippet.put_at(tree, id, Place::AtEnd))?;
     }
     Some(())

@@ -8,6 +8,14 @@ pub fn show<D: Display + Drop>(rt: &HostRuntime, what: &str, value: D) -> Option
     println!(rt; "{what}: {value}").ok()
 }
 
+/// Prints what holds and what doesn't.
+pub fn show_flags(rt: &HostRuntime, flags: &[(&str, bool)]) -> Option<()> {
+    for (what, flag) in flags {
+        println!(rt; "{what}: {flag}").ok()?;
+    }
+    Some(())
+}
+
 /// Prints a value, or `-` where there is none.
 pub fn show_some<D: Display + Drop>(rt: &HostRuntime, what: &str, value: Option<D>) -> Option<()> {
     match value {

@@ -1,6 +1,6 @@
 //! What `NodeRef` reads of a node.
 
-use crate::printing::{show, show_node, show_some};
+use crate::printing::{show, show_flags, show_node, show_some};
 use crate::words::{cut, node_of};
 use dom_query::{NodeRef, Tree};
 
@@ -12,27 +12,30 @@ pub fn read(rt: &HostRuntime, tree: &Tree, line: &str) -> Option<()> {
         return read_named(rt, &node, word);
     }
     read_kind(rt, &node)?;
-    read_kinds(rt, &node)?;
+    query(rt, &node)?;
     read_element(rt, &node)?;
     read_texts(rt, &node)
 }
 
 /// Which kind of node it is.
 fn read_kind(rt: &HostRuntime, node: &NodeRef<'_>) -> Option<()> {
-    show(rt, "is_document", node.is_document())?;
-    show(rt, "is_fragment", node.is_fragment())?;
-    show(rt, "is_element", node.is_element())?;
-    show(rt, "is_text", node.is_text())?;
-    show(rt, "is_comment", node.is_comment())?;
-    show(rt, "is_doctype", node.is_doctype())
+    let flags = [
+        ("is_document", node.is_document()),
+        ("is_fragment", node.is_fragment()),
+        ("is_element", node.is_element()),
+        ("is_text", node.is_text()),
+        ("is_comment", node.is_comment()),
+        ("is_doctype", node.is_doctype()),
+        ("is_root", node.is_root()),
+        ("is_link", node.is_link()),
+        ("may_have_children", node.may_have_children()),
+        ("is_nonempty_text", node.is_nonempty_text()),
+    ];
+    show_flags(rt, &flags)
 }
 
-/// What it is besides.
-fn read_kinds(rt: &HostRuntime, node: &NodeRef<'_>) -> Option<()> {
-    show(rt, "is_root", node.is_root())?;
-    show(rt, "is_link", node.is_link())?;
-    show(rt, "may_have_children", node.may_have_children())?;
-    show(rt, "is_nonempty_text", node.is_nonempty_text())?;
+/// What closures answer of it.
+fn query(rt: &HostRuntime, node: &NodeRef<'_>) -> Option<()> {
     show_some(rt, "query", node.query(|it| it.is_text()))?;
     show(rt, "query_or", node.query_or(false, |it| it.is_text()))
 }
@@ -58,9 +61,12 @@ fn read_element(rt: &HostRuntime, node: &NodeRef<'_>) -> Option<()> {
 
 /// What it has of a name.
 fn read_named(rt: &HostRuntime, node: &NodeRef<'_>, word: &str) -> Option<()> {
-    show(rt, "has_name", node.has_name(word))?;
-    show(rt, "has_class", node.has_class(word))?;
-    show(rt, "has_attr", node.has_attr(word))?;
+    let flags = [
+        ("has_name", node.has_name(word)),
+        ("has_class", node.has_class(word)),
+        ("has_attr", node.has_attr(word)),
+    ];
+    show_flags(rt, &flags)?;
     show_some(rt, "attr", node.attr(word))?;
     let value = node.attr_or("id", "default");
     println!(rt; "attr_or: {value}").ok()

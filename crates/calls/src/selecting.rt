@@ -19,16 +19,16 @@ pub fn select(rt: &HostRuntime, document: &Document, line: &str) -> Option<()> {
 }
 
 fn select_by_each(rt: &HostRuntime, tree: &Tree, matcher: &Matcher) -> Option<()> {
-    let root = NodeId::root();
+    let roots = [NodeId::root()];
     show_ids(
         rt,
         "select_below",
-        &select_below(tree, &root, matcher).ok()?,
+        &select_below(tree, &NodeId::root(), matcher).ok()?,
     )?;
-    list_below(rt, tree, &[root], matcher)?;
+    list_below(rt, tree, &roots, matcher)?;
     let below = DescendantMatches::new(tree.root(), matcher);
     show(rt, "DescendantMatches", below.count())?;
-    let found = MatcherIter::new(tree, &[root], matcher).ok()?;
+    let found = MatcherIter::new(tree, &roots, matcher).ok()?;
     show(rt, "MatcherIter", found.count())
 }
 

@@ -1,6 +1,6 @@
 //! Calls of `Selection` and of `DocumentSelect`.
 
-use crate::printing::{show, show_nodes, show_some};
+use crate::printing::{show, show_flags, show_ids, show_nodes, show_some};
 use crate::words::cut;
 use dom_query::{Document, DocumentSelect, Matcher, OutOfMemory, Selection};
 use std::fmt::Display;
@@ -36,20 +36,25 @@ pub fn select(rt: &HostRuntime, document: &Document, line: &str) -> Option<()> {
     show_found(rt, "nip", &document.nip(line))?;
     show_found(rt, "select_single", &document.select_single(line))?;
     show_tried(rt, "try_select", &document.try_select(line))?;
-    let Ok(matcher) = Matcher::new(rt.alloc(), line) else {
-        return Some(());
-    };
-    show_found(rt, "select_matcher", &document.select_matcher(&matcher))?;
-    show_found(
-        rt,
-        "select_single_matcher",
-        &document.select_single_matcher(&matcher),
-    )
+    match Matcher::new(rt.alloc(), line) {
+        Ok(matcher) => select_by_matcher(rt, document, &matcher),
+        Err(fault) => show(rt, "Matcher::new", fault),
+    }
+}
+
+fn select_by_matcher(rt: &HostRuntime, document: &Document, matcher: &Matcher) -> Option<()> {
+    show_found(rt, "select_matcher", &document.select_matcher(matcher))?;
+    let one = document.select_single_matcher(matcher);
+    show_found(rt, "select_single_matcher", &one)
 }
 
 /// Where each step leads from the nodes that a selector selects: `SELECTOR`.
 pub fn step(rt: &HostRuntime, document: &Document, line: &str) -> Option<()> {
     let all = document.select(line).ok()?;
+    step_from(rt, &all)
+}
+
+fn step_from(rt: &HostRuntime, all: &Selection<'_>) -> Option<()> {
     show_found(rt, "parent", &all.parent())?;
     show_found(rt, "children", &all.children())?;
     show_found(rt, "ancestors", &all.ancestors(None))?;
@@ -59,17 +64,17 @@ pub fn step(rt: &HostRuntime, document: &Document, line: &str) -> Option<()> {
     show_found(rt, "try_clone", &all.try_clone())?;
     show_nodes(rt, "first", all.first().nodes())?;
     show_nodes(rt, "last", all.last().nodes())?;
-    list(rt, &all)
+    list(rt, all)
 }
 
 /// The nodes of a selection as a list.
 fn list(rt: &HostRuntime, all: &Selection<'_>) -> Option<()> {
     show(rt, "length", all.length())?;
     show(rt, "size", all.size())?;
-    show(rt, "exists", all.exists())?;
-    show(rt, "is_empty", all.is_empty())?;
+    let flags = [("exists", all.exists()), ("is_empty", all.is_empty())];
+    show_flags(rt, &flags)?;
     show_some(rt, "get 1", all.get(1).map(|node| node.id.value()))?;
-    show_some(rt, "last id", all.ids().ok()?.last().map(|id| id.value()))?;
+    show_ids(rt, "ids", &all.ids().ok()?)?;
     for one in all.iter() {
         show_nodes(rt, "iter", one.nodes())?;
     }
@@ -80,6 +85,10 @@ fn list(rt: &HostRuntime, all: &Selection<'_>) -> Option<()> {
 pub fn choose(rt: &HostRuntime, document: &Document, line: &str) -> Option<()> {
     let (choice, text) = cut(line);
     let all = document.select(text).ok()?;
+    choose_from(rt, &all, choice)
+}
+
+fn choose_from(rt: &HostRuntime, all: &Selection<'_>, choice: &str) -> Option<()> {
     show(rt, "is", all.is(choice).ok()?)?;
     show_found(rt, "select", &all.select(choice))?;
     show_found(rt, "nip", &all.nip(choice))?;
@@ -90,7 +99,7 @@ pub fn choose(rt: &HostRuntime, document: &Document, line: &str) -> Option<()> {
     show_tried(rt, "try_filter", &all.try_filter(choice))?;
     show_tried(rt, "try_add", &all.try_add(choice))?;
     match Matcher::new(rt.alloc(), choice) {
-        Ok(matcher) => choose_by_matcher(rt, &all, &matcher),
+        Ok(matcher) => choose_by_matcher(rt, all, &matcher),
         Err(fault) => show(rt, "Matcher::new", fault),
     }
 }
@@ -98,11 +107,8 @@ pub fn choose(rt: &HostRuntime, document: &Document, line: &str) -> Option<()> {
 fn choose_by_matcher(rt: &HostRuntime, all: &Selection<'_>, matcher: &Matcher) -> Option<()> {
     show(rt, "is_matcher", all.is_matcher(matcher))?;
     show_found(rt, "select_matcher", &all.select_matcher(matcher))?;
-    show_found(
-        rt,
-        "select_single_matcher",
-        &all.select_single_matcher(matcher),
-    )?;
+    let one = all.select_single_matcher(matcher);
+    show_found(rt, "select_single_matcher", &one)?;
     show_found(rt, "filter_matcher", &all.filter_matcher(matcher))?;
     show_found(rt, "add_matcher", &all.add_matcher(matcher))
 }
@@ -112,23 +118,35 @@ pub fn combine(rt: &HostRuntime, document: &Document, line: &str) -> Option<()> 
     let (other, text) = cut(line);
     let all = document.select(text).ok()?;
     let other = document.select(other).ok()?;
-    show_found(rt, "filter_selection", &all.filter_selection(&other))?;
-    show_found(rt, "add_selection", &all.add_selection(&other))?;
-    show(rt, "is_selection", all.is_selection(&other).ok()?)
+    show_both(rt, &all, &other)
+}
+
+fn show_both(rt: &HostRuntime, all: &Selection<'_>, other: &Selection<'_>) -> Option<()> {
+    show_found(rt, "filter_selection", &all.filter_selection(other))?;
+    show_found(rt, "add_selection", &all.add_selection(other))?;
+    show(rt, "is_selection", all.is_selection(other).ok()?)
 }
 
 /// What is read of the nodes that a selector selects: `NAME SELECTOR`.
 pub fn read(rt: &HostRuntime, document: &Document, line: &str) -> Option<()> {
     let (name, text) = cut(line);
     let all = document.select(text).ok()?;
+    read_first(rt, &all, name)?;
+    read_texts(rt, &all)
+}
+
+fn read_first(rt: &HostRuntime, all: &Selection<'_>, name: &str) -> Option<()> {
     show(rt, "attrs", all.attrs().len())?;
     show_some(rt, "attr", all.attr(name))?;
-    show(rt, "attr_or", all.attr_or("id", "default"))?;
-    show(rt, "has_attr", all.has_attr(name))?;
+    let value = all.attr_or("id", "default");
+    println!(rt; "attr_or: {value}").ok()?;
     show_some(rt, "id", all.id())?;
     show_some(rt, "class", all.class())?;
-    show(rt, "has_class", all.has_class(name))?;
-    read_texts(rt, &all)
+    let flags = [
+        ("has_attr", all.has_attr(name)),
+        ("has_class", all.has_class(name)),
+    ];
+    show_flags(rt, &flags)
 }
 
 fn read_texts(rt: &HostRuntime, all: &Selection<'_>) -> Option<()> {
