@@ -1,0 +1,123 @@
+//! Names and attributes of elements, as the tree has them.
+
+use crate::adjusting::{mathml_attr, svg_attr, svg_tag};
+use crate::fault::PageFault;
+use crate::name::Name;
+use crate::stack::Ns;
+use dom_nodes::name::{Attr, LocalName, Namespace, QualName};
+use dom_nodes::node_data::Attrs;
+use dom_nodes::text::{RareText, Text};
+use html5_tokens::token::{Tag, TagAttr};
+use std::alloc::Global;
+
+fn namespace(ns: Ns) -> Namespace {
+    match ns {
+        Ns::Html => Namespace::Html,
+        Ns::Svg => Namespace::Svg,
+        Ns::MathMl => Namespace::MathMl,
+    }
+}
+
+/// The name of a tag's element.
+pub fn element_name(alloc: Global, ns: Ns, name: Name, tag: &Tag) -> Result<QualName, PageFault> {
+    let written = match ns {
+        Ns::Svg => svg_tag(tag.name.as_str()),
+        Ns::Html if name == Name::Img => "img",
+        _ => tag.name.as_str(),
+    };
+    Ok(QualName {
+        prefix: None,
+        ns: namespace(ns),
+        local: LocalName::new(alloc, written)?,
+    })
+}
+
+/// Prefix, local name and namespace of an attribute that foreign content has in a namespace.
+fn foreign_parts(name: &str) -> Option<(&'static str, &'static str, Namespace)> {
+    match name {
+        "xlink:actuate" => Some(("xlink", "actuate", Namespace::XLink)),
+        "xlink:arcrole" => Some(("xlink", "arcrole", Namespace::XLink)),
+        "xlink:href" => Some(("xlink", "href", Namespace::XLink)),
+        "xlink:role" => Some(("xlink", "role", Namespace::XLink)),
+        "xlink:show" => Some(("xlink", "show", Namespace::XLink)),
+        "xlink:title" => Some(("xlink", "title", Namespace::XLink)),
+        "xlink:type" => Some(("xlink", "type", Namespace::XLink)),
+        "xml:lang" => Some(("xml", "lang", Namespace::Xml)),
+        "xml:space" => Some(("xml", "space", Namespace::Xml)),
+        "xmlns" => Some(("", "xmlns", Namespace::XmlNs)),
+        "xmlns:xlink" => Some(("xmlns", "xlink", Namespace::XmlNs)),
+        _ => None,
+    }
+}
+
+fn prefix_of(alloc: Global, prefix: &str) -> Result<Option<RareText>, PageFault> {
+    if prefix.is_empty() {
+        return Ok(None);
+    }
+    let prefix = RareText::new(alloc, prefix)?;
+    Ok(Some(prefix))
+}
+
+fn attr_name(alloc: Global, ns: Ns, name: &str) -> Result<QualName, PageFault> {
+    if ns != Ns::Html
+        && let Some((prefix, local, ns)) = foreign_parts(name)
+    {
+        let prefix = prefix_of(alloc, prefix)?;
+        let local = LocalName::new(alloc, local)?;
+        return Ok(QualName { prefix, ns, local });
+    }
+    let adjusted = match ns {
+        Ns::Html => name,
+        Ns::Svg => svg_attr(name),
+        Ns::MathMl => mathml_attr(name),
+    };
+    Ok(QualName {
+        prefix: None,
+        ns: Namespace::None,
+        local: LocalName::new(alloc, adjusted)?,
+    })
+}
+
+/// The attributes of a tag's element.
+pub fn attrs_of(alloc: Global, ns: Ns, given: &[TagAttr]) -> Result<Attrs, PageFault> {
+    let mut attrs = Attrs::new(alloc);
+    attrs.reserve(given.len());
+    for attr in given {
+        let name = attr_name(alloc, ns, attr.name.as_str())?;
+        let value = Text::new(alloc, attr.value.as_str())?;
+        attrs.push(Attr { name, value })?;
+    }
+    Ok(attrs)
+}
+
+/// The value of a tag's attribute.
+pub fn value_of<'a>(tag: &'a Tag, name: &str) -> Option<&'a str> {
+    for attr in tag.attrs.as_slice() {
+        if attr.name.as_str() == name {
+            return Some(attr.value.as_str());
+        }
+    }
+    None
+}
+
+/// Whether an `input` is hidden.
+pub fn is_hidden(tag: &Tag) -> bool {
+    match value_of(tag, "type") {
+        Some(kind) => kind.eq_ignore_ascii_case("hidden"),
+        None => false,
+    }
+}
+
+/// Whether an element is an `annotation-xml` whose encoding is HTML.
+pub fn holds_html(ns: Ns, name: Name, tag: &Tag) -> bool {
+    if ns != Ns::MathMl || name != Name::AnnotationXml {
+        return false;
+    }
+    match value_of(tag, "encoding") {
+        Some(value) => {
+            value.eq_ignore_ascii_case("text/html")
+                || value.eq_ignore_ascii_case("application/xhtml+xml")
+        }
+        None => false,
+    }
+}

@@ -1,0 +1,130 @@
+//! The state of tree construction.
+
+use crate::fault::PageFault;
+use crate::formatting::ActiveFormatting;
+use crate::stack::{Open, OpenElements};
+use dom_markup::document::Document;
+use dom_nodes::node_id::NodeId;
+use html5_tokens::tokenizer::State;
+use std::alloc::Global;
+
+/// The insertion mode: by which rules a token is read.
+#[derive(Clone, Copy, PartialEq, Eq, Drop)]
+pub enum Mode {
+    Initial,
+    BeforeHtml,
+    BeforeHead,
+    InHead,
+    InHeadNoscript,
+    AfterHead,
+    InBody,
+    Text,
+    InTable,
+    InTableText,
+    InCaption,
+    InColumnGroup,
+    InTableBody,
+    InRow,
+    InCell,
+    InSelect,
+    InSelectInTable,
+    InTemplate,
+    AfterBody,
+    InFrameset,
+    AfterFrameset,
+    AfterAfterBody,
+    AfterAfterFrameset,
+}
+
+/// Whether a token is done with, or is reprocessed in the insertion mode that now holds.
+#[derive(Clone, Copy, PartialEq, Eq, Drop)]
+pub enum Next {
+    Done,
+    Again,
+}
+
+/// What a rule comes to.
+pub type Step = Result<Next, PageFault>;
+
+/// A document that is filled by tokens, and where the next one finds it.
+#[derive(Drop)]
+pub struct TreeBuilder {
+    pub alloc: Global,
+    pub document: Document,
+    pub mode: Mode,
+    /// The mode that a text element or a table's characters return to.
+    pub original: Mode,
+    pub template_modes: Vec<Mode>,
+    pub open: OpenElements,
+    pub formatting: ActiveFormatting,
+    /// The head element pointer.
+    pub head: Option<NodeId>,
+    /// The form element pointer.
+    pub form: Option<NodeId>,
+    /// The context element of a fragment.
+    pub context: Option<Open>,
+    pub frameset_ok: bool,
+    /// Whether foster parenting is on.
+    pub foster: bool,
+    /// Whether a line feed that comes next is dropped.
+    pub skip_line_feed: bool,
+    pub scripting: bool,
+    /// So many elements may lie in one another.
+    pub max_depth: usize,
+    /// Whether the document is in quirks mode.
+    pub quirks: bool,
+    /// The pending table characters.
+    pub table_text: String,
+    pub table_text_has_letters: bool,
+    /// How the tokenizer reads what comes next, where that changes.
+    pub switch: Option<State>,
+}
+
+impl TreeBuilder {
+    pub fn new(alloc: Global, document: Document, scripting: bool) -> TreeBuilder {
+        TreeBuilder {
+            alloc,
+            document,
+            mode: Mode::Initial,
+            original: Mode::InBody,
+            template_modes: Vec::new(alloc),
+            open: OpenElements::new(alloc),
+            formatting: ActiveFormatting::new(alloc),
+            head: None,
+            form: None,
+            context: None,
+            frameset_ok: true,
+            foster: false,
+            skip_line_feed: false,
+            scripting,
+            max_depth: usize::MAX,
+            quirks: false,
+            table_text: String::new(alloc),
+            table_text_has_letters: false,
+            switch: None,
+        }
+    }
+
+    pub fn done_in(&mut self, mode: Mode) -> Step {
+        self.mode = mode;
+        Ok(Next::Done)
+    }
+
+    pub fn again_in(&mut self, mode: Mode) -> Step {
+        self.mode = mode;
+        Ok(Next::Again)
+    }
+
+    /// The adjusted current node.
+    pub fn adjusted_current(&self) -> Option<Open> {
+        match self.context {
+            Some(context) if self.open.len() == 1 => Some(context),
+            _ => self.open.current(),
+        }
+    }
+
+    /// How often a token is reprocessed at most, before the rules for "in body" take it.
+    pub fn turns(&self) -> usize {
+        self.open.len().saturating_mul(4).saturating_add(64)
+    }
+}

@@ -1,0 +1,264 @@
+//! Character tokens.
+
+use crate::builder::{Mode, Next, Step, TreeBuilder};
+use crate::fault::PageFault;
+use crate::name::Name;
+use crate::stack::Ns;
+use std::mem;
+
+/// The characters that are white space to tree construction.
+const SPACES: [char; 5] = ['\t', '\n', '\u{c}', '\r', ' '];
+
+/// What the characters of a run are: nulls, white space alone, or others too.
+#[derive(Clone, Copy, PartialEq, Eq, Drop)]
+pub enum Run {
+    Nulls,
+    Spaces,
+    Letters,
+}
+
+impl TreeBuilder {
+    /// Reads the characters between two tokens.
+    pub fn characters(&mut self, text: &str) -> Result<(), PageFault> {
+        if text.is_empty() {
+            return Ok(());
+        }
+        let text = match mem::replace(&mut self.skip_line_feed, false) {
+            true => text.strip_prefix('\n').unwrap_or(text),
+            false => text,
+        };
+        if self.mode == Mode::Text {
+            return self.text_run(text);
+        }
+        for stretch in text.split_inclusive('\0') {
+            match stretch.strip_suffix('\0') {
+                Some(front) => {
+                    self.stretch(front)?;
+                    self.run(Run::Nulls, "\0")?;
+                }
+                None => self.stretch(stretch)?,
+            }
+        }
+        Ok(())
+    }
+
+    fn text_run(&mut self, text: &str) -> Result<(), PageFault> {
+        if text.is_empty() {
+            return Ok(());
+        }
+        self.put_text(text)
+    }
+
+    /// Reads characters of which none is null: white space first, and then the others.
+    fn stretch(&mut self, text: &str) -> Result<(), PageFault> {
+        let rest = text.trim_start_matches(SPACES);
+        if let Some(spaces) = text.get(..text.len().saturating_sub(rest.len()))
+            && !spaces.is_empty()
+        {
+            self.run(Run::Spaces, spaces)?;
+        }
+        if rest.is_empty() {
+            return Ok(());
+        }
+        if self.drops_letters() {
+            return self.words(rest);
+        }
+        self.run(Run::Letters, rest)
+    }
+
+    /// Whether the mode may drop letters but keep the white space between them.
+    fn drops_letters(&self) -> bool {
+        matches!(
+            self.mode,
+            Mode::InColumnGroup | Mode::InFrameset | Mode::AfterFrameset | Mode::AfterAfterFrameset
+        )
+    }
+
+    /// Reads words and the white space between them one by one.
+    fn words(&mut self, text: &str) -> Result<(), PageFault> {
+        for piece in text.split_inclusive(SPACES) {
+            let word = piece.trim_end_matches(SPACES);
+            if !word.is_empty() {
+                self.run(Run::Letters, word)?;
+            }
+            if let Some(space) = piece.get(word.len()..)
+                && !space.is_empty()
+            {
+                self.run(Run::Spaces, space)?;
+            }
+        }
+        Ok(())
+    }
+
+    /// Reads a run of characters. If it is reprocessed more often than any stack of open elements
+    /// asks for, the rules for "in body" take it.
+    fn run(&mut self, kind: Run, text: &str) -> Result<(), PageFault> {
+        for _ in 0..self.turns() {
+            let next = if self.is_in_foreign() {
+                self.foreign_run(kind, text)?
+            } else {
+                self.mode_run(kind, text)?
+            };
+            if next == Next::Done {
+                return Ok(());
+            }
+        }
+        self.mode = Mode::InBody;
+        self.body_run(kind, text)?;
+        Ok(())
+    }
+
+    fn is_in_foreign(&self) -> bool {
+        match self.adjusted_current() {
+            Some(open) => open.ns != Ns::Html && !open.is_text_point() && !open.is_html_point(),
+            None => false,
+        }
+    }
+
+    fn foreign_run(&mut self, kind: Run, text: &str) -> Step {
+        match kind {
+            Run::Nulls => self.put_run("\u{fffd}"),
+            Run::Spaces => self.put_run(text),
+            Run::Letters => {
+                self.frameset_ok = false;
+                self.put_run(text)
+            }
+        }
+    }
+
+    fn mode_run(&mut self, kind: Run, text: &str) -> Step {
+        match kind {
+            Run::Nulls => self.nulls(text),
+            Run::Spaces => self.spaces(text),
+            Run::Letters => self.letters(text),
+        }
+    }
+
+    fn spaces(&mut self, text: &str) -> Step {
+        match self.mode {
+            Mode::Initial | Mode::BeforeHtml | Mode::BeforeHead => Ok(Next::Done),
+            Mode::InBody
+            | Mode::InCaption
+            | Mode::InCell
+            | Mode::InTemplate
+            | Mode::AfterBody
+            | Mode::AfterAfterBody
+            | Mode::AfterAfterFrameset => self.body_run(Run::Spaces, text),
+            Mode::InTable | Mode::InTableBody | Mode::InRow => self.table_run(Run::Spaces, text),
+            Mode::InTableText => self.pending_run(Run::Spaces, text),
+            _ => self.put_run(text),
+        }
+    }
+
+    fn letters(&mut self, text: &str) -> Step {
+        match self.mode {
+            Mode::InBody | Mode::InCaption | Mode::InCell | Mode::InTemplate => {
+                self.body_run(Run::Letters, text)
+            }
+            Mode::Text | Mode::InSelect | Mode::InSelectInTable => self.put_run(text),
+            Mode::InTable | Mode::InTableBody | Mode::InRow => self.table_run(Run::Letters, text),
+            Mode::InTableText => self.pending_run(Run::Letters, text),
+            _ => self.leave_by_letters(),
+        }
+    }
+
+    fn nulls(&mut self, text: &str) -> Step {
+        match self.mode {
+            Mode::InBody
+            | Mode::InCaption
+            | Mode::InCell
+            | Mode::InTemplate
+            | Mode::InTableText
+            | Mode::InSelect
+            | Mode::InSelectInTable => Ok(Next::Done),
+            Mode::InTable | Mode::InTableBody | Mode::InRow => self.table_run(Run::Nulls, text),
+            _ => self.leave_by_letters(),
+        }
+    }
+
+    /// Characters in a mode that has no place for them.
+    fn leave_by_letters(&mut self) -> Step {
+        match self.mode {
+            Mode::Initial => self.leave_initial(),
+            Mode::BeforeHtml => self.imply_html(),
+            Mode::BeforeHead => self.imply_head(),
+            Mode::InHead => self.leave_head(),
+            Mode::InHeadNoscript => self.leave_noscript(),
+            Mode::AfterHead => self.imply_body(),
+            Mode::InColumnGroup => Ok(self.leave_column_group()),
+            Mode::AfterBody | Mode::AfterAfterBody => self.again_in(Mode::InBody),
+            _ => Ok(Next::Done),
+        }
+    }
+
+    fn put_run(&mut self, text: &str) -> Step {
+        self.put_text(text)?;
+        Ok(Next::Done)
+    }
+
+    /// Characters by the rules for "in body".
+    pub fn body_run(&mut self, kind: Run, text: &str) -> Step {
+        if kind == Run::Nulls {
+            return Ok(Next::Done);
+        }
+        self.reconstruct()?;
+        self.put_text(text)?;
+        if kind == Run::Letters {
+            self.frameset_ok = false;
+        }
+        Ok(Next::Done)
+    }
+
+    fn is_in_table(&self) -> bool {
+        let Some(open) = self.open.current() else {
+            return false;
+        };
+        open.ns == Ns::Html
+            && matches!(
+                open.name,
+                Name::Table | Name::Tbody | Name::Template | Name::Tfoot | Name::Thead | Name::Tr
+            )
+    }
+
+    fn table_run(&mut self, kind: Run, text: &str) -> Step {
+        if self.is_in_table() {
+            self.table_text.clear();
+            self.table_text_has_letters = false;
+            self.original = self.mode;
+            return self.again_in(Mode::InTableText);
+        }
+        self.foster = true;
+        let step = self.body_run(kind, text);
+        self.foster = false;
+        step
+    }
+
+    /// Adds to the pending table characters.
+    fn pending_run(&mut self, kind: Run, text: &str) -> Step {
+        if kind == Run::Letters {
+            self.table_text_has_letters = true;
+        }
+        self.table_text.push_str(text)?;
+        Ok(Next::Done)
+    }
+
+    /// Another token ends the pending table characters.
+    pub fn flush_table_text(&mut self) -> Result<(), PageFault> {
+        if self.mode != Mode::InTableText {
+            return Ok(());
+        }
+        self.mode = self.original;
+        let text = mem::replace(&mut self.table_text, String::new(self.alloc));
+        if text.as_str().is_empty() {
+            return Ok(());
+        }
+        if !self.table_text_has_letters {
+            return self.put_text(text.as_str());
+        }
+        self.foster = true;
+        let step = self.body_run(Run::Letters, text.as_str());
+        self.foster = false;
+        step?;
+        Ok(())
+    }
+}

@@ -1,0 +1,122 @@
+//! SVG and MathML.
+
+use crate::attributes::value_of;
+use crate::builder::{Next, Step, TreeBuilder};
+use crate::name::Name;
+use crate::sets::breaks_out;
+use crate::stack::{Ns, Open};
+use html5_tokens::token::{Tag, TagKind};
+
+impl Open {
+    /// A MathML text integration point.
+    pub fn is_text_point(&self) -> bool {
+        self.ns == Ns::MathMl
+            && matches!(
+                self.name,
+                Name::Mi | Name::Mo | Name::Mn | Name::Ms | Name::Mtext
+            )
+    }
+
+    /// An HTML integration point.
+    pub fn is_html_point(&self) -> bool {
+        match self.ns {
+            Ns::Svg => matches!(self.name, Name::Foreignobject | Name::Desc | Name::Title),
+            Ns::MathMl => self.holds_html,
+            Ns::Html => false,
+        }
+    }
+}
+
+impl TreeBuilder {
+    /// Whether a tag is read by the rules for foreign content.
+    pub fn is_tag_foreign(&self, kind: TagKind, name: Name) -> bool {
+        let Some(open) = self.adjusted_current() else {
+            return false;
+        };
+        if open.ns == Ns::Html {
+            return false;
+        }
+        if kind == TagKind::End {
+            return true;
+        }
+        if open.is_text_point() && !matches!(name, Name::Mglyph | Name::Malignmark) {
+            return false;
+        }
+        if open.ns == Ns::MathMl && open.name == Name::AnnotationXml && name == Name::Svg {
+            return false;
+        }
+        !open.is_html_point()
+    }
+
+    /// Whether a CDATA section may begin here.
+    pub fn allows_cdata(&self) -> bool {
+        match self.adjusted_current() {
+            Some(open) => open.ns != Ns::Html,
+            None => false,
+        }
+    }
+
+    pub fn foreign_tag(&mut self, name: Name, tag: &Tag) -> Step {
+        match tag.kind {
+            TagKind::Start => self.foreign_start(name, tag),
+            TagKind::End => self.foreign_end(name, tag),
+        }
+    }
+
+    fn foreign_start(&mut self, name: Name, tag: &Tag) -> Step {
+        let breaks = breaks_out(name)
+            || (name == Name::Font
+                && (value_of(tag, "color").is_some()
+                    || value_of(tag, "face").is_some()
+                    || value_of(tag, "size").is_some()));
+        if breaks {
+            self.pop_foreign();
+            return self.html_tag(name, tag);
+        }
+        let ns = match self.adjusted_current() {
+            Some(open) => open.ns,
+            None => Ns::Html,
+        };
+        self.insert_in(ns, name, tag)?;
+        if tag.self_closing {
+            self.open.pop();
+        }
+        Ok(Next::Done)
+    }
+
+    fn pop_foreign(&mut self) {
+        for _ in 0..self.open.len() {
+            match self.open.current() {
+                Some(open)
+                    if open.ns != Ns::Html && !open.is_text_point() && !open.is_html_point() => {
+                    self.open.pop();
+                }
+                _ => return,
+            }
+        }
+    }
+
+    fn foreign_end(&mut self, name: Name, tag: &Tag) -> Step {
+        if matches!(name, Name::Br | Name::P) {
+            self.pop_foreign();
+            return self.html_tag(name, tag);
+        }
+        let count = self.open.len();
+        for place in (0..count).rev() {
+            let Some(open) = self.open.get(place) else {
+                return Ok(Next::Done);
+            };
+            if open.ns == Ns::Html && place.saturating_add(1) < count {
+                return self.html_tag(name, tag);
+            }
+            if place == 0 {
+                return Ok(Next::Done);
+            }
+            if self.has_name(open.id, tag.name.as_str()) {
+                self.open.truncate(place);
+                return Ok(Next::Done);
+            }
+        }
+        Ok(Next::Done)
+    }
+}

@@ -1,0 +1,23 @@
+//! Reading pages: the tree construction of the HTML Standard (13.2.6) over the calls of a sink.
+#![tactic(auto)]
+
+mod adjusting;
+mod adoption;
+mod attributes;
+mod builder;
+mod chars;
+mod fault;
+mod foreign;
+mod formatting;
+mod inserting;
+mod modes;
+mod name;
+mod quirks;
+mod reading;
+mod sets;
+mod stack;
+
+pub use fault::PageFault;
+pub use reading::{
+    Context, Options, PageParser, parse_page, parse_page_bytes, parse_page_fragment,
+};

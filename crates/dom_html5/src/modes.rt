@@ -1,0 +1,183 @@
+//! The insertion modes: which rules read a token.
+
+mod after;
+mod body;
+mod body_ends;
+mod groups;
+mod head;
+mod resetting;
+mod select;
+mod tables;
+mod template;
+
+use crate::builder::{Mode, Next, Step, TreeBuilder};
+use crate::fault::{PageFault, settled};
+use crate::name::Name;
+use dom_markup::document::QuirksMode;
+use dom_markup::document::sink::TreeSink;
+use dom_nodes::name::LocalName;
+use html5_tokens::token::{Doctype, Tag, TagKind};
+use html5_tokens::tokenizer::State;
+
+impl TreeBuilder {
+    /// Reads a tag. If it is reprocessed more often than any stack of open elements asks for, the
+    /// rules for "in body" take it.
+    pub fn tag(&mut self, tag: &Tag) -> Result<(), PageFault> {
+        self.skip_line_feed = false;
+        let local = LocalName::new(self.alloc, tag.name.as_str())?;
+        let name = Name::of(&local);
+        self.flush_table_text()?;
+        for _ in 0..self.turns() {
+            let next = if self.is_tag_foreign(tag.kind, name) {
+                self.foreign_tag(name, tag)?
+            } else {
+                self.html_tag(name, tag)?
+            };
+            if next == Next::Done {
+                return Ok(());
+            }
+        }
+        self.mode = Mode::InBody;
+        self.body_tag(name, tag)?;
+        Ok(())
+    }
+
+    pub fn html_tag(&mut self, name: Name, tag: &Tag) -> Step {
+        match self.mode {
+            Mode::InBody => self.body_tag(name, tag),
+            Mode::Text => self.text_tag(),
+            Mode::InTable | Mode::InTableText => self.table_tag(name, tag),
+            Mode::InCaption => self.caption_tag(name, tag),
+            Mode::InColumnGroup => self.column_group_tag(name, tag),
+            Mode::InTableBody => self.table_body_tag(name, tag),
+            Mode::InRow => self.row_tag(name, tag),
+            Mode::InCell => self.cell_tag(name, tag),
+            Mode::InSelect => self.select_tag(name, tag),
+            Mode::InSelectInTable => self.select_in_table_tag(name, tag),
+            Mode::InTemplate => self.template_tag(name, tag),
+            _ => self.outer_tag(name, tag),
+        }
+    }
+
+    /// A tag before the body or behind it.
+    fn outer_tag(&mut self, name: Name, tag: &Tag) -> Step {
+        match self.mode {
+            Mode::BeforeHtml => self.before_html_tag(name, tag),
+            Mode::BeforeHead => self.before_head_tag(name, tag),
+            Mode::InHead => self.head_tag(name, tag),
+            Mode::InHeadNoscript => self.noscript_tag(name, tag),
+            Mode::AfterHead => self.after_head_tag(name, tag),
+            Mode::AfterBody => self.after_body_tag(name, tag),
+            Mode::InFrameset => self.frameset_tag(name, tag),
+            Mode::AfterFrameset => self.after_frameset_tag(name, tag),
+            Mode::AfterAfterBody => self.after_after_body_tag(name, tag),
+            Mode::AfterAfterFrameset => self.after_after_frameset_tag(name, tag),
+            _ => self.leave_initial(),
+        }
+    }
+
+    /// The end tag of an element whose text ends.
+    fn text_tag(&mut self) -> Step {
+        self.open.pop();
+        self.done_in(self.original)
+    }
+
+    /// An element whose characters are read up to its end tag.
+    pub fn insert_text_element(&mut self, name: Name, tag: &Tag, state: State) -> Step {
+        self.insert(name, tag)?;
+        self.switch = Some(state);
+        self.original = self.mode;
+        self.done_in(Mode::Text)
+    }
+
+    pub fn comment(&mut self, text: &str) -> Result<(), PageFault> {
+        self.skip_line_feed = false;
+        self.flush_table_text()?;
+        match self.mode {
+            Mode::Initial | Mode::BeforeHtml | Mode::AfterAfterBody | Mode::AfterAfterFrameset => {
+                let root = self.document.get_document();
+                self.put_comment_in(root, text)
+            }
+            Mode::AfterBody => match self.open.get(0) {
+                Some(html) => self.put_comment_in(html.id, text),
+                None => Ok(()),
+            },
+            _ => self.put_comment(text),
+        }
+    }
+
+    pub fn doctype(&mut self, doctype: &Doctype) -> Result<(), PageFault> {
+        self.skip_line_feed = false;
+        self.flush_table_text()?;
+        if self.mode != Mode::Initial {
+            return Ok(());
+        }
+        let mode = crate::quirks::mode_of(doctype);
+        self.document.set_quirks_mode(mode);
+        self.quirks = mode == QuirksMode::Quirks;
+        let name = text_of(&doctype.name);
+        let public_id = text_of(&doctype.public_id);
+        let system_id = text_of(&doctype.system_id);
+        let sink = &mut self.document;
+        settled(sink.append_doctype_to_document(name, public_id, system_id))?;
+        self.mode = Mode::BeforeHtml;
+        Ok(())
+    }
+
+    /// Reads the end of the text.
+    pub fn end(&mut self) -> Result<(), PageFault> {
+        self.flush_table_text()?;
+        for _ in 0..self.turns() {
+            if self.end_step()? == Next::Done {
+                return Ok(());
+            }
+        }
+        Ok(())
+    }
+
+    fn end_step(&mut self) -> Step {
+        match self.mode {
+            Mode::Initial => self.leave_initial(),
+            Mode::BeforeHtml => self.imply_html(),
+            Mode::BeforeHead => self.imply_head(),
+            Mode::InHead => self.leave_head(),
+            Mode::InHeadNoscript => self.leave_noscript(),
+            Mode::AfterHead => self.imply_body(),
+            Mode::Text => {
+                self.open.pop();
+                self.again_in(self.original)
+            }
+            Mode::AfterBody
+            | Mode::AfterAfterBody
+            | Mode::AfterAfterFrameset
+            | Mode::InFrameset
+            | Mode::AfterFrameset => Ok(Next::Done),
+            _ if !self.template_modes.is_empty() => self.template_end(),
+            Mode::InColumnGroup => Ok(self.leave_column_group()),
+            _ => Ok(Next::Done),
+        }
+    }
+
+    /// The text ends in a template.
+    fn template_end(&mut self) -> Step {
+        if !self.open.has(Name::Template) {
+            return Ok(Next::Done);
+        }
+        self.open.pop_to(Name::Template);
+        self.formatting.clear_to_marker();
+        let _ = self.template_modes.pop();
+        self.reset_mode();
+        Ok(Next::Again)
+    }
+}
+
+fn text_of(text: &Option<String>) -> &str {
+    match text {
+        Some(text) => text.as_str(),
+        None => "",
+    }
+}
+
+pub fn is_start(tag: &Tag) -> bool {
+    tag.kind == TagKind::Start
+}

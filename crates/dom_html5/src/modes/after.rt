@@ -1,0 +1,75 @@
+//! Behind the body, and framesets.
+
+use super::is_start;
+use crate::builder::{Mode, Next, Step, TreeBuilder};
+use crate::name::Name;
+use html5_tokens::token::Tag;
+
+impl TreeBuilder {
+    pub fn after_body_tag(&mut self, name: Name, tag: &Tag) -> Step {
+        if name == Name::Html {
+            if is_start(tag) {
+                return self.add_html_attrs(tag);
+            }
+            if self.context.is_none() {
+                self.mode = Mode::AfterAfterBody;
+            }
+            return Ok(Next::Done);
+        }
+        self.again_in(Mode::InBody)
+    }
+
+    pub fn after_after_body_tag(&mut self, name: Name, tag: &Tag) -> Step {
+        if name == Name::Html && is_start(tag) {
+            return self.add_html_attrs(tag);
+        }
+        self.again_in(Mode::InBody)
+    }
+
+    pub fn frameset_tag(&mut self, name: Name, tag: &Tag) -> Step {
+        if is_start(tag) {
+            return match name {
+                Name::Html => self.add_html_attrs(tag),
+                Name::Frameset => self.insert_done(name, tag),
+                Name::Frame => {
+                    self.insert_void(name, tag)?;
+                    Ok(Next::Done)
+                }
+                Name::Noframes => self.head_element(name, tag),
+                _ => Ok(Next::Done),
+            };
+        }
+        if name == Name::Frameset && self.open.len() > 1 {
+            self.open.pop();
+            if self.context.is_none() && !self.open.current_is(Name::Frameset) {
+                self.mode = Mode::AfterFrameset;
+            }
+        }
+        Ok(Next::Done)
+    }
+
+    pub fn after_frameset_tag(&mut self, name: Name, tag: &Tag) -> Step {
+        if is_start(tag) {
+            return match name {
+                Name::Html => self.add_html_attrs(tag),
+                Name::Noframes => self.head_element(name, tag),
+                _ => Ok(Next::Done),
+            };
+        }
+        if name == Name::Html {
+            self.mode = Mode::AfterAfterFrameset;
+        }
+        Ok(Next::Done)
+    }
+
+    pub fn after_after_frameset_tag(&mut self, name: Name, tag: &Tag) -> Step {
+        if is_start(tag) {
+            return match name {
+                Name::Html => self.add_html_attrs(tag),
+                Name::Noframes => self.head_element(name, tag),
+                _ => Ok(Next::Done),
+            };
+        }
+        Ok(Next::Done)
+    }
+}

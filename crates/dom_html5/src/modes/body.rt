@@ -1,0 +1,313 @@
+//! Start tags by the rules for "in body".
+
+use super::groups::{Group, group_of};
+use super::is_start;
+use crate::attributes::{attrs_of, is_hidden};
+use crate::builder::{Mode, Next, Step, TreeBuilder};
+use crate::fault::settled;
+use crate::name::Name;
+use crate::sets::{Scope, is_heading, is_special};
+use crate::stack::{Ns, Open};
+use dom_markup::document::sink::TreeSink;
+use html5_tokens::token::Tag;
+use html5_tokens::tokenizer::State;
+
+impl TreeBuilder {
+    pub fn body_tag(&mut self, name: Name, tag: &Tag) -> Step {
+        if is_start(tag) {
+            self.body_start(name, tag)
+        } else {
+            self.body_end(name, tag)
+        }
+    }
+
+    fn body_start(&mut self, name: Name, tag: &Tag) -> Step {
+        let group = group_of(name);
+        match group {
+            Group::Html => self.add_html_attrs(tag),
+            Group::Metadata | Group::Template => self.head_element(name, tag),
+            Group::Body => self.start_body(tag),
+            Group::Frameset => self.start_frameset(tag),
+            Group::Block | Group::P => {
+                self.open.close_p_in_button_scope();
+                self.insert_done(name, tag)
+            }
+            Group::Heading => self.start_heading(name, tag),
+            Group::Pre => self.start_pre(name, tag),
+            Group::Form => self.start_form(tag),
+            Group::Li | Group::Description => self.start_item(name, tag),
+            Group::Button => self.start_button(tag),
+            Group::A => self.start_a(tag),
+            Group::Formatting => self.start_formatting(name, tag),
+            Group::Nobr => self.start_nobr(tag),
+            _ => self.start_inline(group, name, tag),
+        }
+    }
+
+    fn start_inline(&mut self, group: Group, name: Name, tag: &Tag) -> Step {
+        match group {
+            Group::Object => self.start_object(name, tag),
+            Group::Table => self.start_table(tag),
+            Group::Void => self.start_void(name, tag),
+            Group::Image => self.start_void(Name::Img, tag),
+            Group::Input => self.start_input(tag),
+            Group::Param => {
+                self.insert_void(name, tag)?;
+                Ok(Next::Done)
+            }
+            Group::Hr => self.start_hr(tag),
+            Group::Select => self.start_select(tag),
+            Group::Option => self.start_option(name, tag),
+            Group::RubyBase => self.start_ruby(name, tag, None),
+            Group::RubyText => self.start_ruby(name, tag, Some(Name::Rtc)),
+            Group::Math => self.start_foreign(Ns::MathMl, name, tag),
+            Group::Svg => self.start_foreign(Ns::Svg, name, tag),
+            Group::Stray => Ok(Next::Done),
+            _ => self.start_text(group, name, tag),
+        }
+    }
+
+    /// Elements whose characters are no markup, and all that no rule names.
+    fn start_text(&mut self, group: Group, name: Name, tag: &Tag) -> Step {
+        match group {
+            Group::Plaintext => {
+                self.open.close_p_in_button_scope();
+                self.switch = Some(State::Plaintext);
+                self.insert_done(name, tag)
+            }
+            Group::Textarea => {
+                self.skip_line_feed = true;
+                self.frameset_ok = false;
+                self.insert_text_element(name, tag, State::Rcdata)
+            }
+            Group::Xmp => {
+                self.open.close_p_in_button_scope();
+                self.reconstruct()?;
+                self.frameset_ok = false;
+                self.insert_text_element(name, tag, State::Rawtext)
+            }
+            Group::Iframe => {
+                self.frameset_ok = false;
+                self.insert_text_element(name, tag, State::Rawtext)
+            }
+            Group::Noembed => self.insert_text_element(name, tag, State::Rawtext),
+            Group::Noscript if self.scripting => {
+                self.insert_text_element(name, tag, State::Rawtext)
+            }
+            _ => {
+                self.reconstruct()?;
+                self.insert_done(name, tag)
+            }
+        }
+    }
+
+    pub fn insert_done(&mut self, name: Name, tag: &Tag) -> Step {
+        self.insert(name, tag)?;
+        Ok(Next::Done)
+    }
+
+    fn start_body(&mut self, tag: &Tag) -> Step {
+        if let Some(body) = self.open.get(1)
+            && body.is_html(Name::Body)
+            && !self.open.has(Name::Template)
+        {
+            self.frameset_ok = false;
+            let attrs = attrs_of(self.alloc, Ns::Html, tag.attrs.as_slice())?;
+            settled(self.document.add_attrs_if_missing(&body.id, attrs))?;
+        }
+        Ok(Next::Done)
+    }
+
+    fn start_frameset(&mut self, tag: &Tag) -> Step {
+        if let Some(body) = self.open.get(1)
+            && body.is_html(Name::Body)
+            && self.frameset_ok
+        {
+            settled(self.document.remove_from_parent(&body.id))?;
+            self.open.truncate(1);
+            self.insert(Name::Frameset, tag)?;
+            return self.done_in(Mode::InFrameset);
+        }
+        Ok(Next::Done)
+    }
+
+    fn start_heading(&mut self, name: Name, tag: &Tag) -> Step {
+        self.open.close_p_in_button_scope();
+        if let Some(open) = self.open.current()
+            && open.ns == Ns::Html
+            && is_heading(open.name)
+        {
+            self.open.pop();
+        }
+        self.insert_done(name, tag)
+    }
+
+    fn start_pre(&mut self, name: Name, tag: &Tag) -> Step {
+        self.open.close_p_in_button_scope();
+        self.skip_line_feed = true;
+        self.frameset_ok = false;
+        self.insert_done(name, tag)
+    }
+
+    fn start_form(&mut self, tag: &Tag) -> Step {
+        let in_template = self.open.has(Name::Template);
+        if self.form.is_some() && !in_template {
+            return Ok(Next::Done);
+        }
+        self.open.close_p_in_button_scope();
+        let open = self.insert(Name::Form, tag)?;
+        if !in_template {
+            self.form = Some(open.id);
+        }
+        Ok(Next::Done)
+    }
+
+    /// An item of a list ends the one before it.
+    fn start_item(&mut self, name: Name, tag: &Tag) -> Step {
+        self.frameset_ok = false;
+        if let Some(item) = self.item_before(name) {
+            self.open.generate_implied_end_tags(Some(item));
+            self.open.pop_to(item);
+        }
+        self.open.close_p_in_button_scope();
+        self.insert_done(name, tag)
+    }
+
+    /// The item that one of that name ends.
+    fn item_before(&self, name: Name) -> Option<Name> {
+        for open in self.open.as_slice().iter().rev() {
+            if is_item_like(open, name) {
+                return Some(open.name);
+            }
+            if is_special(open) && !is_crossed_by_items(open) {
+                return None;
+            }
+        }
+        None
+    }
+
+    fn start_button(&mut self, tag: &Tag) -> Step {
+        if self.open.in_scope(Name::Button, Scope::Default) {
+            self.open.generate_implied_end_tags(None);
+            self.open.pop_to(Name::Button);
+        }
+        self.reconstruct()?;
+        self.frameset_ok = false;
+        self.insert_done(Name::Button, tag)
+    }
+
+    fn start_a(&mut self, tag: &Tag) -> Step {
+        if let Some(open) = self.formatting.named(Name::A) {
+            let id = open.id;
+            self.adopt(Name::A)?;
+            self.formatting.remove(id);
+            self.open.remove(id);
+        }
+        self.start_formatting(Name::A, tag)
+    }
+
+    fn start_nobr(&mut self, tag: &Tag) -> Step {
+        self.reconstruct()?;
+        if self.open.in_scope(Name::Nobr, Scope::Default) {
+            self.adopt(Name::Nobr)?;
+        }
+        self.start_formatting(Name::Nobr, tag)
+    }
+
+    fn start_formatting(&mut self, name: Name, tag: &Tag) -> Step {
+        self.reconstruct()?;
+        let open = self.insert(name, tag)?;
+        self.formatting.push(&self.document.tree, open)?;
+        Ok(Next::Done)
+    }
+
+    fn start_object(&mut self, name: Name, tag: &Tag) -> Step {
+        self.reconstruct()?;
+        self.insert(name, tag)?;
+        self.formatting.push_marker()?;
+        self.frameset_ok = false;
+        Ok(Next::Done)
+    }
+
+    fn start_table(&mut self, tag: &Tag) -> Step {
+        if !self.quirks {
+            self.open.close_p_in_button_scope();
+        }
+        self.insert(Name::Table, tag)?;
+        self.frameset_ok = false;
+        self.done_in(Mode::InTable)
+    }
+
+    pub fn start_void(&mut self, name: Name, tag: &Tag) -> Step {
+        self.reconstruct()?;
+        self.insert_void(name, tag)?;
+        self.frameset_ok = false;
+        Ok(Next::Done)
+    }
+
+    fn start_input(&mut self, tag: &Tag) -> Step {
+        self.reconstruct()?;
+        self.insert_void(Name::Input, tag)?;
+        if !is_hidden(tag) {
+            self.frameset_ok = false;
+        }
+        Ok(Next::Done)
+    }
+
+    fn start_hr(&mut self, tag: &Tag) -> Step {
+        self.open.close_p_in_button_scope();
+        self.insert_void(Name::Hr, tag)?;
+        self.frameset_ok = false;
+        Ok(Next::Done)
+    }
+
+    fn start_select(&mut self, tag: &Tag) -> Step {
+        self.reconstruct()?;
+        self.insert(Name::Select, tag)?;
+        self.frameset_ok = false;
+        let in_table = matches!(
+            self.mode,
+            Mode::InTable | Mode::InCaption | Mode::InTableBody | Mode::InRow | Mode::InCell
+        );
+        self.done_in(if in_table {
+            Mode::InSelectInTable
+        } else {
+            Mode::InSelect
+        })
+    }
+
+    fn start_option(&mut self, name: Name, tag: &Tag) -> Step {
+        if self.open.current_is(Name::Option) {
+            self.open.pop();
+        }
+        self.reconstruct()?;
+        self.insert_done(name, tag)
+    }
+
+    fn start_ruby(&mut self, name: Name, tag: &Tag, except: Option<Name>) -> Step {
+        if self.open.in_scope(Name::Ruby, Scope::Default) {
+            self.open.generate_implied_end_tags(except);
+        }
+        self.insert_done(name, tag)
+    }
+
+    fn start_foreign(&mut self, ns: Ns, name: Name, tag: &Tag) -> Step {
+        self.reconstruct()?;
+        self.insert_in(ns, name, tag)?;
+        if tag.self_closing {
+            self.open.pop();
+        }
+        Ok(Next::Done)
+    }
+}
+
+fn is_item_like(open: &Open, name: Name) -> bool {
+    match name {
+        Name::Li => open.is_html(Name::Li),
+        _ => open.is_html(Name::Dd) || open.is_html(Name::Dt),
+    }
+}
+
+fn is_crossed_by_items(open: &Open) -> bool {
+    open.is_html(Name::Address) || open.is_html(Name::Div) || open.is_html(Name::P)
+}

@@ -1,0 +1,227 @@
+//! Before the body.
+
+use super::groups::is_metadata;
+use super::is_start;
+use crate::attributes::attrs_of;
+use crate::builder::{Mode, Next, Step, TreeBuilder};
+use crate::fault::{PageFault, settled};
+use crate::inserting::Place;
+use crate::name::Name;
+use crate::stack::{Ns, Open};
+use dom_markup::document::QuirksMode;
+use dom_markup::document::sink::TreeSink;
+use html5_tokens::token::Tag;
+use html5_tokens::tokenizer::State;
+
+impl TreeBuilder {
+    pub fn leave_initial(&mut self) -> Step {
+        self.document.set_quirks_mode(QuirksMode::Quirks);
+        self.quirks = true;
+        self.again_in(Mode::BeforeHtml)
+    }
+
+    fn insert_html(&mut self, tag: &Tag) -> Result<(), PageFault> {
+        let html = self.create(Ns::Html, Name::Html, tag)?;
+        let root = self.document.get_document();
+        self.put(Place::EndOf(root), html.id)?;
+        self.open.push(&html)
+    }
+
+    pub fn imply_html(&mut self) -> Step {
+        let tag = self.bare_tag("html")?;
+        self.insert_html(&tag)?;
+        self.again_in(Mode::BeforeHead)
+    }
+
+    pub fn before_html_tag(&mut self, name: Name, tag: &Tag) -> Step {
+        if is_start(tag) {
+            if name == Name::Html {
+                self.insert_html(tag)?;
+                return self.done_in(Mode::BeforeHead);
+            }
+            return self.imply_html();
+        }
+        match name {
+            Name::Head | Name::Body | Name::Html | Name::Br => self.imply_html(),
+            _ => Ok(Next::Done),
+        }
+    }
+
+    pub fn imply_head(&mut self) -> Step {
+        let head = self.insert_implied(Name::Head, "head")?;
+        self.head = Some(head.id);
+        self.again_in(Mode::InHead)
+    }
+
+    pub fn before_head_tag(&mut self, name: Name, tag: &Tag) -> Step {
+        if is_start(tag) {
+            return match name {
+                Name::Html => self.add_html_attrs(tag),
+                Name::Head => {
+                    let head = self.insert(name, tag)?;
+                    self.head = Some(head.id);
+                    self.done_in(Mode::InHead)
+                }
+                _ => self.imply_head(),
+            };
+        }
+        match name {
+            Name::Head | Name::Body | Name::Html | Name::Br => self.imply_head(),
+            _ => Ok(Next::Done),
+        }
+    }
+
+    /// A start tag `html` inside the document.
+    pub fn add_html_attrs(&mut self, tag: &Tag) -> Step {
+        if !self.open.has(Name::Template)
+            && let Some(html) = self.open.get(0)
+        {
+            let attrs = attrs_of(self.alloc, Ns::Html, tag.attrs.as_slice())?;
+            settled(self.document.add_attrs_if_missing(&html.id, attrs))?;
+        }
+        Ok(Next::Done)
+    }
+
+    pub fn leave_head(&mut self) -> Step {
+        self.open.pop();
+        self.again_in(Mode::AfterHead)
+    }
+
+    pub fn leave_noscript(&mut self) -> Step {
+        self.open.pop();
+        self.again_in(Mode::InHead)
+    }
+
+    /// A start tag that belongs into the head, wherever it stands.
+    pub fn head_element(&mut self, name: Name, tag: &Tag) -> Step {
+        match name {
+            Name::Title => self.insert_text_element(name, tag, State::Rcdata),
+            Name::Noframes | Name::Style | Name::Noscript => {
+                self.insert_text_element(name, tag, State::Rawtext)
+            }
+            Name::Script => self.insert_text_element(name, tag, State::Script),
+            Name::Template => {
+                self.insert(name, tag)?;
+                self.formatting.push_marker()?;
+                self.frameset_ok = false;
+                self.push_template_mode(Mode::InTemplate)?;
+                self.done_in(Mode::InTemplate)
+            }
+            _ => {
+                self.insert_void(name, tag)?;
+                Ok(Next::Done)
+            }
+        }
+    }
+
+    pub fn push_template_mode(&mut self, mode: Mode) -> Result<(), PageFault> {
+        self.template_modes.push(mode)?;
+        Ok(())
+    }
+
+    pub fn end_template(&mut self) -> Step {
+        if self.open.has(Name::Template) {
+            self.open.generate_all_implied_end_tags();
+            self.open.pop_to(Name::Template);
+            self.formatting.clear_to_marker();
+            let _ = self.template_modes.pop();
+            self.reset_mode();
+        }
+        Ok(Next::Done)
+    }
+
+    pub fn head_tag(&mut self, name: Name, tag: &Tag) -> Step {
+        if is_start(tag) {
+            return match name {
+                Name::Html => self.add_html_attrs(tag),
+                Name::Noscript if !self.scripting => {
+                    self.insert(name, tag)?;
+                    self.done_in(Mode::InHeadNoscript)
+                }
+                Name::Noscript => self.head_element(name, tag),
+                _ if is_metadata(name) => self.head_element(name, tag),
+                Name::Head => Ok(Next::Done),
+                _ => self.leave_head(),
+            };
+        }
+        match name {
+            Name::Head => {
+                self.open.pop();
+                self.done_in(Mode::AfterHead)
+            }
+            Name::Body | Name::Html | Name::Br => self.leave_head(),
+            Name::Template => self.end_template(),
+            _ => Ok(Next::Done),
+        }
+    }
+
+    pub fn noscript_tag(&mut self, name: Name, tag: &Tag) -> Step {
+        if is_start(tag) {
+            return match name {
+                Name::Html => self.add_html_attrs(tag),
+                Name::Basefont
+                | Name::Bgsound
+                | Name::Link
+                | Name::Meta
+                | Name::Noframes
+                | Name::Style => self.head_element(name, tag),
+                Name::Head | Name::Noscript => Ok(Next::Done),
+                _ => self.leave_noscript(),
+            };
+        }
+        match name {
+            Name::Noscript => {
+                self.open.pop();
+                self.done_in(Mode::InHead)
+            }
+            Name::Br => self.leave_noscript(),
+            _ => Ok(Next::Done),
+        }
+    }
+
+    pub fn imply_body(&mut self) -> Step {
+        self.insert_implied(Name::Body, "body")?;
+        self.again_in(Mode::InBody)
+    }
+
+    pub fn after_head_tag(&mut self, name: Name, tag: &Tag) -> Step {
+        if is_start(tag) {
+            return match name {
+                Name::Html => self.add_html_attrs(tag),
+                Name::Body => {
+                    self.insert(name, tag)?;
+                    self.frameset_ok = false;
+                    self.done_in(Mode::InBody)
+                }
+                Name::Frameset => {
+                    self.insert(name, tag)?;
+                    self.done_in(Mode::InFrameset)
+                }
+                _ if is_metadata(name) => self.in_head_again(name, tag),
+                Name::Head => Ok(Next::Done),
+                _ => self.imply_body(),
+            };
+        }
+        match name {
+            Name::Template => self.end_template(),
+            Name::Body | Name::Html | Name::Br => self.imply_body(),
+            _ => Ok(Next::Done),
+        }
+    }
+
+    /// An element that belongs into the head, behind it.
+    fn in_head_again(&mut self, name: Name, tag: &Tag) -> Step {
+        let Some(head) = self.head else {
+            return Ok(Next::Done);
+        };
+        self.open.push(&Open {
+            id: head,
+            ns: Ns::Html,
+            name: Name::Head,
+            holds_html: false,
+        })?;
+        let step = self.head_element(name, tag)?;
+        self.open.remove(head);
+        Ok(step)
+    }
+}

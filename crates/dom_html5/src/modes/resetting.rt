@@ -1,0 +1,70 @@
+//! Resetting the insertion mode appropriately.
+
+use crate::builder::{Mode, TreeBuilder};
+use crate::name::Name;
+use crate::stack::{Ns, Open};
+
+impl TreeBuilder {
+    /// Resets the insertion mode to what the stack of open elements asks for.
+    pub fn reset_mode(&mut self) {
+        self.mode = self.mode_of_stack();
+    }
+
+    fn mode_of_stack(&self) -> Mode {
+        let mut place = self.open.len();
+        for open in self.open.as_slice().iter().rev() {
+            place = place.saturating_sub(1);
+            let last = place == 0;
+            let open = match self.context {
+                Some(context) if last => context,
+                _ => *open,
+            };
+            if let Some(mode) = self.mode_of(&open, last, place) {
+                return mode;
+            }
+        }
+        Mode::InBody
+    }
+
+    /// The mode that an element asks for, if it asks for one.
+    fn mode_of(&self, open: &Open, last: bool, place: usize) -> Option<Mode> {
+        if open.ns != Ns::Html {
+            return if last { Some(Mode::InBody) } else { None };
+        }
+        match open.name {
+            Name::Select => Some(self.select_mode(last, place)),
+            Name::Td | Name::Th if !last => Some(Mode::InCell),
+            Name::Tr => Some(Mode::InRow),
+            Name::Tbody | Name::Thead | Name::Tfoot => Some(Mode::InTableBody),
+            Name::Caption => Some(Mode::InCaption),
+            Name::Colgroup => Some(Mode::InColumnGroup),
+            Name::Table => Some(Mode::InTable),
+            Name::Template => Some(self.template_mode()),
+            Name::Head if !last => Some(Mode::InHead),
+            Name::Body => Some(Mode::InBody),
+            Name::Frameset => Some(Mode::InFrameset),
+            Name::Html => Some(match self.head {
+                None => Mode::BeforeHead,
+                Some(_) => Mode::AfterHead,
+            }),
+            _ if last => Some(Mode::InBody),
+            _ => None,
+        }
+    }
+
+    /// The current template insertion mode.
+    fn template_mode(&self) -> Mode {
+        match self.template_modes.last().copied() {
+            Some(mode) => mode,
+            None => Mode::InTemplate,
+        }
+    }
+
+    fn select_mode(&self, last: bool, place: usize) -> Mode {
+        if !last && self.open.is_select_in_table(place) {
+            Mode::InSelectInTable
+        } else {
+            Mode::InSelect
+        }
+    }
+}

@@ -1,0 +1,104 @@
+//! Lists to choose from.
+
+use super::is_start;
+use crate::builder::{Next, Step, TreeBuilder};
+use crate::name::Name;
+use crate::sets::Scope;
+use html5_tokens::token::Tag;
+
+impl TreeBuilder {
+    fn end_select(&mut self) -> bool {
+        if !self.open.in_scope(Name::Select, Scope::Select) {
+            return false;
+        }
+        self.open.pop_to(Name::Select);
+        self.reset_mode();
+        true
+    }
+
+    pub fn select_tag(&mut self, name: Name, tag: &Tag) -> Step {
+        if is_start(tag) {
+            return self.select_start(name, tag);
+        }
+        match name {
+            Name::Optgroup => {
+                if self.open.current_is(Name::Option) {
+                    let count = self.open.len();
+                    if let Some(open) = self.open.get(count.saturating_sub(2))
+                        && open.is_html(Name::Optgroup)
+                    {
+                        self.open.pop();
+                    }
+                }
+                if self.open.current_is(Name::Optgroup) {
+                    self.open.pop();
+                }
+                Ok(Next::Done)
+            }
+            Name::Option => {
+                if self.open.current_is(Name::Option) {
+                    self.open.pop();
+                }
+                Ok(Next::Done)
+            }
+            Name::Select => {
+                self.end_select();
+                Ok(Next::Done)
+            }
+            Name::Template => self.end_template(),
+            _ => Ok(Next::Done),
+        }
+    }
+
+    fn select_start(&mut self, name: Name, tag: &Tag) -> Step {
+        match name {
+            Name::Html => self.add_html_attrs(tag),
+            Name::Option | Name::Optgroup | Name::Hr => {
+                if self.open.current_is(Name::Option) {
+                    self.open.pop();
+                }
+                if name != Name::Option && self.open.current_is(Name::Optgroup) {
+                    self.open.pop();
+                }
+                self.insert(name, tag)?;
+                if name == Name::Hr {
+                    self.open.pop();
+                }
+                Ok(Next::Done)
+            }
+            Name::Select => {
+                self.end_select();
+                Ok(Next::Done)
+            }
+            Name::Input | Name::Keygen | Name::Textarea => Ok(if self.end_select() {
+                Next::Again
+            } else {
+                Next::Done
+            }),
+            Name::Script | Name::Template => self.head_element(name, tag),
+            _ => Ok(Next::Done),
+        }
+    }
+
+    pub fn select_in_table_tag(&mut self, name: Name, tag: &Tag) -> Step {
+        if !matches!(
+            name,
+            Name::Caption
+                | Name::Table
+                | Name::Tbody
+                | Name::Tfoot
+                | Name::Thead
+                | Name::Tr
+                | Name::Td
+                | Name::Th
+        ) {
+            return self.select_tag(name, tag);
+        }
+        if is_start(tag) || self.open.in_scope(name, Scope::Table) {
+            self.open.pop_to(Name::Select);
+            self.reset_mode();
+            return Ok(Next::Again);
+        }
+        Ok(Next::Done)
+    }
+}

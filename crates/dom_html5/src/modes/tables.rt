@@ -1,0 +1,343 @@
+//! The insertion modes of tables.
+
+use super::is_start;
+use crate::attributes::is_hidden;
+use crate::builder::{Mode, Next, Step, TreeBuilder};
+use crate::name::Name;
+use crate::sets::Scope;
+use html5_tokens::token::Tag;
+
+/// Whether an element stands between a table and its cells, or is a cell.
+#[rattlefmt::skip]
+fn is_table_part(name: Name) -> bool {
+    matches!(
+        name,
+        Name::Caption | Name::Col | Name::Colgroup | Name::Tbody | Name::Td | Name::Tfoot
+        | Name::Th | Name::Thead | Name::Tr
+    )
+}
+
+fn is_section(name: Name) -> bool {
+    matches!(name, Name::Tbody | Name::Tfoot | Name::Thead)
+}
+
+fn is_cell(name: Name) -> bool {
+    matches!(name, Name::Td | Name::Th)
+}
+
+/// Elements whose end tags are dropped where a table is open.
+fn is_dropped_end(name: Name) -> bool {
+    matches!(
+        name,
+        Name::Body | Name::Caption | Name::Col | Name::Colgroup | Name::Html
+    )
+}
+
+fn next_if(again: bool) -> Step {
+    Ok(if again { Next::Again } else { Next::Done })
+}
+
+impl TreeBuilder {
+    /// A tag by the rules for "in table".
+    pub fn table_tag(&mut self, name: Name, tag: &Tag) -> Step {
+        if is_start(tag) {
+            return self.table_start(name, tag);
+        }
+        match name {
+            Name::Table => {
+                self.end_table();
+                Ok(Next::Done)
+            }
+            Name::Template => self.end_template(),
+            _ if is_dropped_end(name) || is_table_part(name) => Ok(Next::Done),
+            _ => self.fostered(name, tag),
+        }
+    }
+
+    /// Ends a table, if there is one.
+    fn end_table(&mut self) -> bool {
+        if !self.open.in_scope(Name::Table, Scope::Table) {
+            return false;
+        }
+        self.open.pop_to(Name::Table);
+        self.reset_mode();
+        true
+    }
+
+    /// What doesn't belong into a table is read by the rules for "in body", with foster parenting.
+    fn fostered(&mut self, name: Name, tag: &Tag) -> Step {
+        self.foster = true;
+        let step = self.body_tag(name, tag);
+        self.foster = false;
+        step
+    }
+
+    fn table_start(&mut self, name: Name, tag: &Tag) -> Step {
+        match name {
+            Name::Table => {
+                let ended = self.end_table();
+                next_if(ended)
+            }
+            Name::Style | Name::Script | Name::Template => self.head_element(name, tag),
+            Name::Input if is_hidden(tag) => {
+                self.insert_void(name, tag)?;
+                Ok(Next::Done)
+            }
+            Name::Form => self.start_table_form(tag),
+            _ if is_table_part(name) => self.start_table_part(name, tag),
+            _ => self.fostered(name, tag),
+        }
+    }
+
+    fn start_table_part(&mut self, name: Name, tag: &Tag) -> Step {
+        self.open.clear_to_table();
+        match name {
+            Name::Caption => {
+                self.formatting.push_marker()?;
+                self.insert(name, tag)?;
+                self.done_in(Mode::InCaption)
+            }
+            Name::Colgroup => {
+                self.insert(name, tag)?;
+                self.done_in(Mode::InColumnGroup)
+            }
+            Name::Col => {
+                self.insert_implied(Name::Colgroup, "colgroup")?;
+                self.again_in(Mode::InColumnGroup)
+            }
+            Name::Td | Name::Th | Name::Tr => {
+                self.insert_implied(Name::Tbody, "tbody")?;
+                self.again_in(Mode::InTableBody)
+            }
+            _ => {
+                self.insert(name, tag)?;
+                self.done_in(Mode::InTableBody)
+            }
+        }
+    }
+
+    fn start_table_form(&mut self, tag: &Tag) -> Step {
+        if !self.open.has(Name::Template) && self.form.is_none() {
+            let form = self.insert(Name::Form, tag)?;
+            self.form = Some(form.id);
+            self.open.pop();
+        }
+        Ok(Next::Done)
+    }
+
+    /// Ends a caption, if there is one.
+    fn end_caption(&mut self) -> bool {
+        if !self.open.in_scope(Name::Caption, Scope::Table) {
+            return false;
+        }
+        self.open.generate_implied_end_tags(None);
+        self.open.pop_to(Name::Caption);
+        self.formatting.clear_to_marker();
+        self.mode = Mode::InTable;
+        true
+    }
+
+    pub fn caption_tag(&mut self, name: Name, tag: &Tag) -> Step {
+        if is_start(tag) {
+            if is_table_part(name) {
+                let ended = self.end_caption();
+                return next_if(ended);
+            }
+            return self.body_tag(name, tag);
+        }
+        match name {
+            Name::Caption => {
+                self.end_caption();
+                Ok(Next::Done)
+            }
+            Name::Table => {
+                let ended = self.end_caption();
+                next_if(ended)
+            }
+            _ if is_dropped_end(name) || is_table_part(name) => Ok(Next::Done),
+            _ => self.body_tag(name, tag),
+        }
+    }
+
+    /// Ends a column group, if it is the current node.
+    pub fn leave_column_group(&mut self) -> Next {
+        if !self.open.current_is(Name::Colgroup) {
+            return Next::Done;
+        }
+        self.open.pop();
+        self.mode = Mode::InTable;
+        Next::Again
+    }
+
+    pub fn column_group_tag(&mut self, name: Name, tag: &Tag) -> Step {
+        if is_start(tag) {
+            return match name {
+                Name::Html => self.add_html_attrs(tag),
+                Name::Col => {
+                    self.insert_void(name, tag)?;
+                    Ok(Next::Done)
+                }
+                Name::Template => self.head_element(name, tag),
+                _ => Ok(self.leave_column_group()),
+            };
+        }
+        match name {
+            Name::Colgroup => {
+                self.leave_column_group();
+                Ok(Next::Done)
+            }
+            Name::Col => Ok(Next::Done),
+            Name::Template => self.end_template(),
+            _ => Ok(self.leave_column_group()),
+        }
+    }
+
+    fn has_section_in_scope(&self) -> bool {
+        self.open.in_scope(Name::Tbody, Scope::Table)
+            || self.open.in_scope(Name::Thead, Scope::Table)
+            || self.open.in_scope(Name::Tfoot, Scope::Table)
+    }
+
+    fn end_section(&mut self) {
+        self.open.clear_to_table_body();
+        self.open.pop();
+        self.mode = Mode::InTable;
+    }
+
+    /// Ends a `tbody`, `thead` or `tfoot`, if there is one.
+    fn leave_section(&mut self) -> Next {
+        if !self.has_section_in_scope() {
+            return Next::Done;
+        }
+        self.end_section();
+        Next::Again
+    }
+
+    pub fn table_body_tag(&mut self, name: Name, tag: &Tag) -> Step {
+        if is_start(tag) {
+            return self.table_body_start(name, tag);
+        }
+        match name {
+            Name::Table => Ok(self.leave_section()),
+            _ if is_section(name) => {
+                if self.open.in_scope(name, Scope::Table) {
+                    self.end_section();
+                }
+                Ok(Next::Done)
+            }
+            _ if is_dropped_end(name) || is_table_part(name) => Ok(Next::Done),
+            _ => self.table_tag(name, tag),
+        }
+    }
+
+    fn table_body_start(&mut self, name: Name, tag: &Tag) -> Step {
+        match name {
+            Name::Tr => {
+                self.open.clear_to_table_body();
+                self.insert(name, tag)?;
+                self.done_in(Mode::InRow)
+            }
+            Name::Th | Name::Td => {
+                self.open.clear_to_table_body();
+                self.insert_implied(Name::Tr, "tr")?;
+                self.again_in(Mode::InRow)
+            }
+            _ if is_table_part(name) => Ok(self.leave_section()),
+            _ => self.table_tag(name, tag),
+        }
+    }
+
+    /// Ends a row, if there is one.
+    fn leave_row(&mut self) -> Next {
+        if !self.open.in_scope(Name::Tr, Scope::Table) {
+            return Next::Done;
+        }
+        self.open.clear_to_row();
+        self.open.pop();
+        self.mode = Mode::InTableBody;
+        Next::Again
+    }
+
+    pub fn row_tag(&mut self, name: Name, tag: &Tag) -> Step {
+        if is_start(tag) {
+            return self.row_start(name, tag);
+        }
+        match name {
+            Name::Tr => {
+                self.leave_row();
+                Ok(Next::Done)
+            }
+            Name::Table => Ok(self.leave_row()),
+            _ if is_section(name) => {
+                if self.open.in_scope(name, Scope::Table) {
+                    return Ok(self.leave_row());
+                }
+                Ok(Next::Done)
+            }
+            _ if is_dropped_end(name) || is_cell(name) => Ok(Next::Done),
+            _ => self.table_tag(name, tag),
+        }
+    }
+
+    fn row_start(&mut self, name: Name, tag: &Tag) -> Step {
+        if is_cell(name) {
+            self.open.clear_to_row();
+            self.insert(name, tag)?;
+            self.formatting.push_marker()?;
+            return self.done_in(Mode::InCell);
+        }
+        if is_table_part(name) {
+            return Ok(self.leave_row());
+        }
+        self.table_tag(name, tag)
+    }
+
+    /// Ends the cell that is open.
+    fn close_cell(&mut self) {
+        self.open.generate_implied_end_tags(None);
+        self.open.pop_to_cell();
+        self.formatting.clear_to_marker();
+        self.mode = Mode::InRow;
+    }
+
+    fn has_cell_in_scope(&self) -> bool {
+        self.open.in_scope(Name::Td, Scope::Table) || self.open.in_scope(Name::Th, Scope::Table)
+    }
+
+    pub fn cell_tag(&mut self, name: Name, tag: &Tag) -> Step {
+        if is_start(tag) {
+            if !is_table_part(name) {
+                return self.body_tag(name, tag);
+            }
+            let ends = self.has_cell_in_scope();
+            if ends {
+                self.close_cell();
+            }
+            return next_if(ends);
+        }
+        if is_cell(name) {
+            return self.end_cell(name);
+        }
+        if is_dropped_end(name) {
+            return Ok(Next::Done);
+        }
+        if name != Name::Table && name != Name::Tr && !is_section(name) {
+            return self.body_tag(name, tag);
+        }
+        let ends = self.open.in_scope(name, Scope::Table);
+        if ends {
+            self.close_cell();
+        }
+        next_if(ends)
+    }
+
+    fn end_cell(&mut self, name: Name) -> Step {
+        if self.open.in_scope(name, Scope::Table) {
+            self.open.generate_implied_end_tags(None);
+            self.open.pop_to(name);
+            self.formatting.clear_to_marker();
+            self.mode = Mode::InRow;
+        }
+        Ok(Next::Done)
+    }
+}

@@ -1,0 +1,137 @@
+//! Sets of elements that rules name.
+
+use crate::name::Name;
+use crate::stack::{Ns, Open};
+
+/// Where a search for an element in scope ends.
+#[derive(Clone, Copy, PartialEq, Eq, Drop)]
+pub enum Scope {
+    Default,
+    ListItem,
+    Button,
+    Table,
+    Select,
+}
+
+pub fn is_heading(name: Name) -> bool {
+    matches!(
+        name,
+        Name::H1 | Name::H2 | Name::H3 | Name::H4 | Name::H5 | Name::H6
+    )
+}
+
+fn ends_default_scope(open: &Open) -> bool {
+    match open.ns {
+        Ns::Html => matches!(
+            open.name,
+            Name::Applet
+                | Name::Caption
+                | Name::Html
+                | Name::Table
+                | Name::Td
+                | Name::Th
+                | Name::Marquee
+                | Name::Object
+                | Name::Template
+        ),
+        Ns::MathMl => matches!(
+            open.name,
+            Name::Mi | Name::Mo | Name::Mn | Name::Ms | Name::Mtext | Name::AnnotationXml
+        ),
+        Ns::Svg => matches!(open.name, Name::Foreignobject | Name::Desc | Name::Title),
+    }
+}
+
+impl Scope {
+    pub fn ends_at(self, open: &Open) -> bool {
+        match self {
+            Scope::Default => ends_default_scope(open),
+            Scope::ListItem => {
+                ends_default_scope(open) || open.is_html(Name::Ol) || open.is_html(Name::Ul)
+            }
+            Scope::Button => ends_default_scope(open) || open.is_html(Name::Button),
+            Scope::Table => {
+                open.ns == Ns::Html
+                    && matches!(open.name, Name::Html | Name::Table | Name::Template)
+            }
+            Scope::Select => {
+                !(open.ns == Ns::Html && matches!(open.name, Name::Optgroup | Name::Option))
+            }
+        }
+    }
+}
+
+pub fn is_special(open: &Open) -> bool {
+    match open.ns {
+        Ns::Html => is_special_name(open.name),
+        _ => ends_default_scope(open),
+    }
+}
+
+#[rattlefmt::skip]
+fn is_special_name(name: Name) -> bool {
+    matches!(
+        name,
+        Name::Address | Name::Applet | Name::Area | Name::Article | Name::Aside | Name::Base
+        | Name::Basefont | Name::Bgsound | Name::Blockquote | Name::Body | Name::Br | Name::Button
+        | Name::Caption | Name::Center | Name::Col | Name::Colgroup | Name::Dd | Name::Details
+        | Name::Dir | Name::Div | Name::Dl | Name::Dt | Name::Embed | Name::Fieldset
+        | Name::Figcaption | Name::Figure | Name::Footer | Name::Form | Name::Frame
+        | Name::Frameset | Name::H1 | Name::H2 | Name::H3 | Name::H4 | Name::H5 | Name::H6
+        | Name::Head | Name::Header | Name::Hgroup | Name::Hr | Name::Html | Name::Iframe
+        | Name::Img | Name::Input | Name::Keygen | Name::Li | Name::Link | Name::Listing
+        | Name::Main | Name::Marquee | Name::Menu | Name::Meta | Name::Nav | Name::Noembed
+        | Name::Noframes | Name::Noscript | Name::Object | Name::Ol | Name::P | Name::Param
+        | Name::Plaintext | Name::Pre | Name::Script | Name::Search | Name::Section | Name::Select
+        | Name::Source | Name::Style | Name::Summary | Name::Table | Name::Tbody | Name::Td
+        | Name::Template | Name::Textarea | Name::Tfoot | Name::Th | Name::Thead | Name::Title
+        | Name::Tr | Name::Track | Name::Ul | Name::Wbr | Name::Xmp
+    )
+}
+
+/// Elements whose end tags are implied.
+pub fn has_implied_end(name: Name) -> bool {
+    matches!(
+        name,
+        Name::Dd
+            | Name::Dt
+            | Name::Li
+            | Name::Optgroup
+            | Name::Option
+            | Name::P
+            | Name::Rb
+            | Name::Rp
+            | Name::Rt
+            | Name::Rtc
+    )
+}
+
+pub fn has_implied_end_thoroughly(name: Name) -> bool {
+    has_implied_end(name)
+        || matches!(
+            name,
+            Name::Caption
+                | Name::Colgroup
+                | Name::Tbody
+                | Name::Td
+                | Name::Tfoot
+                | Name::Th
+                | Name::Thead
+                | Name::Tr
+        )
+}
+
+/// Start tags that end foreign content.
+#[rattlefmt::skip]
+pub fn breaks_out(name: Name) -> bool {
+    matches!(
+        name,
+        Name::B | Name::Big | Name::Blockquote | Name::Body | Name::Br | Name::Center | Name::Code
+        | Name::Dd | Name::Div | Name::Dl | Name::Dt | Name::Em | Name::Embed | Name::H1
+        | Name::H2 | Name::H3 | Name::H4 | Name::H5 | Name::H6 | Name::Head | Name::Hr | Name::I
+        | Name::Img | Name::Li | Name::Listing | Name::Menu | Name::Meta | Name::Nobr | Name::Ol
+        | Name::P | Name::Pre | Name::Ruby | Name::S | Name::Small | Name::Span | Name::Strong
+        | Name::Strike | Name::Sub | Name::Sup | Name::Table | Name::Tt | Name::U | Name::Ul
+        | Name::Var
+    )
+}

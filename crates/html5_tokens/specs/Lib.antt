@@ -1,0 +1,4 @@
+pub mod Attributes
+pub mod Numbers
+pub mod Reading
+pub mod Runs

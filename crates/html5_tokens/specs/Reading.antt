@@ -1,0 +1,22 @@
+-- What a tokenizer has read.
+use Rattle.std.specs.Prelude.{◌≡◌, ℕ, false, List, ◌++◌, string_bytes}
+use Rattle.html5_tokens.specs.declared.tokenizer.Tokenizer.{Tokenizer}
+use Rattle.html5_tokens.specs.declared.tokenizer.references.Reference.TheVariants.{None as NoReference}
+use Rattle.html5_tokens.specs.declared.tokenizer.state.State.TheVariants.{Data}
+
+-- the characters that stand before the next token, as far as they are read
+abbrev pub text_of : Tokenizer → List ℕ
+text_of tokens = string_bytes tokens.text
+
+-- the tokenizer is in the data state, in no reference, and the last character was no carriage return
+pub record IsInText (tokens : Tokenizer) : Type 0 where
+  pub state : tokens.state ≡ Data
+  pub reference : tokens.reference ≡ NoReference
+  pub after_return : tokens.after_return ≡ false
+
+-- the text goes behind the characters that stand before the next token, and nothing else is read
+pub record AddsText (old new : Tokenizer) (text : List ℕ) : Type 0 where
+  pub is : text_of new ≡ text_of old ++ text
+  pub state : new.state ≡ old.state
+  pub reference : new.reference ≡ old.reference
+  pub after_return : new.after_return ≡ old.after_return

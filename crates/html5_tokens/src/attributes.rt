@@ -1,0 +1,111 @@
+//! The attributes of the tag that is being read.
+
+ghost use Rattle.std.specs.Prelude.{◌≡◌, ◌<◌, ◌≤◌, ◌∷◌, ◌++◌, [], ℕ, List, true};
+ghost use Rattle.std.specs.Prelude.{length, take, string_bytes, OnErr, OnOk};
+ghost use Rattle.std.specs.List.{list_any};
+ghost use Rattle.std.specs.BTreeSet.{contains_text, IsUnchanged};
+ghost use Rattle.html5_tokens.specs.Attributes.{are_distinct, is_named, Gains};
+
+use crate::attribute::TagAttr;
+use std::alloc::{AllocError, Global};
+use std::collections::BTreeSet;
+use std::mem;
+
+/// A name is compared with so many before it; older ones are looked up in a set.
+const RECENT: usize = 16;
+
+/// Whether some attribute has the name.
+fn has_attr(attrs: &[TagAttr], name: &str) -> bool
+    ensures { result ≡ list_any (is_named name.now) attrs.now }
+{
+    attrs.iter().any(|attr| attr.name.as_str() == name)
+}
+
+/// Puts a name into the set.
+fn insert(names: &mut BTreeSet<String>, name: String) -> Result<(), AllocError>
+    ensures ok { OnOk result (Gains (string_bytes name) names.old names.new) }
+    ensures err { OnErr result (IsUnchanged names.old names.new) }
+{
+    names.insert(name)?;
+    Ok(())
+}
+
+/// Adds an attribute behind the others.
+fn push(attrs: &mut Vec<TagAttr>, attr: TagAttr) -> Result<(), AllocError>
+    ensures ok { OnOk result (attrs.new.items ≡ attrs.old.items ++ attr ∷ []) }
+    ensures err { OnErr result (attrs.new.items ≡ attrs.old.items) }
+{
+    attrs.push(attr)?;
+    Ok(())
+}
+
+/// The attributes of a tag so far, no two of one name. The names of all but the last few stand in a
+/// set too, so that a tag of many attributes is read quickly, whatever their names are.
+#[derive(Drop)]
+pub struct Attributes {
+    kept: Vec<TagAttr>,
+    noted: usize,
+    older: BTreeSet<String>,
+    ghost distinct: { are_distinct kept.items ≡ true },
+    ghost within: { noted ≤ length kept.items },
+    ghost names: { (name : List ℕ)
+        → contains_text older name ≡ list_any (is_named name) (take noted kept.items) },
+}
+
+impl Attributes {
+    /// No attributes.
+    pub fn new(alloc: Global) -> Attributes {
+        Attributes {
+            kept: Vec::new(alloc),
+            noted: 0,
+            older: BTreeSet::new(alloc),
+        }
+    }
+
+    /// Whether there is none.
+    pub fn is_empty(&self) -> bool {
+        self.kept.is_empty()
+    }
+
+    /// Whether some attribute has the name.
+    fn has(&self, name: &str) -> bool
+        ensures { result ≡ list_any (is_named name.now) self.now.kept.items }
+    {
+        let (_, recent) = self.kept.as_slice().split_at(self.noted);
+        self.older.contains(name) || has_attr(recent, name)
+    }
+
+    /// Puts the oldest name that isn't in the set there, where many aren't.
+    fn note(&mut self, alloc: Global) -> Result<(), AllocError> {
+        if self.kept.len() - self.noted < RECENT {
+            return Ok(());
+        }
+        let name = String::from_str(alloc, self.kept[self.noted].name.as_str())?;
+        insert(&mut self.older, name)?;
+        self.noted += 1;
+        Ok(())
+    }
+
+    /// Adds an attribute, with the letters from A to Z of its name in lower case, unless one of its
+    /// name is there. Returns whether it was added.
+    pub fn add(&mut self, alloc: Global, name: String, value: String) -> Result<bool, AllocError>
+        requires { 0 < length (string_bytes name) }
+    {
+        let mut name = name;
+        name.make_ascii_lowercase();
+        if self.has(name.as_str()) {
+            return Ok(false);
+        }
+        push(&mut self.kept, TagAttr { name, value })?;
+        self.note(alloc)?;
+        Ok(true)
+    }
+
+    /// Takes all attributes out.
+    pub fn take(&mut self, alloc: Global) -> Vec<TagAttr>
+        ensures { are_distinct result.items ≡ true }
+    {
+        let taken = mem::replace(self, Attributes::new(alloc));
+        taken.kept
+    }
+}

@@ -1,0 +1,183 @@
+//! The tokenizer: a state machine that is given the page in stretches.
+
+mod attributes;
+mod comments;
+mod declarations;
+mod doctypes;
+mod draft;
+mod end_of_file;
+mod errors;
+mod raw_end_tags;
+mod references;
+mod runs;
+mod script_data;
+mod state;
+mod tags;
+mod text;
+
+ghost use Rattle.std.specs.Prelude.{◌≡◌, [], string_bytes};
+
+use crate::parse_error::ErrorAt;
+use crate::token::{Doctype, Token};
+use draft::TagDraft;
+use references::Reference;
+pub use runs::MARKS;
+pub use state::State;
+use state::{Raw, ScriptState};
+use std::alloc::{AllocError, Global};
+use std::mem;
+
+/// What was read of a page, and how the next character is read.
+#[derive(Drop)]
+pub struct Tokenizer {
+    alloc: Global,
+    state: State,
+    /// Whether the last character was a carriage return.
+    after_return: bool,
+    /// Whether `<![CDATA[` begins a section here.
+    in_foreign: bool,
+    /// The characters that stand before the next token.
+    text: String,
+    tag: TagDraft,
+    /// The name of the last start tag.
+    last_start: String,
+    /// The temporary buffer of script data.
+    letters: String,
+    comment: String,
+    doctype: Doctype,
+    reference: Reference,
+    /// A reference as it is written, and what of it stands behind the longest name.
+    written: String,
+    behind: String,
+    /// The bytes before the character that is being read.
+    offset: usize,
+    /// The parse errors, where they are collected.
+    errors: Option<Vec<ErrorAt>>,
+}
+
+/// The token that ends at a character, if one does. Errors where memory is refused.
+pub type Step = Result<Option<Token>, AllocError>;
+
+/// What stands in place of a character that may not stand in a page.
+const REPLACEMENT: char = '\u{fffd}';
+
+/// Tab, line feed, form feed and space; a carriage return is never seen.
+fn is_space(c: char) -> bool {
+    matches!(c, '\t' | '\n' | '\u{c}' | ' ')
+}
+
+impl Tokenizer {
+    ghost use Rattle.html5_tokens.specs.Reading.{IsInText, text_of};
+
+    /// A tokenizer at the beginning of a page.
+    pub fn new(alloc: Global) -> Tokenizer
+        ensures start { IsInText result }
+        ensures empty { text_of result ≡ [] }
+    {
+        Tokenizer {
+            alloc,
+            state: State::Data,
+            after_return: false,
+            in_foreign: false,
+            text: String::new(alloc),
+            tag: TagDraft::new(alloc),
+            last_start: String::new(alloc),
+            letters: String::new(alloc),
+            comment: String::new(alloc),
+            doctype: Doctype::new(),
+            reference: Reference::None,
+            written: String::new(alloc),
+            behind: String::new(alloc),
+            offset: 0,
+            errors: None,
+        }
+    }
+
+    /// The characters that stand before the next token, as far as they are read.
+    pub fn text(&self) -> &str
+        ensures { result.now ≡ text_of self.now }
+    {
+        self.text.as_str()
+    }
+
+    /// Takes the characters that stand before the next token.
+    pub fn take_text(&mut self) -> String
+        ensures taken { string_bytes result ≡ text_of self.old }
+        ensures left { text_of self.new ≡ [] }
+    {
+        mem::replace(&mut self.text, String::new(self.alloc))
+    }
+
+    /// Drops the characters that stand before the next token, and keeps their memory for those to
+    /// come.
+    pub fn clear_text(&mut self)
+        ensures { text_of self.new ≡ [] }
+    {
+        self.text.clear();
+    }
+
+    /// Switches to the state in which what follows a start tag is read.
+    pub fn switch_to(&mut self, state: State)
+        ensures { self.new ≡ record self.old { state = state } }
+    {
+        self.state = state;
+    }
+
+    /// Whether the adjusted current node is an element outside the HTML namespace, in which
+    /// `<![CDATA[` begins a CDATA section.
+    pub fn set_in_foreign(&mut self, in_foreign: bool)
+        ensures { self.new ≡ record self.old { in_foreign = in_foreign } }
+    {
+        self.in_foreign = in_foreign;
+    }
+
+    /// Reads a character. A carriage return is a line feed, and with a line feed behind it they are
+    /// one.
+    fn step(&mut self, letter: char) -> Step {
+        let follows = self.after_return;
+        self.after_return = letter == '\r';
+        if follows && letter == '\n' {
+            return Ok(None);
+        }
+        let c = if letter == '\r' { '\n' } else { letter };
+        if self.is_in_reference() && self.reference(c)? {
+            return Ok(None);
+        }
+        self.read(c)
+    }
+
+    /// Reads a character outside a reference.
+    fn read(&mut self, c: char) -> Step {
+        match self.state {
+            State::Data => self.in_data(c),
+            State::Rcdata => self.in_rcdata(c),
+            State::Rawtext => self.in_raw(Raw::Rawtext, c),
+            State::Script => self.in_raw(Raw::Script, c),
+            State::Plaintext => self.text_letter(c),
+            State::Cdata(state) => self.in_cdata(state, c),
+            State::Tag(state) => self.in_tag(state, c),
+            State::EndTag(raw, state) => self.in_end_tag(raw, state, c),
+            State::ScriptData(state) => self.in_script(state, c),
+            State::Attribute(state) => self.in_attribute(state, c),
+            State::Declaration(seen) => self.in_declaration(seen, c),
+            State::Comment(state) => self.in_comment(state, c),
+            State::Doctype(state) => self.in_doctype(state, c),
+        }
+    }
+
+    /// Goes on in a state.
+    fn then(&mut self, state: State) -> Step {
+        self.state = state;
+        Ok(None)
+    }
+
+    /// Goes on in the state of the characters themselves, with this one.
+    fn back_to(&mut self, raw: Raw, c: char) -> Step {
+        self.state = raw.state();
+        match raw {
+            Raw::Rcdata => self.in_rcdata(c),
+            Raw::Rawtext | Raw::Script => self.in_raw(raw, c),
+            Raw::Escaped => self.in_script(ScriptState::Escaped, c),
+        }
+    }
+}

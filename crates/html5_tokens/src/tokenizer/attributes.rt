@@ -1,0 +1,153 @@
+//! Attributes.
+
+use super::state::{AttrState, Quote, TagState};
+use super::{REPLACEMENT, State, Step, Tokenizer, is_space};
+use crate::parse_error::ParseError;
+use std::alloc::AllocError;
+
+impl Tokenizer {
+    pub(super) fn in_attribute(&mut self, state: AttrState, c: char) -> Step {
+        match state {
+            AttrState::BeforeName => self.before_attr_name(c),
+            AttrState::Name => self.attr_name(c),
+            AttrState::AfterName => self.after_attr_name(c),
+            AttrState::BeforeValue => self.before_attr_value(c),
+            AttrState::Quoted(quote) => self.quoted_value(quote, c),
+            AttrState::Unquoted => self.unquoted_value(c),
+            AttrState::AfterQuoted => self.after_quoted_value(c),
+        }
+    }
+
+    fn attr_then(&mut self, state: AttrState) -> Step {
+        self.then(State::Attribute(state))
+    }
+
+    fn before_attr_name(&mut self, c: char) -> Step {
+        match c {
+            '/' | '>' => self.after_attr_name(c),
+            '=' => {
+                self.error(ParseError::UnexpectedEqualsSignBeforeAttributeName)?;
+                self.begin_attr()?;
+                self.attr_letter(c)
+            }
+            _ if is_space(c) => Ok(None),
+            _ => {
+                self.begin_attr()?;
+                self.attr_name(c)
+            }
+        }
+    }
+
+    fn attr_name(&mut self, c: char) -> Step {
+        match c {
+            '/' => self.then(State::Tag(TagState::SelfClosing)),
+            '>' => self.emit_tag(),
+            '=' => self.attr_then(AttrState::BeforeValue),
+            '\0' => {
+                self.error(ParseError::UnexpectedNullCharacter)?;
+                self.attr_letter(REPLACEMENT)
+            }
+            '"' | '\'' | '<' => {
+                self.error(ParseError::UnexpectedCharacterInAttributeName)?;
+                self.attr_letter(c)
+            }
+            _ if is_space(c) => self.attr_then(AttrState::AfterName),
+            _ => self.attr_letter(c),
+        }
+    }
+
+    fn after_attr_name(&mut self, c: char) -> Step {
+        match c {
+            '/' => self.then(State::Tag(TagState::SelfClosing)),
+            '>' => self.emit_tag(),
+            '=' => self.attr_then(AttrState::BeforeValue),
+            _ if is_space(c) => Ok(None),
+            _ => {
+                self.begin_attr()?;
+                self.attr_name(c)
+            }
+        }
+    }
+
+    fn before_attr_value(&mut self, c: char) -> Step {
+        match c {
+            '"' => self.attr_then(AttrState::Quoted(Quote::Double)),
+            '\'' => self.attr_then(AttrState::Quoted(Quote::Single)),
+            '>' => {
+                self.error(ParseError::MissingAttributeValue)?;
+                self.emit_tag()
+            }
+            _ if is_space(c) => Ok(None),
+            _ => {
+                self.state = State::Attribute(AttrState::Unquoted);
+                self.unquoted_value(c)
+            }
+        }
+    }
+
+    fn quoted_value(&mut self, quote: Quote, c: char) -> Step {
+        if c == quote.letter() {
+            return self.attr_then(AttrState::AfterQuoted);
+        }
+        match c {
+            '&' => self.begin_reference(),
+            _ => self.value_letter(c),
+        }
+    }
+
+    fn unquoted_value(&mut self, c: char) -> Step {
+        match c {
+            '&' => self.begin_reference(),
+            '>' => self.emit_tag(),
+            '"' | '\'' | '<' | '=' | '`' => {
+                self.error(ParseError::UnexpectedCharacterInUnquotedAttributeValue)?;
+                self.value_letter(c)
+            }
+            _ if is_space(c) => self.attr_then(AttrState::BeforeName),
+            _ => self.value_letter(c),
+        }
+    }
+
+    fn after_quoted_value(&mut self, c: char) -> Step {
+        match c {
+            '/' => self.then(State::Tag(TagState::SelfClosing)),
+            '>' => self.emit_tag(),
+            _ if is_space(c) => self.attr_then(AttrState::BeforeName),
+            _ => {
+                self.error(ParseError::MissingWhitespaceBetweenAttributes)?;
+                self.state = State::Attribute(AttrState::BeforeName);
+                self.before_attr_name(c)
+            }
+        }
+    }
+
+    fn attr_letter(&mut self, c: char) -> Step {
+        self.tag.attr_name.push(c)?;
+        Ok(None)
+    }
+
+    /// A character of a value; a null is replaced.
+    fn value_letter(&mut self, c: char) -> Step {
+        if c == '\0' {
+            self.error(ParseError::UnexpectedNullCharacter)?;
+            self.tag.attr_value.push(REPLACEMENT)?;
+        } else {
+            self.tag.attr_value.push(c)?;
+        }
+        Ok(None)
+    }
+
+    fn begin_attr(&mut self) -> Result<(), AllocError> {
+        self.finish_attr()?;
+        self.state = State::Attribute(AttrState::Name);
+        Ok(())
+    }
+
+    /// The attribute that was read is the tag's, unless one of that name is.
+    pub(super) fn finish_attr(&mut self) -> Result<(), AllocError> {
+        if !self.tag.finish_attr(self.alloc)? {
+            self.error(ParseError::DuplicateAttribute)?;
+        }
+        Ok(())
+    }
+}

@@ -1,0 +1,126 @@
+//! Comments.
+
+use super::state::CommentState;
+use super::{REPLACEMENT, State, Step, Tokenizer};
+use crate::parse_error::ParseError;
+use crate::token::Token;
+use std::mem;
+
+impl Tokenizer {
+    pub(super) fn in_comment(&mut self, state: CommentState, c: char) -> Step {
+        match state {
+            CommentState::Bogus => self.bogus_comment_letter(c),
+            CommentState::Start | CommentState::StartDash => self.comment_start(state, c),
+            CommentState::Comment => self.comment_again("", c),
+            CommentState::LessThan => self.comment_less_than(c),
+            CommentState::LessThanBang => match c {
+                '-' => self.comment_then(CommentState::LessThanBangDash),
+                _ => self.comment_again("", c),
+            },
+            CommentState::LessThanBangDash => match c {
+                '-' => self.comment_then(CommentState::LessThanBangDashDash),
+                _ => self.comment_again("-", c),
+            },
+            CommentState::LessThanBangDashDash => match c {
+                '>' => self.emit_comment(),
+                _ => {
+                    self.error(ParseError::NestedComment)?;
+                    self.comment_end(c)
+                }
+            },
+            CommentState::EndDash => match c {
+                '-' => self.comment_then(CommentState::End),
+                _ => self.comment_again("-", c),
+            },
+            CommentState::End => self.comment_end(c),
+            CommentState::EndBang => self.comment_end_bang(c),
+        }
+    }
+
+    fn bogus_comment_letter(&mut self, c: char) -> Step {
+        match c {
+            '>' => self.emit_comment(),
+            _ => self.comment_letter(c),
+        }
+    }
+
+    fn comment_start(&mut self, state: CommentState, c: char) -> Step {
+        match (state, c) {
+            (CommentState::Start, '-') => self.comment_then(CommentState::StartDash),
+            (_, '-') => self.comment_then(CommentState::End),
+            (_, '>') => {
+                self.error(ParseError::AbruptClosingOfEmptyComment)?;
+                self.emit_comment()
+            }
+            (CommentState::StartDash, _) => self.comment_again("-", c),
+            _ => self.comment_again("", c),
+        }
+    }
+
+    fn comment_less_than(&mut self, c: char) -> Step {
+        match c {
+            '!' => self.comment_put("!", CommentState::LessThanBang),
+            '<' => self.comment_put("<", CommentState::LessThan),
+            _ => self.comment_again("", c),
+        }
+    }
+
+    fn comment_end(&mut self, c: char) -> Step {
+        match c {
+            '>' => self.emit_comment(),
+            '!' => self.comment_then(CommentState::EndBang),
+            '-' => self.comment_put("-", CommentState::End),
+            _ => self.comment_again("--", c),
+        }
+    }
+
+    fn comment_end_bang(&mut self, c: char) -> Step {
+        match c {
+            '-' => self.comment_put("--!", CommentState::EndDash),
+            '>' => {
+                self.error(ParseError::IncorrectlyClosedComment)?;
+                self.emit_comment()
+            }
+            _ => self.comment_again("--!", c),
+        }
+    }
+
+    /// A character of a comment; a null is replaced.
+    fn comment_letter(&mut self, c: char) -> Step {
+        if c == '\0' {
+            self.error(ParseError::UnexpectedNullCharacter)?;
+            self.comment.push(REPLACEMENT)?;
+        } else {
+            self.comment.push(c)?;
+        }
+        Ok(None)
+    }
+
+    fn comment_then(&mut self, state: CommentState) -> Step {
+        self.then(State::Comment(state))
+    }
+
+    /// Goes on in a state, with a text that is a part of the comment.
+    fn comment_put(&mut self, text: &str, state: CommentState) -> Step {
+        self.comment.push_str(text)?;
+        self.comment_then(state)
+    }
+
+    /// What was read of an end is a part of the comment, and it goes on with this character.
+    fn comment_again(&mut self, text: &str, c: char) -> Step {
+        self.comment.push_str(text)?;
+        self.state = State::Comment(CommentState::Comment);
+        match c {
+            '<' => self.comment_put("<", CommentState::LessThan),
+            '-' => self.comment_then(CommentState::EndDash),
+            _ => self.comment_letter(c),
+        }
+    }
+
+    /// Hands out the comment that was read.
+    pub(super) fn emit_comment(&mut self) -> Step {
+        self.state = State::Data;
+        let comment = mem::replace(&mut self.comment, String::new(self.alloc));
+        Ok(Some(Token::Comment(comment)))
+    }
+}

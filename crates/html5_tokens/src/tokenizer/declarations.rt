@@ -1,0 +1,65 @@
+//! What stands behind `<!`: a comment, a doctype or a CDATA section.
+
+use super::state::{CdataState, CommentState, DoctypeState, Seen};
+use super::{State, Step, Tokenizer};
+use crate::parse_error::ParseError;
+use crate::token::Doctype;
+
+/// What was read with one more character, where that goes on with a word.
+fn seen_with(seen: Seen, c: char) -> Option<Seen> {
+    match (seen, c) {
+        (Seen::Nothing, '-') => Some(Seen::Dash),
+        (Seen::Nothing, 'd' | 'D') => Some(Seen::Doctype(1)),
+        (Seen::Nothing, '[') => Some(Seen::Cdata(1)),
+        (Seen::Doctype(count), _) => {
+            let next = b"doctype".get(count)?;
+            if char::from(*next) != c.to_ascii_lowercase() {
+                return None;
+            }
+            Some(Seen::Doctype(count.saturating_add(1)))
+        }
+        (Seen::Cdata(count), _) => {
+            let next = b"[CDATA[".get(count)?;
+            if char::from(*next) != c {
+                return None;
+            }
+            Some(Seen::Cdata(count.saturating_add(1)))
+        }
+        _ => None,
+    }
+}
+
+impl Tokenizer {
+    pub(super) fn in_declaration(&mut self, seen: Seen, c: char) -> Step {
+        if let (Seen::Dash, '-') = (seen, c) {
+            self.comment.clear();
+            return self.then(State::Comment(CommentState::Start));
+        }
+        match seen_with(seen, c) {
+            Some(Seen::Doctype(7)) => {
+                self.doctype = Doctype::new();
+                self.then(State::Doctype(DoctypeState::Begin))
+            }
+            Some(Seen::Cdata(7)) => self.cdata_begins(c),
+            Some(more) => {
+                self.comment.push(c)?;
+                self.then(State::Declaration(more))
+            }
+            None => {
+                self.error(ParseError::IncorrectlyOpenedComment)?;
+                self.state = State::Comment(CommentState::Bogus);
+                self.in_comment(CommentState::Bogus, c)
+            }
+        }
+    }
+
+    /// A CDATA section in foreign content, and else a bogus comment.
+    fn cdata_begins(&mut self, c: char) -> Step {
+        if self.in_foreign {
+            return self.then(State::Cdata(CdataState::Section));
+        }
+        self.error(ParseError::CdataInHtmlContent)?;
+        self.comment.push(c)?;
+        self.then(State::Comment(CommentState::Bogus))
+    }
+}

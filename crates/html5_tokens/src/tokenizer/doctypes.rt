@@ -1,0 +1,260 @@
+//! Doctypes.
+
+use super::state::{DoctypeState, Id, Quote};
+use super::{REPLACEMENT, State, Step, Tokenizer, is_space};
+use crate::parse_error::ParseError;
+use crate::token::{Doctype, Token};
+use std::mem;
+
+impl Id {
+    /// The error of a doctype that ends before the identifier.
+    fn missing(self) -> ParseError {
+        match self {
+            Id::Public => ParseError::MissingDoctypePublicIdentifier,
+            Id::System => ParseError::MissingDoctypeSystemIdentifier,
+        }
+    }
+
+    /// The error of an identifier without a quote before it.
+    fn missing_quote(self) -> ParseError {
+        match self {
+            Id::Public => ParseError::MissingQuoteBeforeDoctypePublicIdentifier,
+            Id::System => ParseError::MissingQuoteBeforeDoctypeSystemIdentifier,
+        }
+    }
+
+    /// The error of an identifier right behind the word.
+    fn missing_whitespace(self) -> ParseError {
+        match self {
+            Id::Public => ParseError::MissingWhitespaceAfterDoctypePublicKeyword,
+            Id::System => ParseError::MissingWhitespaceAfterDoctypeSystemKeyword,
+        }
+    }
+
+    /// The error of a doctype that ends in the identifier.
+    fn abrupt(self) -> ParseError {
+        match self {
+            Id::Public => ParseError::AbruptDoctypePublicIdentifier,
+            Id::System => ParseError::AbruptDoctypeSystemIdentifier,
+        }
+    }
+}
+
+impl Tokenizer {
+    pub(super) fn in_doctype(&mut self, state: DoctypeState, c: char) -> Step {
+        match state {
+            DoctypeState::Begin => self.doctype_begins(c),
+            DoctypeState::BeforeName => self.before_doctype_name(c),
+            DoctypeState::Name => self.doctype_name(c),
+            DoctypeState::AfterName => self.after_doctype_name(c),
+            DoctypeState::Keyword(id, count) => self.doctype_keyword(id, count, c),
+            DoctypeState::AfterKeyword(id) => self.after_keyword(id, c),
+            DoctypeState::BeforeId(id) => self.before_id(id, c),
+            DoctypeState::Quoted(id, quote) => self.quoted_id(id, quote, c),
+            DoctypeState::AfterId(Id::Public) => self.after_public_id(c),
+            DoctypeState::AfterId(Id::System) => self.after_system_id(c),
+            DoctypeState::BetweenIds => self.between_ids(c),
+            DoctypeState::Bogus => self.bogus_doctype(c),
+        }
+    }
+
+    fn doctype_then(&mut self, state: DoctypeState) -> Step {
+        self.then(State::Doctype(state))
+    }
+
+    fn doctype_begins(&mut self, c: char) -> Step {
+        if is_space(c) {
+            return self.doctype_then(DoctypeState::BeforeName);
+        }
+        if c != '>' {
+            self.error(ParseError::MissingWhitespaceBeforeDoctypeName)?;
+        }
+        self.before_doctype_name(c)
+    }
+
+    fn before_doctype_name(&mut self, c: char) -> Step {
+        if is_space(c) {
+            return Ok(None);
+        }
+        if c == '>' {
+            self.error(ParseError::MissingDoctypeName)?;
+            return self.emit_quirks_doctype();
+        }
+        self.doctype.name = Some(String::new(self.alloc));
+        self.state = State::Doctype(DoctypeState::Name);
+        self.doctype_name(c)
+    }
+
+    fn doctype_name(&mut self, c: char) -> Step {
+        match c {
+            '>' => self.emit_doctype(),
+            '\0' => {
+                self.error(ParseError::UnexpectedNullCharacter)?;
+                self.doctype_letter(REPLACEMENT)
+            }
+            _ if is_space(c) => self.doctype_then(DoctypeState::AfterName),
+            _ => self.doctype_letter(c.to_ascii_lowercase()),
+        }
+    }
+
+    fn doctype_letter(&mut self, c: char) -> Step {
+        if let Some(name) = &mut self.doctype.name {
+            name.push(c)?;
+        }
+        Ok(None)
+    }
+
+    fn after_doctype_name(&mut self, c: char) -> Step {
+        match c {
+            '>' => self.emit_doctype(),
+            'p' | 'P' => self.doctype_then(DoctypeState::Keyword(Id::Public, 1)),
+            's' | 'S' => self.doctype_then(DoctypeState::Keyword(Id::System, 1)),
+            _ if is_space(c) => Ok(None),
+            _ => self.bogus_from(ParseError::InvalidCharacterSequenceAfterDoctypeName, c),
+        }
+    }
+
+    fn doctype_keyword(&mut self, id: Id, count: usize, c: char) -> Step {
+        let word = match id {
+            Id::Public => b"public",
+            Id::System => b"system",
+        };
+        match word.get(count) {
+            Some(next) if char::from(*next) == c.to_ascii_lowercase() => {
+                if count >= 5 {
+                    self.doctype_then(DoctypeState::AfterKeyword(id))
+                } else {
+                    self.doctype_then(DoctypeState::Keyword(id, count + 1))
+                }
+            }
+            _ => self.bogus_from(ParseError::InvalidCharacterSequenceAfterDoctypeName, c),
+        }
+    }
+
+    fn after_keyword(&mut self, id: Id, c: char) -> Step {
+        match c {
+            '"' | '\'' => {
+                self.error(id.missing_whitespace())?;
+                self.before_id(id, c)
+            }
+            _ if is_space(c) => self.doctype_then(DoctypeState::BeforeId(id)),
+            _ => self.before_id(id, c),
+        }
+    }
+
+    fn before_id(&mut self, id: Id, c: char) -> Step {
+        match c {
+            '"' => self.begin_id(id, Quote::Double),
+            '\'' => self.begin_id(id, Quote::Single),
+            '>' => {
+                self.error(id.missing())?;
+                self.emit_quirks_doctype()
+            }
+            _ if is_space(c) => Ok(None),
+            _ => self.bogus_from(id.missing_quote(), c),
+        }
+    }
+
+    fn begin_id(&mut self, id: Id, quote: Quote) -> Step {
+        let empty = Some(String::new(self.alloc));
+        match id {
+            Id::Public => self.doctype.public_id = empty,
+            Id::System => self.doctype.system_id = empty,
+        }
+        self.doctype_then(DoctypeState::Quoted(id, quote))
+    }
+
+    fn quoted_id(&mut self, id: Id, quote: Quote, c: char) -> Step {
+        if c == quote.letter() {
+            return self.doctype_then(DoctypeState::AfterId(id));
+        }
+        match c {
+            '>' => {
+                self.error(id.abrupt())?;
+                self.emit_quirks_doctype()
+            }
+            '\0' => {
+                self.error(ParseError::UnexpectedNullCharacter)?;
+                self.id_letter(id, REPLACEMENT)
+            }
+            _ => self.id_letter(id, c),
+        }
+    }
+
+    fn id_letter(&mut self, id: Id, c: char) -> Step {
+        let text = match id {
+            Id::Public => &mut self.doctype.public_id,
+            Id::System => &mut self.doctype.system_id,
+        };
+        if let Some(text) = text {
+            text.push(c)?;
+        }
+        Ok(None)
+    }
+
+    fn after_public_id(&mut self, c: char) -> Step {
+        match c {
+            '"' | '\'' => {
+                let missing = ParseError::MissingWhitespaceBetweenDoctypePublicAndSystemIdentifiers;
+                self.error(missing)?;
+                self.between_ids(c)
+            }
+            _ if is_space(c) => self.doctype_then(DoctypeState::BetweenIds),
+            _ => self.between_ids(c),
+        }
+    }
+
+    fn between_ids(&mut self, c: char) -> Step {
+        match c {
+            '>' => self.emit_doctype(),
+            '"' => self.begin_id(Id::System, Quote::Double),
+            '\'' => self.begin_id(Id::System, Quote::Single),
+            _ if is_space(c) => Ok(None),
+            _ => self.bogus_from(Id::System.missing_quote(), c),
+        }
+    }
+
+    fn after_system_id(&mut self, c: char) -> Step {
+        match c {
+            '>' => self.emit_doctype(),
+            _ if is_space(c) => Ok(None),
+            _ => {
+                self.error(ParseError::UnexpectedCharacterAfterDoctypeSystemIdentifier)?;
+                self.state = State::Doctype(DoctypeState::Bogus);
+                self.bogus_doctype(c)
+            }
+        }
+    }
+
+    fn bogus_doctype(&mut self, c: char) -> Step {
+        match c {
+            '>' => self.emit_doctype(),
+            '\0' => {
+                self.error(ParseError::UnexpectedNullCharacter)?;
+                Ok(None)
+            }
+            _ => Ok(None),
+        }
+    }
+
+    /// The doctype isn't well formed; it goes on to its `>`.
+    fn bogus_from(&mut self, error: ParseError, c: char) -> Step {
+        self.error(error)?;
+        self.doctype.force_quirks = true;
+        self.state = State::Doctype(DoctypeState::Bogus);
+        self.bogus_doctype(c)
+    }
+
+    /// Hands out the doctype that was read, with which the document is in quirks mode.
+    pub(super) fn emit_quirks_doctype(&mut self) -> Step {
+        self.doctype.force_quirks = true;
+        self.emit_doctype()
+    }
+
+    /// Hands out the doctype that was read.
+    pub(super) fn emit_doctype(&mut self) -> Step {
+        self.state = State::Data;
+        let doctype = mem::replace(&mut self.doctype, Doctype::new());
+        Ok(Some(Token::Doctype(doctype)))
+    }
+}

@@ -1,0 +1,66 @@
+//! The tag that is being read.
+
+ghost use Rattle.std.specs.Prelude.{◌≡◌, IfSome};
+
+use crate::attributes::Attributes;
+use crate::token::{Tag, TagKind};
+use std::alloc::{AllocError, Global};
+use std::mem;
+
+/// A tag as far as it is read. Its names are as they are written; an attribute is being read where
+/// its name isn't empty.
+#[derive(Drop)]
+pub struct TagDraft {
+    pub kind: TagKind,
+    pub name: String,
+    pub self_closing: bool,
+    pub attrs: Attributes,
+    pub attr_name: String,
+    pub attr_value: String,
+}
+
+impl TagDraft {
+    /// No tag.
+    pub fn new(alloc: Global) -> TagDraft {
+        TagDraft {
+            kind: TagKind::Start,
+            name: String::new(alloc),
+            self_closing: false,
+            attrs: Attributes::new(alloc),
+            attr_name: String::new(alloc),
+            attr_value: String::new(alloc),
+        }
+    }
+
+    /// Begins a tag.
+    pub fn begin(&mut self, alloc: Global, kind: TagKind) {
+        *self = TagDraft::new(alloc);
+        self.kind = kind;
+    }
+
+    /// Ends the attribute that is being read, and returns whether it is the tag's: it isn't where
+    /// an earlier one has its name.
+    pub fn finish_attr(&mut self, alloc: Global) -> Result<bool, AllocError> {
+        if self.attr_name.is_empty() {
+            return Ok(true);
+        }
+        let name = mem::replace(&mut self.attr_name, String::new(alloc));
+        let value = mem::replace(&mut self.attr_value, String::new(alloc));
+        self.attrs.add(alloc, name, value)
+    }
+
+    /// The tag that was begun, if one was. None is begun then.
+    pub fn finish(&mut self, alloc: Global) -> Option<Tag> {
+        if self.name.is_empty() {
+            return None;
+        }
+        let mut name = mem::replace(&mut self.name, String::new(alloc));
+        name.make_ascii_lowercase();
+        Some(Tag {
+            kind: self.kind,
+            name,
+            attrs: self.attrs.take(alloc),
+            self_closing: self.self_closing,
+        })
+    }
+}

@@ -1,0 +1,90 @@
+//! The end of the page.
+
+ghost use Rattle.std.specs.Prelude.{◌≡◌, [], IfOk};
+
+use super::state::{
+    CdataState, CommentState, DoctypeState, EndTagState, Raw, ScriptState, TagState,
+};
+use super::{State, Step, Tokenizer};
+use crate::parse_error::ParseError;
+use std::alloc::AllocError;
+
+impl Tokenizer {
+    ghost use Rattle.html5_tokens.specs.Reading.{IsInText, AddsText};
+
+    /// The page ends here: what was read of a mark is text, a comment or a doctype ends, a tag is
+    /// dropped. Hands out that comment or doctype.
+    pub fn end(&mut self) -> Step
+        ensures text { IsInText self.old → IfOk result (λ token.
+            (token ≡ None) × AddsText self.old self.new []) }
+    {
+        self.end_reference()?;
+        match self.state {
+            State::Data | State::Rcdata | State::Rawtext | State::Script | State::Plaintext => {}
+            State::Cdata(state) => self.end_cdata(state)?,
+            State::Tag(TagState::Open) => {
+                self.error(ParseError::EofBeforeTagName)?;
+                self.put_text("<")?;
+            }
+            State::Tag(TagState::EndOpen) => {
+                self.error(ParseError::EofBeforeTagName)?;
+                self.put_text("</")?;
+            }
+            State::Tag(_) | State::Attribute(_) => self.error(ParseError::EofInTag)?,
+            State::EndTag(raw, state) => self.end_raw(raw, state)?,
+            State::ScriptData(ScriptState::EscapeStart | ScriptState::EscapeStartDash) => {}
+            State::ScriptData(_) => self.error(ParseError::EofInScriptHtmlCommentLikeText)?,
+            State::Declaration(_) => {
+                self.error(ParseError::IncorrectlyOpenedComment)?;
+                return self.emit_comment();
+            }
+            State::Comment(state) => return self.end_comment(state),
+            State::Doctype(state) => return self.end_doctype(state),
+        }
+        Ok(None)
+    }
+
+    fn end_cdata(&mut self, state: CdataState) -> Result<(), AllocError> {
+        self.error(ParseError::EofInCdata)?;
+        match state {
+            CdataState::Section => Ok(()),
+            CdataState::Bracket => self.put_text("]"),
+            CdataState::End => self.put_text("]]"),
+        }
+    }
+
+    /// What was read of an end tag is text.
+    fn end_raw(&mut self, raw: Raw, state: EndTagState) -> Result<(), AllocError> {
+        match state {
+            EndTagState::LessThan => self.text.push_str("<")?,
+            EndTagState::Open => self.text.push_str("</")?,
+            EndTagState::Name => {
+                self.text.push_str("</")?;
+                self.text.push_str(self.tag.name.as_str())?;
+            }
+        }
+        match raw {
+            Raw::Escaped => self.error(ParseError::EofInScriptHtmlCommentLikeText),
+            Raw::Rcdata | Raw::Rawtext | Raw::Script => Ok(()),
+        }
+    }
+
+    fn end_comment(&mut self, state: CommentState) -> Step {
+        match state {
+            CommentState::Bogus => {}
+            _ => self.error(ParseError::EofInComment)?,
+        }
+        self.emit_comment()
+    }
+
+    fn end_doctype(&mut self, state: DoctypeState) -> Step {
+        match state {
+            DoctypeState::Bogus => return self.emit_doctype(),
+            DoctypeState::Keyword(_, _) => {
+                self.error(ParseError::InvalidCharacterSequenceAfterDoctypeName)?;
+            }
+            _ => self.error(ParseError::EofInDoctype)?,
+        }
+        self.emit_quirks_doctype()
+    }
+}

@@ -1,0 +1,69 @@
+//! Raw text ends at an end tag of the last start tag's name: what may be one.
+
+use super::state::{AttrState, EndTagState, Raw, ScriptState, TagState};
+use super::{State, Step, Tokenizer, is_space};
+use crate::token::TagKind;
+
+impl Tokenizer {
+    pub(super) fn in_end_tag(&mut self, raw: Raw, state: EndTagState, c: char) -> Step {
+        match state {
+            EndTagState::LessThan => self.raw_less_than(raw, c),
+            EndTagState::Open => self.raw_end_tag_open(raw, c),
+            EndTagState::Name => self.raw_end_tag_name(raw, c),
+        }
+    }
+
+    fn raw_less_than(&mut self, raw: Raw, c: char) -> Step {
+        match (raw, c) {
+            (_, '/') => self.then(State::EndTag(raw, EndTagState::Open)),
+            (Raw::Script, '!') => {
+                self.put_text("<!")?;
+                self.then(State::ScriptData(ScriptState::EscapeStart))
+            }
+            (Raw::Escaped, 'a'..='z' | 'A'..='Z') => {
+                self.letters.clear();
+                self.put_text("<")?;
+                self.state = State::ScriptData(ScriptState::DoubleStart);
+                self.in_script(ScriptState::DoubleStart, c)
+            }
+            _ => {
+                self.put_text("<")?;
+                self.back_to(raw, c)
+            }
+        }
+    }
+
+    fn raw_end_tag_open(&mut self, raw: Raw, c: char) -> Step {
+        if c.is_ascii_alphabetic() {
+            self.tag.begin(self.alloc, TagKind::End);
+            self.state = State::EndTag(raw, EndTagState::Name);
+            self.name_letter(c)
+        } else {
+            self.put_text("</")?;
+            self.back_to(raw, c)
+        }
+    }
+
+    /// Whether the end tag names the last start tag.
+    fn is_appropriate(&self) -> bool {
+        let name = self.tag.name.as_str();
+        name.eq_ignore_ascii_case(self.last_start.as_str())
+    }
+
+    fn raw_end_tag_name(&mut self, raw: Raw, c: char) -> Step {
+        if c.is_ascii_alphabetic() {
+            return self.name_letter(c);
+        }
+        if self.is_appropriate() {
+            match c {
+                '/' => return self.then(State::Tag(TagState::SelfClosing)),
+                '>' => return self.emit_tag(),
+                _ if is_space(c) => return self.then(State::Attribute(AttrState::BeforeName)),
+                _ => {}
+            }
+        }
+        self.text.push_str("</")?;
+        self.text.push_str(self.tag.name.as_str())?;
+        self.back_to(raw, c)
+    }
+}

@@ -1,0 +1,174 @@
+//! Stretches of a page, and in them the runs of characters that a state reads as they stand.
+
+ghost use Rattle.std.specs.Prelude.{◌≡◌, ◌<◌, ◌≤◌, true, [], IfOk, IfSome, OnOk, length};
+ghost use Rattle.std.specs.Str.{IsCharBoundary};
+ghost use Rattle.html5_tokens.specs.Runs.{ends_text, IsRun};
+
+use super::state::{AttrState, CommentState, DoubleState, Quote, ScriptState, TagState};
+use super::{State, Step, Tokenizer};
+use std::alloc::AllocError;
+
+/// The character that ends each token, and so a stretch of a page.
+pub const MARKS: char = '>';
+
+/// The characters that a state reads as they stand.
+#[derive(Clone, Copy, Drop)]
+enum Run {
+    Text,
+    Raw,
+    Plaintext,
+    Escaped,
+    Comment,
+    BogusComment,
+    TagName,
+    AttrName,
+    AttrValue(Quote),
+}
+
+/// The characters that the state reads as they stand, if there are such.
+fn run_of(state: State) -> Option<Run>
+    ensures { state ≡ State.Data → result ≡ Some Run.Text }
+{
+    match state {
+        State::Data | State::Rcdata => Some(Run::Text),
+        State::Rawtext | State::Script => Some(Run::Raw),
+        State::Plaintext => Some(Run::Plaintext),
+        State::ScriptData(ScriptState::Escaped | ScriptState::Double(DoubleState::Escaped)) => {
+            Some(Run::Escaped)
+        }
+        State::Comment(CommentState::Comment) => Some(Run::Comment),
+        State::Comment(CommentState::Bogus) => Some(Run::BogusComment),
+        State::Tag(TagState::Name) => Some(Run::TagName),
+        State::Attribute(AttrState::Name) => Some(Run::AttrName),
+        State::Attribute(AttrState::Quoted(quote)) => Some(Run::AttrValue(quote)),
+        _ => None,
+    }
+}
+
+/// Whether a byte ends a run of text: a null, a carriage return, `&` and `<` do.
+#[inline(always)]
+fn ends_text(byte: u8) -> bool
+    ensures { result ≡ ends_text byte }
+{
+    matches!(byte, 0 | b'\r' | b'&' | b'<')
+}
+
+/// Whether a byte ends the name of a tag.
+#[inline(always)]
+fn ends_tag_name(byte: u8) -> bool {
+    byte <= b'>' && matches!(byte, 0 | b'\t' | b'\n' | 0xc | b'\r' | b' ' | b'/' | b'>')
+}
+
+impl Run {
+    /// Whether a byte ends the run. A null and a carriage return end each.
+    #[inline(always)]
+    fn ends_at(self, byte: u8) -> bool
+        ensures ascii { result ≡ true → byte < 128 }
+        ensures text { self ≡ Run.Text → result ≡ ends_text byte }
+    {
+        if byte >= 128 {
+            return false;
+        }
+        match self {
+            Run::Text => ends_text(byte),
+            Run::Raw => matches!(byte, 0 | b'\r' | b'<'),
+            Run::Plaintext => matches!(byte, 0 | b'\r'),
+            Run::Escaped | Run::Comment => matches!(byte, 0 | b'\r' | b'-' | b'<'),
+            Run::BogusComment => matches!(byte, 0 | b'\r' | b'>'),
+            Run::TagName => ends_tag_name(byte),
+            Run::AttrName => ends_tag_name(byte) || matches!(byte, b'"' | b'\'' | b'<' | b'='),
+            Run::AttrValue(Quote::Double) => matches!(byte, 0 | b'\r' | b'&' | b'"'),
+            Run::AttrValue(Quote::Single) => matches!(byte, 0 | b'\r' | b'&' | b'\''),
+        }
+    }
+}
+
+/// How many bytes stand before the first that ends the run.
+fn run_len(run: Run, text: &str) -> usize
+    ensures boundary { IsCharBoundary text.now result }
+    ensures text { run ≡ Run.Text → IsRun text.now → result ≡ length text.now }
+{
+    for (index, byte) in text.as_bytes().iter().enumerate() {
+        if run.ends_at(*byte) {
+            return index;
+        }
+    }
+    text.len()
+}
+
+/// The first character, and what follows it.
+#[inline(always)]
+fn split_char(text: &str) -> Option<(char, &str)>
+    ensures { IfSome result (λ found. length found.1.now < length text.now) }
+{
+    let mut chars = text.chars();
+    let c = chars.next()?;
+    Some((c, chars.as_str()))
+}
+
+impl Tokenizer {
+    ghost use Rattle.html5_tokens.specs.Reading.{IsInText, AddsText};
+
+    /// Reads a stretch of a page: a part of it in which [`MARKS`] stands nowhere but at the end, as
+    /// `split_inclusive` cuts it. Hands out the token that ends there, if one does. Errors where
+    /// memory is refused.
+    pub fn read_stretch(&mut self, stretch: &str) -> Step
+        ensures text { IsInText self.old → IsRun stretch.now → IfOk result (λ token.
+            (token ≡ None) × AddsText self.old self.new stretch.now) }
+    {
+        if self.errors.is_some() {
+            self.check_input(stretch)?;
+        }
+        let rest = self.read_run(stretch)?;
+        if rest.is_empty() {
+            return Ok(None);
+        }
+        self.read_marks(rest)
+    }
+
+    /// Reads a text that begins with a character that is no part of a run.
+    fn read_marks(&mut self, text: &str) -> Step {
+        let mut token = None;
+        let mut rest = text;
+        while let Some((c, after)) = split_char(rest) {
+            if let Some(made) = self.step(c)? {
+                token = Some(made);
+            }
+            self.offset = self.offset.saturating_add(c.len_utf8());
+            rest = self.read_run(after)?;
+        }
+        Ok(token)
+    }
+
+    /// Reads the run at the front of a text as one slice, and returns what follows it.
+    fn read_run<'a>(&mut self, text: &'a str) -> Result<&'a str, AllocError>
+        ensures less { IfOk result (λ rest. length rest.now ≤ length text.now) }
+        ensures text { IsInText self.old → IsRun text.now → IfOk result (λ rest.
+            (rest.now ≡ []) × AddsText self.old self.new text.now) }
+    {
+        if self.after_return || self.is_in_reference() {
+            return Ok(text);
+        }
+        let Some(run) = run_of(self.state) else {
+            return Ok(text);
+        };
+        let (front, rest) = text.split_at(run_len(run, text));
+        self.push_run(run, front)?;
+        self.offset = self.offset.saturating_add(front.len());
+        Ok(rest)
+    }
+
+    /// Puts a run behind what its state has read.
+    fn push_run(&mut self, run: Run, front: &str) -> Result<(), AllocError>
+        ensures { run ≡ Run.Text → OnOk result (AddsText self.old self.new front.now) }
+    {
+        match run {
+            Run::Text | Run::Raw | Run::Plaintext | Run::Escaped => self.text.push_str(front)?,
+            Run::Comment | Run::BogusComment => self.comment.push_str(front)?,
+            Run::TagName => self.tag.name.push_str(front)?,
+            Run::AttrName => self.tag.attr_name.push_str(front)?,
+            Run::AttrValue(_) => self.tag.attr_value.push_str(front)?,
+        }
+        Ok(())
+    }
+}

@@ -1,0 +1,136 @@
+//! Tags, outside their attributes.
+
+use super::state::{AttrState, CommentState, Seen, TagState};
+use super::{REPLACEMENT, State, Step, Tokenizer, is_space};
+use crate::parse_error::ParseError;
+use crate::token::{Tag, TagKind, Token};
+use std::alloc::AllocError;
+
+impl Tokenizer {
+    pub(super) fn in_tag(&mut self, state: TagState, c: char) -> Step {
+        match state {
+            TagState::Open => self.tag_open(c),
+            TagState::EndOpen => self.end_tag_open(c),
+            TagState::Name => self.tag_name(c),
+            TagState::SelfClosing => self.self_closing(c),
+        }
+    }
+
+    fn tag_open(&mut self, c: char) -> Step {
+        match c {
+            '!' => {
+                self.comment.clear();
+                self.then(State::Declaration(Seen::Nothing))
+            }
+            '/' => self.then(State::Tag(TagState::EndOpen)),
+            'a'..='z' | 'A'..='Z' => self.begin_tag(TagKind::Start, c),
+            '?' => {
+                self.error(ParseError::UnexpectedQuestionMarkInsteadOfTagName)?;
+                self.bogus_comment(c)
+            }
+            _ => {
+                self.error(ParseError::InvalidFirstCharacterOfTagName)?;
+                self.put_text("<")?;
+                self.state = State::Data;
+                self.in_data(c)
+            }
+        }
+    }
+
+    fn end_tag_open(&mut self, c: char) -> Step {
+        match c {
+            'a'..='z' | 'A'..='Z' => self.begin_tag(TagKind::End, c),
+            '>' => {
+                self.error(ParseError::MissingEndTagName)?;
+                self.then(State::Data)
+            }
+            _ => {
+                self.error(ParseError::InvalidFirstCharacterOfTagName)?;
+                self.bogus_comment(c)
+            }
+        }
+    }
+
+    /// Begins a bogus comment with this character.
+    fn bogus_comment(&mut self, c: char) -> Step {
+        self.comment.clear();
+        self.state = State::Comment(CommentState::Bogus);
+        self.in_comment(CommentState::Bogus, c)
+    }
+
+    /// Begins a tag with the first letter of its name.
+    fn begin_tag(&mut self, kind: TagKind, c: char) -> Step {
+        self.tag.begin(self.alloc, kind);
+        self.state = State::Tag(TagState::Name);
+        self.name_letter(c)
+    }
+
+    fn tag_name(&mut self, c: char) -> Step {
+        match c {
+            '/' => self.then(State::Tag(TagState::SelfClosing)),
+            '>' => self.emit_tag(),
+            '\0' => {
+                self.error(ParseError::UnexpectedNullCharacter)?;
+                self.name_letter(REPLACEMENT)
+            }
+            _ if is_space(c) => self.then(State::Attribute(AttrState::BeforeName)),
+            _ => self.name_letter(c),
+        }
+    }
+
+    pub(super) fn name_letter(&mut self, c: char) -> Step {
+        self.tag.name.push(c)?;
+        Ok(None)
+    }
+
+    fn self_closing(&mut self, c: char) -> Step {
+        match c {
+            '>' => {
+                self.tag.self_closing = true;
+                self.emit_tag()
+            }
+            _ => {
+                self.error(ParseError::UnexpectedSolidusInTag)?;
+                self.state = State::Attribute(AttrState::BeforeName);
+                self.in_attribute(AttrState::BeforeName, c)
+            }
+        }
+    }
+
+    /// Hands out the tag that was read. What follows it is data until a caller switches.
+    pub(super) fn emit_tag(&mut self) -> Step {
+        self.finish_attr()?;
+        self.state = State::Data;
+        self.check_end_tag()?;
+        match self.tag.finish(self.alloc) {
+            Some(tag) => {
+                self.note_start(&tag)?;
+                Ok(Some(Token::Tag(tag)))
+            }
+            None => Ok(None),
+        }
+    }
+
+    /// Notes what an end tag may not have.
+    fn check_end_tag(&mut self) -> Result<(), AllocError> {
+        if self.tag.kind == TagKind::Start {
+            return Ok(());
+        }
+        if !self.tag.attrs.is_empty() {
+            self.error(ParseError::EndTagWithAttributes)?;
+        }
+        if self.tag.self_closing {
+            self.error(ParseError::EndTagWithTrailingSolidus)?;
+        }
+        Ok(())
+    }
+
+    /// Keeps the name of a start tag: raw text ends at an end tag of that name.
+    fn note_start(&mut self, tag: &Tag) -> Result<(), AllocError> {
+        if tag.kind == TagKind::Start {
+            self.last_start.clear();
+            self.last_start.push_str(tag.name.as_str())?;
+        }
+        Ok(())
+    }
+}

@@ -1,0 +1,71 @@
+//! Characters outside tags: the data, RCDATA, RAWTEXT, script data, PLAINTEXT and CDATA states.
+
+use super::state::{CdataState, EndTagState, Raw, TagState};
+use super::{REPLACEMENT, State, Step, Tokenizer};
+use crate::parse_error::ParseError;
+use std::alloc::AllocError;
+
+impl Tokenizer {
+    /// Puts a text behind the characters that stand before the next token.
+    pub(super) fn put_text(&mut self, text: &str) -> Result<(), AllocError> {
+        self.text.push_str(text)?;
+        Ok(())
+    }
+
+    /// Goes on in a state, with a character that is text.
+    pub(super) fn text_then(&mut self, c: char, state: State) -> Step {
+        self.state = state;
+        self.text.push(c)?;
+        Ok(None)
+    }
+
+    /// A character that is text; a null is replaced.
+    pub(super) fn text_letter(&mut self, c: char) -> Step {
+        if c == '\0' {
+            self.error(ParseError::UnexpectedNullCharacter)?;
+            self.text.push(REPLACEMENT)?;
+        } else {
+            self.text.push(c)?;
+        }
+        Ok(None)
+    }
+
+    pub(super) fn in_data(&mut self, c: char) -> Step {
+        match c {
+            '&' => self.begin_reference(),
+            '<' => self.then(State::Tag(TagState::Open)),
+            '\0' => {
+                self.error(ParseError::UnexpectedNullCharacter)?;
+                self.text_then(c, State::Data)
+            }
+            _ => self.text_then(c, State::Data),
+        }
+    }
+
+    pub(super) fn in_rcdata(&mut self, c: char) -> Step {
+        match c {
+            '&' => self.begin_reference(),
+            _ => self.in_raw(Raw::Rcdata, c),
+        }
+    }
+
+    pub(super) fn in_raw(&mut self, raw: Raw, c: char) -> Step {
+        match c {
+            '<' => self.then(State::EndTag(raw, EndTagState::LessThan)),
+            _ => self.text_letter(c),
+        }
+    }
+
+    pub(super) fn in_cdata(&mut self, state: CdataState, c: char) -> Step {
+        match (state, c) {
+            (CdataState::Section, ']') => return self.then(State::Cdata(CdataState::Bracket)),
+            (CdataState::Section, _) => {}
+            (CdataState::Bracket, ']') => return self.then(State::Cdata(CdataState::End)),
+            (CdataState::Bracket, _) => self.put_text("]")?,
+            (CdataState::End, ']') => return self.text_then(c, State::Cdata(CdataState::End)),
+            (CdataState::End, '>') => return self.then(State::Data),
+            (CdataState::End, _) => self.put_text("]]")?,
+        }
+        self.text_then(c, State::Cdata(CdataState::Section))
+    }
+}
