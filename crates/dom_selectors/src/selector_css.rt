@@ -20,9 +20,9 @@ use crate::syntax::{
     AttrOperator, Attribute, Combinator, Comparison, Compound, Nested, Part, Position, Selector,
     Step,
 };
-use dom_nodes::indexes::{IndexKind, Nth, Signed};
 use dom_nodes::case_sensitivity::CaseSensitivity;
 use dom_nodes::fault::OutOfMemory;
+use dom_nodes::indexes::{IndexKind, Nth, Signed};
 use std::alloc::{AllocError, Global};
 
 impl ToCss for Selector {

@@ -1,8 +1,8 @@
 //! What a selector's text stands for.
 
 use crate::selector_name::SelectorName;
-use dom_nodes::indexes::{IndexKind, Nth};
 use dom_nodes::case_sensitivity::CaseSensitivity;
+use dom_nodes::indexes::{IndexKind, Nth};
 use dom_nodes::text::Text;
 
 /// How an attribute's value is compared.
