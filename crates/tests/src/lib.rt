@@ -1,16 +1,16 @@
 //! Tests of the libraries by their public calls: what no contract can say, and no row of cases/.
-//! Each folder has the name of the crate that it tests.
+//! Each folder has the name of the crate that it tests, without `dom_`.
 #![tactic(auto)]
 
 #[cfg(test)]
-mod dom_index;
+mod index;
 #[cfg(test)]
-mod dom_markup;
+mod markup;
 #[cfg(test)]
-mod dom_nodes;
+mod nodes;
 #[cfg(test)]
-mod dom_query;
+mod query;
 #[cfg(test)]
-mod dom_select;
+mod select;
 #[cfg(test)]
-mod dom_trees;
+mod trees;
