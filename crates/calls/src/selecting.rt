@@ -26,10 +26,28 @@ fn select_by_each(rt: &HostRuntime, tree: &Tree, matcher: &Matcher) -> Option<()
         &select_below(tree, &NodeId::root(), matcher).ok()?,
     )?;
     list_below(rt, tree, &roots, matcher)?;
-    let below = DescendantMatches::new(tree.root(), matcher);
-    show(rt, "DescendantMatches", below.count())?;
-    let found = MatcherIter::new(tree, &roots, matcher).ok()?;
-    show(rt, "MatcherIter", found.count())
+    walk_below_root(rt, tree, matcher)?;
+    walk_below(rt, tree, &roots, matcher)
+}
+
+/// What a walk below the root selects, one by one.
+fn walk_below_root(rt: &HostRuntime, tree: &Tree, matcher: &Matcher) -> Option<()> {
+    print!(rt; "DescendantMatches:").ok()?;
+    for node in DescendantMatches::new(tree.root(), matcher) {
+        let value = node.id.value();
+        print!(rt; " {value}").ok()?;
+    }
+    println!(rt; "").ok()
+}
+
+/// What walks below roots select, one by one.
+fn walk_below(rt: &HostRuntime, tree: &Tree, roots: &[NodeId], matcher: &Matcher) -> Option<()> {
+    print!(rt; "MatcherIter:").ok()?;
+    for node in MatcherIter::new(tree, roots, matcher).ok()? {
+        let value = node.id.value();
+        print!(rt; " {value}").ok()?;
+    }
+    println!(rt; "").ok()
 }
 
 /// What is selected below roots, by asking each node, by tables, and by the choice between them.

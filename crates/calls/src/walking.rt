@@ -58,25 +58,23 @@ fn list_by_number(rt: &HostRuntime, tree: &Tree, id: &NodeId) -> Option<()> {
     show_node(rt, "last_sibling_of", &tree.last_sibling_of(id))
 }
 
-/// How many nodes the walks from a node give: `N`.
+/// The first and the last child of a node, and how many nodes the walks from it give: `N`.
 pub fn count(rt: &HostRuntime, tree: &Tree, line: &str) -> Option<()> {
     count_steps(rt, tree, &node_of(line)?)
 }
 
 fn count_steps(rt: &HostRuntime, tree: &Tree, id: &NodeId) -> Option<()> {
-    show(rt, "child_nodes", child_nodes(tree, id, false).count())?;
+    let first = child_nodes(tree, id, false).next();
+    show_some(rt, "child_nodes", first.map(NodeId::value))?;
+    let last = tree.child_ids_of_it(id, true).next();
+    show_some(rt, "child_ids_of_it from the end", last.map(NodeId::value))?;
     show(rt, "ancestor_nodes", ancestor_nodes(tree, id, None).count())?;
-    show(rt, "descendant_nodes", descendant_nodes(tree, id).count())?;
-    show(
-        rt,
-        "child_ids_of_it",
-        tree.child_ids_of_it(id, true).count(),
-    )?;
     show(
         rt,
         "ancestor_ids_of_it",
         tree.ancestor_ids_of_it(id, None).count(),
     )?;
+    show(rt, "descendant_nodes", descendant_nodes(tree, id).count())?;
     let mut walk = tree.descendant_ids_of_it(id);
     while walk.next().is_some() {}
     show(rt, "reads", walk.reads())
