@@ -76,14 +76,17 @@ def gate(clock):
         return [(0, 1)]
     trials, begun, before = edits.Trials(), time.monotonic(), used()
     ran = subprocess.Popen([rt, "ci"], cwd=ROOT, stdout=subprocess.PIPE, stderr=subprocess.STDOUT, text=True)
-    last, proved_at = "", begun
+    last, proved_at, functions = "", begun, []
     for line in ran.stdout:
+        function = re.match(r"fn (\w+)::(\S+): proved", line)
+        if function:
+            functions.append((function[1], function[2].split("::")))
         proved = re.fullmatch(r"rt: (\w+)(?:: its tests are)? proved", line.strip())
         if proved:
             proved_at = time.monotonic()
             line = f"{line.rstrip()} (after {(proved_at - begun) / 60:.1f} minutes)\n"
             if "tests" not in line:
-                trials.built(proved[1])
+                trials.built(proved[1], [path for name, path in functions if name == proved[1]])
         sys.stdout.write(line)
         sys.stdout.flush()
         last = line.strip() or last

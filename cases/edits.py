@@ -172,15 +172,19 @@ def texts_with(edits, folder):
 class Trial:
     """The edits of one crate, tried in rounds over what the rounds before proved."""
 
-    def __init__(self, rt, crate, jobs):
-        self.rt, self.crate, self.jobs, self.wrong = rt, crate, jobs, []
+    def __init__(self, rt, crate, jobs, proved, is_control):
+        self.rt, self.crate, self.jobs, self.is_control, self.wrong = rt, crate, jobs, is_control, []
         self.folder = pathlib.Path(crate.folder)
-        built = (pathlib.Path(crate.rlib) / "toolchain" / "checked.json").read_text(encoding="utf-8")
         # (what this crate hands on of another has proofs of that name, too, but no code here)
         sources = {file.stem: file.read_text(encoding="utf-8") for file in (self.folder / "src").rglob("*.rt")}
         own = {head[2] for text in sources.values() for head in map(HEAD.match, text.split("\n")) if head}
-        paths = [path.split(".") for path in re.findall(MET.format(crate.name), built)]
+        paths = proved or self.kept_paths()
         self.functions = [path for path in paths if path[-1] in own and (len(path) == 1 or path[0] in sources)]
+
+    def kept_paths(self):
+        """The paths of the functions whose proofs a library has that was built outside the gate."""
+        built = (pathlib.Path(self.crate.rlib) / "toolchain" / "checked.json").read_text(encoding="utf-8")
+        return [path.split(".") for path in re.findall(MET.format(self.crate.name), built)]
 
     def has_proof(self, path):
         """Whether the function has a file of a proof of its own, or has one proof with others."""
@@ -204,7 +208,7 @@ class Trial:
         """Writes the crate with the edits, and with holes in place of the other functions where some are asked for."""
         for part in ("src", "specs", "proofs"):
             shutil.copytree(self.folder / part, room / part)
-        texts, names = texts_with(edits, self.folder), {path[-1] for path in asked}
+        texts, names = {} if self.is_control else texts_with(edits, self.folder), {path[-1] for path in asked}
         for file in (room / "src").rglob("*.rt") if asked else ():
             path = str(file.relative_to(room))
             kept = {place[1] for edit in edits if edit.path == path for place in edit.places}
@@ -213,7 +217,7 @@ class Trial:
             (room / path).write_text(text, encoding="utf-8")
         for path in self.functions if asked else ():
             proofs = room / "proofs" / pathlib.Path(*path)
-            if path in asked and not self.has_proof(path):
+            if path in asked and not self.is_control and not self.has_proof(path):
                 # with a file of answers, if without any, the prover looks for none to offer
                 proofs.mkdir(parents=True, exist_ok=True)
                 (proofs / "Answers.antt").write_text("-- none\n", encoding="utf-8")
@@ -235,7 +239,7 @@ class Trial:
             flags = [*only, *(["--allow-holes"] if asked else []), "--jobs", str(self.jobs())]
             ran = self.rt.checked(crate, {}, flags, kept)
         said = ran.stdout.splitlines() or [""]
-        return said if ran.returncode == 1 and re.match("logic=not-proved|only=", said[-1]) else []
+        return said if ran.returncode in (0, 1) and re.match("logic=not-proved|only=", said[-1]) else []
 
     def tried(self, edits, kept):
         """Tries edits of different functions at once, tells of those that were refused, and returns the batches of those
@@ -260,6 +264,15 @@ class Trial:
         half = len(missed) // 2 if not said else 0
         return [it for it in (missed[:half], missed[half:]) if it]
 
+    def refused_without(self, edits):
+        """The edits whose functions the prover refuses as they are, which would show nothing: there must be none."""
+        with tempfile.TemporaryDirectory(prefix="edits-") as kept:
+            said = self.said_of(edits, kept)
+        refused = [it for it in edits if it.refusal(said)]
+        for edit in refused if said else edits:
+            print(f"must-fail {edit.name}: REFUSED WITHOUT IT: {edit.refusal(said) or 'the prover was not reached'}", flush=True)
+        return refused if said else edits
+
     def not_refused(self, edits):
         """Tries the edits in rounds, and returns those that were not refused."""
         batches = [edits] if edits else []
@@ -277,8 +290,8 @@ class Trial:
 class Trials:
     """The edits of all crates, each crate's tried as soon as it is built, in a copy of the workspace."""
 
-    def __init__(self):
-        self.rt, self.room = toolchain(), tempfile.TemporaryDirectory(prefix="edits-workspace-")
+    def __init__(self, is_control=False):
+        self.rt, self.room, self.is_control = toolchain(), tempfile.TemporaryDirectory(prefix="edits-workspace-"), is_control
         self.processors = self.rt.processors()
         self.lanes, self.is_beside, self.counts = max(1, self.processors // 2), True, []
         # (the gate's own proofs wait for one another, so they go first)
@@ -293,16 +306,17 @@ class Trials:
         """How many jobs a check may take: one while the gate has the processors."""
         return 1 if self.is_beside else max(1, self.processors // self.lanes)
 
-    def built(self, name):
-        """Takes what the gate built of a crate, and has its edits tried."""
+    def built(self, name, proved):
+        """Takes what the gate built of a crate, and has its edits tried: `proved` has the paths of its functions, or
+        nothing where the library says them itself."""
         if (ROOT / "crates" / name / "out" / "rlib").is_dir():
             to = pathlib.Path(self.crates[name].folder) / "out" / "rlib"
             shutil.copytree(ROOT / "crates" / name / "out" / "rlib", to, copy_function=linked)
         if name in self.left:
             self.left.remove(name)
-            self.counts.append(self.pool.submit(self.count, self.crates[name]))
+            self.counts.append(self.pool.submit(self.count, self.crates[name], proved))
 
-    def count(self, crate):
+    def count(self, crate, proved):
         """Tries a crate's edits, and returns how many were refused and how many weren't."""
         files = sorted((EDITS / crate.name).glob("*.edit"))
         try:
@@ -310,7 +324,9 @@ class Trials:
             bad = [it for it in edits if it.fault]
             for edit in bad:
                 print(f"must-fail {edit.name}: BAD EDIT: {edit.fault}", flush=True)
-            wrong = Trial(self.rt, crate, self.jobs).not_refused([it for it in edits if not it.fault])
+            trial = Trial(self.rt, crate, self.jobs, proved, self.is_control)
+            edits = [it for it in edits if not it.fault]
+            wrong = trial.refused_without(edits) if self.is_control else trial.not_refused(edits)
         except (OSError, ValueError) as fault:
             print(f"must-fail {crate.name}: {fault}", flush=True)
             return 0, len(files)
@@ -332,12 +348,12 @@ class Trials:
 
 
 def main():
-    trials = Trials()
-    names = sys.argv[1:] or sorted(trials.left)
+    trials = Trials("--control" in sys.argv)
+    names = [it for it in sys.argv[1:] if it != "--control"] or sorted(trials.left)
     trials.left &= set(names)
     for crate in list(trials.crates.values()):
         if crate.name in trials.left or any(crate in trials.crates[it].below() for it in names):
-            trials.built(crate.name)
+            trials.built(crate.name, [])
     return 1 if trials.finish()[1] else 0
 
 
