@@ -177,9 +177,10 @@ class Trial:
         self.folder = pathlib.Path(crate.folder)
         # (what this crate hands on of another has proofs of that name, too, but no code here)
         sources = {file.stem: file.read_text(encoding="utf-8") for file in (self.folder / "src").rglob("*.rt")}
-        own = {head[2] for text in sources.values() for head in map(HEAD.match, text.split("\n")) if head}
+        own = {stem: {head[2] for head in map(HEAD.match, text.split("\n")) if head} for stem, text in sources.items()}
         paths = proved or self.kept_paths()
-        self.functions = [path for path in paths if path[-1] in own and (len(path) == 1 or path[0] in sources)]
+        named = [path for path in paths if any(path[-1] in names for names in own.values())]
+        self.functions = [path for path in named if path[0] in (own.get("lib", ()) if len(path) == 1 else sources)]
 
     def kept_paths(self):
         """The paths of the functions whose proofs a library has that was built outside the gate."""
