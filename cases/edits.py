@@ -230,8 +230,7 @@ class Trial:
 
     def said_of(self, edits, kept, is_whole=False):
         """What the prover says of the crate with these edits, in lines: none where it was not reached."""
-        asked = [] if is_whole else self.asked_by(edits)
-        asked = [] if None in asked else asked
+        asked = [] if is_whole else [path for path in self.asked_by(edits) if path]
         only = [word for path in asked for word in ("--only", "::".join([self.crate.name, *path]))]
         with tempfile.TemporaryDirectory(prefix="edits-copy-") as room:
             crate = self.rt.copy.copy(self.crate)
