@@ -1,23 +1,27 @@
 """The test command. It runs the gate, `rt ci`, which proves every crate from nothing and runs every test, and beside it
 tries the must-fail edits over each crate that the gate has proved (cases/edits.py). Then it runs the program that the
-gate built on the cases in cases/ and on a device that is full, compares the snippets of the documents with the
+gate built on the cases in cases/ and on streams that fail, compares the snippets of the documents with the
 crate `tour`, and tries the callers that must not compile. Its last line counts all, and its status is 0
-where nothing failed. `check --cases` leaves the gate and the edits out.
+where nothing failed. `check --cases` leaves the gate and the edits out. What an earlier run on this machine showed of the
+same files is kept; `check --anew` shows all again.
 
 A case is a line of a file cases/*.jsonl: `markup` is standard input and `script` the argument (`args` a list of
 arguments in its place; `markup_hex` and `script_hex` give bytes that are no text), `output` and `error` are what must
 stand on standard output and standard error, and `status` is the exit status, 0 if not given. A text may be given as a
 list of pieces, each a text and how often it stands there, with {n} in it for the number of each; an argument may be given
-with how often it stands there. A case of cases/calls is one of the program `calls`, whose arguments are calls of the library.
+with how often it stands there. A case of cases/calls is one of the program `calls`, whose arguments are calls of the library;
+one of cases/hq or cases/pages (html5lib's tests of tree construction) is one of `hq`.
 
-`calls limited` does each call that takes memory with ever more of it, in an address space of LIMITED bytes. Which public
-functions are called at all is counted by cases/coverage.py.
+`calls limited` does each call that takes memory with ever more of it, in an address space of LIMITED bytes; refusals.py refuses
+each request for memory in turn, hostile.py has texts and nodes read that are changed in every place, and depth.py deep and wide
+trees. What the line `sanitize` leaves of random forests is compared with cases/clean.py. Which public functions are called at
+all is counted by cases/coverage.py.
 
-A snippet is a block of README.md, docs/API.md or docs/SINK.md: one of rust stands in a file of crates/tour/src, line for line
+A snippet is a block of README.md, docs/API.md, docs/SINK.md or docs/PAGES.md: one of rust stands in a file of crates/tour/src, line for line
 but for its indentation, and one of text in its stdout, which the gate compares with what it prints.
 
 A caller that must not compile is a file cases/must-not-compile/NAME-WHAT.txt, a program that uses the crate NAME alone. One
-line of it ends in '// refused: WORDS': with that line the compiler refuses the program with those words, without it it runs."""
+line of it ends in '// refused: WORDS': with that line the compiler refuses the program with those words, without it it compiles."""
 import json
 import os
 import pathlib
@@ -26,17 +30,22 @@ import resource
 import shutil
 import subprocess
 import sys
-import tempfile
 import textwrap
 import time
 
 sys.dont_write_bytecode = True
+import clean  # noqa: E402
 import coverage  # noqa: E402
+import depth  # noqa: E402
 import edits  # noqa: E402
+import hostile  # noqa: E402
+import refusals  # noqa: E402
+import streams  # noqa: E402
+from rows import ROOT, SECONDS, built, given, words_of  # noqa: E402
 
-ROOT = pathlib.Path(__file__).resolve().parent.parent
-SECONDS = 60
+NO_FUNCTION = "no_function_of_this_name"
 LIMITED = 256 * 1024 * 1024
+SEED, FORESTS = 1, 2000
 
 
 class Clock:
@@ -74,14 +83,18 @@ def gate(clock):
     if rt is None:
         print("check: no command rt: the kit's folder bin must be on the PATH")
         return [(0, 1)]
-    trials, begun, before = edits.Trials(), time.monotonic(), used()
-    ran = subprocess.Popen([rt, "ci"], cwd=ROOT, stdout=subprocess.PIPE, stderr=subprocess.STDOUT, text=True)
+    anew = ["--anew"] if "--anew" in sys.argv else []
+    trials, begun, before = edits.Trials(anew=bool(anew)), time.monotonic(), used()
+    ran = subprocess.Popen([rt, "ci", *anew], cwd=ROOT, stdout=subprocess.PIPE, stderr=subprocess.STDOUT, text=True)
     last, proved_at, functions = "", begun, []
     for line in ran.stdout:
         function = re.match(r"fn (\w+)::(\S+): proved", line)
         if function:
             functions.append((function[1], function[2].split("::")))
+        kept = re.match(r"rt: (\w+) is kept: ", line)
         proved = re.fullmatch(r"rt: (\w+)(?:: its tests are)? proved", line.strip())
+        if kept:
+            trials.built(kept[1], [])
         if proved:
             proved_at = time.monotonic()
             line = f"{line.rstrip()} (after {(proved_at - begun) / 60:.1f} minutes)\n"
@@ -106,35 +119,12 @@ def gate(clock):
     return [(passed, failed if ran.returncode == 0 or failed else 1), tried]
 
 
-def built(name):
-    """The program of that name that the gate built."""
-    return ROOT / "crates" / name / "out" / name
-
-
-def written(text):
-    """The bytes of a text, or of one that is given in pieces."""
-    pieces = [(text, 1)] if isinstance(text, str) else text
-    return "".join("".join(piece.replace("{n}", str(n)) for n in range(times)) for piece, times in pieces).encode()
-
-
-def given(case, name):
-    """The bytes of a field that is a text, or that is given in hexadecimal."""
-    if f"{name}_hex" in case:
-        return bytes.fromhex(case[f"{name}_hex"])
-    return written(case.get(name, ""))
-
-
-def arguments(words):
-    """The bytes of each argument; one that is given with a number stands so many times."""
-    repeated = [(word, 1) if isinstance(word, str) else word for word in words]
-    return [word.encode() for word, times in repeated for _ in range(times)]
-
-
 def fault_of(program, case):
     """What is wrong with the program's answer, or None."""
-    args = arguments(case["args"]) if "args" in case else [given(case, "script")]
     try:
-        ran = subprocess.run([built(program), *args], input=given(case, "markup"), capture_output=True, timeout=SECONDS)
+        ran = subprocess.run(
+            [built(program), *words_of(case)], input=given(case, "markup"), capture_output=True, timeout=SECONDS, cwd=ROOT
+        )
     except (OSError, subprocess.TimeoutExpired) as stopped:
         return str(stopped)
     wanted = given(case, "output"), given(case, "error"), case.get("status", 0)
@@ -167,7 +157,12 @@ def calls():
     return run_cases("cases of calls", "calls", (ROOT / "cases" / "calls").glob("*.jsonl"))
 
 
-def refusals():
+def pages():
+    """Runs the program `hq` on its cases and on those of html5lib, and returns how many passed and failed."""
+    return run_cases("cases of pages", "hq", [*(ROOT / "cases").glob("hq/*.jsonl"), *(ROOT / "cases").glob("pages/*.jsonl")])
+
+
+def limited():
     """Runs the program `calls` in a small address space, and returns how many calls were refused memory as they must
     be and then done, and how many weren't."""
     limit = lambda: resource.setrlimit(resource.RLIMIT_AS, (LIMITED, LIMITED))
@@ -185,20 +180,11 @@ def refusals():
     return passed, failed if passed and ran.returncode == 0 else failed + 1
 
 
-def full_device():
-    """Whether the program reports a device that is full, where there is such a device: it buffers, so only the last
-    flush fails."""
-    device = pathlib.Path("/dev/full")
-    if not device.is_char_device():
-        print("no device that is full")
-        return 0, 0
-    with device.open("wb") as full:
-        ran = subprocess.run([built("dq"), "document"], input=b"<p>a</p>", stdout=full, stderr=subprocess.PIPE, timeout=SECONDS)
-    got = ran.stderr, ran.returncode
-    if got == (b"dq: write failed\n", 5):
-        return 1, 0
-    print(f"a full device: got {got}")
-    return 0, 1
+def cleaned():
+    """Compares random forests that the program cleaned with a clean of our own."""
+    passed, failed = clean.compared(built("dq"), SEED, FORESTS)
+    print(f"forests that were cleaned: {passed} passed, {failed} failed")
+    return passed, failed
 
 
 def blocks(file):
@@ -230,7 +216,7 @@ def snippets():
         "text": [(crate / "stdout").read_text(encoding="utf-8")],
     }
     passed = failed = 0
-    for document in (ROOT / "README.md", ROOT / "docs" / "API.md", ROOT / "docs" / "SINK.md"):
+    for document in (ROOT / "README.md", *(ROOT / "docs" / name for name in ("API.md", "SINK.md", "PAGES.md"))):
         for kind, start, block in blocks(document):
             if any(stands_in(block, text) for text in known.get(kind, [])):
                 passed += 1
@@ -254,15 +240,19 @@ def wrong_bodies():
     return passed, failed if passed else failed + 1
 
 
-def tried(rt, root, name, source):
-    """Runs the source as a program that uses that crate, in the workspace, without a proof."""
+def front_end(rt, root, name, source):
+    """Whether the compiler takes the source as a program that uses that crate, over the libraries that the gate built, and
+    what it says. Nothing is proved: no function has the name that is asked for, so it ends once it has read them all."""
     caller = root / "crates" / "caller"
     (caller / "src").mkdir(parents=True, exist_ok=True)
     (caller / "src" / "main.rt").write_text(source, encoding="utf-8")
     listed = (ROOT / "crates.txt").read_text(encoding="utf-8")
     (root / "crates.txt").write_text(f"{listed}caller: {name}\n", encoding="utf-8")
-    ran = subprocess.run([rt, "try"], cwd=caller, capture_output=True, text=True, timeout=600)
-    return ran.returncode == 0, ran.stdout + ran.stderr
+    # (rt reads a list of crates once)
+    rt.rtlib.listed.cache_clear()
+    crate = next(it for it in rt.rtlib.crates_below(str(root)) if it.name == "caller")
+    said = rt.checked(crate, {}, ["--start", NO_FUNCTION, "--jobs", "1"], None).stdout
+    return f"no function `{NO_FUNCTION}`" in said, said
 
 
 def caller_fault(rt, root, file):
@@ -273,30 +263,28 @@ def caller_fault(rt, root, file):
     if len(words) != 1 or not words[0]:
         return "one line must end in '// refused: WORDS'"
     name = file.name.partition("-")[0]
-    compiles, said = tried(rt, root, name, "".join(lines))
+    compiles, said = front_end(rt, root, name, "".join(lines))
     if compiles or words[0] not in said:
         return f"it compiles, or is refused for another reason: {said[-2000:]}"
-    compiles, said = tried(rt, root, name, "".join(line for line, mark in zip(lines, marks) if not mark[1]))
-    return None if compiles else f"without that line it doesn't run either: {said[-2000:]}"
+    compiles, said = front_end(rt, root, name, "".join(line for line, mark in zip(lines, marks) if not mark[1]))
+    return None if compiles else f"without that line it doesn't compile either: {said[-2000:]}"
 
 
 def refused_callers():
     """Tries the callers that must not compile in a copy of the workspace, and returns how many are refused and how many
     aren't."""
-    rt = shutil.which("rt")
     files = sorted((ROOT / "cases" / "must-not-compile").glob("*.txt"))
-    passed = failed = 0
-    with tempfile.TemporaryDirectory() as folder:
-        root = pathlib.Path(folder)
-        if files:
-            shutil.copytree(ROOT / "crates", root / "crates", ignore=shutil.ignore_patterns("out"))
-        for file in files:
-            fault = caller_fault(rt, root, file) if rt else "no command rt"
-            if fault is None:
-                passed += 1
-            else:
-                failed += 1
-                print(f"{file.relative_to(ROOT)}: {fault}")
+    trials, passed, failed = edits.Trials(), 0, 0
+    for name in trials.crates:
+        trials.lend(name)
+    for file in files:
+        fault = caller_fault(trials.rt, pathlib.Path(trials.room.name), file)
+        if fault is None:
+            passed += 1
+        else:
+            failed += 1
+            print(f"{file.relative_to(ROOT)}: {fault}")
+    trials.room.cleanup()
     print(f"callers that must not compile: {passed} passed, {failed} failed")
     return passed, failed
 
@@ -304,8 +292,10 @@ def refused_callers():
 def main():
     clock, cases_alone = Clock(), sys.argv[1:] == ["--cases"]
     counts = [] if cases_alone else gate(clock)
-    tables = [table, calls, refusals, full_device, snippets, wrong_bodies, coverage.coverage]
+    tables = [table, calls, pages, limited, cleaned, streams.streams, snippets, wrong_bodies, coverage.coverage]
     counts += clock.timed("the cases", lambda: [each() for each in tables])
+    hard = [("the hostile inputs", hostile.hostile), ("the refusals", refusals.refusals), ("deep and wide trees", depth.depth)]
+    counts += [clock.timed(part, each) for part, each in hard]
     counts += [clock.timed("the callers that must not compile", refused_callers)]
     clock.note("all", time.monotonic() - clock.begun, used())
     clock.show()

@@ -5,17 +5,21 @@ An edit is a file cases/must-fail/CRATE/NAME.edit, in the form of `rt must-fail`
 of lines 'old: TEXT' and 'new: TEXT', where the old text stands in the file once. The edits of different functions are
 put into one copy of the crate, which is checked over the libraries that the gate built. A proof cites the contracts of
 what it calls and no code, so in that copy every other function has an endless loop for a body and a hole for a proof,
-which cost next to nothing; functions of a cycle of calls, which have one proof, stay as they are. A caller of a function
+which cost next to nothing; functions of a cycle of calls have one proof, and stay as they are where an edit changes one of
+them. A caller of a function
 that is refused says no more of itself, so what wasn't shown is tried again with what is left, and what is still not
 shown, and an edit of no function (a constant), alone, as `rt must-fail` does it: over the whole crate, any refusal will
 do, and it is reported as one elsewhere.
 
 `edits.py --control [CRATE ..]` tries the same functions without their edits: the prover must refuse none of them.
 
-`edits.py [CRATE ..]` tries the edits of these crates, or of all, over what stands built in the workspace."""
+`edits.py [CRATE ..]` tries the edits of these crates, or of all, over what stands built in the workspace. As `rt ci` does,
+it keeps on this machine what was refused, by the sum of all that it stands on; `--anew` tries all again."""
+import hashlib
 import importlib.machinery
 import importlib.util
 import itertools
+import json
 import os
 import pathlib
 import re
@@ -28,11 +32,12 @@ from concurrent.futures import ThreadPoolExecutor
 ROOT = pathlib.Path(__file__).resolve().parent.parent
 EDITS = ROOT / "cases" / "must-fail"
 HEAD = re.compile(r"(\s*)(?:pub(?:\([^)]*\))? )?(?:const )?(?:unsafe )?fn (\w+)")
-TOLD = re.compile(r"(?:note: )?(?:\./)?(src/\S+?):(\d+):\d+: ")
+NOTE = re.compile(r"(?:note: )?(?:\./)?(src/\S+?):(\d+):\d+: ")
 IMPL = re.compile(r"impl\b(?:<.*?>)? (?:(\w+)(?:<.*>)? for )?(\w+)")
 HOLE = "use Rattle.{0}.Statement.{{statement}}\n\npub {1}_spec : {{M : Type 1}} → statement M\n{1}_spec = ?\n"
 FUNCTION = re.compile(r"fn (\S+): (?:no proof|not proved)")
-CALLS = re.compile(r"it calls `.*`, which (?:is|are) not proved")
+CYCLE = re.compile(r"\s*#\[cycle\((\w+)\)")
+CALLS = re.compile(r"it calls `.*`, which (?:is|are) not proved|a call of `.*`, which has no proof")
 OWN = re.compile(r"did not prove `|it stands on `")
 MET = r'"(?:part/)?Rattle-{0}-proofs\.([\w.]+)\.Met"'
 
@@ -89,30 +94,52 @@ def body_of(lines, first):
     return None
 
 
-def is_plain(lines, first):
-    """Whether the function at that line can lose its body: none of a cycle of calls, and none that constants are made by."""
-    above = itertools.takewhile(lambda line: line.strip().startswith(("#[", "///")), reversed(lines[:first]))
-    return " const fn " not in f" {lines[first]}" and not any("#[cycle" in line for line in above)
+def cycles_in(lines):
+    """The functions of cycles of calls: for the first line of each, the line that names its cycle, and that name."""
+    found = {}
+    for first, line in enumerate(lines):
+        above = range(first - 1, -1, -1) if HEAD.match(line) else ()
+        for at in itertools.takewhile(lambda at: lines[at].strip().startswith(("#[", "///")), above):
+            cycle = CYCLE.match(lines[at])
+            if cycle:
+                found[first] = at, cycle[1]
+    return found
+
+
+def calls_itself(lines, first):
+    """Whether the function at that line calls itself, so that it is a cycle of calls alone, which no line names."""
+    indent, name = HEAD.match(lines[first]).groups()
+    call, body = re.compile(rf"\b[Ss]elf(?:\.|::){name}\(" if indent else rf"(?<![\w.:]){name}\("), body_of(lines, first)
+    return body is not None and any(map(call.search, lines[body[0] + 1 : body[1]]))
 
 
 def without_bodies(text, kept):
-    """The text with an endless loop for the body of each function but those that begin at the lines kept."""
+    """The text with an endless loop for the body of each function but those that begin at the lines kept, those that are of
+    a cycle with one of them, and those that constants are made by. Also the names of the functions of the cycles that
+    stay, and the names of the cycles that are none any more."""
     lines = text.split("\n")
+    cycles = cycles_in(lines)
+    held = {name for first, (_, name) in cycles.items() if first in kept}
     for first, line in enumerate(lines):
-        body = body_of(lines, first) if HEAD.match(line) and first not in kept and is_plain(lines, first) else None
+        stays = first in kept or " const fn " in f" {line}" or first in cycles and cycles[first][1] in held
+        body = body_of(lines, first) if HEAD.match(line) and not stays else None
         if body and body[1] - body[0] > 1:
             indent = HEAD.match(line)[1]
             lines[body[0] + 1 : body[1]] = [f"{indent}    loop {{}}", *[""] * (body[1] - body[0] - 2)]
-    return "\n".join(lines)
+        if body and first in cycles:
+            lines[cycles[first][0]] = ""
+    names = {HEAD.match(lines[first])[2] for first, (_, name) in cycles.items() if name in held}
+    names |= {HEAD.match(lines[first])[2] for first in kept if calls_itself(lines, first)}
+    return "\n".join(lines), names, {name for _, name in cycles.values()} - held
 
 
 class Edit:
     """An edit of one file: the lines that it changes, by their place, and the functions that it turns."""
 
     def __init__(self, file, folder):
-        self.name = f"{file.parent.name}/{file.stem}"
-        self.path, self.lines, self.places, self.fault, old = "", {}, set(), None, ""
-        for line in file.read_text(encoding="utf-8").splitlines():
+        self.name, self.text = f"{file.parent.name}/{file.stem}", file.read_text(encoding="utf-8")
+        self.path, self.lines, self.places, self.functions, self.fault, old = "", {}, set(), set(), None, ""
+        for line in self.text.splitlines():
             key, _, text = line.partition(": ")
             if key == "file":
                 self.path = text
@@ -131,6 +158,14 @@ class Edit:
         if not self.lines:
             self.fault = "it changes nothing"
 
+    def is_of(self, path):
+        """Whether it turns the function of that path: one of its name that stands in the `impl`, or in the module, of that
+        file."""
+        module = [it for it in pathlib.Path(self.path).with_suffix("").parts[1:] if it != "lib"]
+        return path[-1] in self.owners and (self.owners[path[-1]] or "") in ("", *path) and (
+            self.owners[path[-1]] is not None or path[:-1] == module
+        )
+
     def is_apart(self, taken):
         """Whether it is of functions alone, and of none of those taken."""
         return None not in self.places and not any((self.path, place) in taken for place in self.places)
@@ -139,12 +174,11 @@ class Edit:
         """The line by which the prover refuses what the edit turns, or None."""
         own = [line for line in said if not CALLS.search(line) or OWN.search(line)]
         for line in own:
-            told = TOLD.match(line)
-            if told and told[1] == self.path and any(it and it[1] < int(told[2]) <= it[2] + 1 for it in self.places):
+            note = NOTE.match(line)
+            if note and note[1] == self.path and any(it and it[1] < int(note[2]) <= it[2] + 1 for it in self.places):
                 return line
-        names = [it[0] for it in self.places if it]
-        told = (FUNCTION.match(line) for line in own)
-        return next((it.string for it in told if it and it[1].rpartition("::")[2] in names), None)
+        reported = (FUNCTION.match(line) for line in own)
+        return next((it.string for it in reported if it and it[1] in self.functions), None)
 
 
 def apart(edits):
@@ -169,18 +203,51 @@ def texts_with(edits, folder):
     return texts
 
 
+class Refusals:
+    """What earlier runs on this machine had refused, where `rt` keeps what it proved. The name of an entry is a sum of the
+    edit, of the crate with those below it, and of this script. The paths of a crate's functions are kept beside them, since a
+    library has no more of its private functions, and a gate that takes what was proved before doesn't print them."""
+
+    def __init__(self, rt, crates, anew):
+        self.kept, self.stamp = rt.Kept(crates, anew), lambda crate: rt.stamp_of(crate, {})
+        self.refused, self.script = rt.REFUSED, pathlib.Path(__file__).read_bytes()
+
+    def name(self, crate, edit):
+        """The name under which the refusal of that edit is kept."""
+        return hashlib.sha256(repr((self.stamp(crate), edit.name, edit.text, self.script)).encode()).hexdigest()
+
+    def of(self, crate, edit):
+        """The line by which an earlier run had the edit refused, or None."""
+        found = self.kept.tried(self.name(crate, edit))
+        return found and found[1]
+
+    def keep(self, crate, edit, line):
+        self.kept.keep_tried(self.name(crate, edit), self.refused, line)
+
+    def functions(self, crate, proved):
+        """The paths of the crate's functions: those that the gate has just proved, or else those that it proved before."""
+        name = hashlib.sha256(repr(("functions", self.stamp(crate))).encode()).hexdigest()
+        if proved:
+            self.kept.keep_tried(name, self.refused, json.dumps(proved))
+        found = self.kept.tried(name)
+        return proved or (json.loads(found[1]) if found else [])
+
+
 class Trial:
     """The edits of one crate, tried in rounds over what the rounds before proved."""
 
-    def __init__(self, rt, crate, jobs, proved, is_control):
+    def __init__(self, rt, crate, jobs, proved, is_control, refusals):
         self.rt, self.crate, self.jobs, self.is_control, self.wrong = rt, crate, jobs, is_control, []
+        self.refusals = refusals
         self.folder = pathlib.Path(crate.folder)
         # (what this crate hands on of another has proofs of that name, too, but no code here)
-        sources = {file.stem: file.read_text(encoding="utf-8") for file in (self.folder / "src").rglob("*.rt")}
-        own = {stem: {head[2] for head in map(HEAD.match, text.split("\n")) if head} for stem, text in sources.items()}
+        own = {}
+        for file in (self.folder / "src").rglob("*.rt"):
+            heads = map(HEAD.match, file.read_text(encoding="utf-8").split("\n"))
+            own.setdefault(file.stem, set()).update(head[2] for head in heads if head)
         paths = proved or self.kept_paths()
         named = [path for path in paths if any(path[-1] in names for names in own.values())]
-        self.functions = [path for path in named if path[0] in (own.get("lib", ()) if len(path) == 1 else sources)]
+        self.functions = [path for path in named if path[0] in (own.get("lib", ()) if len(path) == 1 else own)]
 
     def kept_paths(self):
         """The paths of the functions whose proofs a library has that was built outside the gate."""
@@ -188,41 +255,45 @@ class Trial:
         return [path.split(".") for path in re.findall(MET.format(self.crate.name), built)]
 
     def has_proof(self, path):
-        """Whether the function has a file of a proof of its own, or has one proof with others."""
-        return any((self.folder / "proofs").joinpath(*path).glob("*.antt")) or self.is_cyclic(path)
-
-    def is_cyclic(self, path):
-        """Whether the function stands in a module that has the one proof of a cycle of calls."""
-        proofs = self.folder / "proofs"
-        return any(any(proofs.joinpath(*path[:depth]).glob("+*")) for depth in range(len(path)))
+        """Whether the function has a file of a proof of its own."""
+        return any((self.folder / "proofs").joinpath(*path).glob("*.antt"))
 
     def asked_by(self, edits):
-        """The functions that the edits change, by their paths; None where one isn't known."""
+        """The functions that the edits change, by their paths; None where one of an edit isn't known."""
         asked = []
         for edit in edits:
-            for name, owner in (edit.owners or {None: None}).items():
-                known = [path for path in self.functions if path[-1] == name]
-                asked += [path for path in known if owner in path or not owner] or known or [None]
+            known = [path for path in self.functions if edit.is_of(path)]
+            edit.functions = {"::".join([self.crate.name, *path]) for path in known}
+            asked += known or [None]
         return asked
 
     def write_copy(self, room, edits, asked):
         """Writes the crate with the edits, and with holes in place of the other functions where some are asked for."""
         for part in ("src", "specs", "proofs"):
             shutil.copytree(self.folder / part, room / part)
-        texts, names = {} if self.is_control else texts_with(edits, self.folder), {path[-1] for path in asked}
+        texts, cyclic = {} if self.is_control else texts_with(edits, self.folder), set()
+        within = [[*path[:-1], "fn", path[-1]] for path in asked]
         for file in (room / "src").rglob("*.rt") if asked else ():
             path = str(file.relative_to(room))
             kept = {place[1] for edit in edits if edit.path == path for place in edit.places}
-            texts[path] = without_bodies(texts.get(path) or file.read_text(encoding="utf-8"), kept)
+            texts[path], held, loose = without_bodies(texts.get(path) or file.read_text(encoding="utf-8"), kept)
+            cyclic |= held
+            for folder in [it for cycle in loose for it in (room / "proofs").rglob(f"+{cycle}")]:
+                shutil.rmtree(folder)
         for path, text in texts.items():
             (room / path).write_text(text, encoding="utf-8")
         for path in self.functions if asked else ():
             proofs = room / "proofs" / pathlib.Path(*path)
-            if path in asked and not self.is_control and not self.has_proof(path):
+            if path in asked and path[-1] not in cyclic and not self.is_control and not self.has_proof(path):
                 # with a file of answers, if without any, the prover looks for none to offer
                 proofs.mkdir(parents=True, exist_ok=True)
                 (proofs / "Answers.antt").write_text("-- none\n", encoding="utf-8")
-            elif not names & {*path} and path[-1] != "TheImpl" and "+" not in str(proofs) and not self.is_cyclic(path):
+            elif not (
+                path in asked
+                or any(path[: len(it)] == it for it in within)
+                or path[-1] in {"TheImpl", *cyclic}
+                or "+" in str(proofs)
+            ):
                 shutil.rmtree(proofs, ignore_errors=True)
                 proofs.mkdir(parents=True)
                 module = f"{self.crate.name}.proofs.{'.'.join(path)}"
@@ -252,9 +323,10 @@ class Trial:
             shown = {it: it.refusal(said) for it in edits if it.refusal(said)}
         print(f"edits of {self.crate.name}: {len(edits)} at once, {time.monotonic() - begun:.0f} s", flush=True)
         if len(edits) == 1 and said and not shown:
-            shown = {edits[0]: f"elsewhere: {next(filter(TOLD.match, said), said[-1])}"}
+            shown = {edits[0]: f"elsewhere: {next(filter(NOTE.match, said), said[-1])}"}
         for edit, line in shown.items():
             print(f"must-fail {edit.name}: refused: {line[:160]}", flush=True)
+            self.refusals.keep(self.crate, edit, line[:160])
         if len(edits) == 1 and not shown:
             print(f"must-fail {edits[0].name}: NOT REFUSED", flush=True)
             self.wrong += edits
@@ -290,7 +362,7 @@ class Trial:
 class Trials:
     """The edits of all crates, each crate's tried as soon as it is built, in a copy of the workspace."""
 
-    def __init__(self, is_control=False):
+    def __init__(self, is_control=False, anew=False):
         self.rt, self.room, self.is_control = toolchain(), tempfile.TemporaryDirectory(prefix="edits-workspace-"), is_control
         self.processors = self.rt.processors()
         self.lanes, self.is_beside, self.counts = max(1, self.processors // 2), True, []
@@ -300,21 +372,27 @@ class Trials:
         shutil.copy(ROOT / "crates.txt", root / "crates.txt")
         shutil.copytree(ROOT / "crates", root / "crates", ignore=shutil.ignore_patterns("out", "must-fail"))
         self.crates = {it.name: it for it in self.rt.rtlib.crates_below(str(root))}
+        self.refusals = Refusals(self.rt, list(self.crates.values()), anew)
         self.left = {folder.name for folder in EDITS.iterdir()}
 
     def jobs(self):
         """How many jobs a check may take: one while the gate has the processors."""
         return 1 if self.is_beside else max(1, self.processors // self.lanes)
 
-    def built(self, name, proved):
-        """Takes what the gate built of a crate, and has its edits tried: `proved` has the paths of its functions, or
-        nothing where the library says them itself."""
+    def lend(self, name):
+        """Takes what the gate built of a crate, if it is a library, into the copy of the workspace."""
         if (ROOT / "crates" / name / "out" / "rlib").is_dir():
             to = pathlib.Path(self.crates[name].folder) / "out" / "rlib"
             shutil.copytree(ROOT / "crates" / name / "out" / "rlib", to, copy_function=linked)
+
+    def built(self, name, proved):
+        """Takes what the gate built of a crate, and has its edits tried: `proved` has the paths of its functions, or
+        nothing where the library says them itself."""
+        self.lend(name)
         if name in self.left:
             self.left.remove(name)
-            self.counts.append(self.pool.submit(self.count, self.crates[name], proved))
+            functions = self.refusals.functions(self.crates[name], proved)
+            self.counts.append(self.pool.submit(self.count, self.crates[name], functions))
 
     def count(self, crate, proved):
         """Tries a crate's edits, and returns how many were refused and how many weren't."""
@@ -324,8 +402,12 @@ class Trials:
             bad = [it for it in edits if it.fault]
             for edit in bad:
                 print(f"must-fail {edit.name}: BAD EDIT: {edit.fault}", flush=True)
-            trial = Trial(self.rt, crate, self.jobs, proved, self.is_control)
             edits = [it for it in edits if not it.fault]
+            known = [] if self.is_control else [it for it in edits if self.refusals.of(crate, it)]
+            for edit in known:
+                print(f"must-fail {edit.name}: refused by an earlier run: {self.refusals.of(crate, edit)}", flush=True)
+            edits = [it for it in edits if it not in known]
+            trial = Trial(self.rt, crate, self.jobs, proved, self.is_control, self.refusals)
             wrong = trial.refused_without(edits) if self.is_control else trial.not_refused(edits)
         except (OSError, ValueError) as fault:
             print(f"must-fail {crate.name}: {fault}", flush=True)
@@ -348,8 +430,8 @@ class Trials:
 
 
 def main():
-    trials = Trials("--control" in sys.argv)
-    names = [it for it in sys.argv[1:] if it != "--control"] or sorted(trials.left)
+    trials = Trials("--control" in sys.argv, "--anew" in sys.argv)
+    names = [it for it in sys.argv[1:] if not it.startswith("--")] or sorted(trials.left)
     trials.left &= set(names)
     for crate in list(trials.crates.values()):
         if crate.name in trials.left or any(crate in trials.crates[it].below() for it in names):

@@ -2,7 +2,8 @@
 
 use crate::printing::show;
 use dom_query::{
-    CssLocalName, CssString, InnerSelector, Matcher, NonTSPseudoClass, PseudoElement, ToCss,
+    CssLocalName, CssString, InnerSelector, Matcher, MiniSelector, NonTSPseudoClass, PseudoElement,
+    ToCss,
 };
 
 /// Prints what is written of a value.
@@ -32,6 +33,33 @@ fn write_each(rt: &HostRuntime, selectors: &[InnerSelector]) -> Option<()> {
         show_css(rt, "to_css", selector)?;
     }
     Some(())
+}
+
+/// What is printed for a programmer of a list, and whether a copy of each selector is the same as
+/// it: `SELECTOR`.
+pub fn print_selector(rt: &HostRuntime, line: &str) -> Option<()> {
+    let matcher = Matcher::new(rt.alloc(), line).ok()?;
+    println!(rt; "{matcher:?}").ok()?;
+    let (first, last) = (matcher.selectors().first()?, matcher.selectors().last()?);
+    let copy = first.try_clone().ok()?;
+    show(rt, "the same as a copy", copy == *first)?;
+    show(rt, "the same as the last", copy == *last)
+}
+
+/// What is printed for a programmer of a text as a string, a name, a mini selector and in a
+/// pseudo-class, of which copies are the same: `TEXT`.
+pub fn print_values(rt: &HostRuntime, text: &str) -> Option<()> {
+    let string = CssString::new(rt.alloc(), text).ok()?;
+    let name = CssLocalName::new(rt.alloc(), text).ok()?;
+    println!(rt; "{string:?} {name:?}").ok()?;
+    show(rt, "same string", string == string.try_clone().ok()?)?;
+    show(rt, "same name", name == name.try_clone().ok()?)?;
+    let pseudo = NonTSPseudoClass::Contains(string);
+    println!(rt; "{pseudo:?}").ok()?;
+    show(rt, "same pseudo-class", pseudo == pseudo.try_clone().ok()?)?;
+    show(rt, "another", pseudo == NonTSPseudoClass::OnlyText)?;
+    let mini = MiniSelector::new(rt.alloc(), text).ok()?;
+    println!(rt; "{mini:?}").ok()
 }
 
 /// What is written of copies of a text as a string, a name and in a pseudo-class: `TEXT`.

@@ -44,10 +44,10 @@ fn count(rt: &HostRuntime, index: &mut TreeIndex<'_>, id: &NodeId) -> Option<()>
     let last = index.index_at(id, IndexKind::LastChild);
     let of_type = index.index_at(id, IndexKind::OfType);
     let last_of_type = index.index_at(id, IndexKind::LastOfType);
-    show(rt, "child", child)?;
-    show(rt, "last child", last)?;
-    show(rt, "of type", of_type)?;
-    show(rt, "last of type", last_of_type)
+    show_some(rt, "child", child)?;
+    show_some(rt, "last child", last)?;
+    show_some(rt, "of type", of_type)?;
+    show_some(rt, "last of type", last_of_type)
 }
 
 /// The position of each node.

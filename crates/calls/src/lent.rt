@@ -1,25 +1,31 @@
 //! Calls of a node that is lent to be changed: `NodeMut` and `NodeMutMarkup`.
 
 use crate::printing::show_edit;
-use crate::words::{cut, node_of};
+use crate::words::{cut, node_of, words_of};
 use dom_query::{EditFault, NodeEdit, NodeId, NodeMut, NodeMutMarkup, Text, Tree};
 
 /// A call at a node: `N CALL WORDS`.
 pub fn call(rt: &HostRuntime, tree: &mut Tree, line: &str) -> Option<()> {
+    let (_, rest) = cut(line);
+    let (call, _) = cut(rest);
+    show_edit(rt, call, edited(tree, line)?)
+}
+
+/// Makes the call.
+pub fn edited(tree: &mut Tree, line: &str) -> Option<Result<(), EditFault>> {
     let (word, rest) = cut(line);
     let id = node_of(word)?;
     let (call, words) = cut(rest);
     let mut node = tree.node_mut(&NodeId::root())?;
     // A number that the tree doesn't have is refused by the calls.
     node.id = id;
-    let edit = if let Some(other) = node_of(words) {
-        moved(&mut node, call, &other)?
+    if let Some(other) = node_of(words) {
+        moved(&mut node, call, &other)
     } else if call.ends_with("_html") {
-        put(&mut node, call, words)?
+        put(&mut node, call, words)
     } else {
-        changed(&mut node, call, words)?
-    };
-    show_edit(rt, call, edit)
+        changed(&mut node, call, words)
+    }
 }
 
 fn moved(node: &mut NodeMut<'_>, call: &str, other: &NodeId) -> Option<Result<(), EditFault>> {
@@ -66,21 +72,22 @@ fn changed(node: &mut NodeMut<'_>, call: &str, words: &str) -> Option<Result<(),
         "add_class" => node.add_class(words),
         "remove_class" => node.remove_class(words),
         _ => {
-            changed_always(node, call, name, value)?;
+            changed_always(node, call, words)?;
             Ok(())
         }
     })
 }
 
 /// The changes that are never refused.
-fn changed_always(node: &mut NodeMut<'_>, call: &str, name: &str, other: &str) -> Option<()> {
+fn changed_always(node: &mut NodeMut<'_>, call: &str, words: &str) -> Option<()> {
+    let names = words_of(node.tree.allocator(), words)?;
     match call {
-        "strip_elements" => node.strip_elements(&[name, other]),
-        "remove_attr" => node.remove_attr(name),
-        "remove_attrs" => node.remove_attrs(&[name, other]),
-        "retain_attrs" => node.retain_attrs(&[name, other]),
+        "strip_elements" => node.strip_elements(&names),
+        "remove_attr" => node.remove_attr(words),
+        "remove_attrs" => node.remove_attrs(&names),
+        "retain_attrs" => node.retain_attrs(&names),
         "remove_all_attrs" => node.remove_all_attrs(),
-        "update" => return update(node, name),
+        "update" => return update(node, words),
         _ => return None,
     }
     Some(())

@@ -1,26 +1,52 @@
-//! Calls that memory is refused to. Each takes what memory there is, leaves so many bytes and does
-//! the call, with more bytes each time, until it was refused and was done. So each request of the
-//! call is once the one that is refused, and what was handed in is then as before.
+//! Calls that memory is refused to. What was handed in is then as before, and the refusal is
+//! reported as one. `calls limited` takes what memory there is, leaves so many bytes and does the
+//! call, with more bytes each time, until it was refused and was done. `calls counted` has the
+//! counter of cases/refuse.c refuse each request of a call in turn, alone and with all behind it.
 
 mod calls;
+mod changing;
 mod editing;
+mod free;
 mod markdown;
 mod memory;
 mod mini;
+mod reading;
 mod selectors;
 
 use crate::limits::calls::{CALLS, Call, Ending, Page, tried};
+use crate::limits::changing::CHANGES;
+use crate::limits::free::FREE;
+use crate::limits::memory::{Memory, was_refused};
+use crate::limits::reading::READS;
+use std::alloc::Global;
 
 /// How many more bytes are left each time.
 const STEP: usize = 16;
 /// How often a call is done at most.
 const TRIES: usize = 4_000;
 
+/// A call of one of the lists.
+#[derive(Clone, Copy)]
+enum Limited<'a> {
+    Call(Call),
+    Change(&'a str),
+    Read(&'a str),
+}
+
+/// Does the call with so much memory.
+fn ending_of(alloc: Global, page: &Page, limited: Limited<'_>, memory: Memory) -> Option<Ending> {
+    match limited {
+        Limited::Call(call) => tried(alloc, page, call, memory),
+        Limited::Change(line) => changing::changes(alloc, page, line, memory),
+        Limited::Read(name) => reading::reads(alloc, page, name, memory),
+    }
+}
+
 /// Does the call with ever more memory, until it is done. Answers whether it was refused before.
-fn was_refused(rt: &HostRuntime, page: &Page, call: Call) -> Option<bool> {
+fn is_refused_first(alloc: Global, page: &Page, call: Call) -> Option<bool> {
     let mut is_refused = false;
     for number in 0..TRIES {
-        match tried(rt.alloc(), page, call, Some(number * STEP))? {
+        match tried(alloc, page, call, Memory::Bytes(number * STEP))? {
             Ending::Refused => is_refused = true,
             Ending::Done => return Some(is_refused),
             Ending::Wrong => return None,
@@ -29,22 +55,106 @@ fn was_refused(rt: &HostRuntime, page: &Page, call: Call) -> Option<bool> {
     None
 }
 
-/// Prints how each call ended: with ample memory, or in an address space of some hundred megabytes
-/// with ever more of it.
-pub fn try_all(rt: &HostRuntime, is_limited: bool) -> Option<()> {
+/// Does the call with each request refused in turn, until none is. Answers how many were.
+fn refusals(alloc: Global, page: &Page, limited: Limited<'_>, is_onward: bool) -> Option<usize> {
+    for number in 1..TRIES {
+        let memory = if is_onward {
+            Memory::Before(number)
+        } else {
+            Memory::Without(number)
+        };
+        let ending = ending_of(alloc, page, limited, memory)?;
+        if ending == Ending::Wrong {
+            return None;
+        }
+        if !was_refused(alloc) {
+            return (ending == Ending::Done).then_some(number.saturating_sub(1));
+        }
+    }
+    None
+}
+
+/// Prints how a call ended whose requests were refused.
+fn count(rt: &HostRuntime, page: &Page, name: &str, limited: Limited<'_>) -> Option<()> {
+    let alone = refusals(rt.alloc(), page, limited, false);
+    let with_later = refusals(rt.alloc(), page, limited, true);
+    match (alone, with_later) {
+        (Some(alone), Some(later)) if alone > 0 && later > 0 => {
+            let all = alone.saturating_add(later);
+            println!(rt; "{name}: {all} refused, then done").ok()
+        }
+        _ => println!(rt; "{name}: wrong").ok(),
+    }
+}
+
+/// Prints whether a call is done with no request.
+fn count_free(rt: &HostRuntime, page: &Page, name: &str) -> Option<()> {
+    let ending = free::tries(rt.alloc(), page, name, Memory::Before(1));
+    if ending == Some(Ending::Done) && !was_refused(rt.alloc()) {
+        println!(rt; "{name}: done without a request").ok()
+    } else {
+        println!(rt; "{name}: wrong").ok()
+    }
+}
+
+/// Prints how each call ended whose requests the counter refused in turn.
+pub fn count_all(rt: &HostRuntime) -> Option<()> {
     let page = Page::new(rt.alloc())?;
     for (name, call) in CALLS {
-        let ending = if is_limited {
-            match was_refused(rt, &page, call) {
-                Some(true) => "refused, then done",
-                Some(false) => "never refused",
-                None => "wrong",
-            }
-        } else {
-            match tried(rt.alloc(), &page, call, None) {
-                Some(Ending::Done) => "done",
-                _ => "wrong",
-            }
+        count(rt, &page, name, Limited::Call(call))?;
+    }
+    for line in CHANGES {
+        count(rt, &page, line, Limited::Change(line))?;
+    }
+    for name in READS {
+        count(rt, &page, name, Limited::Read(name))?;
+    }
+    for name in FREE {
+        count_free(rt, &page, name)?;
+    }
+    Some(())
+}
+
+/// Prints that a call was done with ample memory.
+fn show_done(rt: &HostRuntime, name: &str, ending: Option<Ending>) -> Option<()> {
+    let word = if ending == Some(Ending::Done) {
+        "done"
+    } else {
+        "wrong"
+    };
+    println!(rt; "{name}: {word}").ok()
+}
+
+/// Prints how each call ended with ample memory.
+pub fn try_all(rt: &HostRuntime) -> Option<()> {
+    let (alloc, page) = (rt.alloc(), Page::new(rt.alloc())?);
+    for (name, call) in CALLS {
+        show_done(rt, name, tried(alloc, &page, call, Memory::Ample))?;
+    }
+    for line in CHANGES {
+        show_done(
+            rt,
+            line,
+            changing::changes(alloc, &page, line, Memory::Ample),
+        )?;
+    }
+    for name in READS {
+        show_done(rt, name, reading::reads(alloc, &page, name, Memory::Ample))?;
+    }
+    for name in FREE {
+        show_done(rt, name, free::tries(alloc, &page, name, Memory::Ample))?;
+    }
+    Some(())
+}
+
+/// Prints how each call ended in an address space of some hundred megabytes with ever more of it.
+pub fn limit_all(rt: &HostRuntime) -> Option<()> {
+    let page = Page::new(rt.alloc())?;
+    for (name, call) in CALLS {
+        let ending = match is_refused_first(rt.alloc(), &page, call) {
+            Some(true) => "refused, then done",
+            Some(false) => "never refused",
+            None => "wrong",
         };
         println!(rt; "{name}: {ending}").ok()?;
     }

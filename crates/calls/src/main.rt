@@ -1,10 +1,13 @@
 //! Calls of the library, asked at a shell. `calls LINE ..` reads the markup on standard input,
 //! makes the call of each line on the document, in order, and prints what each answers: the rows of
 //! cases/calls. `calls` alone does each call of `limits` with ample memory, and `calls limited`
-//! with ever more of it. `calls time` takes the times of some.
+//! with ever more of it, `calls counted` with each request refused in turn. `calls time` takes the
+//! times of some, `calls batch` and `calls raw` read many inputs.
 #![tactic(auto)]
 
 mod asking;
+mod batch;
+mod cleaning;
 mod css;
 mod indexes;
 mod lent;
@@ -39,10 +42,12 @@ fn change(rt: &HostRuntime, document: &mut Document, group: &str, line: &str) ->
         "node" => lent::call(rt, &mut document.tree, line),
         "nodes" => many::call(rt, &mut document.tree, line),
         "snippet" => pages::put_snippet(rt, &mut document.tree, line),
+        "sanitize" => cleaning::clean(rt, document, line),
         "sink-make" => sinks::make(rt, document, line),
         "sink-put" => sinks::put(rt, document, line),
         "sink-change" => sinks::change(rt, document, line),
         "sink-note" => sinks::note(rt, document, line),
+        "normalize" => pages::normalize(rt, document),
         _ => read(rt, document, group, line),
     }
 }
@@ -53,6 +58,7 @@ fn read(rt: &HostRuntime, document: &Document, group: &str, line: &str) -> Optio
         "page" => pages::read(rt, document),
         "print" => pages::print_page(rt, document),
         "texts" => pages::print_texts(rt, document),
+        "texts-without" => pages::print_without(rt, document, line),
         "html" => pages::print_html(rt, document),
         "clone" => pages::print_copy(rt, document),
         "to-fragment" => pages::make_fragment(rt, document, line),
@@ -113,6 +119,8 @@ fn write(rt: &HostRuntime, group: &str, line: &str) -> Option<()> {
         "fault-of" => selecting::show_fault(rt, line),
         "css" => css::write_selectors(rt, line),
         "css-of" => css::write_values(rt, line),
+        "debug" => css::print_selector(rt, line),
+        "debug-of" => css::print_values(rt, line),
         "mini" => minis::read(rt, line),
         "minis" => minis::read_list(rt, line),
         "chunk" => texts::escape_chunk(rt, line),
@@ -139,8 +147,11 @@ fn call_all(rt: &HostRuntime, lines: &[String]) -> Option<()> {
 
 fn run(rt: &HostRuntime, lines: &[String]) -> Option<()> {
     match lines {
-        [] => limits::try_all(rt, false),
-        [word] if word.as_str() == "limited" => limits::try_all(rt, true),
+        [] => limits::try_all(rt),
+        [word] if word.as_str() == "limited" => limits::limit_all(rt),
+        [word] if word.as_str() == "counted" => limits::count_all(rt),
+        [word] if word.as_str() == "raw" => batch::check_all(rt),
+        [word, kind] if word.as_str() == "batch" => batch::answer_all(rt, kind.as_str()),
         [word, words @ ..] if word.as_str() == "time" => timing::time_calls(rt, words),
         _ => call_all(rt, lines),
     }

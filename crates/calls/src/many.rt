@@ -1,7 +1,7 @@
 //! Calls of `SelectionMut`, which change several nodes.
 
 use crate::printing::show_edit;
-use crate::words::{cut, nodes_of};
+use crate::words::{cut, nodes_of, words_of};
 use dom_query::{NodeId, SelectionFault, SelectionMut, Tree};
 
 /// A call at nodes: `N,M CALL WORDS`; nodes that are given are written `N,M` too.
@@ -14,6 +14,8 @@ pub fn call(rt: &HostRuntime, tree: &mut Tree, line: &str) -> Option<()> {
         given(&mut nodes, call, &nodes_of(alloc, words)?)?
     } else if call.ends_with("_html") {
         put(&mut nodes, call, words)?
+    } else if call.ends_with("_attrs") || call == "strip_elements" {
+        lessened(&mut nodes, call, &words_of(alloc, words)?)?
     } else {
         changed(&mut nodes, call, words)?
     };
@@ -55,14 +57,25 @@ fn changed(
     Some(match call {
         "remove" => nodes.remove(),
         "set_text" => nodes.set_text(words),
-        "strip_elements" => nodes.strip_elements(&[name, value]),
         "set_attr" => nodes.set_attr(name, value),
         "rename" => nodes.rename(name),
         "add_class" => nodes.add_class(words),
         "remove_class" => nodes.remove_class(words),
         "remove_attr" => nodes.remove_attr(name),
-        "remove_attrs" => nodes.remove_attrs(&[name, value]),
-        "retain_attrs" => nodes.retain_attrs(&[name, value]),
+        _ => return None,
+    })
+}
+
+/// Takes elements out, or attributes, by their names.
+fn lessened(
+    nodes: &mut SelectionMut<'_>,
+    call: &str,
+    names: &[&str],
+) -> Option<Result<(), SelectionFault>> {
+    Some(match call {
+        "strip_elements" => nodes.strip_elements(names),
+        "remove_attrs" => nodes.remove_attrs(names),
+        "retain_attrs" => nodes.retain_attrs(names),
         "remove_all_attrs" => nodes.remove_all_attrs(),
         _ => return None,
     })

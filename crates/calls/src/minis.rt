@@ -1,12 +1,11 @@
 //! Mini selectors and paths of them.
 
 use crate::printing::{show, show_ids, show_nodes, show_some};
-use crate::words::{cut, node_of};
+use crate::words::{cut, node_of, words_of};
 use dom_query::{
     Document, MatchNode, MiniSelect, MiniSelector, NodeId, NodeRef, Traversal, Tree,
     parse_mini_selector, parse_selector_list,
 };
-use std::alloc::Global;
 
 /// Follows a path, and prints the id of each node that it finds, in order, or `-` where a node has
 /// none: `PATH`.
@@ -88,17 +87,6 @@ fn find_path(rt: &HostRuntime, node: &NodeRef<'_>, names: &[&str]) -> Option<()>
     let alloc = node.tree.allocator();
     let all = Traversal::find_descendant_elements(alloc, nodes, id, names).ok()?;
     show_ids(rt, "find_descendant_elements", &all)
-}
-
-/// The words of a line.
-fn words_of(alloc: Global, line: &str) -> Option<Vec<&str>> {
-    let mut words = Vec::new(alloc);
-    for word in line.split(' ') {
-        if !word.is_empty() {
-            words.push(word).ok()?;
-        }
-    }
-    Some(words)
 }
 
 /// Whether a text is a mini selector that means a node: `N TEXT`.

@@ -1,7 +1,7 @@
 //! Calls of `Document` and of the whole `Tree`.
 
 use crate::printing::{show, show_edit, show_node, show_some};
-use crate::words::{cut, node_of, nodes_of};
+use crate::words::{cut, node_of, nodes_of, words_of};
 use dom_query::{Document, DocumentMd, NodeFragment, NodeId, NodeMarkup, Place, Snippet, Tree};
 
 /// What a document answers of all of it.
@@ -50,9 +50,30 @@ pub fn print_texts(rt: &HostRuntime, document: &Document) -> Option<()> {
     show(rt, "md", document.md(None).ok()?)
 }
 
-/// The number of nodes of a copy, and its HTML.
+/// The Markdown of a document without the elements of some names: `NAME NAME ..`.
+pub fn print_without(rt: &HostRuntime, document: &Document, line: &str) -> Option<()> {
+    let names = words_of(rt.alloc(), line)?;
+    show(rt, "md", document.md(Some(&names)).ok()?)
+}
+
+/// The number of nodes of a document, its HTML, and what was noted of it.
+fn print_whole(rt: &HostRuntime, document: &Document) -> Option<()> {
+    print_page(rt, document)?;
+    for error in document.errors.as_slice() {
+        show(rt, "error", error.as_str())?;
+    }
+    let mode = document.quirks_mode;
+    println!(rt; "quirks_mode: {mode:?}").ok()
+}
+
+/// A copy of a document.
 pub fn print_copy(rt: &HostRuntime, document: &Document) -> Option<()> {
-    print_page(rt, &document.try_clone().ok()?)
+    print_whole(rt, &document.try_clone().ok()?)
+}
+
+/// Joins the texts of a document.
+pub fn normalize(rt: &HostRuntime, document: &mut Document) -> Option<()> {
+    show_edit(rt, "Document::normalize", document.normalize())
 }
 
 /// The fragment that a parser fills, before it does.
@@ -82,7 +103,7 @@ pub fn read_document(rt: &HostRuntime, markup: &str) -> Option<()> {
 /// The fragment of a node: `N`.
 pub fn make_fragment(rt: &HostRuntime, document: &Document, line: &str) -> Option<()> {
     match document.tree.get_unchecked(&node_of(line)?).to_fragment() {
-        Ok(fragment) => print_page(rt, &fragment),
+        Ok(fragment) => print_whole(rt, &fragment),
         Err(fault) => show(rt, "to_fragment", fault),
     }
 }

@@ -2,7 +2,7 @@
 
 use crate::printing::{show, show_flags, show_ids, show_nodes, show_some};
 use crate::words::cut;
-use dom_query::{Document, DocumentSelect, Matcher, OutOfMemory, Selection};
+use dom_query::{Document, DocumentSelect, Matcher, OutOfMemory, Selection, SelectionMd};
 use std::fmt::Display;
 
 /// Prints the nodes of a selection, or the fault in its place.
@@ -109,8 +109,22 @@ fn choose_by_matcher(rt: &HostRuntime, all: &Selection<'_>, matcher: &Matcher) -
     show_found(rt, "select_matcher", &all.select_matcher(matcher))?;
     let one = all.select_single_matcher(matcher);
     show_found(rt, "select_single_matcher", &one)?;
+    show_each(rt, all, matcher)?;
     show_found(rt, "filter_matcher", &all.filter_matcher(matcher))?;
     show_found(rt, "add_matcher", &all.add_matcher(matcher))
+}
+
+/// What a matcher selects below the nodes, one by one; `-` where there are no nodes.
+fn show_each(rt: &HostRuntime, all: &Selection<'_>, matcher: &Matcher) -> Option<()> {
+    let Some(matches) = all.select_matcher_iter(matcher).ok()? else {
+        return show(rt, "select_matcher_iter", "-");
+    };
+    print!(rt; "select_matcher_iter:").ok()?;
+    for node in matches {
+        let value = node.id.value();
+        print!(rt; " {value}").ok()?;
+    }
+    println!(rt; "").ok()
 }
 
 /// What the nodes of two selectors make together: `OTHER SELECTOR`.
@@ -121,10 +135,11 @@ pub fn combine(rt: &HostRuntime, document: &Document, line: &str) -> Option<()> 
     show_both(rt, &all, &other)
 }
 
-fn show_both(rt: &HostRuntime, all: &Selection<'_>, other: &Selection<'_>) -> Option<()> {
+fn show_both<'a>(rt: &HostRuntime, all: &Selection<'a>, other: &Selection<'a>) -> Option<()> {
     show_found(rt, "filter_selection", &all.filter_selection(other))?;
     show_found(rt, "add_selection", &all.add_selection(other))?;
-    show(rt, "is_selection", all.is_selection(other).ok()?)
+    show(rt, "is_selection", all.is_selection(other))?;
+    println!(rt; "{all:?}").ok()
 }
 
 /// What is read of the nodes that a selector selects: `NAME SELECTOR`.
@@ -152,6 +167,7 @@ fn read_first(rt: &HostRuntime, all: &Selection<'_>, name: &str) -> Option<()> {
 fn read_texts(rt: &HostRuntime, all: &Selection<'_>) -> Option<()> {
     show(rt, "text", all.text().ok()?)?;
     show(rt, "immediate_text", all.immediate_text().ok()?)?;
+    show(rt, "formatted_text", all.formatted_text().ok()?)?;
     show(rt, "html", all.html().ok()?)?;
     show(rt, "inner_html", all.inner_html().ok()?)?;
     show_some(rt, "try_html", all.try_html().ok()?)?;

@@ -1,7 +1,7 @@
 //! Markdown and its pieces, and the tokens of a text.
 
 use crate::printing::show;
-use crate::words::{cut, node_of};
+use crate::words::{cut, node_of, words_of};
 use dom_md::formatting::formatted_node;
 use dom_query::{
     EmphasisScope, FormatOpts, ListContext, ListKind, MDSerializer, NodeMd, NodeRef, Tokens, Tree,
@@ -13,20 +13,22 @@ pub fn write_node(rt: &HostRuntime, tree: &Tree, line: &str) -> Option<()> {
     let node = NodeRef::new(node_of(line)?, tree);
     show(rt, "md", node.md(None).ok()?)?;
     show(rt, "serialize_md", serialize_md(&node, false, None).ok()?)?;
+    let with_node = serialize_md(&node, true, None).ok()?;
+    show(rt, "serialize_md with the node", with_node)?;
     let serializer = MDSerializer::new(&node, None);
     show(rt, "MDSerializer", serializer.serialize(true).ok()?)
 }
 
-/// The Markdown of a node without the elements of two names: `N NAME NAME`.
+/// The Markdown of a node without the elements of some names, by each call: `N NAME NAME ..`.
 pub fn write_without(rt: &HostRuntime, tree: &Tree, line: &str) -> Option<()> {
     let (word, names) = cut(line);
-    let id = node_of(word)?;
-    let (name, other) = cut(names);
-    show(
-        rt,
-        "md",
-        NodeRef::new(id, tree).md(Some(&[name, other])).ok()?,
-    )
+    let node = NodeRef::new(node_of(word)?, tree);
+    let names = words_of(rt.alloc(), names)?;
+    show(rt, "md", node.md(Some(&names)).ok()?)?;
+    let text = serialize_md(&node, false, Some(&names)).ok()?;
+    show(rt, "serialize_md", text)?;
+    let serializer = MDSerializer::new(&node, Some(&names));
+    show(rt, "MDSerializer", serializer.serialize(false).ok()?)
 }
 
 /// The formatted text of a node: `N`.

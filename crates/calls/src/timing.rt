@@ -3,8 +3,8 @@
 //! does each call once and prints its count alone.
 
 use dom_query::{
-    Document, DocumentMd, DocumentSelect, EditFault, Matcher, MiniSelect, NodeId, NodeMarkup,
-    NodeMd, Place, Snippet, Tokens, Tree, TreeIndex,
+    Allow, Document, DocumentMd, DocumentSelect, EditFault, Matcher, MiniSelect, NodeId,
+    NodeMarkup, NodeMd, Place, Snippet, Tokens, Tree, TreeIndex, sanitize,
 };
 use dom_select::matcher::descendants::select_below;
 use std::io::Read;
@@ -28,9 +28,16 @@ enum Call {
     Edits,
     Clone,
     Append,
+    Clean,
+    Validate,
+    Copy,
+    Merge,
+    Normalize,
+    Strip,
+    Sanitize,
 }
 
-const CALLS: [(&str, Call); 15] = [
+const CALLS: [(&str, Call); 22] = [
     ("parse", Call::Parse),
     ("drop", Call::Drop),
     ("tokens", Call::Tokens),
@@ -46,6 +53,47 @@ const CALLS: [(&str, Call); 15] = [
     ("edits", Call::Edits),
     ("clone", Call::Clone),
     ("append", Call::Append),
+    ("clean", Call::Clean),
+    ("validate", Call::Validate),
+    ("copy", Call::Copy),
+    ("merge", Call::Merge),
+    ("normalize", Call::Normalize),
+    ("strip", Call::Strip),
+    ("sanitize", Call::Sanitize),
+];
+
+/// What of a page stays where it is cleaned.
+const ELEMENTS: [&str; 25] = [
+    "a",
+    "b",
+    "blockquote",
+    "br",
+    "code",
+    "dd",
+    "div",
+    "dl",
+    "dt",
+    "em",
+    "h1",
+    "h2",
+    "h3",
+    "i",
+    "img",
+    "li",
+    "ol",
+    "p",
+    "pre",
+    "span",
+    "strong",
+    "table",
+    "td",
+    "tr",
+    "ul",
+];
+
+const ATTRS: [&str; 12] = [
+    "alt", "class", "colspan", "dir", "height", "href", "id", "lang", "rowspan", "src", "title",
+    "width",
 ];
 
 fn call_named(name: &str) -> Option<Call> {
@@ -94,7 +142,10 @@ impl Page {
 /// Does a call once.
 fn run_once(rt: &HostRuntime, page: &Page, call: Call) -> Option<Run> {
     match call {
-        Call::Drop | Call::Edits => run_fresh(rt, page.source.as_str(), call),
+        Call::Drop | Call::Edits | Call::Clean | Call::Copy | Call::Merge => run_fresh(
+            rt, page, call,
+        ),
+        Call::Normalize | Call::Strip | Call::Sanitize => run_fresh(rt, page, call),
         _ => {
             let start = Instant::now(rt).ok()?;
             let count = count_of(rt, page, call)?;
@@ -105,17 +156,57 @@ fn run_once(rt: &HostRuntime, page: &Page, call: Call) -> Option<Run> {
 }
 
 /// Does a call on a document of its own, whose reading isn't timed.
-fn run_fresh(rt: &HostRuntime, source: &str, call: Call) -> Option<Run> {
-    let mut document = Document::parse(rt.alloc(), source).ok()?;
+fn run_fresh(rt: &HostRuntime, page: &Page, call: Call) -> Option<Run> {
+    let mut document = Document::parse(rt.alloc(), page.source.as_str()).ok()?;
     let mut count = document.tree.len();
+    if call == Call::Clean {
+        return run_cleaning(rt, &mut document);
+    }
     let start = Instant::now(rt).ok()?;
-    if call == Call::Edits {
-        count = move_all(&mut document.tree);
-    } else {
+    if call == Call::Drop {
         drop(document);
+    } else {
+        count = changed(page, &mut document, call)?;
     }
     let took = start.elapsed(rt).ok()?;
     Some(Run { took, count })
+}
+
+/// Cleans a document, and counts what is left below its root.
+fn run_cleaning(rt: &HostRuntime, document: &mut Document) -> Option<Run> {
+    let allow = Allow {
+        elements: &ELEMENTS,
+        attrs: &ATTRS,
+        drop: &["script", "style"],
+    };
+    let start = Instant::now(rt).ok()?;
+    sanitize(document, &allow).ok()?;
+    let took = start.elapsed(rt).ok()?;
+    let count = document.root().descendants_it().count();
+    Some(Run { took, count })
+}
+
+/// Changes a document, and counts the nodes that it then has, or those that moved.
+fn changed(page: &Page, document: &mut Document, call: Call) -> Option<usize> {
+    let allow = Allow {
+        elements: &["i"],
+        attrs: &[],
+        drop: &[],
+    };
+    let ids = page.document.tree.child_ids_of(&NodeId::root()).ok()?;
+    match call {
+        Call::Edits => return Some(move_all(&mut document.tree)),
+        Call::Copy => {
+            document.tree.copy_nodes(&ids).ok()?;
+        }
+        Call::Merge => {
+            document.tree.merge(&page.document.tree, &ids).ok()?;
+        }
+        Call::Normalize => document.normalize().ok()?,
+        Call::Strip => document.tree.strip_elements_of(&NodeId::root(), &["b"]),
+        _ => sanitize(document, &allow).ok()?,
+    }
+    Some(document.tree.len())
 }
 
 /// Moves each node to the end of the first node's children, where it may go there; answers how many
@@ -149,6 +240,10 @@ fn count_of(rt: &HostRuntime, page: &Page, call: Call) -> Option<usize> {
         Call::Md => Some(document.md(None).ok()?.len()),
         Call::Clone => Some(document.try_clone().ok()?.tree.len()),
         Call::Append => append_to_all(page),
+        Call::Validate => {
+            document.tree.validate().ok()?;
+            Some(document.tree.len())
+        }
         Call::Index => TreeIndex::new(&document.tree)
             .ok()?
             .last_below(&NodeId::root()),

@@ -1,7 +1,7 @@
 //! Calls of `Tree` that change it: moves, new nodes, texts and copies.
 
 use crate::printing::{show, show_answer, show_edit, show_ids};
-use crate::words::{cut, node_of, nodes_of};
+use crate::words::{cut, node_of, nodes_of, words_of};
 use dom_query::{EditFault, LocalName, NodeData, NodeEdit, NodeId, Place, Text, Tree};
 use dom_trees::names::html_name;
 
@@ -17,7 +17,8 @@ pub fn move_nodes(rt: &HostRuntime, tree: &mut Tree, line: &str) -> Option<()> {
     show_edit(rt, call, edit)
 }
 
-fn moved(
+/// A move of two nodes.
+pub fn moved(
     tree: &mut Tree,
     call: &str,
     id: &NodeId,
@@ -39,7 +40,8 @@ fn moved(
     })
 }
 
-fn cut_out(tree: &mut Tree, call: &str, id: &NodeId) -> Option<Result<(), EditFault>> {
+/// A move that names one node.
+pub fn cut_out(tree: &mut Tree, call: &str, id: &NodeId) -> Option<Result<(), EditFault>> {
     Some(match call {
         "remove_from_parent" => tree.remove_from_parent(id),
         "remove_children_of" => tree.remove_children_of(id),
@@ -57,7 +59,8 @@ pub fn make_node(rt: &HostRuntime, tree: &mut Tree, line: &str) -> Option<()> {
     show_answer(rt, call, made.map(NodeId::value))
 }
 
-fn made(tree: &mut Tree, call: &str, text: &str) -> Option<Result<NodeId, EditFault>> {
+/// Makes a node of that text.
+pub fn made(tree: &mut Tree, call: &str, text: &str) -> Option<Result<NodeId, EditFault>> {
     Some(match call {
         "new_element" => tree.new_element(text),
         "new_element_qualname" => {
@@ -80,7 +83,7 @@ pub fn change_node(rt: &HostRuntime, tree: &mut Tree, line: &str) -> Option<()> 
         "set_text_of" => tree.set_text_of(&id, text),
         "update_node" => updated(tree, &id, text)?,
         "strip_elements_of" => {
-            tree.strip_elements_of(&id, &[text]);
+            tree.strip_elements_of(&id, &words_of(tree.allocator(), text)?);
             Ok(())
         }
         _ => return None,

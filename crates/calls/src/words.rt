@@ -23,3 +23,14 @@ pub fn nodes_of(alloc: Global, word: &str) -> Option<Vec<NodeId>> {
     }
     Some(ids)
 }
+
+/// The words of a line, with spaces between them.
+pub fn words_of(alloc: Global, line: &str) -> Option<Vec<&str>> {
+    let mut words = Vec::new(alloc);
+    for word in line.split(' ') {
+        if !word.is_empty() {
+            words.push(word).ok()?;
+        }
+    }
+    Some(words)
+}

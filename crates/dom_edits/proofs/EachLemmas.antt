@@ -14,7 +14,7 @@ each-more edit [] n old now new done may is = (subst (λ f. (edit n).Allowed f) 
 each-more edit (m ∷ ns) n old now new done may is = (done.0, each-more edit ns n ((edit m).after old) now new done.1 may is)
 
 -- what was read is put at each of the nodes, or it stops at one
-pub puts-told : (r : Result Unit SelectionFault) (old new : Forest) (nodes given : List ℕ) (text : List ℕ) (place : Place) (read : Forest) → given ≡ nodes → IsSpelled text read
-    → EditsEach r old new given (putting_known place read) → OnOk r (PutsEach text place nodes old new) × IfErr r (λ stop. IsUnread text old new stop ⊎ PutsSome text place nodes old new stop)
-puts-told (Ok x) old new nodes given text place read same spelled edits = ((read, spelled, subst (λ ns. Each (putting_known place read) ns old new) same edits.ok), tt)
-puts-told (Err stop) old new nodes given text place read same spelled edits = (tt, inr (read, spelled, subst (λ ns. Stops (putting_known place read) ns old new stop) same edits.err))
+pub puts-selected : (r : Result Unit SelectionFault) (old new : Forest) (nodes sources : List ℕ) (text : List ℕ) (place : Place) (read : Forest) → sources ≡ nodes → IsSpelled text read
+    → EditsEach r old new sources (putting_known place read) → OnOk r (PutsEach text place nodes old new) × IfErr r (λ stop. IsUnread text old new stop ⊎ PutsSome text place nodes old new stop)
+puts-selected (Ok x) old new nodes sources text place read same spelled edits = ((read, spelled, subst (λ ns. Each (putting_known place read) ns old new) same edits.ok), tt)
+puts-selected (Err stop) old new nodes sources text place read same spelled edits = (tt, inr (read, spelled, subst (λ ns. Stops (putting_known place read) ns old new stop) same edits.err))

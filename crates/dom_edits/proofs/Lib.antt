@@ -1,2 +1,2 @@
 pub mod EachLemmas
-pub mod GivenLemmas
+pub mod SourceLemmas

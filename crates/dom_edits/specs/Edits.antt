@@ -6,7 +6,7 @@ use Rattle.dom_links.specs.Forest.{Forest}
 use Rattle.dom_links.specs.Insertions.{MayInsert, inserted}
 use Rattle.dom_links.specs.declared.gap.Place.{Place}
 use Rattle.dom_links.specs.Stripped.{stripped}
-use Rattle.dom_trees.specs.Edits.{IsKnown, TreeEdit, changing, normalizing, removing, texting, unwrapping}
+use Rattle.dom_trees.specs.Edits.{IsKnown, TreeEdit, changing, normalizing, removing, setting_text, unwrapping}
 use Rattle.dom_trees.specs.Refusals.{InsertCause, KnownCause}
 use Rattle.dom_markup.specs.Fragments.{top_nodes}
 use Rattle.dom_markup.specs.Setters.{IsOpenAt, PutCause}
@@ -42,7 +42,7 @@ copying_to place ns x = record {
 -- what is done at the node
 abbrev pub edit_at : Edit → ℕ → TreeEdit
 edit_at (Change change) n = changing n change
-edit_at (SetText text) n = texting n text.now
+edit_at (SetText text) n = setting_text n text.now
 edit_at Remove n = removing n
 edit_at Unwrap n = unwrapping n
 edit_at (Strip names) n = stripping (map (λ name. name.now) names.now) n

@@ -1,3 +1,3 @@
 pub mod Edits
 pub mod Loans
-pub mod Given
+pub mod Sources

@@ -26,9 +26,9 @@ pub enum Edit<'a> {
     Strip(&'a [&'a str]),
     /// Each row of texts below it is joined.
     Normalize,
-    /// Copies of the nodes that markup spells go to a place that it tells.
+    /// Copies of the nodes that markup spells are put at the place at the node.
     Put(Place, &'a Snippet),
-    /// Copies of nodes of its tree go to a place that it tells.
+    /// Copies of nodes of its tree are put at the place at the node.
     Copy(Place, &'a [NodeId]),
 }
 
@@ -57,7 +57,7 @@ pub fn edit_node(tree: &mut Tree, id: NodeId, edit: Edit) -> Result<(), EditFaul
     }
 }
 
-/// Puts what was read at a place that a node tells, if there is one of that number.
+/// Puts what was read at the place at a node, if there is one of that number.
 fn put_known(tree: &mut Tree, id: NodeId, place: Place, snippet: &Snippet) -> Result<(), EditFault>
     ensures { Edits result tree.old tree.new (putting_known place snippet.now id) }
 {

@@ -34,7 +34,7 @@ fn read_first(alloc: Global, html: &str) -> Result<Snippet, SelectionFault>
 /// Refused there as `UnknownNode`; as `NoChildrenHere` or `RootOrFragment` by the node, also where
 /// the markup is empty; as `TooManyNodes` or `Memory`.
 impl<'a> SelectionMut<'a> {
-    /// Puts markup at a place that each of the nodes tells.
+    /// Puts markup at the place at each of the nodes.
     fn put_html(&mut self, place: Place, html: &str) -> Result<(), SelectionFault>
         ensures { PutsSelected result self.old self.new html.now place }
     {

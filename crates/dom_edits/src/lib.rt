@@ -2,6 +2,6 @@
 #![tactic(auto)]
 
 pub mod edit;
-mod given;
 mod html;
 pub mod selection_mut;
+mod sources;

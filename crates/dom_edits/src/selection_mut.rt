@@ -19,7 +19,7 @@ use dom_trees::tree::Tree;
 
 /// Nodes, by their numbers and their tree, which may be changed. Each call does the same at each of
 /// them, in their order; where one refuses it, as `UnknownNode` where the tree has no node of that
-/// number, the call tells how many were done before.
+/// number, the fault holds how many were done before.
 #[derive(Drop)]
 pub struct SelectionMut<'a> {
     pub tree: &'a mut Tree,

@@ -48,8 +48,9 @@ impl TreeBuilder {
         !open.is_html_point()
     }
 
-    /// Whether a CDATA section may begin here.
-    pub fn allows_cdata(&self) -> bool {
+    /// Whether the adjusted current node is foreign. A comment then stands in it, and a CDATA section
+    /// may begin.
+    pub fn is_current_foreign(&self) -> bool {
         match self.adjusted_current() {
             Some(open) => open.ns != Ns::Html,
             None => false,

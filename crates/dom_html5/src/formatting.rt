@@ -47,7 +47,7 @@ fn is_same_element(one: &Element, other: &Element) -> bool {
 }
 
 fn are_same(tree: &Tree, one: NodeId, other: NodeId) -> bool {
-    let (Some(one), Some(other)) = (tree.get(&one), tree.get(&other)) else {
+    let (Some(one), Some(other)) = (tree.tree_node(&one), tree.tree_node(&other)) else {
         return false;
     };
     match (one.content.as_element(), other.content.as_element()) {

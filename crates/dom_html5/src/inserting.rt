@@ -184,7 +184,7 @@ impl TreeBuilder {
     }
 
     fn copied(&self, id: NodeId) -> Result<Option<Element>, PageFault> {
-        let Some(node) = self.document.tree.get(&id) else {
+        let Some(node) = self.document.tree.tree_node(&id) else {
             return Ok(None);
         };
         match node.content.as_element() {

@@ -10,14 +10,17 @@ mod fault;
 mod foreign;
 mod formatting;
 mod inserting;
+pub mod laws;
 mod modes;
 mod name;
 mod quirks;
 mod reading;
 mod sets;
+mod shape;
 mod stack;
 
 pub use fault::PageFault;
 pub use reading::{
     Context, Options, PageParser, parse_page, parse_page_bytes, parse_page_fragment,
 };
+pub use shape::make_page;

@@ -93,6 +93,9 @@ impl TreeBuilder {
     pub fn comment(&mut self, text: &str) -> Result<(), PageFault> {
         self.skip_line_feed = false;
         self.flush_table_text()?;
+        if self.is_current_foreign() {
+            return self.put_comment(text);
+        }
         match self.mode {
             Mode::Initial | Mode::BeforeHtml | Mode::AfterAfterBody | Mode::AfterAfterFrameset => {
                 let root = self.document.get_document();

@@ -1,13 +1,18 @@
 //! Reading a page or a fragment, whole or in pieces.
 
+ghost use Rattle.std.specs.Prelude.{IfOk};
+ghost use Rattle.dom_html5.specs.Shape.{IsPage, ReadsPage};
+
 use crate::builder::{Mode, TreeBuilder};
 use crate::fault::PageFault;
 use crate::inserting::Place;
 use crate::name::Name;
+use crate::shape::make_page;
 use crate::stack::{Ns, Open};
 use dom_markup::document::Document;
 use dom_markup::document::sink::TreeSink;
 use dom_nodes::name::LocalName;
+use html5_tokens::parse_error::ErrorAt;
 use html5_tokens::token::Token;
 use html5_tokens::tokenizer::{MARKS, State, Tokenizer};
 use std::alloc::Global;
@@ -22,6 +27,9 @@ pub struct Options {
     /// deeper becomes a sibling of the element that it would lie in. The adoption agency may go
     /// deeper, since it moves what is there already.
     pub max_depth: Option<usize>,
+    /// Whether the parse errors of tokenization are noted in the document, each as the bytes before
+    /// it and its name: `12: missing-attribute-value`.
+    pub errors: bool,
 }
 
 impl Default for Options {
@@ -29,6 +37,7 @@ impl Default for Options {
         Options {
             scripting: false,
             max_depth: None,
+            errors: false,
         }
     }
 }
@@ -47,11 +56,14 @@ pub struct PageParser {
     builder: TreeBuilder,
     tokens: Tokenizer,
     fault: Option<PageFault>,
+    is_fragment: bool,
 }
 
 /// The document that a page stands for. Every text is a page: the standard says what is made of
 /// markup that has faults.
-pub fn parse_page(alloc: Global, source: &str, options: Options) -> Result<Document, PageFault> {
+pub fn parse_page(alloc: Global, source: &str, options: Options) -> Result<Document, PageFault>
+    ensures { IfOk result (λ document. IsPage document.tree) }
+{
     let mut parser = PageParser::new(alloc, options)?;
     parser.feed(source)?;
     parser.finish()
@@ -64,7 +76,9 @@ pub fn parse_page_bytes(
     alloc: Global,
     source: &[u8],
     options: Options,
-) -> Result<Document, PageFault> {
+) -> Result<Document, PageFault>
+    ensures { IfOk result (λ document. IsPage document.tree) }
+{
     let source = match source.strip_prefix(b"\xef\xbb\xbf") {
         Some(rest) => rest,
         None => source,
@@ -112,14 +126,28 @@ fn builder_of(alloc: Global, document: Document, options: Options) -> TreeBuilde
     builder
 }
 
+/// The document that was read, in the shape of a page.
+fn page_of(document: Document) -> Result<Document, PageFault>
+    ensures { IfOk result (λ page. IsPage page.tree) }
+{
+    let mut page = document;
+    make_page(&mut page.tree)?;
+    Ok(page)
+}
+
 impl PageParser {
     /// What reads a page.
-    pub fn new(alloc: Global, options: Options) -> Result<PageParser, PageFault> {
+    pub fn new(alloc: Global, options: Options) -> Result<PageParser, PageFault>
+        ensures { IfOk result ReadsPage }
+    {
         let document = Document::new(alloc)?;
+        let mut tokens = Tokenizer::new(alloc);
+        tokens.report_errors(options.errors);
         Ok(PageParser {
             builder: builder_of(alloc, document, options),
-            tokens: Tokenizer::new(alloc),
+            tokens,
             fault: None,
+            is_fragment: false,
         })
     }
 
@@ -135,18 +163,22 @@ impl PageParser {
         let mut builder = builder_of(alloc, document, options);
         builder.begin_fragment(context)?;
         let mut tokens = Tokenizer::new(alloc);
+        tokens.report_errors(options.errors);
         tokens.switch_to(builder.first_state());
-        tokens.set_in_foreign(builder.allows_cdata());
+        tokens.set_in_foreign(builder.is_current_foreign());
         Ok(PageParser {
             builder,
             tokens,
             fault: None,
+            is_fragment: true,
         })
     }
 
     /// Reads the next piece of the text; the pieces may be cut anywhere. After an `Err` nothing is
     /// read any more, and each further call returns that fault again.
-    pub fn feed(&mut self, piece: &str) -> Result<(), PageFault> {
+    pub fn feed(&mut self, piece: &str) -> Result<(), PageFault>
+        ensures { ReadsPage self.old → ReadsPage self.new }
+    {
         if let Some(fault) = self.fault {
             return Err(fault);
         }
@@ -158,20 +190,35 @@ impl PageParser {
     }
 
     /// The document, once all pieces are read.
-    pub fn finish(mut self) -> Result<Document, PageFault> {
+    pub fn finish(mut self) -> Result<Document, PageFault>
+        ensures { ReadsPage self → IfOk result (λ document. IsPage document.tree) }
+    {
         if let Some(fault) = self.fault {
             return Err(fault);
         }
+        self.read_end()?;
+        if self.is_fragment {
+            return Ok(self.builder.document);
+        }
+        page_of(self.builder.document)
+    }
+
+    /// Reads the end of the text.
+    fn read_end(&mut self) -> Result<(), PageFault>
+        ensures { ReadsPage self.old → ReadsPage self.new }
+    {
         if let Some(token) = self.tokens.end()? {
             self.token(token)?;
         }
         let text = self.tokens.take_text();
         self.builder.characters(text.as_str())?;
         self.builder.end()?;
-        Ok(self.builder.document)
+        self.builder.note_errors(&self.tokens.take_errors())
     }
 
-    fn read(&mut self, piece: &str) -> Result<(), PageFault> {
+    fn read(&mut self, piece: &str) -> Result<(), PageFault>
+        ensures { ReadsPage self.old → ReadsPage self.new }
+    {
         for stretch in piece.split_inclusive(MARKS) {
             if let Some(token) = self.tokens.read_stretch(stretch)? {
                 self.token(token)?;
@@ -180,7 +227,9 @@ impl PageParser {
         Ok(())
     }
 
-    fn token(&mut self, token: Token) -> Result<(), PageFault> {
+    fn token(&mut self, token: Token) -> Result<(), PageFault>
+        ensures { ReadsPage self.old → ReadsPage self.new }
+    {
         let text = self.tokens.take_text();
         self.builder.characters(text.as_str())?;
         match token {
@@ -191,7 +240,8 @@ impl PageParser {
         if let Some(state) = self.builder.switch.take() {
             self.tokens.switch_to(state);
         }
-        self.tokens.set_in_foreign(self.builder.allows_cdata());
+        self.tokens
+            .set_in_foreign(self.builder.is_current_foreign());
         Ok(())
     }
 }
@@ -203,6 +253,15 @@ impl TreeBuilder {
             Some(context) if context.ns == Ns::Html => state_in(context.name, self.scripting),
             _ => State::Data,
         }
+    }
+
+    /// Notes parse errors in the document.
+    fn note_errors(&mut self, errors: &[ErrorAt]) -> Result<(), PageFault> {
+        for ErrorAt { offset, error } in errors {
+            let note = format!(in self.alloc; "{offset}: {error}")?;
+            self.document.parse_error(note.as_str())?;
+        }
+        Ok(())
     }
 
     /// Opens the element `html` of a fragment, and sets what its context element asks for.

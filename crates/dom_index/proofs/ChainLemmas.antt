@@ -1,4 +1,4 @@
--- A table of the nodes that a chain of compounds reaches, from the table of one compound less.
+-- The set of the nodes that a chain of compounds reaches, from the set of one compound less.
 use Rattle.std.proofs.Common.{◌≡◌, ◌↔◌, ◌⊎◌, ◌<◌, ℕ, List, [], ◌∷◌, ◌++◌, Bool, true, false, true≢false, Option, Some, None, inl, inr, refl, sym, ap, ◌∙◌, subst, length, slice_get, reverse, append_assoc}
 use Rattle.std.specs.Prelude.{◌&&◌, ◌==◌}
 use Rattle.std.specs.Option.{option_map_or}
@@ -6,31 +6,31 @@ use Rattle.std.proofs.lemmas.Bool.{cases_lt, eqb-true, eq-eqb, or_right, or_case
 use Rattle.std.proofs.lemmas.List.{append-nil, get_or_past, get_or-replicate, length-replicate}
 use Rattle.dom_nodes.specs.declared.node_data.NodeData.{NodeData}
 use Rattle.dom_nodes.specs.declared.node_data.NodeData.TheVariants.{Document, Fragment, Doctype, Text, Comment, Element, ProcessingInstruction}
-use Rattle.dom_nodes.specs.Kinds.{is_top, may_bear}
+use Rattle.dom_nodes.specs.Kinds.{is_top, children_allowed}
 use Rattle.dom_links.specs.Forest.{Forest, children_or, parent, run_of, siblings}
 use Rattle.dom_links.specs.Laws.{AreLines}
 use Rattle.dom_links.specs.Lists.{stands_in}
 use Rattle.dom_links.specs.Sound.{IsForest, stays}
 use Rattle.dom_links.specs.Trees.{ancestors}
 use Rattle.dom_links.specs.Walk.{rest_after}
-use Rattle.dom_links.proofs.Depth.{parent_inside}
+use Rattle.dom_links.proofs.forest.Depth.{parent_inside}
 use Rattle.dom_selectors.specs.declared.syntax.Combinator.{Combinator}
 use Rattle.dom_selectors.specs.declared.syntax.Combinator.TheVariants.{Descendant, Child, Adjacent, Sibling}
 use Rattle.dom_selectors.specs.ListsAsTrees.{steps_of}
 use Rattle.dom_select.specs.Leftward.{earlier}
 use Rattle.dom_links.specs.ListMoves.{element_at}
 use Rattle.dom_nodes.specs.Kinds.{is_element}
-use Rattle.dom_select.specs.Meaning.{Holds, Leads, MayBeside, Reaches, Stands}
+use Rattle.dom_select.specs.Meaning.{Holds, StepsMatch, MayBeOperand, ChainMatches, CombinatorHolds}
 use Rattle.dom_selectors.specs.Syntax.{CompoundSelector, compound}
 use Rattle.dom_select.specs.Chains.{IsOrPrecedes, Precedes}
 use Rattle.dom_select.proofs.FollowLemmas.{led_at, precedes_from, precedes_then, stands_precedes, beside_element}
-use Rattle.dom_select.proofs.ReachLemmas.{from_reaches, to_reaches}
+use Rattle.dom_select.proofs.ReachLemmas.{from_chain, to_chain}
 use Rattle.dom_select.proofs.MeaningLemmas.{parts_unknown}
 use Rattle.dom_select.proofs.RowLemmas.{first_stands, parent_first}
 use Rattle.dom_selectors.specs.Spelling.{Decides}
-use Rattle.dom_index.specs.Asked.{AreHeld, everywhere}
-use Rattle.dom_index.specs.Tables.{AllHold, AreAsked, AreBoth, AreTold, AreToldWhere, truth_at, serves, IsLed}
-use Rattle.dom_index.proofs.LedLemmas.{told_by}
+use Rattle.dom_index.specs.TestCounts.{IsFilteredByCompound, everywhere}
+use Rattle.dom_index.specs.NodeSets.{AllHold, IsPrefiltered, IsIntersection, IsSetOf, IsSetWithin, in_set, may_be_operand, HasLeftOperand}
+use Rattle.dom_index.proofs.ForwardLemmas.{decided_by}
 
 abbrev pub Chain : Type 0
 Chain = List (Combinator × CompoundSelector)
@@ -40,17 +40,17 @@ abbrev pub IsFit : Forest → ℕ → Type 0
 IsFit forest v = (element_at forest v ≡ true) ⊎ (earlier forest v ≡ [])
 
 module _ (forest : Forest) (lines : AreLines forest) where
-  may_first : (k : Combinator) (spared w : ℕ) → Precedes forest w spared → MayBeside forest spared k w → (other : ℕ) → MayBeside forest other k w
-  may_first Descendant spared w p b other = tt
-  may_first Child spared w p b other = tt
-  may_first Adjacent spared w p b other = inr (beside_element forest spared lines w p b)
-  may_first Sibling spared w p b other = inr (beside_element forest spared lines w p b)
+  may_first : (k : Combinator) (exempt w : ℕ) → Precedes forest w exempt → MayBeOperand forest exempt k w → (other : ℕ) → MayBeOperand forest other k w
+  may_first Descendant exempt w p b other = tt
+  may_first Child exempt w p b other = tt
+  may_first Adjacent exempt w p b other = inr (beside_element forest exempt lines w p b)
+  may_first Sibling exempt w p b other = inr (beside_element forest exempt lines w p b)
 
   no_earlier : (w u : ℕ) → earlier forest u ≡ [] → stands_in w (earlier forest u) ≡ true → ⊥
   no_earlier w u e s = true≢false (sym s ∙ ap (stands_in w) e)
 
-  may_last : (k : Combinator) (w u v : ℕ) → IsFit forest v → Stands forest k w u → MayBeside forest v k u → (other : ℕ) → MayBeside forest other k u
-  unfolding Stands
+  may_last : (k : Combinator) (w u v : ℕ) → IsFit forest v → CombinatorHolds forest k w u → MayBeOperand forest v k u → (other : ℕ) → MayBeOperand forest other k u
+  unfolding CombinatorHolds
   may_last Descendant w u v fit s b other = tt
   may_last Child w u v fit s b other = tt
   may_last Adjacent w u v fit s (inr e) other = inr e
@@ -60,29 +60,29 @@ module _ (forest : Forest) (lines : AreLines forest) where
   may_last Sibling w u v (inl e) s (inl is) other = inr (ap (element_at forest) is ∙ e)
   may_last Sibling w u v (inr none) s (inl is) other = absurd (no_earlier w u (ap (earlier forest) is ∙ none) s)
 
-  -- a chain that leads to a node before the spared one leads there where that node itself is spared
-  sparing_here : (spared v : ℕ) → Precedes forest v spared → (ss : Chain) (w : ℕ) → Leads (steps_of ss) forest spared w v → Leads (steps_of ss) forest v w v
-  sparing_here spared v p [] w h = h
-  sparing_here spared v p (s ∷ ss) w h =
+  -- a chain that reaches a node before the exempt one reaches it with that node exempt
+  sparing_here : (exempt v : ℕ) → Precedes forest v exempt → (ss : Chain) (w : ℕ) → StepsMatch (steps_of ss) forest exempt w v → StepsMatch (steps_of ss) forest v w v
+  sparing_here exempt v p [] w h = h
+  sparing_here exempt v p (s ∷ ss) w h =
       let u = h.0 in
-      let rest = sparing_here spared v p ss u h.3 in
+      let rest = sparing_here exempt v p ss u h.3 in
       let at = led_at forest v lines ss u v (inl refl) rest in
-      let before_spared : Precedes forest u spared = at_spared u at in
-      let first : Precedes forest w spared = precedes_then forest w u spared (stands_precedes forest lines s.0 w u h.1.0) before_spared in
-      (u, (h.1.0, may_first s.0 spared w first h.1.1 v, may_first s.0 spared u before_spared h.1.2 v), h.2, rest)
+      let before_spared : Precedes forest u exempt = at_spared u at in
+      let first : Precedes forest w exempt = precedes_then forest w u exempt (stands_precedes forest lines s.0 w u h.1.0) before_spared in
+      (u, (h.1.0, may_first s.0 exempt w first h.1.1 v, may_first s.0 exempt u before_spared h.1.2 v), h.2, rest)
     where
-      at_spared : (u : ℕ) → IsOrPrecedes forest u v → Precedes forest u spared
-      at_spared u (inl e) = subst (λ m. Precedes forest m spared) (sym e) p
-      at_spared u (inr q) = precedes_then forest u v spared q p
+      at_spared : (u : ℕ) → IsOrPrecedes forest u v → Precedes forest u exempt
+      at_spared u (inl e) = subst (λ m. Precedes forest m exempt) (sym e) p
+      at_spared u (inr q) = precedes_then forest u v exempt q p
 
   -- and back, where the node may stand beside `+` and `~` itself
-  sparing_there : (spared v : ℕ) → IsFit forest v → (ss : Chain) (w : ℕ) → Leads (steps_of ss) forest v w v → Leads (steps_of ss) forest spared w v
-  sparing_there spared v fit [] w h = h
-  sparing_there spared v fit (s ∷ ss) w h =
+  sparing_there : (exempt v : ℕ) → IsFit forest v → (ss : Chain) (w : ℕ) → StepsMatch (steps_of ss) forest v w v → StepsMatch (steps_of ss) forest exempt w v
+  sparing_there exempt v fit [] w h = h
+  sparing_there exempt v fit (s ∷ ss) w h =
       let u = h.0 in
       let at = led_at forest v lines ss u v (inl refl) h.3 in
       let first : Precedes forest w v = precedes_from forest w u v (stands_precedes forest lines s.0 w u h.1.0) at in
-      (u, (h.1.0, may_first s.0 v w first h.1.1 spared, may_last s.0 w u v fit h.1.0 h.1.2 spared), h.2, sparing_there spared v fit ss u h.3)
+      (u, (h.1.0, may_first s.0 v w first h.1.1 exempt, may_last s.0 w u v fit h.1.0 h.1.2 exempt), h.2, sparing_there exempt v fit ss u h.3)
 
 module _ (forest : Forest) (good : IsForest forest) (lines : AreLines forest) where
   some_child : (ns : List ℕ) (n v : ℕ) → ancestors forest n ≡ ns → stands_in v ns ≡ true → (c : ℕ) × (parent forest c ≡ Some v)
@@ -102,7 +102,7 @@ module _ (forest : Forest) (good : IsForest forest) (lines : AreLines forest) wh
       let row : siblings forest v ≡ v ∷ [] = ap (λ p. children_or forest p (run_of forest v)) alone.0 ∙ alone.1 in
       inr (ap (λ ns. rest_after (reverse ns) v) row ∙ (rw (eq-eqb v v refl) refl))
 
-  bearer_fit : (v : ℕ) (o : Option NodeData) → slice_get forest.content v ≡ o → v < length forest.content → option_map_or may_bear o false ≡ true → IsFit forest v
+  bearer_fit : (v : ℕ) (o : Option NodeData) → slice_get forest.content v ≡ o → v < length forest.content → option_map_or children_allowed o false ≡ true → IsFit forest v
   bearer_fit v None e known b = absurd (true≢false (sym b))
   bearer_fit v (Some Document) e known b = alone_fit v known (or_right (v == 0) _ (ap (λ o. option_map_or is_top o false) e))
   bearer_fit v (Some Fragment) e known b = alone_fit v known (or_right (v == 0) _ (ap (λ o. option_map_or is_top o false) e))
@@ -113,29 +113,29 @@ module _ (forest : Forest) (good : IsForest forest) (lines : AreLines forest) wh
   bearer_fit v (Some (ProcessingInstruction _ _)) e known b = absurd (true≢false (sym b))
 
   parent_fit : (n v : ℕ) → parent forest n ≡ Some v → IsFit forest v
-  parent_fit n v up = bearer_fit v (slice_get forest.content v) refl (parent_inside forest n v good up) (good.bearing v n up)
+  parent_fit n v up = bearer_fit v (slice_get forest.content v) refl (parent_inside forest n v good up) (good.parents_allow v n up)
 
-  -- who is led from serves, and may stand beside `+` and `~` where it has to
-  led_fit : (k : Combinator) (v n : ℕ) → Stands forest k v n → serves forest k v ≡ true → IsFit forest v
-  unfolding Stands
-  led_fit Descendant v n s e = let child = some_child (ancestors forest n) n v refl s in parent_fit child.0 v child.1
-  led_fit Child v n s e = parent_fit n v s
-  led_fit Adjacent v n s e = inl e
-  led_fit Sibling v n s e = inl e
+  -- a left operand may be an operand wherever it has to
+  reached_fit : (k : Combinator) (v n : ℕ) → CombinatorHolds forest k v n → may_be_operand forest k v ≡ true → IsFit forest v
+  unfolding CombinatorHolds
+  reached_fit Descendant v n s e = let child = some_child (ancestors forest n) n v refl s in parent_fit child.0 v child.1
+  reached_fit Child v n s e = parent_fit n v s
+  reached_fit Adjacent v n s e = inl e
+  reached_fit Sibling v n s e = inl e
 
-  may_serve : (k : Combinator) (v spared : ℕ) → serves forest k v ≡ true → MayBeside forest spared k v
-  may_serve Descendant v spared e = tt
-  may_serve Child v spared e = tt
-  may_serve Adjacent v spared e = inr e
-  may_serve Sibling v spared e = inr e
+  may_serve : (k : Combinator) (v exempt : ℕ) → may_be_operand forest k v ≡ true → MayBeOperand forest exempt k v
+  may_serve Descendant v exempt e = tt
+  may_serve Child v exempt e = tt
+  may_serve Adjacent v exempt e = inr e
+  may_serve Sibling v exempt e = inr e
 
-  must_serve : (k : Combinator) (v spared : ℕ) → Precedes forest v spared → MayBeside forest spared k v → serves forest k v ≡ true
-  must_serve Descendant v spared p b = refl
-  must_serve Child v spared p b = refl
-  must_serve Adjacent v spared p b = beside_element forest spared lines v p b
-  must_serve Sibling v spared p b = beside_element forest spared lines v p b
+  must_serve : (k : Combinator) (v exempt : ℕ) → Precedes forest v exempt → MayBeOperand forest exempt k v → may_be_operand forest k v ≡ true
+  must_serve Descendant v exempt p b = refl
+  must_serve Child v exempt p b = refl
+  must_serve Adjacent v exempt p b = beside_element forest exempt lines v p b
+  must_serve Sibling v exempt p b = beside_element forest exempt lines v p b
 
-  may_itself : (k : Combinator) (n : ℕ) → MayBeside forest n k n
+  may_itself : (k : Combinator) (n : ℕ) → MayBeOperand forest n k n
   may_itself Descendant n = tt
   may_itself Child n = tt
   may_itself Adjacent n = inl refl
@@ -147,15 +147,15 @@ holds_inside (compound parts lists) forest n h = elim (cases_lt n (length forest
   | inr past ↦ absurd (parts_unknown parts forest n past h.0)
 ]
 
-leads_inside : (forest : Forest) (spared v : ℕ) (ss : Chain) (w : ℕ) → w < length forest.content → Leads (steps_of ss) forest spared w v → v < length forest.content
-leads_inside forest spared v [] w known h = subst (λ (m : ℕ). m < length forest.content) h known
-leads_inside forest spared v (s ∷ ss) w known h = leads_inside forest spared v ss h.0 (holds_inside s.1 forest h.0 h.2) h.3
+steps_inside : (forest : Forest) (exempt v : ℕ) (ss : Chain) (w : ℕ) → w < length forest.content → StepsMatch (steps_of ss) forest exempt w v → v < length forest.content
+steps_inside forest exempt v [] w known h = subst (λ (m : ℕ). m < length forest.content) h known
+steps_inside forest exempt v (s ∷ ss) w known h = steps_inside forest exempt v ss h.0 (holds_inside s.1 forest h.0 h.2) h.3
 
-pub told_true : (b : Bool) (P : Type 0) → Decides b P → P → b ≡ true
-told_true true P h p = refl
-told_true false P h p = absurd (h p)
+pub decided_true : (b : Bool) (P : Type 0) → Decides b P → P → b ≡ true
+decided_true true P h p = refl
+decided_true false P h p = absurd (h p)
 
-pub truth_inside : (table : List Bool) (n : ℕ) → truth_at table n ≡ true → n < length table
+pub truth_inside : (table : List Bool) (n : ℕ) → in_set table n ≡ true → n < length table
 truth_inside table n t = elim (cases_lt n (length table)) [
   | inl below ↦ below
   | inr past ↦ absurd (true≢false (sym t ∙ get_or_past table n false past))
@@ -165,70 +165,70 @@ pub both_true : (a b : Bool) → (a && b) ≡ true → (a ≡ true) × (b ≡ tr
 both_true true b e = (refl, e)
 both_true false b e = absurd (true≢false (sym e))
 
--- what the table of a chain tells
+-- the set of a chain
 abbrev pub ReachesIt : Forest → CompoundSelector → Chain → ℕ → Type 0
-ReachesIt forest first ss n = Reaches (Holds first forest) (steps_of ss) forest n n
+ReachesIt forest first ss n = ChainMatches (Holds first forest) (steps_of ss) forest n n
 
 module _ (forest : Forest) (good : IsForest forest) (lines : AreLines forest) (first : CompoundSelector) (ss : Chain) (k : Combinator) (c : CompoundSelector)
-    (table : List Bool) (told : AreTold table (length forest.content) (ReachesIt forest first ss)) where
-  chain_forth : (n : ℕ) → IsLed forest k table n → Holds c forest n → ReachesIt forest first (ss ++ (k, c) ∷ []) n
-  chain_forth n led h =
-      let v = led.0 in
-      let both = both_true (serves forest k v) (truth_at table v) led.2 in
-      let known = subst (λ (m : ℕ). v < m) told.long (truth_inside table v both.1) in
-      let here : ReachesIt forest first ss v = rw both.1 at (told.each v known) in
-      let there : Reaches (Holds first forest) (steps_of ss) forest n v = (here.0, here.1, sparing_there forest lines n v (led_fit forest good lines k v n led.1 both.0) ss here.0 here.2) in
-      to_reaches forest n (Holds first forest) ss (k, c) n (may_itself forest good lines k n, h, (v, led.1, (may_serve forest good lines k v n both.0, there)))
+    (table : List Bool) (answer : IsSetOf table (length forest.content) (ReachesIt forest first ss)) where
+  chain_forth : (n : ℕ) → HasLeftOperand forest k table n → Holds c forest n → ReachesIt forest first (ss ++ (k, c) ∷ []) n
+  chain_forth n reached h =
+      let v = reached.0 in
+      let both = both_true (may_be_operand forest k v) (in_set table v) reached.2 in
+      let known = subst (λ (m : ℕ). v < m) answer.long (truth_inside table v both.1) in
+      let here : ReachesIt forest first ss v = rw both.1 at (answer.each v known) in
+      let there : ChainMatches (Holds first forest) (steps_of ss) forest n v = (here.0, here.1, sparing_there forest lines n v (reached_fit forest good lines k v n reached.1 both.0) ss here.0 here.2) in
+      to_chain forest n (Holds first forest) ss (k, c) n (may_itself forest good lines k n, h, (v, reached.1, (may_serve forest good lines k v n both.0, there)))
 
-  chain_back : (n : ℕ) → ReachesIt forest first (ss ++ (k, c) ∷ []) n → IsLed forest k table n × Holds c forest n
+  chain_back : (n : ℕ) → ReachesIt forest first (ss ++ (k, c) ∷ []) n → HasLeftOperand forest k table n × Holds c forest n
   chain_back n r =
-      let last = from_reaches forest n (Holds first forest) ss (k, c) n r in
+      let last = from_chain forest n (Holds first forest) ss (k, c) n r in
       let v = last.2.0 in
       let stands = last.2.1 in
       let there = last.2.2.1 in
       let p = stands_precedes forest lines k v n stands in
       let here : ReachesIt forest first ss v = (there.0, there.1, sparing_here forest lines n v p ss there.0 there.2) in
-      let known = leads_inside forest n v ss there.0 (holds_inside first forest there.0 there.1) there.2 in
-      let t = told_true (truth_at table v) (ReachesIt forest first ss v) (told.each v known) here in
+      let known = steps_inside forest n v ss there.0 (holds_inside first forest there.0 there.1) there.2 in
+      let t = decided_true (in_set table v) (ReachesIt forest first ss v) (answer.each v known) here in
       ((v, stands, rw (must_serve forest good lines k v n p last.2.2.0, t) refl), last.1)
 
--- a compound behind those that were asked, and the nodes at which it is: it holds where all of them reach
+-- a compound after those that were tested, at the nodes of its set: it matches where all of them reach
 pub record Arrived (forest : Forest) (first : CompoundSelector) (all : Chain) (c : CompoundSelector) (left : Chain) (here : List Bool) : Type 0 where
   pub front : Chain
   pub split : all ≡ front ++ left
   pub long : length here ≡ length forest.content
-  pub same : (n : ℕ) → n < length forest.content → ((truth_at here n ≡ true) × Holds c forest n) ↔ ReachesIt forest first front n
+  pub same : (n : ℕ) → n < length forest.content → ((in_set here n ≡ true) × Holds c forest n) ↔ ReachesIt forest first front n
 
 pub chain_start : (forest : Forest) (first : CompoundSelector) (all : Chain) (here : List Bool) → here ≡ everywhere forest → Arrived forest first all first all here
 chain_start forest first all here is = record {
   front = [];
   split = refl;
   long = ap length is ∙ length-replicate (length forest.content) true;
-  same = λ n known. (λ x. (n, x.1, refl), λ r. (ap (λ cells. truth_at cells n) is ∙ get_or-replicate (length forest.content) n true false known, subst (Holds first forest) r.2 r.1));
+  same = λ n known. (λ x. (n, x.1, refl), λ r. (ap (λ cells. in_set cells n) is ∙ get_or-replicate (length forest.content) n true false known, subst (Holds first forest) r.2 r.1));
 }
 
 module _ (forest : Forest) (first : CompoundSelector) (all : Chain) (c : CompoundSelector) (left : Chain) (here : List Bool) (arrived : Arrived forest first all c left here) where
-  pub chain_held : (held : List Bool) → AreHeld c forest here held → AreTold held (length forest.content) (ReachesIt forest first arrived.front)
+  pub chain_held : (held : List Bool) → IsFilteredByCompound c forest here held → IsSetOf held (length forest.content) (ReachesIt forest first arrived.front)
   chain_held held asked = record {
     long = asked.long;
-    each = λ n known. let same = arrived.same n known in told_by (truth_at held n) _ _ same.0 same.1 (asked.each n known);
+    each = λ n known. let same = arrived.same n known in decided_by (in_set held n) _ _ same.0 same.1 (asked.each n known);
   }
 
-  pub chain_next : IsForest forest → AreLines forest → (k : Combinator) (next : CompoundSelector) (behind : Chain) (held there : List Bool) → left ≡ (k, next) ∷ behind → AreHeld c forest here held → AreTold there (length forest.content) (IsLed forest k held) →
+  pub chain_next : IsForest forest → AreLines forest → (k : Combinator) (next : CompoundSelector) (behind : Chain) (held there : List Bool) → left ≡ (k, next) ∷ behind → IsFilteredByCompound c forest here held → IsSetOf there (length forest.content) (HasLeftOperand forest k held) →
       Arrived forest first all next behind there
-  chain_next good lines k next behind held there is asked led =
-      let told = chain_held held asked in
+  chain_next good lines k next behind held there is asked reached =
+      let answer = chain_held held asked in
       record {
         front = arrived.front ++ (k, next) ∷ [];
         split = arrived.split ∙ (ap (λ (ss : Chain). arrived.front ++ ss) is ∙ sym (append_assoc arrived.front ((k, next) ∷ []) behind));
-        long = led.long;
+        long = reached.long;
         same = λ n known. (
-          λ x. chain_forth forest good lines first arrived.front k next held told n (rw x.0 at (led.each n known)) x.1,
-          λ r. let x = chain_back forest good lines first arrived.front k next held told n r in (told_true (truth_at there n) (IsLed forest k held n) (led.each n known) x.0, x.1),
+          λ x. chain_forth forest good lines first arrived.front k next held answer n (rw x.0 at (reached.each n known)) x.1,
+          λ r. let x = chain_back forest good lines first arrived.front k next held answer n r in (decided_true (in_set there n) (HasLeftOperand forest k held n) (reached.each n known) x.0, x.1),
         );
       }
 
-  pub chain_last : (wanted both new : List Bool) → left ≡ [] → AreBoth both here wanted → AreHeld c forest both new → AreToldWhere wanted new (length forest.content) (ReachesIt forest first all)
+  pub chain_last : (wanted both new : List Bool) → left ≡ [] → IsIntersection both here wanted → IsFilteredByCompound c forest both new → IsSetWithin wanted new (length forest.content) (ReachesIt forest first all)
   chain_last wanted both new none narrowed asked = record {
     long = asked.long;
     each = λ n known here_too.
@@ -236,30 +236,30 @@ module _ (forest : Forest) (first : CompoundSelector) (all : Chain) (c : Compoun
         let cell = narrowed.each n inside in
         let same = arrived.same n known in
         let whole : all ≡ arrived.front = arrived.split ∙ (ap (λ (ss : Chain). arrived.front ++ ss) none ∙ append-nil arrived.front) in
-        subst (λ z. Decides (truth_at new n) (ReachesIt forest first z n)) (sym whole)
-        (told_by (truth_at new n) _ _
+        subst (λ z. Decides (in_set new n) (ReachesIt forest first z n)) (sym whole)
+        (decided_by (in_set new n) _ _
         (λ x. same.0 ((both_true _ _ (sym cell ∙ x.0)).0, x.1))
         (λ r. let x = same.1 r in (cell ∙ (rw (x.0, here_too) refl), x.1))
         (asked.each n known));
   }
 
--- what was asked of those that may bear a compound's name, of all
-pub asked_told : (forest : Forest) (c : CompoundSelector) (count : ℕ) (wanted named new : List Bool) → length wanted ≡ count → AreAsked forest c named wanted → AreTold new count (λ n. (truth_at named n ≡ true) × Holds c forest n) →
-    AreTold new count (λ n. (truth_at wanted n ≡ true) × Holds c forest n)
-asked_told forest c count wanted named new long asked told = record {
-  long = told.long;
+-- the tests at the nodes that may have a compound's type, for all nodes
+pub asked_decided : (forest : Forest) (c : CompoundSelector) (count : ℕ) (wanted named new : List Bool) → length wanted ≡ count → IsPrefiltered forest c named wanted → IsSetOf new count (λ n. (in_set named n ≡ true) × Holds c forest n) →
+    IsSetOf new count (λ n. (in_set wanted n ≡ true) × Holds c forest n)
+asked_decided forest c count wanted named new long asked answer = record {
+  long = answer.long;
   each = λ n known. let inside = subst (λ (m : ℕ). n < m) (sym long) known in
-      told_by (truth_at new n) _ _ (λ x. (asked.told n inside x.0, x.1)) (λ x. (asked.kept n inside x.0 x.1, x.1)) (told.each n known);
+      decided_by (in_set new n) _ _ (λ x. (asked.answer n inside x.0, x.1)) (λ x. (asked.kept n inside x.0 x.1, x.1)) (answer.each n known);
 }
 
--- and where the names tell all
-pub named_told : (forest : Forest) (c : CompoundSelector) (wanted named : List Bool) → length wanted ≡ length forest.content → AreAsked forest c named wanted → AllHold forest c named → AreTold named (length forest.content) (λ n. (truth_at wanted n ≡ true) × Holds c forest n)
-named_told forest c wanted named long asked hold = record {
+-- and where the type bytes decide all
+pub named_decided : (forest : Forest) (c : CompoundSelector) (wanted named : List Bool) → length wanted ≡ length forest.content → IsPrefiltered forest c named wanted → AllHold forest c named → IsSetOf named (length forest.content) (λ n. (in_set wanted n ≡ true) × Holds c forest n)
+named_decided forest c wanted named long asked hold = record {
   long = asked.long ∙ long;
   each = λ n known. let inside = subst (λ (m : ℕ). n < m) (sym long) known in
-      at n (truth_at named n) (λ t. (asked.told n inside t, hold n known t)) (λ x. asked.kept n inside x.0 x.1);
+      at n (in_set named n) (λ t. (asked.answer n inside t, hold n known t)) (λ x. asked.kept n inside x.0 x.1);
 }
   where
-    at : (n : ℕ) (b : Bool) → (b ≡ true → (truth_at wanted n ≡ true) × Holds c forest n) → ((truth_at wanted n ≡ true) × Holds c forest n → b ≡ true) → Decides b ((truth_at wanted n ≡ true) × Holds c forest n)
+    at : (n : ℕ) (b : Bool) → (b ≡ true → (in_set wanted n ≡ true) × Holds c forest n) → ((in_set wanted n ≡ true) × Holds c forest n → b ≡ true) → Decides b ((in_set wanted n ≡ true) × Holds c forest n)
     at n true f g = f refl
     at n false f g = λ x. true≢false (sym (g x))

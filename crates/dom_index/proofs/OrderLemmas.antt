@@ -11,14 +11,14 @@ use Rattle.dom_links.specs.Lists.{stands_in, IsDistinct, after, before, first}
 use Rattle.dom_links.specs.Sound.{IsForest}
 use Rattle.dom_links.specs.Trees.{ancestors, trees, walk, walk_below}
 use Rattle.dom_links.specs.Walk.{IsWithin, later, rest_after, row_on}
-use Rattle.dom_links.proofs.Apart.{Under, compared, parted, walk_apart, walk_under, under_inside}
-use Rattle.dom_links.proofs.Depth.{parent_inside}
-use Rattle.dom_links.proofs.Neighbours.{before_here, distinct-append, stands_in-append}
-use Rattle.dom_links.proofs.Places.{cases_Option, siblings_child, siblings_run}
-use Rattle.dom_links.proofs.SiblingWalks.{beside_itself, is_first}
-use Rattle.dom_links.proofs.Places.{Beside, siblings_once}
-use Rattle.dom_links.proofs.SiblingWalks.{Along, along}
-use Rattle.dom_links.proofs.Sounds.{after_before}
+use Rattle.dom_links.proofs.walks.Apart.{Under, compared, parted, walk_apart, walk_under, under_inside}
+use Rattle.dom_links.proofs.forest.Depth.{parent_inside}
+use Rattle.dom_links.proofs.forest.Neighbours.{before_here, distinct-append, stands_in-append}
+use Rattle.dom_links.proofs.forest.Places.{cases_Option, siblings_child, siblings_run}
+use Rattle.dom_links.proofs.walks.SiblingWalks.{beside_itself, is_first}
+use Rattle.dom_links.proofs.forest.Places.{Beside, siblings_once}
+use Rattle.dom_links.proofs.walks.SiblingWalks.{Along, along}
+use Rattle.dom_links.proofs.checks.Sounds.{after_before}
 use Rattle.std.specs.Prelude.{slice_range}
 use Rattle.dom_index.specs.Orders.{AreSpans, IsOrder, number_at}
 use Rattle.dom_index.proofs.PlaceLemmas.{IsBehind, all_counted, number_after, behind_in, found_at, in_place}
@@ -315,8 +315,8 @@ module _ (forest : Forest) (good : IsForest forest) (lines : AreLines forest) (l
     pub preorder_long : length (preorder forest) ≡ length forest.content
     preorder_long = all_counted (preorder forest) (length forest.content) (preorder_once (length forest.content) (omega arith)) (λ n s. preorder_inside (length forest.content) n (omega arith) s) (λ n known. preorder_all n known)
 
-    place_told : (n : ℕ) → n < length forest.content → (number_at places n < length forest.content) × (number_at (preorder forest) (number_at places n) ≡ n)
-    place_told n known =
+    place_decided : (n : ℕ) → n < length forest.content → (number_at places n < length forest.content) × (number_at (preorder forest) (number_at places n) ≡ n)
+    place_decided n known =
         let p = found_at n (preorder forest) (preorder_all n known) in
         let less = p.1 in
         let all = preorder_long in
@@ -339,8 +339,8 @@ module _ (forest : Forest) (good : IsForest forest) (lines : AreLines forest) (l
       places_long = long;
       known = λ i known. preorder_inside (length forest.content) (number_at (preorder forest) i) (omega arith) (in_place (preorder forest) i (let all = preorder_long in omega arith));
       placed = placed;
-      inside = λ n known. (place_told n known).0;
-      ordered = λ n known. (place_told n known).1;
+      inside = λ n known. (place_decided n known).0;
+      ordered = λ n known. (place_decided n known).1;
       behind_parent = λ n m known link. (parent_inside forest n m good link, behind_places n m (child_behind n m known link));
       behind_sibling = λ n m known link. let h = sibling_behind n m known link in (h.0, behind_places n m h.1);
     }
@@ -392,23 +392,23 @@ module _ (forest : Forest) (good : IsForest forest) (lines : AreLines forest) (l
         ap (λ a. take a (drop (number_at places n + 1) (preorder forest))) wide ∙ (ap (λ b. take (length (walk_below forest n)) (drop b (preorder forest))) from
         ∙ (ap (λ ns. take (length (walk_below forest n)) (drop (suc (length s.front)) ns)) s.is ∙ cut_range s.front (walk_below forest n) s.back n))
 
-    pub are_spans : (lasts : List ℕ) → length lasts ≡ length forest.content → ((n : ℕ) → n < length forest.content → number_at lasts n ≡ number_at places n + length (walk_below forest n)) → AreSpans forest (preorder forest) places lasts
-    are_spans lasts long told = record {
+    pub are_spans : (subtree_ends : List ℕ) → length subtree_ends ≡ length forest.content → ((n : ℕ) → n < length forest.content → number_at subtree_ends n ≡ number_at places n + length (walk_below forest n)) → AreSpans forest (preorder forest) places subtree_ends
+    are_spans subtree_ends long answer = record {
       long = long;
-      last = told;
-      fits = λ n known. let fits = span_fits n known in let e = told n known in omega arith;
-      below = λ n known. span_below n (number_at lasts n) known (told n known);
+      last = answer;
+      fits = λ n known. let fits = span_fits n known in let e = answer n known in omega arith;
+      below = λ n known. span_below n (number_at subtree_ends n) known (answer n known);
     }
 
 -- who is below a node, by the places
-module _ (forest : Forest) (order places lasts : List ℕ) (good : IsOrder forest order places) (spans : AreSpans forest order places lasts) (x y : ℕ) (x_known : x < length forest.content) where
+module _ (forest : Forest) (order places subtree_ends : List ℕ) (good : IsOrder forest order places) (spans : AreSpans forest order places subtree_ends) (x y : ℕ) (x_known : x < length forest.content) where
   at_span : (i : ℕ) → i < length (walk_below forest x) → number_at (walk_below forest x) i ≡ number_at order (number_at places x + 1 + i)
   at_span i inside =
       let last = spans.last x x_known in
-      ap (λ ns. number_at ns i) (sym (spans.below x x_known)) ∙ (get_or-take ((number_at lasts x + 1) - (number_at places x + 1)) (drop (number_at places x + 1) order) i 0 (omega arith)
+      ap (λ ns. number_at ns i) (sym (spans.below x x_known)) ∙ (get_or-take ((number_at subtree_ends x + 1) - (number_at places x + 1)) (drop (number_at places x + 1) order) i 0 (omega arith)
       ∙ get_or-drop (number_at places x + 1) order i 0)
 
-  pub below_within : stands_in y (walk_below forest x) ≡ true → (y < length forest.content) × (number_at places x < number_at places y) × (number_at places y ≤ number_at lasts x)
+  pub below_within : stands_in y (walk_below forest x) ≡ true → (y < length forest.content) × (number_at places x < number_at places y) × (number_at places y ≤ number_at subtree_ends x)
   below_within s =
       let p = found_at y (walk_below forest x) s in
       let inside = p.1 in
@@ -420,7 +420,7 @@ module _ (forest : Forest) (order places lasts : List ℕ) (good : IsOrder fores
       let place : number_at places y ≡ at = ap (number_at places) (sym is) ∙ good.placed at known in
       (subst (λ (j : ℕ). j < length forest.content) is (good.known at known), omega arith, omega arith)
 
-  pub within_below : y < length forest.content → number_at places x < number_at places y → number_at places y ≤ number_at lasts x → stands_in y (walk_below forest x) ≡ true
+  pub within_below : y < length forest.content → number_at places x < number_at places y → number_at places y ≤ number_at subtree_ends x → stands_in y (walk_below forest x) ≡ true
   within_below y_known after upto =
       let last = spans.last x x_known in
       let i = number_at places y - (number_at places x + 1) in

@@ -4,7 +4,7 @@ use Rattle.std.specs.Prelude.{◌==◌, ◌||◌}
 use Rattle.std.proofs.lemmas.Bool.{cases_Bool, cases_lt, eq-eqb, eqb-true, or_cases, or_right}
 use Rattle.std.proofs.lemmas.List.{get_or-set_same, get_or-set_other}
 use Rattle.dom_links.specs.Lists.{stands_in, IsDistinct}
-use Rattle.dom_links.proofs.Chains.{length_below}
+use Rattle.dom_links.proofs.forest.Chains.{length_below}
 use Rattle.dom_index.specs.Orders.{number_at}
 
 -- a number is this one or another
@@ -78,9 +78,9 @@ behind_in xs front back n m is s =
 -- each number of the list is written at its place
 pub placed_more : (order places : List ℕ) (i n : ℕ) → IsDistinct order → i < length order → n ≡ number_at order i → n < length places → ((j : ℕ) → j < i → number_at places (number_at order j) ≡ j) →
     (j : ℕ) → j < i + 1 → number_at (set places n i) (number_at order j) ≡ j
-placed_more order places i n once known is inside told j below = elim (same_or_not j i) [
+placed_more order places i n once known is inside answer j below = elim (same_or_not j i) [
   | inl e ↦ ap (λ k. number_at (set places n i) (number_at order k)) e ∙ (ap (number_at (set places n i)) (sym is) ∙ (get_or-set_same places n i 0 inside ∙ sym e))
-  | inr other ↦ get_or-set_other places n (number_at order j) i 0 (λ e. other (distinct_places order j i once (omega arith) known (e ∙ is))) ∙ told j (omega arith)
+  | inr other ↦ get_or-set_other places n (number_at order j) i 0 (λ e. other (distinct_places order j i once (omega arith) known (e ∙ is))) ∙ answer j (omega arith)
 ]
 
 -- the places of the first numbers
@@ -93,36 +93,36 @@ module _ (order : List ℕ) (at : ℕ → ℕ) where
   places_long zero = refl
   places_long (suc c) = let e = places_long c in omega arith
 
-  places_told : (c k : ℕ) → ((n : ℕ) → n < c → (at n < length order) × (number_at order (at n) ≡ n)) → stands_in k (places_to c) ≡ true → (k < length order) × (number_at order k < c)
-  places_told zero k told s = absurd (true≢false (sym s))
-  places_told (suc c) k told s = elim (or_cases (at c == k) (stands_in k (places_to c)) s) [
+  places_decided : (c k : ℕ) → ((n : ℕ) → n < c → (at n < length order) × (number_at order (at n) ≡ n)) → stands_in k (places_to c) ≡ true → (k < length order) × (number_at order k < c)
+  places_decided zero k answer s = absurd (true≢false (sym s))
+  places_decided (suc c) k answer s = elim (or_cases (at c == k) (stands_in k (places_to c)) s) [
     | inl here ↦ (let e = eqb-true (at c) k here in
-        let t = told c (omega arith) in
+        let t = answer c (omega arith) in
         let is : number_at order k ≡ c = ap (number_at order) (sym e) ∙ t.1 in
         (subst (λ (j : ℕ). j < length order) e t.0, omega arith))
-    | inr there ↦ (let t = places_told c k (λ n less. told n (omega arith)) there in (t.0, (let less = t.1 in omega arith)))
+    | inr there ↦ (let t = places_decided c k (λ n less. answer n (omega arith)) there in (t.0, (let less = t.1 in omega arith)))
   ]
 
   places_once : (c : ℕ) → ((n : ℕ) → n < c → (at n < length order) × (number_at order (at n) ≡ n)) → IsDistinct (places_to c)
-  places_once zero told = tt
-  places_once (suc c) told = (
+  places_once zero answer = tt
+  places_once (suc c) answer = (
     elim (cases_Bool (stands_in (at c) (places_to c))) [
-      | inl t ↦ (let again = places_told c (at c) (λ n less. told n (omega arith)) t in let less = again.1 in let is = (told c (omega arith)).1 in absurd (omega arith))
+      | inl t ↦ (let again = places_decided c (at c) (λ n less. answer n (omega arith)) t in let less = again.1 in let is = (answer c (omega arith)).1 in absurd (omega arith))
       | inr f ↦ f
     ],
-    places_once c (λ n less. told n (omega arith)),
+    places_once c (λ n less. answer n (omega arith)),
   )
 
   pub counted_down : (c : ℕ) → ((n : ℕ) → n < c → (at n < length order) × (number_at order (at n) ≡ n)) → c ≤ length order
-  counted_down c told =
-      let few = length_below (places_to c) (length order) (places_once c told) (λ k s. (places_told c k told s).0) in
+  counted_down c answer =
+      let few = length_below (places_to c) (length order) (places_once c answer) (λ k s. (places_decided c k answer s).0) in
       let long = places_long c in omega arith
 
 -- a list in which each number below `count` stands, and each once, has so many
 pub all_counted : (order : List ℕ) (count : ℕ) → IsDistinct order → ((n : ℕ) → stands_in n order ≡ true → n < count) → ((n : ℕ) → n < count → stands_in n order ≡ true) → length order ≡ count
 all_counted order count once inside all =
     let most : length order ≤ count = length_below order count once inside in
-    let least : count ≤ length order = counted_down order at count (λ n known. told n known) in
+    let least : count ≤ length order = counted_down order at count (λ n known. answer n known) in
     omega arith
   where
     found : (n : ℕ) → (n < count) ⊎ (count ≤ n) → ℕ
@@ -132,12 +132,12 @@ all_counted order count once inside all =
     at : ℕ → ℕ
     at n = found n (cases_lt n count)
 
-    told_at : (n : ℕ) → n < count → (s : (n < count) ⊎ (count ≤ n)) → (found n s < length order) × (number_at order (found n s) ≡ n)
-    told_at n known (inl inside_it) = let p = found_at n order (all n inside_it) in (p.1, p.2)
-    told_at n known (inr past) = absurd (omega arith)
+    decided_at : (n : ℕ) → n < count → (s : (n < count) ⊎ (count ≤ n)) → (found n s < length order) × (number_at order (found n s) ≡ n)
+    decided_at n known (inl inside_it) = let p = found_at n order (all n inside_it) in (p.1, p.2)
+    decided_at n known (inr past) = absurd (omega arith)
 
-    told : (n : ℕ) → n < count → (at n < length order) × (number_at order (at n) ≡ n)
-    told n known = told_at n known (cases_lt n count)
+    answer : (n : ℕ) → n < count → (at n < length order) × (number_at order (at n) ≡ n)
+    answer n known = decided_at n known (cases_lt n count)
 
 -- the front of a list stays where it is
 pub front_stays : {A : Type 0} (d : A) (xs ys : List A) (m : ℕ) → m < length xs → get_or (xs ++ ys) m d ≡ get_or xs m d

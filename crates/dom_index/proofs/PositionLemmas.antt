@@ -1,4 +1,4 @@
--- Positions of a forest's nodes, as the index has them written down.
+-- Positions of a forest's nodes, as they are written in the index.
 use Rattle.std.proofs.Common.{◌≡◌, ◌<◌, ◌≤◌, ◌+◌, ℕ, zero, suc, List, [], ◌∷◌, false, true≢false, MatchOption, Option, Some, None, inl, inr, refl, sym, ap, ◌∙◌, subst, length, slice_get, arith}
 use Rattle.std.specs.Prelude.{◌==◌, ◌||◌}
 use Rattle.std.specs.Option.{option_map}
@@ -65,8 +65,8 @@ module _ (forest : Forest) (order places : List ℕ) (good : IsOrder forest orde
       let less = at.0 in let long = good.long in
       (omega arith, at.1)
 
-  pub position_told : (n : ℕ) → slice_get places n ≡ position forest n
-  position_told n = elim (cases_lt n (length forest.content)) [
+  pub position_decided : (n : ℕ) → slice_get places n ≡ position forest n
+  position_decided n = elim (cases_lt n (length forest.content)) [
     | inl known ↦ slice_get-get_or places n 0 (let long = good.places_long in omega arith) ∙ sym (position_some n (number_at places n) (good.inside n known) (good.ordered n known))
     | inr past ↦ slice_get_past places n (let long = good.places_long in omega arith) ∙ (sym (placed_nowhere order n (absent past)) ∙ ap (λ ns. place_in ns n) is)
   ]
@@ -78,47 +78,47 @@ module _ (forest : Forest) (order places : List ℕ) (good : IsOrder forest orde
         | inr f ↦ f
       ]
 
-  module _ (lasts : List ℕ) (spans : AreSpans forest order places lasts) where
-    last_is : (n : ℕ) → n < length forest.content → IsLastBelow forest n (number_at lasts n)
+  module _ (subtree_ends : List ℕ) (spans : AreSpans forest order places subtree_ends) where
+    last_is : (n : ℕ) → n < length forest.content → IsLastBelow forest n (number_at subtree_ends n)
     last_is n known = record {
-      reached = (number_at order (number_at lasts n), at_or_below, position_some (number_at order (number_at lasts n)) (number_at lasts n) (spans.fits n known) refl);
+      reached = (number_at order (number_at subtree_ends n), at_or_below, position_some (number_at order (number_at subtree_ends n)) (number_at subtree_ends n) (spans.fits n known) refl);
       greatest = λ m other among at. (let p = position_is m other at in
           let place : number_at places m ≡ other = ap (number_at places) (sym p.1) ∙ good.placed other p.0 in
           let upto = most m among in omega arith);
     }
       where
-        at_or_below : IsAtOrBelow forest n (number_at order (number_at lasts n))
-        at_or_below = elim (same_or_not (number_at places n) (number_at lasts n)) [
+        at_or_below : IsAtOrBelow forest n (number_at order (number_at subtree_ends n))
+        at_or_below = elim (same_or_not (number_at places n) (number_at subtree_ends n)) [
           | inl same ↦ inl (ap (number_at order) (sym same) ∙ good.ordered n known)
           | inr other ↦ (let last = spans.last n known in
-              let place = good.placed (number_at lasts n) (spans.fits n known) in
-              inr (within_below forest order places lasts good spans n (number_at order (number_at lasts n)) known (good.known (number_at lasts n) (spans.fits n known)) (omega arith) (omega arith)))
+              let place = good.placed (number_at subtree_ends n) (spans.fits n known) in
+              inr (within_below forest order places subtree_ends good spans n (number_at order (number_at subtree_ends n)) known (good.known (number_at subtree_ends n) (spans.fits n known)) (omega arith) (omega arith)))
         ]
 
-        most : (m : ℕ) → IsAtOrBelow forest n m → number_at places m ≤ number_at lasts n
+        most : (m : ℕ) → IsAtOrBelow forest n m → number_at places m ≤ number_at subtree_ends n
         most m (inl e) = let last = spans.last n known in let same = ap (number_at places) e in omega arith
-        most m (inr s) = (below_within forest order places lasts good spans n m known s).2
+        most m (inr s) = (below_within forest order places subtree_ends good spans n m known s).2
 
-    pub last_told : (n : ℕ) (o : Option ℕ) → o ≡ slice_get lasts n → MatchOption o (length forest.content ≤ n) (λ last. IsLastBelow forest n last)
-    last_told n o e = elim (cases_lt n (length forest.content)) [
-      | inl known ↦ (let some = e ∙ slice_get-get_or lasts n 0 (let long = spans.long in omega arith) in
+    pub last_decided : (n : ℕ) (o : Option ℕ) → o ≡ slice_get subtree_ends n → MatchOption o (length forest.content ≤ n) (λ last. IsLastBelow forest n last)
+    last_decided n o e = elim (cases_lt n (length forest.content)) [
+      | inl known ↦ (let some = e ∙ slice_get-get_or subtree_ends n 0 (let long = spans.long in omega arith) in
           subst (λ p. MatchOption p (length forest.content ≤ n) (λ last. IsLastBelow forest n last)) (sym some) (last_is n known))
-      | inr past ↦ (let none = e ∙ slice_get_past lasts n (let long = spans.long in omega arith) in
+      | inr past ↦ (let none = e ∙ slice_get_past subtree_ends n (let long = spans.long in omega arith) in
           subst (λ p. MatchOption p (length forest.content ≤ n) (λ last. IsLastBelow forest n last)) (sym none) past)
     ]
 
     module _ (x y : ℕ) (x_known : x < length forest.content) where
       pub not_behind : number_at places y ≤ number_at places x → false ≡ stands_in y (walk_below forest x)
       not_behind le = elim (cases_Bool (stands_in y (walk_below forest x))) [
-        | inl t ↦ (let h = below_within forest order places lasts good spans x y x_known t in let less = h.1 in absurd (omega arith))
+        | inl t ↦ (let h = below_within forest order places subtree_ends good spans x y x_known t in let less = h.1 in absurd (omega arith))
         | inr f ↦ sym f
       ]
 
-      pub behind_decides : y < length forest.content → number_at places x < number_at places y → leb (number_at places y) (number_at lasts x) ≡ stands_in y (walk_below forest x)
-      behind_decides y_known less = elim (cases_lt (number_at lasts x) (number_at places y)) [
+      pub behind_decides : y < length forest.content → number_at places x < number_at places y → leb (number_at places y) (number_at subtree_ends x) ≡ stands_in y (walk_below forest x)
+      behind_decides y_known less = elim (cases_lt (number_at subtree_ends x) (number_at places y)) [
         | inl past ↦ (elim (cases_Bool (stands_in y (walk_below forest x))) [
-          | inl t ↦ (let h = below_within forest order places lasts good spans x y x_known t in let upto = h.2 in absurd (omega arith))
-          | inr f ↦ lt-leb (number_at places y) (number_at lasts x) past ∙ sym f
+          | inl t ↦ (let h = below_within forest order places subtree_ends good spans x y x_known t in let upto = h.2 in absurd (omega arith))
+          | inr f ↦ lt-leb (number_at places y) (number_at subtree_ends x) past ∙ sym f
         ])
-        | inr within ↦ le-leb (number_at places y) (number_at lasts x) within ∙ sym (within_below forest order places lasts good spans x y x_known y_known less within)
+        | inr within ↦ le-leb (number_at places y) (number_at subtree_ends x) within ∙ sym (within_below forest order places subtree_ends good spans x y x_known y_known less within)
       ]

@@ -1,4 +1,4 @@
--- What an index tells of a tree's nodes.
+-- The contents of an index of a tree's nodes.
 use Rattle.std.specs.Prelude.{ℕ, ◌≡◌, ◌≤◌, ◌⊎◌, true, List, Some}
 use Rattle.std.specs.Borrow.{Bor}
 use Rattle.dom_links.specs.Forest.{Forest}
@@ -10,7 +10,7 @@ use Rattle.dom_selectors.specs.Syntax.{SelectorList}
 use Rattle.dom_select.specs.Selected.{Selected}
 use Rattle.dom_index.specs.Preorder.{position}
 
--- the tree that is indexed, and how many tests the last selection has asked
+-- the tree that is indexed, and the number of tests of the last selection
 pub record Indexed : Type 0 where
   pub tree : Bor Forest
   pub tests : ℕ
@@ -19,7 +19,7 @@ pub record Indexed : Type 0 where
 abbrev pub Finds : Bor Forest → List ℕ → SelectorList → List NodeRef → Type 0
 Finds tree roots selector found = (ids : List ℕ) × Selected tree.now roots selector ids × (found ≡ refs_to tree ids)
 
--- m is n or stands below it
+-- m is n or a descendant of it
 abbrev pub IsAtOrBelow : Forest → ℕ → ℕ → Type 0
 IsAtOrBelow forest n m = (m ≡ n) ⊎ (stands_in m (walk_below forest n) ≡ true)
 

@@ -1,9 +1,9 @@
-pub mod Asked
-pub mod Counts
+pub mod TestCounts
+pub mod CompoundCounts
 pub mod Index
-pub mod Names
-pub mod Onward
+pub mod TypeBytes
+pub mod RestMatches
 pub mod Orders
-pub mod Picking
+pub mod Collected
 pub mod Preorder
-pub mod Tables
+pub mod NodeSets

@@ -1,4 +1,4 @@
--- The order of a forest's nodes: the runs in the order of their first nodes' numbers, each node before its children.
+-- The preorder of a forest's nodes: the runs by the numbers of their first nodes, each node before its children.
 use Rattle.std.specs.Prelude.{ℕ, zero, suc, ◌+◌, ◌==◌, ◌&&◌, Bool, false, List, [], ◌∷◌, ◌++◌, Option, Some, None, length, if◌then◌else◌}
 use Rattle.std.specs.List.{flat_map}
 use Rattle.std.specs.Option.{is_none, option_map}
@@ -15,7 +15,7 @@ starts_run forest n = is_none (parent forest n) && is_none (before (siblings for
 abbrev pub walk_from : Forest → ℕ → List ℕ
 walk_from forest n = walk (trees forest (n ∷ later forest false n))
 
--- the walks of the runs whose first nodes have numbers below this
+-- the traversals of the runs whose first nodes have numbers below this
 abbrev pub preorder_to : Forest → ℕ → List ℕ
 preorder_to forest zero = []
 preorder_to forest (suc n) = preorder_to forest n ++ (if starts_run forest n then walk_from forest n else [])
@@ -23,12 +23,12 @@ preorder_to forest (suc n) = preorder_to forest n ++ (if starts_run forest n the
 abbrev pub preorder : Forest → List ℕ
 preorder forest = preorder_to forest (length forest.content)
 
--- the walks of the later siblings of these
+-- the traversals of the later siblings of these
 abbrev pub run_past : Forest → List ℕ → List ℕ
 run_past forest ns = flat_map (λ n. walk (trees forest (later forest false n))) ns
 
--- what the walk of a run still gives from a node on: what is at and below it and its later siblings, and then what the later siblings
--- of each of its ancestors give
+-- what the traversal of a run still visits from a node on: the subtrees of it and its later siblings, and then of the later siblings
+-- of each of its ancestors
 abbrev pub run_on : Forest → Option ℕ → List ℕ
 run_on forest None = []
 run_on forest (Some n) = walk_from forest n ++ run_past forest (ancestors forest n)
@@ -38,11 +38,11 @@ abbrev pub above_it : Forest → Option ℕ → List ℕ
 above_it forest None = []
 above_it forest (Some n) = ancestors forest n
 
--- the place at which a number stands first in a list, counted from 0
+-- the position at which a number stands first in a list, counted from 0
 abbrev pub place_in : List ℕ → ℕ → Option ℕ
 place_in [] n = None
 place_in (m ∷ ms) n = if m == n then Some 0 else option_map (λ i. i + 1) (place_in ms n)
 
--- the place of a node in the order
+-- the position of a node in the preorder
 abbrev pub position : Forest → ℕ → Option ℕ
 position forest n = place_in (preorder forest) n

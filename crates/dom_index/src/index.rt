@@ -1,18 +1,18 @@
 //! An index of a tree's nodes.
 
-ghost use Rattle.std.specs.Prelude.{◌≡◌, ◌≤◌, ◌*◌, [], length, slice_get, IfOk, MatchOption};
+ghost use Rattle.std.specs.Prelude.{◌≡◌, ◌<◌, ◌≤◌, ◌*◌, [], length, slice_get, IfOk, MatchOption};
 ghost use Rattle.std.specs.Iterator.{YieldsFirst, item_count};
 ghost use Rattle.dom_links.specs.Indexes.{index_at};
 ghost use Rattle.dom_links.specs.Lists.{stands_in};
 ghost use Rattle.dom_links.specs.Trees.{walk_below};
-ghost use Rattle.dom_index.specs.Asked.{Counts, SelectorsAsk, everywhere};
-ghost use Rattle.dom_index.specs.Counts.{selectors_count};
+ghost use Rattle.dom_index.specs.TestCounts.{AddsTests, SelectorsTests, everywhere};
+ghost use Rattle.dom_index.specs.CompoundCounts.{selectors_count};
 ghost use Rattle.dom_index.specs.Index.{Finds, IsLastBelow};
 ghost use Rattle.dom_index.specs.Preorder.{position};
 
-use crate::layout::{Layout, below, know_forest};
-use crate::picking::{know_walks, picked};
-use crate::tables::list_table;
+use crate::collect::{collect_matches, walk_laws};
+use crate::evaluation::list_set;
+use crate::preorder::{Preorder, below, forest_laws};
 use dom_links::indexes::IndexKind;
 use dom_nodes::fault::OutOfMemory;
 use dom_nodes::node_id::NodeId;
@@ -22,13 +22,12 @@ use dom_trees::node_ref::NodeRef;
 use dom_trees::tree::Tree;
 use std::marker::Model;
 
-/// The nodes of a tree in order: the runs by the numbers of their first nodes, each node before its
-/// children, and where they stand among their siblings. It borrows the tree, so that no edit comes
-/// between two questions. A contract sees the tree, and how many tests the last selection has
-/// asked.
+/// The nodes of a tree in preorder, the runs by the numbers of their first nodes, and their indexes
+/// among siblings. It borrows the tree, so that no edit comes between two calls. A contract sees
+/// the tree, and the number of tests of the last selection.
 #[derive(Drop)]
 pub struct TreeIndex<'a> {
-    layout: Layout<'a>,
+    preorder: Preorder<'a>,
     siblings: SelectorCaches<'a>,
     tests: u128,
 }
@@ -39,9 +38,9 @@ impl<'a> Model for TreeIndex<'a> {
 
     ghost Value = { Indexed };
 
-    ghost view = { λ it. record { tree = it.layout.tree; tests = it.tests } };
+    ghost view = { λ it. record { tree = it.preorder.tree; tests = it.tests } };
 
-    ghost invariant = { λ it. it.siblings ≡ it.layout.tree.now };
+    ghost invariant = { λ it. it.siblings ≡ it.preorder.tree.now };
 }
 
 impl<'a> TreeIndex<'a> {
@@ -50,23 +49,23 @@ impl<'a> TreeIndex<'a> {
         ensures { IfOk result (λ index. index ≡ record { tree = tree.entry; tests = 0 }) }
     {
         Ok(TreeIndex {
-            layout: Layout::new(tree)?,
+            preorder: Preorder::new(tree)?,
             siblings: SelectorCaches::new(tree),
             tests: 0,
         })
     }
 
-    /// How many times the last `select` has asked a compound of a node; 0 before one.
+    /// The number of tests of the last `select`: of one compound at one node each; 0 before one.
     pub fn tests(&self) -> u128
         ensures { result ≡ self.now.tests }
     {
         self.tests
     }
 
-    /// The elements below the roots that one of the matcher's selectors means, each once, in the
-    /// order of the walks. Each compound is asked of each node once at most: of those that its
-    /// combinator leads to, and of a list in a compound where the compound may still hold. After a
-    /// refusal the index is as it was, but for the tests.
+    /// The elements below the roots that match one of the matcher's selectors, each once, in the
+    /// order of the traversals. Each compound is tested at each node once at most: at those that
+    /// its combinator reaches, and within a nested list where the compound can still match. After
+    /// a refusal the index is as it was, but for the number of tests.
     pub fn select(
         &mut self,
         matcher: &Matcher,
@@ -74,24 +73,24 @@ impl<'a> TreeIndex<'a> {
     ) -> Result<Vec<NodeRef<'a>>, OutOfMemory>
         ensures found { IfOk result (λ found.
             Finds self.old.tree roots.now matcher.now found.items) }
-        ensures asked { IfOk result (λ _. Counts 0 self.new.tests
-            (SelectorsAsk matcher.now self.old.tree.now (everywhere self.old.tree.now))) }
+        ensures asked { IfOk result (λ _. AddsTests 0 self.new.tests
+            (SelectorsTests matcher.now self.old.tree.now (everywhere self.old.tree.now))) }
         ensures tests { self.new.tests
             ≤ selectors_count matcher.now * length self.old.tree.now.content }
         ensures kept { self.new.tree ≡ self.old.tree }
     {
         self.tests = 0;
-        know_walks(self.layout.tree);
-        let all = vec![in self.layout.tree.allocator(); true; self.layout.order.len()]?;
-        let table = list_table(&self.layout, matcher.selectors(), &all, &mut self.tests)?;
-        picked(&self.layout, roots, table)
+        walk_laws(self.preorder.tree);
+        let all = vec![in self.preorder.tree.allocator(); true; self.preorder.order.len()]?;
+        let table = list_set(&self.preorder, matcher.selectors(), &all, &mut self.tests)?;
+        collect_matches(&self.preorder, roots, table)
     }
 
-    /// The place of a node in the order, counted from 0; None for an unknown number.
+    /// The position of a node in preorder, counted from 0; None for an unknown number.
     pub fn position(&self, id: &NodeId) -> Option<usize>
         ensures { result ≡ position self.now.tree.now id.now }
     {
-        place_at(&self.layout, id.value())
+        position_at(&self.preorder, id.value())
     }
 
     /// The greatest position at or below a node; None for an unknown number.
@@ -99,52 +98,57 @@ impl<'a> TreeIndex<'a> {
         ensures { MatchOption result (length self.now.tree.now.content ≤ id.now)
             (λ last. IsLastBelow self.now.tree.now id.now last) }
     {
-        last_at(&self.layout, id.value())
+        subtree_end_at(&self.preorder, id.value())
     }
 
-    /// Whether y is below x.
+    /// Whether y is a descendant of x.
     pub fn is_below(&self, x: &NodeId, y: &NodeId) -> bool
         ensures { result ≡ stands_in y.now (walk_below self.now.tree.now x.now) }
     {
-        is_within(&self.layout, x.value(), y.value())
+        is_within(&self.preorder, x.value(), y.value())
     }
 
-    /// The index of a node among its siblings; 1 for an unknown number. The first question of a
-    /// kind makes a table of that kind, if memory isn't refused, and each writes there what it
-    /// counts.
-    pub fn index_at(&mut self, id: &NodeId, kind: IndexKind) -> u64
-        ensures is { result ≡ index_at kind self.old.tree.now id.now }
+    /// The index of a node among its siblings, from 1; None for an unknown number. The first call
+    /// of a kind makes a table of that kind, if memory isn't refused, and each call writes there
+    /// what it counts.
+    pub fn index_at(&mut self, id: &NodeId, kind: IndexKind) -> Option<u64>
+        ensures is { MatchOption result (length self.old.tree.now.content ≤ id.now)
+            (λ index. (id.now < length self.old.tree.now.content)
+            × (index ≡ index_at kind self.old.tree.now id.now)) }
         ensures kept { self.new ≡ self.old }
     {
-        self.siblings.index_at(id, kind)
+        if id.value() >= self.preorder.order.len() {
+            return None;
+        }
+        Some(self.siblings.index_at(id, kind))
     }
 
-    /// The nodes below a node, each before what is below it. It takes no memory.
+    /// The descendants of a node, in preorder. It takes no memory.
     pub fn descendants(&self, id: &NodeId) -> IndexedNodes<'_>
         ensures { result ≡ walk_below self.now.tree.now id.now }
     {
         IndexedNodes {
-            ids: below(&self.layout, *id),
+            ids: below(&self.preorder, *id),
         }
     }
 }
 
-/// The place of the node of that number.
-fn place_at(layout: &Layout<'_>, n: usize) -> Option<usize>
-    ensures { result ≡ position layout.now.tree.now n }
+/// The position of the node of that number.
+fn position_at(preorder: &Preorder<'_>, n: usize) -> Option<usize>
+    ensures { result ≡ position preorder.now.tree.now n }
 {
-    written(&layout.places, n)
+    written(&preorder.places, n)
 }
 
-/// The place of the last node at or below the one of that number.
-fn last_at(layout: &Layout<'_>, n: usize) -> Option<usize>
-    ensures { MatchOption result (length layout.now.tree.now.content ≤ n)
-        (λ last. IsLastBelow layout.now.tree.now n last) }
+/// The subtree end of the node of that number.
+fn subtree_end_at(preorder: &Preorder<'_>, n: usize) -> Option<usize>
+    ensures { MatchOption result (length preorder.now.tree.now.content ≤ n)
+        (λ last. IsLastBelow preorder.now.tree.now n last) }
 {
-    written(&layout.lasts, n)
+    written(&preorder.subtree_ends, n)
 }
 
-/// What is written of the node of that number.
+/// The entry of the node of that number.
 fn written(places: &[u32], n: usize) -> Option<usize>
     ensures { result ≡ slice_get places.now n }
 {
@@ -152,23 +156,23 @@ fn written(places: &[u32], n: usize) -> Option<usize>
     Some(*place as usize)
 }
 
-/// Whether y is below x, by their places.
-fn is_within(layout: &Layout<'_>, x: usize, y: usize) -> bool
-    ensures { result ≡ stands_in y (walk_below layout.now.tree.now x) }
+/// Whether y is a descendant of x, by their positions.
+fn is_within(preorder: &Preorder<'_>, x: usize, y: usize) -> bool
+    ensures { result ≡ stands_in y (walk_below preorder.now.tree.now x) }
 {
-    know_forest(layout.tree);
-    let count = layout.order.len();
+    forest_laws(preorder.tree);
+    let count = preorder.order.len();
     if x >= count || y >= count {
         return false;
     }
-    let place = layout.places[y];
-    if place <= layout.places[x] {
+    let place = preorder.places[y];
+    if place <= preorder.places[x] {
         return false;
     }
-    place <= layout.lasts[x]
+    place <= preorder.subtree_ends[x]
 }
 
-/// The numbers of nodes that follow each other in the order of an index.
+/// The numbers of consecutive nodes in the preorder of an index.
 #[derive(Drop)]
 pub struct IndexedNodes<'i> {
     ids: &'i [NodeId],

@@ -1,11 +1,11 @@
-//! An index of a tree's nodes by the order in which a walk meets them, and selection by tables.
+//! An index of a tree's nodes in preorder, and selection by sets of nodes.
 #![tactic(auto)]
 
+mod collect;
+mod combinators;
+mod evaluation;
 pub mod index;
-mod layout;
-mod names;
-mod picking;
+mod node_set;
+mod preorder;
 pub mod selecting;
-mod tables;
-mod truths;
-mod ways;
+mod type_filter;

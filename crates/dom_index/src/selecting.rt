@@ -1,12 +1,13 @@
-//! What a selector selects, by asking each node or by tables, as its compounds ask for.
+//! What a selector selects below some nodes: by a test of each candidate, or by an index of the
+//! tree where that takes less.
 
 ghost use Rattle.std.specs.Prelude.{◌≡◌, ◌∷◌, ◌++◌, [], IfOk, OnOk};
 ghost use Rattle.dom_select.specs.Selected.{Selected};
 ghost use Rattle.dom_index.specs.Index.{Finds};
 ghost use Rattle.dom_trees.specs.Views.{refs_to};
 
+use crate::collect::push_ref;
 use crate::index::TreeIndex;
-use crate::picking::push_node;
 use dom_nodes::fault::OutOfMemory;
 use dom_nodes::node_id::NodeId;
 use dom_select::matcher::Matcher;
@@ -16,12 +17,12 @@ use dom_selectors::syntax::{Combinator, Compound, Nested, Selector, Step};
 use dom_trees::node_ref::NodeRef;
 use dom_trees::tree::Tree;
 
-/// How many steps to other nodes are worth an index, for each node of the tree.
-const WORTH: u64 = 8;
+/// How many steps of a match are worth an index, for each node of the tree.
+const STEPS_PER_NODE: u64 = 8;
 
-/// The elements below the roots that one of the matcher's selectors means, each once, in the order
-/// of the walks. Each node is asked where that takes few steps. Where it takes very many, and where
-/// `:has` leads by whitespace or `~`, an index is made and its tables are filled.
+/// The elements below the roots that match one of the matcher's selectors, each once, in the order
+/// of the traversals. Each candidate is tested where that takes few steps. Where it takes very
+/// many, and where `:has` has descendant or `~` combinators, an index is made.
 pub fn select_nodes<'a>(
     tree: &'a Tree,
     roots: &[NodeId],
@@ -30,21 +31,21 @@ pub fn select_nodes<'a>(
     ensures { IfOk result (λ found. Finds tree.entry roots.now matcher.now found.items) }
 {
     let selectors = matcher.selectors();
-    if looks_far(selectors) {
-        return by_tables(tree, roots, matcher);
+    if needs_index(selectors) {
+        return select_by_index(tree, roots, matcher);
     }
-    if !looks_about(selectors) {
-        let ids = asked(tree, roots, matcher)?;
+    if !needs_budget(selectors) {
+        let ids = select_by_node(tree, roots, matcher)?;
         return nodes_of(tree, &ids);
     }
-    match select_within(tree, roots, matcher, steps_worth(tree))? {
+    match select_within(tree, roots, matcher, step_budget(tree))? {
         Some(ids) => nodes_of(tree, &ids),
-        None => by_tables(tree, roots, matcher),
+        None => select_by_index(tree, roots, matcher),
     }
 }
 
-/// The same, by the tables of an index.
-fn by_tables<'a>(
+/// The same, by an index of the tree.
+fn select_by_index<'a>(
     tree: &'a Tree,
     roots: &[NodeId],
     matcher: &Matcher,
@@ -55,8 +56,12 @@ fn by_tables<'a>(
     index.select(matcher, roots)
 }
 
-/// The numbers of the same, by asking each node.
-fn asked(tree: &Tree, roots: &[NodeId], matcher: &Matcher) -> Result<Vec<NodeId>, OutOfMemory>
+/// The numbers of the same, by a test of each candidate.
+fn select_by_node(
+    tree: &Tree,
+    roots: &[NodeId],
+    matcher: &Matcher,
+) -> Result<Vec<NodeId>, OutOfMemory>
     ensures { IfOk result (λ ids. Selected tree.now roots.now matcher.now ids.items) }
 {
     match roots {
@@ -72,25 +77,25 @@ fn nodes_of<'a>(tree: &'a Tree, ids: &[NodeId]) -> Result<Vec<NodeRef<'a>>, OutO
     let root = tree.root();
     let mut nodes = Vec::with_capacity(tree.allocator(), ids.len())?;
     for id in ids {
-        push_node(&mut nodes, &NodeRef::new(*id, root.tree))?;
+        push_ref(&mut nodes, &NodeRef::new(*id, root.tree))?;
     }
     Ok(nodes)
 }
 
 /// How many steps are worth an index of the tree.
-fn steps_worth(tree: &Tree) -> u64 {
-    (tree.len() as u64).saturating_mul(WORTH)
+fn step_budget(tree: &Tree) -> u64 {
+    (tree.len() as u64).saturating_mul(STEPS_PER_NODE)
 }
 
-/// Whether one node's question may go over all others for each of them: in `:has`, by whitespace or
-/// `~`, or by lists in its lists, or in those of other lists.
-fn looks_far(selectors: &[Selector]) -> bool {
+/// Whether the test of one candidate may visit all nodes for each of them: by descendant or `~`
+/// combinators in `:has`, or by lists within lists.
+fn needs_index(selectors: &[Selector]) -> bool {
     for selector in selectors {
-        if leads_far(&selector.first) {
+        if is_costly(&selector.first) {
             return true;
         }
         for step in &selector.rest {
-            if leads_far(&step.compound) {
+            if is_costly(&step.compound) {
                 return true;
             }
         }
@@ -98,11 +103,11 @@ fn looks_far(selectors: &[Selector]) -> bool {
     false
 }
 
-fn leads_far(compound: &Compound) -> bool {
+fn is_costly(compound: &Compound) -> bool {
     for list in &compound.nested {
         match list {
             Nested::Has(selectors) => {
-                if has_lists(selectors) || climb_from(selectors) {
+                if has_lists(selectors) || relative_is_loose(selectors) {
                     return true;
                 }
             }
@@ -116,17 +121,17 @@ fn leads_far(compound: &Compound) -> bool {
     false
 }
 
-/// Whether a selector leads by whitespace or `~`, from the first combinator on.
-fn climb_from(selectors: &[Selector]) -> bool {
+/// Whether a relative selector has a descendant or `~` combinator, the first one among them.
+fn relative_is_loose(selectors: &[Selector]) -> bool {
     for selector in selectors {
-        if is_loose(selector.lead) || climbs(&selector.rest) {
+        if is_loose(selector.lead) || has_loose_step(&selector.rest) {
             return true;
         }
     }
     false
 }
 
-/// Whether a compound has lists of its own.
+/// Whether a compound of the selectors has lists of its own.
 fn has_lists(selectors: &[Selector]) -> bool {
     for selector in selectors {
         if !selector.first.nested.is_empty() {
@@ -141,14 +146,15 @@ fn has_lists(selectors: &[Selector]) -> bool {
     false
 }
 
-/// Whether more than a few nodes may be looked at for one: with `:has`, whitespace or `~`.
-fn looks_about(selectors: &[Selector]) -> bool {
+/// Whether the test of one candidate may visit more than a few nodes: by `:has`, or by descendant
+/// or `~` combinators.
+fn needs_budget(selectors: &[Selector]) -> bool {
     for selector in selectors {
-        if climbs(&selector.rest) || lists_look(&selector.first) {
+        if has_loose_step(&selector.rest) || lists_need_budget(&selector.first) {
             return true;
         }
         for step in &selector.rest {
-            if lists_look(&step.compound) {
+            if lists_need_budget(&step.compound) {
                 return true;
             }
         }
@@ -156,7 +162,7 @@ fn looks_about(selectors: &[Selector]) -> bool {
     false
 }
 
-fn lists_look(compound: &Compound) -> bool {
+fn lists_need_budget(compound: &Compound) -> bool {
     for list in &compound.nested {
         match list {
             Nested::Has(_) => {
@@ -164,7 +170,7 @@ fn lists_look(compound: &Compound) -> bool {
             }
             Nested::Is(selectors) | Nested::Not(selectors) => {
                 for selector in selectors {
-                    if climbs(&selector.rest) {
+                    if has_loose_step(&selector.rest) {
                         return true;
                     }
                 }
@@ -174,7 +180,7 @@ fn lists_look(compound: &Compound) -> bool {
     false
 }
 
-fn climbs(steps: &[Step]) -> bool {
+fn has_loose_step(steps: &[Step]) -> bool {
     for step in steps {
         if is_loose(step.combinator) {
             return true;
@@ -183,7 +189,7 @@ fn climbs(steps: &[Step]) -> bool {
     false
 }
 
-/// Whether the combinator leads over any number of nodes.
+/// Whether the left operand may be any number of nodes away: a descendant or `~` combinator.
 fn is_loose(combinator: Combinator) -> bool {
     match combinator {
         Combinator::Descendant | Combinator::Sibling => true,

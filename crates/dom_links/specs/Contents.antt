@@ -4,9 +4,9 @@ use Rattle.std.specs.Option.{option_map_or}
 use Rattle.dom_nodes.specs.declared.node_data.NodeData.{NodeData}
 use Rattle.dom_nodes.specs.declared.node_data.TreeNode.{TreeNode}
 use Rattle.dom_nodes.specs.declared.node_data.node_edit.NodeEdit.{NodeEdit}
-use Rattle.dom_nodes.specs.Kinds.{contents_named, is_fragment, is_top, may_bear}
+use Rattle.dom_nodes.specs.Kinds.{contents_named, is_fragment, is_top, children_allowed}
 use Rattle.dom_nodes.specs.declared.node_data.changing.Change.{Change}
-use Rattle.dom_nodes.specs.Change.{asks_of}
+use Rattle.dom_nodes.specs.Change.{may_allocate_of}
 use Rattle.dom_nodes.specs.Updates.{edit_of, with_edit}
 use Rattle.dom_links.specs.Forest.{Forest, forest_of}
 use Rattle.dom_links.specs.Sound.{IsForest, IsSoundArena}
@@ -21,11 +21,11 @@ changed_at (suc x) change (y ∷ ys) = y ∷ changed_at x change ys
 abbrev pub with_content : ℕ → (NodeData → NodeData) → Forest → Forest
 with_content x change forest = record forest { content = changed_at x change forest.content }
 
--- the same in what a forest asks of a node: its kind, and what it names as its contents
+-- the same in what a forest requires of a node: its kind, and what it names as its contents
 pub record SameKind (old new : NodeData) : Type 0 where
   pub top : is_top new ≡ is_top old
   pub fragment : is_fragment new ≡ is_fragment old
-  pub bearing : may_bear new ≡ may_bear old
+  pub parents_allow : children_allowed new ≡ children_allowed old
   pub contents : contents_named new ≡ contents_named old
 
 abbrev pub KeepsKind : (NodeData → NodeData) → Type 0
@@ -42,9 +42,9 @@ pub record IsUpdatedAt (MayLeave : NodeEdit → NodeEdit → Type 0) (x : ℕ) (
   pub left : IfSome (slice_get old.content x) (λ content. MayLeave (edit_of content) edit)
   pub made : new ≡ with_content x (with_edit edit) old
 
--- the change of x may ask for memory
-abbrev pub asks_at : Forest → ℕ → Change → Bool
-asks_at forest x change = option_map_or (asks_of change) (slice_get forest.content x) false
+-- the change of x may allocate memory
+abbrev pub may_allocate_at : Forest → ℕ → Change → Bool
+may_allocate_at forest x change = option_map_or (may_allocate_of change) (slice_get forest.content x) false
 
 -- what a change of the data of one node does to a forest
 pub record AreChanges (forest : Forest) : Type 0 where

@@ -1,6 +1,6 @@
 -- What copies are: the trees of the nodes that were copied, with numbers of their own.
 use Rattle.std.specs.Prelude.{ℕ, ◌≡◌, ◌+◌, List, Some, length, slice_get}
-use Rattle.dom_links.specs.Copies.{Keeps, copied, copied_data, copy_numbers, data_at, size}
+use Rattle.dom_links.specs.Copies.{Extends, copied, copied_data, copy_numbers, data_at, node_count}
 use Rattle.dom_links.specs.Forest.{Forest}
 use Rattle.dom_links.specs.Sound.{IsForest}
 use Rattle.dom_links.specs.Trees.{NoTrees, Tree, Trees, trees}
@@ -9,8 +9,8 @@ use Rattle.dom_links.specs.Trees.{NoTrees, Tree, Trees, trees}
 abbrev pub renumbered : ℕ → Trees → Trees
 renumbered k NoTrees = NoTrees
 renumbered k (Tree n contents children later) =
-    Tree k (renumbered (k + 1) contents) (renumbered (k + 1 + size contents) children)
-    (renumbered (k + size (Tree n contents children NoTrees)) later)
+    Tree k (renumbered (k + 1) contents) (renumbered (k + 1 + node_count contents) children)
+    (renumbered (k + node_count (Tree n contents children NoTrees)) later)
 
 -- the nodes that are so numbered hold what those of the trees hold, but for the numbers of contents
 abbrev pub HoldCopies : Forest → Trees → ℕ → Forest → Type 0
@@ -19,13 +19,13 @@ HoldCopies source (Tree n contents children later) k forest =
     (slice_get source.content n ≡ Some (data_at source n))
     × (slice_get forest.content k ≡ Some (copied_data k (data_at source n)))
     × HoldCopies source contents (k + 1) forest
-    × HoldCopies source children (k + 1 + size contents) forest
-    × HoldCopies source later (k + size (Tree n contents children NoTrees)) forest
+    × HoldCopies source children (k + 1 + node_count contents) forest
+    × HoldCopies source later (k + node_count (Tree n contents children NoTrees)) forest
 
 -- nodes of a source were copied: all that stood in the forest stays, and the copies are the same trees, numbered on
 pub record AreCopies (source : Forest) (ns : List ℕ) (forest : Forest) : Type 0 where
   pub fine : IsForest (copied source ns forest)
-  pub kept : Keeps forest (copied source ns forest)
-  pub many : length (copied source ns forest).content ≡ length forest.content + size (trees source ns)
+  pub kept : Extends forest (copied source ns forest)
+  pub many : length (copied source ns forest).content ≡ length forest.content + node_count (trees source ns)
   pub same_trees : trees (copied source ns forest) (copy_numbers source ns forest) ≡ renumbered (length forest.content) (trees source ns)
   pub same_data : HoldCopies source (trees source ns) (length forest.content) (copied source ns forest)

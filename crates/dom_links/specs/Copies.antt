@@ -52,21 +52,21 @@ abbrev pub copied : Forest → List ℕ → Forest → Forest
 copied source ns forest = copied_below source None ns forest
 
 -- how many nodes trees have, their contents too
-abbrev pub size : Trees → ℕ
-size NoTrees = 0
-size (Tree n contents children later) = 1 + size contents + size children + size later
+abbrev pub node_count : Trees → ℕ
+node_count NoTrees = 0
+node_count (Tree n contents children later) = 1 + node_count contents + node_count children + node_count later
 
 -- the numbers of the roots of trees, where all their nodes are numbered from k on
 abbrev pub root_numbers : ℕ → Trees → List ℕ
 root_numbers k NoTrees = []
-root_numbers k (Tree n contents children later) = k ∷ root_numbers (k + size (Tree n contents children NoTrees)) later
+root_numbers k (Tree n contents children later) = k ∷ root_numbers (k + node_count (Tree n contents children NoTrees)) later
 
 -- the numbers of the copies of some nodes
 abbrev pub copy_numbers : Forest → List ℕ → Forest → List ℕ
 copy_numbers source ns forest = root_numbers (length forest.content) (trees source ns)
 
 -- what stood in the old forest stands in the new one as it was; there may be more nodes
-pub record Keeps (old new : Forest) : Type 0 where
+pub record Extends (old new : Forest) : Type 0 where
   pub longer : length old.content ≤ length new.content
   pub contents : (n : ℕ) → n < length old.content → slice_get new.content n ≡ slice_get old.content n
   pub children : (n : ℕ) → n < length old.content → children_of new n ≡ children_of old n
@@ -96,7 +96,7 @@ CopyCause source ns forest TooManyNodes = 4294967295 < length (copied source ns 
 CopyCause source ns forest Memory = Unit {0}
 CopyCause source ns forest fault = CheckCause source ns fault
 
--- nodes of a source were copied into an arena, and their copies' numbers are told; or nothing has changed
+-- nodes of a source were copied into an arena, and their copies' numbers are returned; or nothing has changed
 pub record Copied (result : Result (Vec ℕ) EditFault) (source : Forest) (old new : List TreeNode) (ns : List ℕ) : Type 0 where
   pub made : OnOk result (forest_of new ≡ copied source ns (forest_of old))
   pub numbers : IfOk result (λ made. made.items ≡ copy_numbers source ns (forest_of old))
@@ -105,7 +105,7 @@ pub record Copied (result : Result (Vec ℕ) EditFault) (source : Forest) (old n
   pub cause : IfErr result (CopyCause source ns (forest_of old))
   pub sound : IsSoundArena new
 
--- the same of one node, whose copy's number is told alone
+-- the same of one node, whose copy's number is returned alone
 pub record CopiedOne (result : Result ℕ EditFault) (source : Forest) (old new : List TreeNode) (ns : List ℕ) : Type 0 where
   pub made : OnOk result (forest_of new ≡ copied source ns (forest_of old))
   pub numbers : IfOk result (λ made. made ∷ [] ≡ copy_numbers source ns (forest_of old))

@@ -7,7 +7,7 @@ use Rattle.dom_nodes.specs.declared.fault.EditFault.TheVariants.{TooManyNodes, M
 use Rattle.dom_nodes.specs.declared.node_data.NodeData.{NodeData}
 use Rattle.dom_nodes.specs.declared.node_data.TreeNode.{TreeNode}
 use Rattle.dom_nodes.specs.Kinds.{contents_named}
-use Rattle.dom_links.specs.Copies.{Keeps, with_copies}
+use Rattle.dom_links.specs.Copies.{Extends, with_copies}
 use Rattle.dom_links.specs.Forest.{Forest, IsArenaOf, forest_of}
 use Rattle.dom_links.specs.Sound.{IsForest}
 use Rattle.dom_links.specs.Trees.{trees}
@@ -34,7 +34,7 @@ pub record IsUnderWay (copying : Copying) (other : Option (Bor (List TreeNode)))
   pub good : IsForest copying.source
   pub linked : IsArenaOf (forest_of nodes) nodes
   pub numbered : length nodes ≤ 4294967295
-  pub kept : Keeps copying.base (forest_of nodes)
+  pub kept : Extends copying.base (forest_of nodes)
   pub read : IsRead copying other
 
 -- the row begins at a node of the source, and goes below a copy
@@ -78,5 +78,5 @@ IsTooLarge forest Memory = Unit {0}
 IsTooLarge forest _ = ⊥
 
 -- each of the nodes is the forest's
-abbrev pub AreKnown : Forest → List ℕ → Type 0
-AreKnown forest ns = AllByRecursion (λ n. n < length forest.content) ns
+abbrev pub AreNodesOf : Forest → List ℕ → Type 0
+AreNodesOf forest ns = AllByRecursion (λ n. n < length forest.content) ns

@@ -29,11 +29,11 @@ is_from_first OfType = true
 is_from_first LastOfType = false
 
 -- the same of two nodes' data
-abbrev pub passes : IndexKind → NodeData → NodeData → Bool
-passes Child node other = is_element other
-passes LastChild node other = is_element other
-passes OfType node other = of_one_type node other
-passes LastOfType node other = of_one_type node other
+abbrev pub counts_sibling : IndexKind → NodeData → NodeData → Bool
+counts_sibling Child node other = is_element other
+counts_sibling LastChild node other = is_element other
+counts_sibling OfType node other = of_one_type node other
+counts_sibling LastOfType node other = of_one_type node other
 
 -- m counts for the index of its sibling n: as an element, or as one of the same type
 abbrev pub counts : IndexKind → Forest → ℕ → ℕ → Bool

@@ -8,7 +8,7 @@ use Rattle.dom_links.specs.declared.gap.Moving.TheVariants.{Node, WithLater, Who
 use Rattle.dom_links.specs.Lists.{IsDistinct, stands_in}
 use Rattle.dom_links.specs.Forest.{Forest, forest_of, children_of, parent, run_of, siblings}
 use Rattle.dom_links.specs.Moves.{Gap, end_of, before_node, cut, moved_to}
-use Rattle.dom_links.specs.Sound.{Allowed, AtOrBelow, Edited, MayPlace, bears, is_open, stays, target}
+use Rattle.dom_links.specs.Sound.{Allowed, AtOrBelow, Edited, MayPlace, children_allowed_at, is_open, stays, target}
 use Rattle.dom_links.specs.Walk.{later}
 
 -- a node and its later siblings
@@ -21,11 +21,11 @@ moved_nodes forest (Node n) = n ∷ []
 moved_nodes forest (WithLater n) = with_later forest n
 moved_nodes forest (WholeList n) = siblings forest n
 
--- the node that tells them
-abbrev pub mover : Moving → ℕ
-mover (Node n) = n
-mover (WithLater n) = n
-mover (WholeList n) = n
+-- the node that it names
+abbrev pub moving_id : Moving → ℕ
+moving_id (Node n) = n
+moving_id (WithLater n) = n
+moving_id (WholeList n) = n
 
 -- it holds of each node of the list
 abbrev pub EachOf : List ℕ → (ℕ → Type 0) → Type 0
@@ -42,7 +42,7 @@ BlockedRun forest t x = (stays forest x ≡ true) ⊎ SomeOf (with_later forest 
 -- the same of all that is moved
 abbrev pub BlockedMove : Forest → ℕ → Moving → Type 0
 BlockedMove forest t moving =
-    (stays forest (mover moving) ≡ true) ⊎ SomeOf (moved_nodes forest moving) (λ n. AtOrBelow forest n t)
+    (stays forest (moving_id moving) ≡ true) ⊎ SomeOf (moved_nodes forest moving) (λ n. AtOrBelow forest n t)
 
 -- nodes of a forest, each once
 pub record AreNodes (forest : Forest) (moved : List ℕ) : Type 0 where
@@ -92,7 +92,7 @@ wrapped x w forest = moved_to (x ∷ []) (end_of w) (moved_to (w ∷ []) (before
 -- both steps are allowed
 pub record MayWrap (forest : Forest) (x w : ℕ) : Type 0 where
   pub beside : Allowed forest (before_node x) w
-  pub bearing : bears forest w ≡ true
+  pub parents_allow : children_allowed_at forest w ≡ true
 
 abbrev pub Wrapped : List TreeNode → List TreeNode → ℕ → ℕ → Type 0
 Wrapped old new x w = Edited old new (wrapped x w (forest_of old)) (MayWrap (forest_of old) x w)

@@ -3,12 +3,12 @@ use Rattle.std.specs.Prelude.{ℕ, ◌≡◌, ◌<◌, List, Option, Some, lengt
 use Rattle.std.specs.Option.{IfSome}
 use Rattle.dom_nodes.specs.declared.node_data.TreeNode.{TreeNode}
 use Rattle.dom_links.specs.Lists.{stands_in, last}
-use Rattle.dom_links.specs.Forest.{parent_link, prev_link, next_link, first_link, last_link, contents_of, ids_of, chain}
+use Rattle.dom_links.specs.Forest.{parent_link, prev_link, next_link, first_link, last_link, contents_of, arena_ids, chain}
 use Rattle.dom_links.specs.Writes.{Joined}
 
 -- a node and all that follow it by next links
-abbrev pub following : List TreeNode → ℕ → List ℕ
-following nodes x = chain (next_link nodes) (length nodes) (Some x)
+abbrev pub next_chain : List TreeNode → ℕ → List ℕ
+next_chain nodes x = chain (next_link nodes) (length nodes) (Some x)
 
 -- next links name nodes of the arena
 abbrev pub NextsKnown : List TreeNode → Type 0
@@ -18,7 +18,7 @@ NextsKnown nodes = (n : ℕ) → n < length nodes → IfSome (next_link nodes n)
 pub record ParentsSet (old new : List TreeNode) (moved : List ℕ) (owner : Option ℕ) : Type 0 where
   pub same_length : length new ≡ length old
   pub contents : contents_of new ≡ contents_of old
-  pub ids : ids_of new ≡ ids_of old
+  pub ids : arena_ids new ≡ arena_ids old
   pub parents : (n : ℕ) → parent_link new n ≡ (if stands_in n moved then owner else parent_link old n)
   pub prevs : (n : ℕ) → prev_link new n ≡ prev_link old n
   pub nexts : (n : ℕ) → next_link new n ≡ next_link old n
@@ -30,7 +30,7 @@ pub record RunAttached (old new : List TreeNode) (x : ℕ) (owner left right : O
   pub end : ℕ
   pub set : List TreeNode
   pub left_joined : List TreeNode
-  pub parents_set : ParentsSet old set (following old x) owner
-  pub ends : last (following old x) ≡ Some end
+  pub parents_set : ParentsSet old set (next_chain old x) owner
+  pub ends : last (next_chain old x) ≡ Some end
   pub on_left : Joined set left_joined owner left (Some x)
   pub on_right : Joined left_joined new owner (Some end) right

@@ -3,7 +3,7 @@ use Rattle.std.specs.Prelude.{ℕ, ◌==◌, ◌&&◌, not, Bool, true, false, L
 use Rattle.std.specs.Option.{option_map_or}
 use Rattle.dom_links.specs.Forest.{Forest}
 use Rattle.dom_links.specs.Lists.{stands_in, without, map_from}
-use Rattle.dom_links.specs.SetTexts.{is_text_at, retexted}
+use Rattle.dom_links.specs.SetTexts.{is_text_at, with_text_data}
 use Rattle.dom_links.specs.Texts.{text_at}
 use Rattle.dom_links.specs.Trees.{walk_below}
 use Rattle.dom_links.specs.Walk.{later}
@@ -17,8 +17,8 @@ abbrev pub nearest_before : Forest → ℕ → Option ℕ
 nearest_before forest n = find (λ m. not (is_empty_text forest m)) (later forest true n)
 
 -- the first of its row of texts that holds something
-abbrev pub leads : Forest → ℕ → Bool
-leads forest n =
+abbrev pub starts_text_run : Forest → ℕ → Bool
+starts_text_run forest n =
     is_text_at forest n && not (is_empty_text forest n) && not (option_map_or (is_text_at forest) (nearest_before forest n) false)
 
 -- what the texts at the front of a list hold, joined
@@ -26,18 +26,18 @@ abbrev pub front_texts : Forest → List ℕ → List ℕ
 front_texts forest [] = []
 front_texts forest (n ∷ ns) = if is_text_at forest n then text_at forest n ++ front_texts forest ns else []
 
--- what a text holds when its row is joined: who leads the row all of it, the others nothing
+-- what a text holds when its row is joined: the one that starts the run all of it, the others nothing
 abbrev pub joined : Forest → ℕ → List ℕ
-joined forest n = if leads forest n then text_at forest n ++ front_texts forest (later forest false n) else []
+joined forest n = if starts_text_run forest n then text_at forest n ++ front_texts forest (later forest false n) else []
 
 -- those of the nodes that are texts and don't lead their row
 abbrev pub dropped : Forest → List ℕ → List ℕ
-dropped forest ns = filter (λ n. is_text_at forest n && not (leads forest n)) ns
+dropped forest ns = filter (λ n. is_text_at forest n && not (starts_text_run forest n)) ns
 
 -- each text among the nodes holds what it then holds, and each that doesn't lead its row is cut out
 abbrev pub joined_among : List ℕ → Forest → Forest
 joined_among ns forest = record {
-  content = map_from 0 (λ n content. if stands_in n ns then retexted (joined forest n) content else content) forest.content;
+  content = map_from 0 (λ n content. if stands_in n ns then with_text_data (joined forest n) content else content) forest.content;
   children = map (without (dropped forest ns)) forest.children;
   runs = map_from 0 (λ n run. if stands_in n (dropped forest ns) then n ∷ [] else without (dropped forest ns) run) forest.runs;
 }

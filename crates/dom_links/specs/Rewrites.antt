@@ -5,8 +5,8 @@ use Rattle.dom_links.specs.Contents.{with_content}
 use Rattle.dom_links.specs.Forest.{Forest, siblings}
 use Rattle.dom_links.specs.Lists.{after}
 use Rattle.dom_links.specs.Moves.{cut}
-use Rattle.dom_links.specs.Normalized.{joined, leads}
-use Rattle.dom_links.specs.SetTexts.{is_text_at, retexted}
+use Rattle.dom_links.specs.Normalized.{joined, starts_text_run}
+use Rattle.dom_links.specs.SetTexts.{is_text_at, with_text_data}
 use Rattle.dom_links.specs.declared.ops.normalize.Rewrite.{Rewrite}
 
 -- the next node in the list is a text
@@ -15,10 +15,10 @@ is_text_after forest n = option_map_or (is_text_at forest) (after (siblings fore
 
 -- a text that doesn't lead its row, or does and has others after it
 abbrev pub is_rewritten : Forest → ℕ → Bool
-is_rewritten forest n = is_text_at forest n && (not (leads forest n) || is_text_after forest n)
+is_rewritten forest n = is_text_at forest n && (not (starts_text_run forest n) || is_text_after forest n)
 
 abbrev pub rewrite : Forest → ℕ → Rewrite
-rewrite forest n = record { id = n; text = joined forest n; stays = leads forest n }
+rewrite forest n = record { id = n; text = joined forest n; stays = starts_text_run forest n }
 
 abbrev pub rewrite_at : Forest → ℕ → Option Rewrite
 rewrite_at forest n = if is_rewritten forest n then Some (rewrite forest n) else None
@@ -33,5 +33,5 @@ rewrites forest ns = map (rewrite forest) (filter (is_rewritten forest) ns)
 -- the text holds that, and is cut out unless it stays
 abbrev pub rewritten : Rewrite → Forest → Forest
 rewritten w forest =
-    if w.stays then with_content w.id (retexted w.text) forest
-    else cut (w.id ∷ []) (with_content w.id (retexted w.text) forest)
+    if w.stays then with_content w.id (with_text_data w.text) forest
+    else cut (w.id ∷ []) (with_content w.id (with_text_data w.text) forest)

@@ -13,9 +13,9 @@ use Rattle.dom_links.specs.ListMoves.{element_at}
 use Rattle.dom_links.specs.Moves.{cut, end_of, moved_to}
 
 -- a text of other contents; what is no text stays
-abbrev pub retexted : List ℕ → NodeData → NodeData
-retexted text (Text contents) = Text text
-retexted text content = content
+abbrev pub with_text_data : List ℕ → NodeData → NodeData
+with_text_data text (Text contents) = Text text
+with_text_data text content = content
 
 abbrev pub is_text_at : Forest → ℕ → Bool
 is_text_at forest n = option_map_or is_text (slice_get forest.content n) false
@@ -25,10 +25,10 @@ abbrev pub with_only_child : ℕ → ℕ → Forest → Forest
 with_only_child x child forest = moved_to (child ∷ []) (end_of x) (cut (children_of forest x) forest)
 
 -- an element has a new text in the place of its children, a text has other contents, and any other node stays
-abbrev pub texted : ℕ → List ℕ → Forest → Forest
-texted x text forest =
+abbrev pub with_text_content : ℕ → List ℕ → Forest → Forest
+with_text_content x text forest =
     if element_at forest x then with_only_child x (length forest.content) (with_node (Text text) forest)
-    else with_content x (retexted text) forest
+    else with_content x (with_text_data text) forest
 
 -- why no text could be set: no number was left for the text of an element, or no memory was found for that of an element or a
 -- text

@@ -39,13 +39,13 @@ collapsed_on begun gap (c ∷ cs) =
 abbrev pub collapsed : List ℕ → List ℕ
 collapsed text = collapsed_on false false (chars text)
 
--- what a count of 64 bits tells of a number: the greatest count where it is greater
-abbrev pub told : ℕ → ℕ
-told count = min count (2 ^ 64 - 1)
+-- a count of 64 bits: it saturates at the greatest one
+abbrev pub saturated : ℕ → ℕ
+saturated count = min count (2 ^ 64 - 1)
 
 -- so many characters of a collapsed text were counted, and the bytes that are left make them up to the total: `gap` says that
 -- whitespace stands between
 pub record IsCounting (count : ℕ) (gap : Bool) (left : List ℕ) (total : ℕ) : Type 0 where
   pub exact : ℕ
-  pub is_told : count ≡ told exact
+  pub is_saturated : count ≡ saturated exact
   pub makes : exact + length (collapsed_on (nat_lt 0 exact) gap (chars left)) ≡ total

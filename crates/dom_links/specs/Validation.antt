@@ -1,32 +1,32 @@
--- What the check of raw nodes looks at, and what its faults tell.
+-- What the check of raw nodes looks at, and what its faults state.
 use Rattle.std.specs.Prelude.{ℕ, ◌≡◌, ◌≢◌, ◌<◌, ◌≤◌, ◌⊎◌, ◌==◌, ◌||◌, true, false, List, [], Option, Some, None, length, slice_get, slice_index_or, option_and_then, IfSome, EachIndex, SomeIndex}
 use Rattle.std.specs.Option.{option_map_or, option_or}
 use Rattle.dom_nodes.specs.declared.node_data.TreeNode.{TreeNode}
-use Rattle.dom_nodes.specs.Kinds.{contents_named, is_fragment, is_top, may_bear}
+use Rattle.dom_nodes.specs.Kinds.{contents_named, is_fragment, is_top, children_allowed}
 use Rattle.dom_links.specs.declared.validation.ValidateFault.{ValidateFault}
 use Rattle.dom_links.specs.declared.validation.ValidateFault.TheVariants.{NoRoot, RootPlaced, BadId, UnknownLink, BadLink, Cycle, NotLinked, SiblingCycle, NoChildrenHere, PlacedFragment, BadContents, TooManyNodes, Memory}
-use Rattle.dom_links.specs.Forest.{parent_link, prev_link, next_link, first_link, last_link, contents_of, ids_of}
+use Rattle.dom_links.specs.Forest.{parent_link, prev_link, next_link, first_link, last_link, contents_of, arena_ids}
 use Rattle.dom_links.specs.Sound.{IsSoundArena}
 
 -- one or more links lead from a number to another
-pub data Way (link : ℕ → Option ℕ) : ℕ → ℕ → Type 0 where
-  one_link : (m n : ℕ) → link m ≡ Some n → Way link m n
-  then_link : (m k n : ℕ) → Way link m k → link k ≡ Some n → Way link m n
+pub data LinkPath (link : ℕ → Option ℕ) : ℕ → ℕ → Type 0 where
+  one_link : (m n : ℕ) → link m ≡ Some n → LinkPath link m n
+  then_link : (m k n : ℕ) → LinkPath link m k → link k ≡ Some n → LinkPath link m n
 
 -- the links from a number on come to an end
 pub data Ends (link : ℕ → Option ℕ) : ℕ → Type 0 where
   last_one : (n : ℕ) → link n ≡ None → Ends link n
-  leads_on : (m n : ℕ) → link m ≡ Some n → Ends link n → Ends link m
+  link_then : (m n : ℕ) → link m ≡ Some n → Ends link n → Ends link m
 
 -- some number leads back to itself
-abbrev pub HasRing : (ℕ → Option ℕ) → Type 0
-HasRing link = (n : ℕ) × Way link n n
+abbrev pub HasCycle : (ℕ → Option ℕ) → Type 0
+HasCycle link = (n : ℕ) × LinkPath link n n
 
 -- the link that a list of links has for n
 abbrev pub link_at : List (Option ℕ) → ℕ → Option ℕ
 link_at links n = slice_index_or links n None
 
--- so many links, which a function tells
+-- so many links, which a function gives
 pub record AreLinksBy (links : List (Option ℕ)) (count : ℕ) (link : ℕ → Option ℕ) : Type 0 where
   pub long : length links ≡ count
   pub each : (n : ℕ) → n < count → link_at links n ≡ link n
@@ -47,16 +47,16 @@ LinksTo nodes n k = (parent_link nodes n ≡ Some k) ⊎ ((prev_link nodes n ≡
 abbrev pub LinksAstray : List TreeNode → ℕ → Type 0
 LinksAstray nodes n = (k : ℕ) × LinksTo nodes n k × (length nodes ≤ k)
 
-abbrev pub IsKnown : List TreeNode → Option ℕ → Type 0
-IsKnown nodes link = IfSome link (λ k. k < length nodes)
+abbrev pub IsLinkKnown : List TreeNode → Option ℕ → Type 0
+IsLinkKnown nodes link = IfSome link (λ k. k < length nodes)
 
 -- the links of n name nodes
 pub record LinksKnown (nodes : List TreeNode) (n : ℕ) : Type 0 where
-  pub parent_known : IsKnown nodes (parent_link nodes n)
-  pub prev_known : IsKnown nodes (prev_link nodes n)
-  pub next_known : IsKnown nodes (next_link nodes n)
-  pub first_known : IsKnown nodes (first_link nodes n)
-  pub last_known : IsKnown nodes (last_link nodes n)
+  pub parent_known : IsLinkKnown nodes (parent_link nodes n)
+  pub prev_known : IsLinkKnown nodes (prev_link nodes n)
+  pub next_known : IsLinkKnown nodes (next_link nodes n)
+  pub first_known : IsLinkKnown nodes (first_link nodes n)
+  pub last_known : IsLinkKnown nodes (last_link nodes n)
 
 -- the neighbours of n name it as theirs
 pub record Agrees (nodes : List TreeNode) (n : ℕ) : Type 0 where
@@ -73,8 +73,8 @@ pub record IsLinked (nodes : List TreeNode) (n : ℕ) : Type 0 where
   pub at_back : IfSome (parent_link nodes n) (λ p. next_link nodes n ≡ None → last_link nodes p ≡ Some n)
 
 -- the parent of n may have children
-abbrev pub IsBorne : List TreeNode → ℕ → Type 0
-IsBorne nodes n = IfSome (parent_link nodes n) (λ p. option_map_or may_bear (slice_get (contents_of nodes) p) false ≡ true)
+abbrev pub ParentAllowsChildren : List TreeNode → ℕ → Type 0
+ParentAllowsChildren nodes n = IfSome (parent_link nodes n) (λ p. option_map_or children_allowed (slice_get (contents_of nodes) p) false ≡ true)
 
 -- if n is the root, a document or a fragment, it has no parent and no neighbours
 abbrev pub IsAlone : List TreeNode → ℕ → Type 0
@@ -86,36 +86,36 @@ abbrev pub contents_link : List TreeNode → ℕ → Option ℕ
 contents_link nodes n = option_and_then contents_named (slice_get (contents_of nodes) n)
 
 -- for each node one that names it as its contents, where there is one
-pub record AreHolders (nodes : List TreeNode) (holders : List (Option ℕ)) : Type 0 where
-  pub long : length holders ≡ length nodes
-  pub truly : (c m : ℕ) → link_at holders c ≡ Some m → contents_link nodes m ≡ Some c
-  pub told : (m c : ℕ) → contents_link nodes m ≡ Some c → c < length nodes → (k : ℕ) × (link_at holders c ≡ Some k)
+pub record AreHosts (nodes : List TreeNode) (hosts : List (Option ℕ)) : Type 0 where
+  pub long : length hosts ≡ length nodes
+  pub truly : (c m : ℕ) → link_at hosts c ≡ Some m → contents_link nodes m ≡ Some c
+  pub complete : (m c : ℕ) → contents_link nodes m ≡ Some c → c < length nodes → (k : ℕ) × (link_at hosts c ≡ Some k)
 
--- the parent of n, or its holder where it has no parent
-abbrev pub step_up : List TreeNode → List (Option ℕ) → ℕ → Option ℕ
-step_up nodes holders n = option_or (parent_link nodes n) (link_at holders n)
+-- the parent of n, or its host where it has no parent
+abbrev pub parent_or_host : List TreeNode → List (Option ℕ) → ℕ → Option ℕ
+parent_or_host nodes hosts n = option_or (parent_link nodes n) (link_at hosts n)
 
 -- what n names as its contents is a fragment other than the root, held by it
-abbrev pub HoldsContents : List TreeNode → List (Option ℕ) → ℕ → Type 0
-HoldsContents nodes holders n = IfSome (contents_link nodes n) (λ c.
-    (c ≢ 0) × (option_map_or is_fragment (slice_get (contents_of nodes) c) false ≡ true) × (link_at holders c ≡ Some n))
+abbrev pub HostsContents : List TreeNode → List (Option ℕ) → ℕ → Type 0
+HostsContents nodes hosts n = IfSome (contents_link nodes n) (λ c.
+    (c ≢ 0) × (option_map_or is_fragment (slice_get (contents_of nodes) c) false ≡ true) × (link_at hosts c ≡ Some n))
 
--- what the checks of numbers and links tell
+-- what the checks of numbers and links establish
 pub record LinksHold (nodes : List TreeNode) : Type 0 where
   pub rooted : 0 < length nodes
   pub unplaced : parent_link nodes 0 ≡ None
-  pub ids : EachIndex nodes (λ n. slice_get (ids_of nodes) n ≡ Some n)
+  pub ids : EachIndex nodes (λ n. slice_get (arena_ids nodes) n ≡ Some n)
   pub known : EachIndex nodes (λ n. LinksKnown nodes n)
   pub agree : EachIndex nodes (λ n. Agrees nodes n)
 
--- what the checks of the nodes' kinds tell
-pub record ContentsHold (nodes : List TreeNode) (holders : List (Option ℕ)) : Type 0 where
-  pub borne : EachIndex nodes (λ n. IsBorne nodes n)
+-- what the checks of the nodes' kinds establish
+pub record ContentsHold (nodes : List TreeNode) (hosts : List (Option ℕ)) : Type 0 where
+  pub allowed_by_parents : EachIndex nodes (λ n. ParentAllowsChildren nodes n)
   pub alone : EachIndex nodes (λ n. IsAlone nodes n)
-  pub held : EachIndex nodes (λ n. HoldsContents nodes holders n)
+  pub held : EachIndex nodes (λ n. HostsContents nodes hosts n)
   pub numbered : length nodes ≤ 4294967295
 
--- the nodes are no forest's; of refused memory nothing is told
+-- the nodes are no forest's; refused memory states nothing
 abbrev pub IsRefused : List TreeNode → ValidateFault → Type 0
 IsRefused nodes Memory = Unit {0}
 IsRefused nodes _ = IsSoundArena nodes → ⊥
@@ -130,43 +130,43 @@ pub data Climbs (nodes : List TreeNode) : ℕ → ℕ → Type 0 where
   then_up : (n k m : ℕ) → Climbs nodes n k → IsAbove nodes m k → Climbs nodes n m
 
 -- what n names as its contents is a fragment other than the root, and no other node names it
-abbrev pub HoldsAlone : List TreeNode → ℕ → Type 0
-HoldsAlone nodes n = IfSome (contents_link nodes n) (λ c. (c ≢ 0)
+abbrev pub HostsAlone : List TreeNode → ℕ → Type 0
+HostsAlone nodes n = IfSome (contents_link nodes n) (λ c. (c ≢ 0)
     × (option_map_or is_fragment (slice_get (contents_of nodes) c) false ≡ true)
     × ((m : ℕ) → contents_link nodes m ≡ Some c → m ≡ n))
 
 -- what a fault says of the nodes
-abbrev pub Finds : List TreeNode → ValidateFault → Type 0
-Finds nodes NoRoot = nodes ≡ []
-Finds nodes RootPlaced = (p : ℕ) × (parent_link nodes 0 ≡ Some p)
-Finds nodes BadId = SomeIndex nodes (λ n. slice_get (ids_of nodes) n ≢ Some n)
-Finds nodes UnknownLink = SomeIndex nodes (λ n. LinksAstray nodes n)
-Finds nodes BadLink = SomeIndex nodes (λ n. Agrees nodes n → ⊥)
-Finds nodes Cycle = (n : ℕ) × Climbs nodes n n
-Finds nodes NotLinked = SomeIndex nodes (λ n. IsLinked nodes n → ⊥)
-Finds nodes SiblingCycle = HasRing (prev_link nodes)
-Finds nodes NoChildrenHere = SomeIndex nodes (λ n. IsBorne nodes n → ⊥)
-Finds nodes PlacedFragment = SomeIndex nodes (λ n. IsAlone nodes n → ⊥)
-Finds nodes BadContents = SomeIndex nodes (λ n. HoldsAlone nodes n → ⊥)
-Finds nodes TooManyNodes = 4294967295 < length nodes
-Finds nodes Memory = Unit {0}
+abbrev pub HasFault : List TreeNode → ValidateFault → Type 0
+HasFault nodes NoRoot = nodes ≡ []
+HasFault nodes RootPlaced = (p : ℕ) × (parent_link nodes 0 ≡ Some p)
+HasFault nodes BadId = SomeIndex nodes (λ n. slice_get (arena_ids nodes) n ≢ Some n)
+HasFault nodes UnknownLink = SomeIndex nodes (λ n. LinksAstray nodes n)
+HasFault nodes BadLink = SomeIndex nodes (λ n. Agrees nodes n → ⊥)
+HasFault nodes Cycle = (n : ℕ) × Climbs nodes n n
+HasFault nodes NotLinked = SomeIndex nodes (λ n. IsLinked nodes n → ⊥)
+HasFault nodes SiblingCycle = HasCycle (prev_link nodes)
+HasFault nodes NoChildrenHere = SomeIndex nodes (λ n. ParentAllowsChildren nodes n → ⊥)
+HasFault nodes PlacedFragment = SomeIndex nodes (λ n. IsAlone nodes n → ⊥)
+HasFault nodes BadContents = SomeIndex nodes (λ n. HostsAlone nodes n → ⊥)
+HasFault nodes TooManyNodes = 4294967295 < length nodes
+HasFault nodes Memory = Unit {0}
 
--- what the check for a fault tells where it doesn't find it. The check for cycles goes up to the parent, or where there
+-- what the check for a fault establishes where it doesn't find it. The check for cycles goes up to the parent, or where there
 -- is none to one that names the node as its contents
-abbrev pub Passes : List TreeNode → ValidateFault → Type 0
-Passes nodes NoRoot = 0 < length nodes
-Passes nodes RootPlaced = parent_link nodes 0 ≡ None
-Passes nodes BadId = EachIndex nodes (λ n. slice_get (ids_of nodes) n ≡ Some n)
-Passes nodes UnknownLink = EachIndex nodes (λ n. LinksKnown nodes n)
-Passes nodes BadLink = EachIndex nodes (λ n. Agrees nodes n)
-Passes nodes Cycle = (holders : List (Option ℕ)) × AreHolders nodes holders × ((n : ℕ) → Ends (step_up nodes holders) n)
-Passes nodes NotLinked = EachIndex nodes (λ n. IsLinked nodes n)
-Passes nodes SiblingCycle = (n : ℕ) → Ends (prev_link nodes) n
-Passes nodes NoChildrenHere = EachIndex nodes (λ n. IsBorne nodes n)
-Passes nodes PlacedFragment = EachIndex nodes (λ n. IsAlone nodes n)
-Passes nodes BadContents = EachIndex nodes (λ n. HoldsAlone nodes n)
-Passes nodes TooManyNodes = length nodes ≤ 4294967295
-Passes nodes Memory = Unit {0}
+abbrev pub PassesCheck : List TreeNode → ValidateFault → Type 0
+PassesCheck nodes NoRoot = 0 < length nodes
+PassesCheck nodes RootPlaced = parent_link nodes 0 ≡ None
+PassesCheck nodes BadId = EachIndex nodes (λ n. slice_get (arena_ids nodes) n ≡ Some n)
+PassesCheck nodes UnknownLink = EachIndex nodes (λ n. LinksKnown nodes n)
+PassesCheck nodes BadLink = EachIndex nodes (λ n. Agrees nodes n)
+PassesCheck nodes Cycle = (hosts : List (Option ℕ)) × AreHosts nodes hosts × ((n : ℕ) → Ends (parent_or_host nodes hosts) n)
+PassesCheck nodes NotLinked = EachIndex nodes (λ n. IsLinked nodes n)
+PassesCheck nodes SiblingCycle = (n : ℕ) → Ends (prev_link nodes) n
+PassesCheck nodes NoChildrenHere = EachIndex nodes (λ n. ParentAllowsChildren nodes n)
+PassesCheck nodes PlacedFragment = EachIndex nodes (λ n. IsAlone nodes n)
+PassesCheck nodes BadContents = EachIndex nodes (λ n. HostsAlone nodes n)
+PassesCheck nodes TooManyNodes = length nodes ≤ 4294967295
+PassesCheck nodes Memory = Unit {0}
 
 -- the order of the checks. Memory can be refused before any
 abbrev pub rank : ValidateFault → ℕ
@@ -185,9 +185,9 @@ rank BadContents = 11
 rank TooManyNodes = 12
 
 -- the checks before that of a fault find nothing
-abbrev pub PassesBefore : List TreeNode → ValidateFault → Type 0
-PassesBefore nodes fault = (earlier : ValidateFault) → rank earlier < rank fault → Passes nodes earlier
+abbrev pub PassesEarlierChecks : List TreeNode → ValidateFault → Type 0
+PassesEarlierChecks nodes fault = (earlier : ValidateFault) → rank earlier < rank fault → PassesCheck nodes earlier
 
--- the cause that a fault tells: what it says is so, and no fault that is looked for before it was found
-abbrev pub Tells : List TreeNode → ValidateFault → Type 0
-Tells nodes fault = Finds nodes fault × PassesBefore nodes fault
+-- the cause that a fault states: what it says is so, and no fault that is looked for before it was found
+abbrev pub IsFirstFault : List TreeNode → ValidateFault → Type 0
+IsFirstFault nodes fault = HasFault nodes fault × PassesEarlierChecks nodes fault

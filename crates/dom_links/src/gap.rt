@@ -6,7 +6,7 @@ ghost use Rattle.dom_links.specs.Sound.{target};
 
 use dom_nodes::node_id::NodeId;
 
-/// A place for nodes, told by a node: at an end of its children, or right beside it.
+/// A place for nodes, given by a node: at an end of its children, or right beside it.
 #[derive(Clone, Copy)]
 pub enum Gap {
     EndOf(NodeId),
@@ -15,7 +15,7 @@ pub enum Gap {
     After(NodeId),
 }
 
-/// What is moved, told by a node: it alone, it with its later siblings, or the whole list that it
+/// What is moved, given by a node: it alone, it with its later siblings, or the whole list that it
 /// stands in.
 #[derive(Clone, Copy)]
 pub enum Moving {

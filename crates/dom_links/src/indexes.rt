@@ -3,7 +3,7 @@
 ghost use Rattle.std.specs.Prelude.{◌≡◌, ◌≤◌, ◌+◌, ◌*◌, ℕ, MatchBool, slice_set, if◌then◌else◌};
 ghost use Rattle.dom_links.specs.Forest.{forest_of};
 ghost use Rattle.dom_links.specs.Indexes.{AreIndexes, IsNth, above_zero, below_zero, index_at};
-ghost use Rattle.dom_links.specs.Indexes.{index_known, is_from_first, of_one_type, passes};
+ghost use Rattle.dom_links.specs.Indexes.{index_known, is_from_first, of_one_type, counts_sibling};
 ghost use Rattle.dom_links.specs.Sound.{IsSoundArena};
 
 use crate::iters::{find_node, node_at};
@@ -124,7 +124,7 @@ fn is_from_first(kind: IndexKind) -> bool
 
 /// Whether a sibling counts for the index of a node.
 fn counts(kind: IndexKind, node: &NodeData, other: &NodeData) -> bool
-    ensures { result ≡ passes kind node.now other.now }
+    ensures { result ≡ counts_sibling kind node.now other.now }
 {
     match kind {
         IndexKind::Child | IndexKind::LastChild => other.is_element(),

@@ -1,4 +1,4 @@
-//! Edits of an arena of nodes, and the tests that tell whether an edit is allowed.
+//! Edits of an arena of nodes, and the tests of whether an edit is allowed.
 
 pub mod add_text;
 pub mod changes;
@@ -18,7 +18,7 @@ pub mod templates;
 pub mod texts;
 mod writes;
 
-/// The edits of an arena of nodes, what is looked up in it, and the tests that tell whether an edit
-/// is allowed. The conditions that a call requires are told by the tests, and a sound arena by
+/// The edits of an arena of nodes, what is looked up in it, and the tests of whether an edit
+/// is allowed. The conditions that a call requires are tested by them, and a sound arena by
 /// `validate`.
 pub struct TreeNodeOps {}

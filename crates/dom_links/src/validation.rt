@@ -3,11 +3,11 @@
 ghost use Rattle.std.specs.Prelude.{◌≡◌, [], Err, IfErr, MatchResult};
 ghost use Rattle.dom_links.specs.Sound.{IsSoundArena};
 ghost use Rattle.dom_links.specs.declared.validation.ValidateFault.TheVariants.{NoRoot};
-ghost use Rattle.dom_links.specs.Validation.{IsRefused, Tells};
+ghost use Rattle.dom_links.specs.Validation.{IsRefused, IsFirstFault};
 
 mod contents;
+mod cycles;
 mod links;
-mod rings;
 
 use crate::ops::TreeNodeOps;
 use dom_nodes::node_data::TreeNode;
@@ -69,26 +69,26 @@ impl From<AllocError> for ValidateFault {
 }
 
 impl TreeNodeOps {
-    /// Checks that raw nodes are a forest's, each at the place that its number tells. It takes
+    /// Checks that raw nodes are a forest's, each at the index that is its number. It takes
     /// memory for a few numbers a node, and time in proportion to the nodes. The first fault found
-    /// is told, in the order of `ValidateFault`.
+    /// is returned, in the order of `ValidateFault`.
     pub fn validate(alloc: Global, nodes: &[TreeNode]) -> Result<(), ValidateFault>
         ensures sound { MatchResult result (λ _. IsSoundArena nodes.now)
             (λ fault. IsRefused nodes.now fault) }
-        ensures cause { IfErr result (λ fault. Tells nodes.now fault) }
+        ensures cause { IfErr result (λ fault. IsFirstFault nodes.now fault) }
         ensures empty { nodes.now ≡ [] → result ≡ Err NoRoot }
     {
         links::check_links(nodes)?;
-        let holders = contents::holders_of(alloc, nodes)?;
-        if rings::has_step_ring(alloc, nodes, &holders)? {
+        let hosts = contents::hosts_of(alloc, nodes)?;
+        if cycles::has_ancestor_cycle(alloc, nodes, &hosts)? {
             return Err(ValidateFault::Cycle);
         }
         if !links::are_linked(nodes) {
             return Err(ValidateFault::NotLinked);
         }
-        if rings::has_sibling_ring(alloc, nodes)? {
+        if cycles::has_sibling_cycle(alloc, nodes)? {
             return Err(ValidateFault::SiblingCycle);
         }
-        contents::check_contents(nodes, &holders)
+        contents::check_contents(nodes, &hosts)
     }
 }

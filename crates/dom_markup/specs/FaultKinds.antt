@@ -1,4 +1,4 @@
--- Which faults tell of tags, texts, comments and doctypes, which of how they nest, and what a fault needs.
+-- Which faults are of tags, texts, comments and doctypes, which of how they nest, and what a fault needs.
 use Rattle.std.specs.Prelude.{◌≡◌, ℕ, List, ◌++◌, codes}
 use Rattle.dom_nodes.specs.declared.fault.MarkupFaultKind.{MarkupFaultKind}
 use Rattle.dom_nodes.specs.declared.fault.MarkupFaultKind.TheVariants.{BadTag, Unclosed, MismatchedEnd, StrayEnd, SlashOnOpen, BadComment, BadDeclaration, MisplacedDoctype, Instruction, TooManyNodes, Memory}

@@ -5,7 +5,7 @@ use Rattle.dom_nodes.specs.declared.fault.MarkupFaultKind.{MarkupFaultKind}
 use Rattle.dom_nodes.specs.declared.fault.MarkupFaultKind.TheVariants.{TooManyNodes}
 use Rattle.dom_links.specs.Copies.{fragment_of}
 use Rattle.dom_links.specs.Forest.{Forest, children_of}
-use Rattle.dom_trees.specs.NewNodes.{html_element}
+use Rattle.dom_trees.specs.NewNodes.{html_root_element}
 use Rattle.dom_trees.specs.Views.{has_local_name, node_is}
 use Rattle.dom_markup.specs.Markup.{Spells}
 use Rattle.dom_markup.specs.Numbered.{document_of}
@@ -19,19 +19,19 @@ top_nodes read = filter (λ n. not (node_is is_doctype read n)) (children_of rea
 
 -- the fragment that trees are: a fragment, an element `html` below it, and below that the trees' nodes, numbered on
 abbrev pub fragment_read : Forest → Forest
-fragment_read read = fragment_of html_element read (top_nodes read)
+fragment_read read = fragment_of html_root_element read (top_nodes read)
 
 -- the tree is the fragment that the text spells
 abbrev pub IsFragmentOf : List ℕ → Forest → Type 0
 IsFragmentOf text forest = (trees : ValueTrees) × Spells text trees × (forest ≡ fragment_read (document_of trees))
 
--- what a fault tells of a text that was to be read as a fragment
+-- what a fault says of a text that was to be read as a fragment
 abbrev pub FragmentRefused : List ℕ → MarkupFaultKind → Type 0
 FragmentRefused text TooManyNodes =
     BeginsTooManyNodes text ⊎ ((trees : ValueTrees) × Spells text trees × (4294967295 < length (fragment_read (document_of trees)).content))
 FragmentRefused text kind = Refused text kind
 
--- what a fault tells of a byte of such a text: what it tells of a document, or that a limit was met once all was read
+-- what a fault says of a byte of such a text: what it says of a document, or that a limit was met once all was read
 abbrev pub IsFragmentFaultAt : List ℕ → ℕ → MarkupFaultKind → Type 0
 IsFragmentFaultAt text at kind = IsFaultAt text at kind ⊎ ((at ≡ length text) × IsLimitFault kind)
 
@@ -45,4 +45,4 @@ fragment_roots forest n = if node_is is_top forest n then children_of forest n e
 
 -- the fragment of a node
 abbrev pub node_fragment : Forest → ℕ → Forest
-node_fragment forest n = if is_whole forest n then forest else fragment_of html_element forest (fragment_roots forest n)
+node_fragment forest n = if is_whole forest n then forest else fragment_of html_root_element forest (fragment_roots forest n)

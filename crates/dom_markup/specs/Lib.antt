@@ -5,7 +5,7 @@ pub mod References
 pub mod Referring
 pub mod ValueTrees
 pub mod Markup
-pub mod Stretches
+pub mod ByteClasses
 pub mod Attributes
 pub mod Token
 pub mod Tokens
@@ -29,4 +29,4 @@ pub mod FaultKinds
 pub mod Setters
 pub mod Joining
 pub mod Sinks
-pub mod Tops
+pub mod IdLists

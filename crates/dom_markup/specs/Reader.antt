@@ -45,7 +45,7 @@ abbrev pub parent_number : Reader → ℕ
 parent_number reader =
     option_map_or (λ (o : Open). o.number) (slice_get reader.stack.items (length reader.stack.items - 1)) 0
 
--- the tree has grown to this one, in which the new node's children stand below that number; an Err tells of a limit
+-- the tree has grown to this one, in which the new node's children stand below that number; an Err reports a limit
 pub record Grows (old new : Reader) (result : Result ℕ MarkupFaultKind) (place : ℕ) (tree : Forest) : Type 0 where
   pub stack : new.stack ≡ old.stack
   pub grown : MatchResult result (λ number. (number ≡ place) × (new.tree ≡ tree)) (λ kind. LacksNumbers place kind)
@@ -60,18 +60,18 @@ pub record IsStarted (started : Started) (name : List ℕ) (attributes : List At
 abbrev pub plain_element : QualName → List Attr → NodeData
 plain_element name attrs = Element (record { name = name; attrs = attrs; template_contents = None; mathml_annotation_xml_integration_point = false })
 
--- a start tag that tells this stands at the front of the text, and then rest follows
+-- a start tag that holds this stands at the front of the text, and then rest follows
 abbrev pub StartsSo : List ℕ → Started → List ℕ → Type 0
 StartsSo text started rest =
     let name = folded started.written.now in (all : List Attribute) × BeginsStart text name all rest × IsStarted started name all
 
--- the forest with a new element that a start tag tells of as the last child of p, and a template's contents
+-- the forest with a new element of a start tag as the last child of p, and a template's contents
 abbrev pub with_started : ℕ → Started → Forest → Forest
 with_started p started forest =
     if is_template (folded started.written.now) then with_template p (element_with (html_name started.local) started.attrs (length forest.content + 1)) forest
     else with_child p (plain_element (html_name started.local) started.attrs) forest
 
--- behind all that was read before, the item is read too, or the fault tells why it isn't
+-- behind all that was read before, the item is read too, or the fault says why it isn't
 abbrev pub ReadsItem : {T : Type 0} → Item → Reader → Reader → Result T MarkupFaultKind → Type 0
 ReadsItem item old new result =
     (items : List Item) → AfterItems items old → MatchResult result (λ _. AfterItems (items ++ item ∷ []) new) (λ kind. Declines items item kind)
@@ -82,8 +82,8 @@ abbrev pub StopsAt : Mode → List ℕ → List Item → MarkupFaultKind → Typ
 StopsAt mode text items kind =
     (kind ≡ Memory) ⊎ (BeginsNothing mode text × Cause mode text kind) ⊎ ((item : Item) × (rest : List ℕ) × Begins mode text item rest × Declines items item kind)
 
--- behind all that was read before, the item at the front of the text is read too, and what follows it is told; or the fault
--- tells why it isn't
+-- behind all that was read before, the item at the front of the text is read too, and what follows it is returned; or the fault
+-- says why it isn't
 abbrev pub ReadsFront : Mode → List ℕ → Reader → Reader → Result Behind MarkupFaultKind → Type 0
 ReadsFront mode text old new result = (items : List Item) → AfterItems items old → MatchResult result
     (λ behind. (item : Item) × Begins mode text item behind.rest.now × (mode_of behind.within ≡ mode_after mode item) × AfterItems (items ++ item ∷ []) new)

@@ -27,7 +27,7 @@ pub record BeginsTooManyNodes (text : List ℕ) : Type 0 where
   pub spelled : SpellsItemsUpTo markup text items rest
   pub many : 4294967295 ≤ nodes_begun items
 
--- what a fault tells of the text
+-- what a fault says of the text
 abbrev pub Refused : List ℕ → MarkupFaultKind → Type 0
 Refused text BadTag = SpellsNothing text
 Refused text Unclosed = SpellsNothing text
@@ -161,7 +161,7 @@ pub record EndsOpenAt (text : List ℕ) (at : ℕ) : Type 0 where
   pub place : at ≡ length text
   pub not_closed : LeavesSomeOpen items
 
--- what a fault of this kind tells of a byte of the text
+-- what a fault of this kind says of a byte of the text
 abbrev pub IsFaultAt : List ℕ → ℕ → MarkupFaultKind → Type 0
 IsFaultAt text at BadTag = BeginsNothingAt text at BadTag
 IsFaultAt text at SlashOnOpen = BeginsNothingAt text at SlashOnOpen

@@ -16,6 +16,7 @@ use Rattle.dom_trees.specs.Lending.{IsSameLoan}
 use Rattle.dom_trees.specs.Refusals.{PlaceCause}
 use Rattle.dom_trees.specs.declared.node_mut.NodeMut.{NodeMut}
 use Rattle.dom_markup.specs.Documents.{IsSpelled}
+use Rattle.dom_markup.specs.FaultKinds.{IsLimitFault}
 use Rattle.dom_markup.specs.Fragments.{top_nodes}
 use Rattle.dom_markup.specs.Markup.{SpellsNothing}
 use Rattle.dom_markup.specs.Refusals.{BeginsTooManyNodes, IsFaultAt}
@@ -51,11 +52,12 @@ replacing_by x read = putting (replacing (top_nodes read)) x read
 
 -- ---- what a call promises that reads markup first
 
--- the text is no markup, by a fault at this byte
+-- the text is no markup, by a fault at this byte that is no limit
 pub record IsNoMarkup (text : List ℕ) (fault : MarkupFault) : Type 0 where
   pub spells_nothing : SpellsNothing text
   pub within : fault.at ≤ length text
   pub cause : IsFaultAt text fault.at fault.kind
+  pub no_limit : IsLimitFault fault.kind → ⊥
 
 -- the edit by what the text spells
 pub record IsEditedBy (text : List ℕ) (edit : Forest → TreeEdit) (old new : Forest) : Type 0 where

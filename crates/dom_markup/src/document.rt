@@ -23,6 +23,7 @@ mod attributes;
 mod doctypes;
 pub mod fragments;
 mod front;
+mod id_list;
 mod names;
 mod raw;
 mod reader;
@@ -31,11 +32,10 @@ pub mod sink;
 pub mod snippet;
 mod tags;
 pub mod tokens;
-mod tops;
 mod within;
 
 use crate::document::reader::Reader;
-use crate::document::scan::nodes_about;
+use crate::document::scan::estimate_nodes;
 pub use crate::document::tokens::{Token, TokenKind, Tokens};
 use crate::document::within::Within;
 use crate::laws::faults::kinds_of_faults;
@@ -85,7 +85,7 @@ impl Document {
     /// (`MisplacedDoctype`), or an end tag that doesn't end the innermost open element
     /// (`MismatchedEnd`) or where none is open (`StrayEnd`). `Unclosed`: the text ends there in an
     /// open element, or the text of an element begins there that no end tag ends. `TooManyNodes`
-    /// and `Memory` tell of a limit, met at what begins there.
+    /// and `Memory` report a limit, met at what begins there.
     pub fn parse(alloc: Global, source: &str) -> Result<Document, MarkupFault>
         ensures ok { IfOk result (λ document. IsSpelled source.now document.tree) }
         ensures no_errors { IfOk result (λ document. document.errors.items ≡ []) }
@@ -123,7 +123,7 @@ impl Document {
                 at: 0,
             });
         };
-        reader.tree.reserve(nodes_about(source));
+        reader.tree.reserve(estimate_nodes(source));
         let mut left = source;
         let mut within = Within::Markup;
         while !left.is_empty() {

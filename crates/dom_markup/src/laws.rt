@@ -1,4 +1,4 @@
-//! What is true of the definitions, told to the crates above. The functions do nothing.
+//! What is true of the definitions, for the crates above. The functions do nothing.
 
 ghost use Rattle.std.specs.Prelude.{◌≡◌, ℕ, List};
 ghost use Rattle.dom_markup.specs.ValueTrees.{ValueTrees};

@@ -76,7 +76,7 @@ static RAW: [bool; 247] = [
     false, false, false, false, false, false, false, false, false, false, false, false, false,
 ];
 
-/// Whether an element of that name is a start tag alone. Known names are told by their numbers.
+/// Whether an element of that name is a start tag alone. Known names are compared by number.
 pub(crate) fn is_void_name(name: &LocalName) -> bool
     ensures { result ≡ is_among name.now void_names }
 {

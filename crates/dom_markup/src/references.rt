@@ -69,7 +69,7 @@ struct Reference {
     len: usize,
 }
 
-/// The reference that begins at an `&`, told by what follows.
+/// The reference that begins at an `&`, in front of this text.
 fn reference_at(after: &str) -> Option<Reference>
     ensures { result ≡ reference after.now }
 {

@@ -89,14 +89,14 @@ impl<'a> NodeMarkup for NodeRef<'a> {
     }
 
     fn html(&self) -> Result<String, OutOfMemory> {
-        tell_of_plain(self.tree);
+        plain_html_spells(self.tree);
         let mut text = String::new(self.tree.allocator());
         put_node::<ToText, String>(self.tree, self.id, &mut text)?;
         Ok(text)
     }
 
     fn inner_html(&self) -> Result<String, OutOfMemory> {
-        tell_of_plain(self.tree);
+        plain_html_spells(self.tree);
         let mut text = String::new(self.tree.allocator());
         put_children::<ToText, String>(self.tree, self.id, &mut text)?;
         Ok(text)
@@ -111,8 +111,8 @@ impl<'a> NodeMarkup for NodeRef<'a> {
     }
 }
 
-/// Tells that the HTML of a plain document spells it. It does nothing.
-fn tell_of_plain(tree: &Tree)
+/// The HTML of a plain document spells it. It does nothing.
+fn plain_html_spells(tree: &Tree)
     ensures root { IsPlain tree.now → SpellsDocument (html_of tree.now 0) tree.now }
     ensures children { IsPlain tree.now → SpellsDocument (inner_html_of tree.now 0) tree.now }
 {

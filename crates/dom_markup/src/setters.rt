@@ -96,7 +96,7 @@ impl<'a> NodeMutMarkup for NodeMut<'a> {
     }
 }
 
-/// Reads markup, and puts it at a place that the node tells.
+/// Reads markup, and puts it at the place at the node.
 fn put_html(node: &mut NodeMut<'_>, place: Place, html: &str) -> Result<(), EditFault>
     ensures { EditsByHtml result node.old node.new html.now (putting place node.old.id) }
 {

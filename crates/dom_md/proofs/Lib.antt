@@ -1,3 +1,4 @@
+pub mod AddressLemmas
 pub mod CellLemmas
 pub mod ChunkLemmas
 pub mod FenceLemmas

@@ -13,7 +13,7 @@ use Rattle.dom_md.specs.Solid.{KeepsWords, is_solid, solid}
 use Rattle.std.proofs.Common.{Option, Some, None, slice_get}
 use Rattle.std.specs.Option.{option_map_or}
 use Rattle.std.specs.Str.{bytes_eq}
-use Rattle.dom_nodes.specs.Kinds.{may_bear}
+use Rattle.dom_nodes.specs.Kinds.{children_allowed}
 use Rattle.dom_nodes.specs.declared.node_data.NodeData.{NodeData}
 use Rattle.dom_nodes.specs.declared.node_data.NodeData.TheVariants.{Document, Fragment, Doctype, Text, Comment, Element as AnElement, ProcessingInstruction}
 use Rattle.dom_links.specs.Forest.{Forest, children_of}
@@ -352,7 +352,7 @@ trees-text forest (Tree n contents children later) =
     ∙ (ap (λ t. (text_at forest n ++ below) ++ t) (trees-text forest later)
     ∙ (append_assoc (text_at forest n) below (joined_texts forest later) ∙ ap (λ t. text_at forest n ++ t) (sym (texts-append forest (walk children) (walk later))))))
 
-bearing : (found : Option NodeData) → option_map_or may_bear found false ≡ true → option_map_or text_in found [] ≡ []
+bearing : (found : Option NodeData) → option_map_or children_allowed found false ≡ true → option_map_or text_in found [] ≡ []
 bearing None h = refl
 bearing (Some Document) h = refl
 bearing (Some Fragment) h = refl

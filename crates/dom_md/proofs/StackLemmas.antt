@@ -8,14 +8,14 @@ use Rattle.std.specs.Prelude.{codes, ◌==◌}
 use Rattle.std.specs.Str.{bytes_eq}
 use Rattle.std.proofs.lemmas.Bool.{cases_Bool, eqb-true}
 use Rattle.std.proofs.lemmas.Option.{slice_get_past, slice_get_within}
-use Rattle.dom_links.proofs.Nodes.{children_past}
-use Rattle.dom_links.proofs.Depth.{trees-none, trees-some}
+use Rattle.dom_links.proofs.forest.Nodes.{children_past}
+use Rattle.dom_links.proofs.forest.Depth.{trees-none, trees-some}
 use Rattle.std.proofs.Common.{inl, inr}
 use Rattle.dom_links.specs.Forest.{Forest, children_of}
 use Rattle.dom_links.specs.Sound.{IsForest}
 use Rattle.dom_links.specs.Trees.{NoTrees, trees, trees_to}
 use Rattle.dom_links.specs.Walk.{IsNodeOf, IsWithin, row_on}
-use Rattle.dom_links.proofs.Later.{begins, follows, tree_at}
+use Rattle.dom_links.proofs.walks.Later.{begins, follows, tree_at}
 use Rattle.dom_links.specs.Weights.{row_weight, trees_weight, weight_below}
 use Rattle.dom_md.specs.declared.formatting.stack.FormatOp.{FormatOp}
 use Rattle.dom_md.specs.declared.formatting.stack.FormatOp.TheVariants.{Open, Close}

@@ -1,18 +1,19 @@
 -- What is written for a text: what it resolves to, and its words.
 use Rattle.std.proofs.Common.{◌≡◌, ℕ, zero, suc, ◌+◌, ◌-◌, ◌<◌, ◌≤◌, Bool, true, false, List, [], ◌∷◌, ◌++◌, length, take, drop, get_or, refl, sym, ◌∙◌, ap, subst, arith, append_assoc, append-nil, take_all, cond, inl, inr, ◌⊎◌, length-drop}
-use Rattle.std.specs.Prelude.{◌==◌, ◌&&◌, not, filter}
-use Rattle.std.specs.Char.{is_ascii_lowercase, is_ascii_whitespace}
+use Rattle.std.specs.Prelude.{◌==◌, ◌&&◌, ◌||◌, not, filter}
+use Rattle.std.specs.Char.{is_ascii_whitespace}
 use Rattle.std.specs.List.{slice_range}
 use Rattle.std.specs.Str.{IsTrimAsciiStart}
-use Rattle.std.proofs.lemmas.Bool.{cases_Bool, eqb-true, ne_eqb}
+use Rattle.std.proofs.lemmas.Bool.{agree_below, agree_below_at, cases_Bool, eqb-true}
 use Rattle.std.proofs.lemmas.Bool.Decides.{nat_tests}
 use Rattle.std.proofs.lemmas.List.{at_drop_more, at_drop_all, take_more}
-use Rattle.dom_nodes.specs.Ascii.{asterisk, backslash, backtick, exclamation_mark, left_bracket, less_than, right_bracket, space, tilde, underscore, vertical_bar}
+use Rattle.dom_nodes.specs.Ascii.{backslash, exclamation_mark, space}
 use Rattle.dom_nodes.specs.Classes.{words_joined}
 use Rattle.dom_nodes.specs.Words.{has_bytes, pieces_of, with_byte, words_of}
 use Rattle.dom_md.specs.Chunks.{is_mark, is_marked}
 use Rattle.dom_md.specs.Resolved.{Reads, resolved}
 use Rattle.dom_md.specs.Words.{spaced}
+use Rattle.dom_md.specs.declared.serializer.words.TheConstants.{PLAIN}
 use Rattle.dom_md.specs.Written.{CutsChange, IsFirstChange, begins_word, is_changed, written}
 use Rattle.dom_md.proofs.ChunkLemmas.{marked_ascii, marked_punctuation, unmarked_plain}
 use Rattle.dom_md.proofs.ReadLemmas.{reads-none, reads-both, reads-space, spaced-first, spaced-none}
@@ -205,38 +206,32 @@ changed-ascii escape b text h = elim (cases_Bool (is_ascii_whitespace b)) [
   | inr dark ↦ marked-ascii escape b text (rw dark at h)
 ]
 
-letter-plain : (b n : ℕ) → 97 ≤ b → n < 97 ⊎ 122 < n → b ≤ 122 → (b == n) ≡ false
-letter-plain b n low far high = ne_eqb b n (λ same. elim far [ inl below ↦ (let at = rw same at low in omega arith) | inr above ↦ (let at = rw same at high in omega arith) ])
+-- whitespace, a mark or `!`
+abbrev may_change : ℕ → Bool
+may_change b = is_ascii_whitespace b || (is_mark b || b == exclamation_mark)
 
-letter-mark : (b : ℕ) → 97 ≤ b → b ≤ 122 → is_mark b ≡ false
-letter-mark b low high = rw (
-  letter-plain b backslash low (inl (omega arith)) high,
-  letter-plain b backtick low (inl (omega arith)) high,
-  letter-plain b asterisk low (inl (omega arith)) high,
-  letter-plain b underscore low (inl (omega arith)) high,
-  letter-plain b left_bracket low (inl (omega arith)) high,
-  letter-plain b right_bracket low (inl (omega arith)) high,
-  letter-plain b less_than low (inl (omega arith)) high,
-  letter-plain b vertical_bar low (inr (omega arith)) high,
-  letter-plain b tilde low (inr (omega arith)) high,
-) refl
+plain_table : agree_below (λ n. (get_or PLAIN n 0 == 1) && may_change n) (λ n. false) 256 ≡ true
+plain_table = refl
 
-letter-unmarked : (b : ℕ) (text : List ℕ) → 97 ≤ b → b ≤ 122 → is_marked b text ≡ false
-letter-unmarked b [] low high = letter-mark b low high
-letter-unmarked b (next ∷ text) low high = rw (letter-mark b low high, letter-plain b exclamation_mark low (inl (omega arith)) high) refl
+neither : (a b : Bool) → (a || b) ≡ false → (a ≡ false) × (b ≡ false)
+neither true b h = absurd (cc)
+neither false b h = (refl, h)
 
-letter-dark : (b : ℕ) → 97 ≤ b → b ≤ 122 → is_ascii_whitespace b ≡ false
-letter-dark b low high = grind (arith, nat_tests)
+unmarked : (b : ℕ) (text : List ℕ) → is_mark b ≡ false → (b == exclamation_mark) ≡ false → is_marked b text ≡ false
+unmarked b [] mark bang = mark
+unmarked b (next ∷ text) mark bang = rw (mark, bang) refl
 
 and_none : (a b : Bool) → b ≡ false → (a && b) ≡ false
 and_none true b h = h
 and_none false b h = refl
 
-pub letter-unchanged : (escape : Bool) (b : ℕ) (text : List ℕ) → is_ascii_lowercase b ≡ true → is_changed escape b text ≡ false
-letter-unchanged escape b text letter =
-    let low : 97 ≤ b = grind (arith, nat_tests) in
-    let high : b ≤ 122 = grind (arith, nat_tests) in
-    rw (letter-dark b low high) (and_none escape (is_marked b text) (letter-unmarked b text low high))
+pub plain-unchanged : (escape : Bool) (b : ℕ) (text : List ℕ) → b < 256 → (get_or PLAIN b 0 == 1) ≡ true → is_changed escape b text ≡ false
+plain-unchanged escape b text low plain =
+    let whole : ((get_or PLAIN b 0 == 1) && may_change b) ≡ false = agree_below_at (λ n. (get_or PLAIN n 0 == 1) && may_change n) (λ n. false) 256 b plain_table low in
+    let none : may_change b ≡ false = sym (ap (λ t. t && may_change b) plain) ∙ whole in
+    let first = neither (is_ascii_whitespace b) (is_mark b || b == exclamation_mark) none in
+    let rest = neither (is_mark b) (b == exclamation_mark) first.1 in
+    rw first.0 (and_none escape (is_marked b text) (unmarked b text rest.0 rest.1))
 
 pub changed_here : (escape : Bool) (text : List ℕ) (at : ℕ) → at < length text → IsAsWrittenTo escape text at → is_changed escape (get_or text at 0) (drop (at + 1) text) ≡ true → IsFirstChange escape text at
 changed_here escape text at within same changed = record {

@@ -1,3 +1,4 @@
+pub mod Addresses
 pub mod Cells
 pub mod Chunks
 pub mod Context
@@ -5,6 +6,7 @@ pub mod Fences
 pub mod FormatOps
 pub mod Formatted
 pub mod Marks
+pub mod Names
 pub mod Options
 pub mod Resolved
 pub mod Scopes

@@ -3,7 +3,7 @@ use Rattle.std.specs.Prelude.{◌≡◌, ℕ, Bool, not, true, List}
 use Rattle.std.specs.Char.{is_whitespace}
 use Rattle.std.specs.List.{filter}
 use Rattle.std.specs.Str.{chars}
-use Rattle.dom_nodes.specs.Kinds.{may_bear}
+use Rattle.dom_nodes.specs.Kinds.{children_allowed}
 use Rattle.dom_links.specs.Forest.{Forest}
 use Rattle.dom_links.specs.Texts.{text_of}
 use Rattle.dom_trees.specs.Views.{node_is}
@@ -17,4 +17,4 @@ solid text = filter is_solid (chars text)
 
 -- without whitespace, the text is that of the node, if it may have children
 abbrev pub KeepsWords : Forest → ℕ → List ℕ → Type 0
-KeepsWords forest n text = node_is may_bear forest n ≡ true → solid text ≡ solid (text_of forest n)
+KeepsWords forest n text = node_is children_allowed forest n ≡ true → solid text ≡ solid (text_of forest n)

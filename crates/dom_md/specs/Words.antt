@@ -3,7 +3,7 @@ use Rattle.std.specs.Prelude.{◌≡◌, ℕ, ◌&&◌, Bool, true, false, List,
 use Rattle.std.specs.List.{flat_map, list_all}
 use Rattle.dom_nodes.specs.Ascii.{space}
 use Rattle.dom_nodes.specs.Classes.{words_joined}
-use Rattle.dom_nodes.specs.Kinds.{is_text, may_bear}
+use Rattle.dom_nodes.specs.Kinds.{is_text, children_allowed}
 use Rattle.dom_nodes.specs.Words.{words_of}
 use Rattle.dom_links.specs.Forest.{Forest, children_of}
 use Rattle.dom_links.specs.Texts.{text_of}
@@ -17,7 +17,7 @@ spaced true words = flat_map (λ word. space ∷ word) words
 
 -- the node may have children, and they are texts alone
 abbrev pub holds_texts : Forest → ℕ → Bool
-holds_texts forest n = node_is may_bear forest n && list_all (λ child. node_is is_text forest child) (children_of forest n)
+holds_texts forest n = node_is children_allowed forest n && list_all (λ child. node_is is_text forest child) (children_of forest n)
 
 -- the words between ASCII whitespace in the text of the node, joined by one space
 abbrev pub joined_words_of : Forest → ℕ → List ℕ

@@ -1,6 +1,6 @@
 //! What a writer of Markdown knows of where it writes: options, emphasis and lists.
 
-ghost use Rattle.std.specs.Prelude.{◌≡◌, ◌≤◌, IfOk, false, string_bytes};
+ghost use Rattle.std.specs.Prelude.{◌≡◌, ◌≤◌, IfOk, IfSome, false, string_bytes};
 ghost use Rattle.dom_md.specs.Context.{advanced, digit_count, kind_offset, line_break, prefix_of};
 ghost use Rattle.dom_md.specs.Options.{advanced_opts, all_off, item_opts, with_include_node};
 ghost use Rattle.dom_md.specs.Options.{with_inline, with_link_body, with_list_item, with_offset};
@@ -15,7 +15,7 @@ use std::alloc::Global;
 const MAX_LIST_NUMBER: u32 = 999_999_999;
 
 /// The emphasis round a place: bold, italic, both or none.
-#[derive(Clone, Copy, PartialEq, Eq, Debug, Drop)]
+#[derive(Clone, Copy, PartialEq, Eq, Debug, Default, Drop)]
 pub struct EmphasisScope {
     bold: bool,
     italic: bool,
@@ -78,7 +78,7 @@ impl From<&str> for EmphasisScope {
 }
 
 /// How a node is written.
-#[derive(Clone, Copy, PartialEq, Eq, Debug, Drop)]
+#[derive(Clone, Copy, PartialEq, Eq, Debug, Default, Drop)]
 pub struct FormatOpts {
     pub include_node: bool,
     pub skip_escape: bool,
@@ -275,6 +275,17 @@ impl ListContext {
         ensures { result.now ≡ line_break self.now.opts.table_cell }
     {
         if self.opts.table_cell { "<br>" } else { "\n" }
+    }
+
+    /// What stands before an item of a list without numbers.
+    pub fn mark(&self) -> Option<&'static str>
+        ensures { IfSome result (λ mark. mark.now
+            ≡ prefix_of self.now.kind self.now.opts.table_cell) }
+    {
+        match self.kind {
+            ListKind::Ul => Some(if self.opts.table_cell { "+ " } else { "- " }),
+            ListKind::Ol(_) => None,
+        }
     }
 
     /// What stands before an item.

@@ -8,6 +8,7 @@ use crate::formatting::stack::{format_children, format_node};
 use dom_nodes::fault::OutOfMemory;
 use dom_trees::node_ref::NodeRef;
 
+mod names;
 mod stack;
 mod steps;
 

@@ -28,6 +28,7 @@ use crate::serializer::tasks::{Item, Task};
 use crate::serializer::texts::trim_space;
 use crate::serializer::words::push_words;
 use dom_nodes::fault::OutOfMemory;
+use dom_nodes::name::LocalName;
 use dom_nodes::node_id::NodeId;
 use dom_trees::node_ref::NodeRef;
 use dom_trees::tree::Tree;
@@ -57,7 +58,8 @@ impl<'a> MDSerializer<'a> {
     /// Of that node, without elements of those names; without `script`, `style`, `meta` and `head`
     /// where none are given.
     pub fn new(node: &NodeRef<'a>, skip_tags: Option<&'a [&'a str]>) -> MDSerializer<'a>
-        ensures { result.node ≡ node.now }
+        ensures node { result.node ≡ node.now }
+        ensures names { result.skip_tags ≡ skip_tags.entry }
     {
         MDSerializer {
             node: NodeRef::new(node.id, node.tree),
@@ -98,6 +100,7 @@ struct Writer<'a> {
 impl<'a> Writer<'a> {
     fn new(tree: &'a Tree, skip_tags: Option<&'a [&'a str]>) -> Writer<'a>
         ensures tree { result.tree ≡ tree.entry }
+        ensures names { result.skip_tags ≡ skip_tags.entry }
         ensures tasks { result.tasks.items ≡ [] }
         ensures text { string_bytes result.text ≡ [] }
     {
@@ -192,7 +195,7 @@ impl<'a> Writer<'a> {
     /// Pushes what is below the node.
     fn push_children(&mut self, id: NodeId, opts: FormatOpts) -> Result<(), OutOfMemory> {
         let tree = self.tree;
-        let Some(node) = tree.get(&id) else {
+        let Some(node) = tree.tree_node(&id) else {
             return Ok(());
         };
         match node.first_child.get() {
@@ -221,9 +224,9 @@ impl<'a> Writer<'a> {
     }
 
     /// Whether elements of that name are left out.
-    fn is_skipped(&self, name: &str) -> bool {
+    fn is_skipped(&self, name: &LocalName) -> bool {
         match self.skip_tags {
-            Some(names) => names.iter().any(|skipped| *skipped == name),
+            Some(names) => names.iter().any(|skipped| *skipped == name.as_str()),
             None => is_default_skipped(name),
         }
     }

@@ -8,7 +8,7 @@ use Rattle.std.specs.List.{list_any, find, position_from}
 use Rattle.std.specs.Option.{option_map}
 use Rattle.dom_nodes.specs.declared.name.Attr.{Attr}
 use Rattle.dom_nodes.specs.Attrs.{attr_of}
-use Rattle.dom_nodes.specs.Changes.{is_named, with_value, with_attr, plain_attr}
+use Rattle.dom_nodes.specs.Changes.{is_attr_named, with_value, with_attr, plain_attr}
 
 pub list_any-map : {X Y : Type 0} (f : X → Y) (p : Y → Bool) (xs : List X) → list_any p (map f xs) ≡ list_any (λ x. p (f x)) xs
 list_any-map f p [] = refl
@@ -16,7 +16,7 @@ list_any-map f p (x ∷ xs) = ap (λ b. p (f x) || b) (list_any-map f p xs)
 
 -- the first attribute of that local name stands there
 pub with_value-at : (name value : List ℕ) (attrs : List Attr) (place : ℕ) (d : Attr) → place < length attrs →
-    is_named name (get_or attrs place d) ≡ true → ((k : ℕ) → k < place → is_named name (get_or attrs k d) ≡ false) →
+    is_attr_named name (get_or attrs place d) ≡ true → ((k : ℕ) → k < place → is_attr_named name (get_or attrs k d) ≡ false) →
     with_value name value attrs ≡ slice_set attrs place (record (get_or attrs place d) { value = value })
 with_value-at name value [] place d low here before = absurd (omega arith)
 with_value-at name value (a ∷ attrs) zero d low here before =
@@ -27,21 +27,21 @@ with_value-at name value (a ∷ attrs) (suc place) d low here before =
 
 -- an attribute of that local name has a value
 pub attr_of-at : (name : List ℕ) (attrs : List Attr) (place : ℕ) (d : Attr) → place < length attrs →
-    is_named name (get_or attrs place d) ≡ true → is_some (attr_of attrs name) ≡ true
+    is_attr_named name (get_or attrs place d) ≡ true → is_some (attr_of attrs name) ≡ true
 attr_of-at name [] place d low here = absurd (omega arith)
 attr_of-at name (a ∷ attrs) zero d low here =
-    ap (λ b. is_some (option_map (λ attr. attr.value) (cond b (Some a) (find (is_named name) attrs)))) here
+    ap (λ b. is_some (option_map (λ attr. attr.value) (cond b (Some a) (find (is_attr_named name) attrs)))) here
 attr_of-at name (a ∷ attrs) (suc place) d low here =
-    elim (cases_Bool (is_named name a)) [
-      | inl t ↦ ap (λ b. is_some (option_map (λ attr. attr.value) (cond b (Some a) (find (is_named name) attrs)))) t
-      | inr f ↦ ap (λ b. is_some (option_map (λ attr. attr.value) (cond b (Some a) (find (is_named name) attrs)))) f ∙ attr_of-at name attrs place d (omega arith) here
+    elim (cases_Bool (is_attr_named name a)) [
+      | inl t ↦ ap (λ b. is_some (option_map (λ attr. attr.value) (cond b (Some a) (find (is_attr_named name) attrs)))) t
+      | inr f ↦ ap (λ b. is_some (option_map (λ attr. attr.value) (cond b (Some a) (find (is_attr_named name) attrs)))) f ∙ attr_of-at name attrs place d (omega arith) here
     ]
 
 -- the value is put at the place that the search names
-pub with_attr-found : (name value : List ℕ) (attrs : List Attr) (place : ℕ) (d : Attr) → position (is_named name) attrs ≡ Some place →
+pub with_attr-found : (name value : List ℕ) (attrs : List Attr) (place : ℕ) (d : Attr) → position (is_attr_named name) attrs ≡ Some place →
     slice_set attrs place (record (get_or attrs place d) { value = value }) ≡ with_attr name value attrs
 with_attr-found name value attrs place d at =
-    let h = position-Some (is_named name) attrs place d at in
+    let h = position-Some (is_attr_named name) attrs place d at in
     sym (with_value-at name value attrs place d h.0 h.1 h.2)
     ∙ sym (ap (λ b. cond b (with_value name value attrs) (attrs ++ plain_attr name value ∷ [])) (attr_of-at name attrs place d h.0 h.1))
 
@@ -54,18 +54,18 @@ find_none p i (x ∷ xs) none =
     ]
 
 -- the search finds none, so one is added
-pub with_attr-added : (name value : List ℕ) (attrs : List Attr) → position (is_named name) attrs ≡ None →
+pub with_attr-added : (name value : List ℕ) (attrs : List Attr) → position (is_attr_named name) attrs ≡ None →
     attrs ++ plain_attr name value ∷ [] ≡ with_attr name value attrs
 with_attr-added name value attrs none =
-    let missing : find (is_named name) attrs ≡ None = find_none (is_named name) 0 attrs (sym (position_from-zero (is_named name) attrs) ∙ none) in
+    let missing : find (is_attr_named name) attrs ≡ None = find_none (is_attr_named name) 0 attrs (sym (position_from-zero (is_attr_named name) attrs) ∙ none) in
     sym (ap (λ found. cond (is_some (option_map (λ attr. attr.value) found)) (with_value name value attrs) (attrs ++ plain_attr name value ∷ [])) missing)
 
 -- no attribute of that local name: none is changed
 pub with_value-none : (name value : List ℕ) (attrs : List Attr) → is_some (attr_of attrs name) ≡ false → with_value name value attrs ≡ attrs
 with_value-none name value [] none = refl
 with_value-none name value (a ∷ attrs) none =
-    elim (cases_Bool (is_named name a)) [
-      | inl t ↦ absurd (false≢true (sym none ∙ ap (λ b. is_some (option_map (λ attr. attr.value) (cond b (Some a) (find (is_named name) attrs)))) t))
+    elim (cases_Bool (is_attr_named name a)) [
+      | inl t ↦ absurd (false≢true (sym none ∙ ap (λ b. is_some (option_map (λ attr. attr.value) (cond b (Some a) (find (is_attr_named name) attrs)))) t))
       | inr f ↦ ap (λ b. cond b (record a { value = value } ∷ attrs) (a ∷ with_value name value attrs)) f
-          ∙ ap (λ rest. a ∷ rest) (with_value-none name value attrs (sym (ap (λ b. is_some (option_map (λ attr. attr.value) (cond b (Some a) (find (is_named name) attrs)))) f) ∙ none))
+          ∙ ap (λ rest. a ∷ rest) (with_value-none name value attrs (sym (ap (λ b. is_some (option_map (λ attr. attr.value) (cond b (Some a) (find (is_attr_named name) attrs)))) f) ∙ none))
     ]

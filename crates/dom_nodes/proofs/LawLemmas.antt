@@ -9,7 +9,7 @@ use Rattle.std.specs.Str.{bytes_eq}
 use Rattle.dom_nodes.specs.declared.name.Attr.{Attr}
 use Rattle.dom_nodes.specs.Attrs.{attr_of}
 use Rattle.dom_nodes.specs.Words.{pieces_of, with_byte, has_bytes, words_of, class_words, is_among}
-use Rattle.dom_nodes.specs.Changes.{is_named, with_value, with_attr, without_name, plain_attr}
+use Rattle.dom_nodes.specs.Changes.{is_attr_named, with_value, with_attr, without_name, plain_attr}
 use Rattle.dom_nodes.specs.Classes.{words_joined, distinct, words_with, words_without, is_blank, with_classes, without_classes}
 use Rattle.dom_nodes.proofs.AttrLemmas.{with_value-none}
 use Rattle.dom_nodes.proofs.ClassLemmas.{words-split}
@@ -18,21 +18,21 @@ attr_of-with_value : (name value : List ℕ) (attrs : List Attr) → is_some (at
 attr_of-with_value name value [] some = absurd (false≢true some)
 attr_of-with_value name value (attr ∷ attrs) some =
     let changed = λ (b : Bool). attr_of (cond b (record attr { value = value } ∷ attrs) (attr ∷ with_value name value attrs)) name in
-    elim (cases_Bool (is_named name attr)) [
+    elim (cases_Bool (is_attr_named name attr)) [
       | inl t ↦ ap changed t
-          ∙ ap (λ b. option_map (λ one. one.value) (cond b (Some (record attr { value = value })) (find (is_named name) attrs))) t
+          ∙ ap (λ b. option_map (λ one. one.value) (cond b (Some (record attr { value = value })) (find (is_attr_named name) attrs))) t
       | inr f ↦ ap changed f
-          ∙ ap (λ b. option_map (λ one. one.value) (cond b (Some attr) (find (is_named name) (with_value name value attrs)))) f
-          ∙ attr_of-with_value name value attrs (sym (ap (λ b. is_some (option_map (λ one. one.value) (cond b (Some attr) (find (is_named name) attrs)))) f) ∙ some)
+          ∙ ap (λ b. option_map (λ one. one.value) (cond b (Some attr) (find (is_attr_named name) (with_value name value attrs)))) f
+          ∙ attr_of-with_value name value attrs (sym (ap (λ b. is_some (option_map (λ one. one.value) (cond b (Some attr) (find (is_attr_named name) attrs)))) f) ∙ some)
     ]
 
 attr_of-added : (name : List ℕ) (attrs : List Attr) (last : Attr) → is_some (attr_of attrs name) ≡ false → attr_of (attrs ++ last ∷ []) name ≡ attr_of (last ∷ []) name
 attr_of-added name [] last none = refl
 attr_of-added name (attr ∷ attrs) last none =
-    elim (cases_Bool (is_named name attr)) [
-      | inl t ↦ absurd (false≢true (sym none ∙ ap (λ b. is_some (option_map (λ one. one.value) (cond b (Some attr) (find (is_named name) attrs)))) t))
-      | inr f ↦ ap (λ b. option_map (λ one. one.value) (cond b (Some attr) (find (is_named name) (attrs ++ last ∷ [])))) f
-          ∙ attr_of-added name attrs last (sym (ap (λ b. is_some (option_map (λ one. one.value) (cond b (Some attr) (find (is_named name) attrs)))) f) ∙ none)
+    elim (cases_Bool (is_attr_named name attr)) [
+      | inl t ↦ absurd (false≢true (sym none ∙ ap (λ b. is_some (option_map (λ one. one.value) (cond b (Some attr) (find (is_attr_named name) attrs)))) t))
+      | inr f ↦ ap (λ b. option_map (λ one. one.value) (cond b (Some attr) (find (is_attr_named name) (attrs ++ last ∷ [])))) f
+          ∙ attr_of-added name attrs last (sym (ap (λ b. is_some (option_map (λ one. one.value) (cond b (Some attr) (find (is_attr_named name) attrs)))) f) ∙ none)
     ]
 
 same_name : (name : List ℕ) → bytes_eq name name ≡ true
@@ -47,7 +47,7 @@ attr_of-with_attr name value attrs =
           ∙ ap (λ b. option_map (λ one. one.value) (cond b (Some (plain_attr name value)) None)) (same_name name)
     ]
 
-other_name : (name other : List ℕ) (attr : Attr) → bytes_eq name other ≡ false → is_named name attr ≡ true → is_named other attr ≡ false
+other_name : (name other : List ℕ) (attr : Attr) → bytes_eq name other ≡ false → is_attr_named name attr ≡ true → is_attr_named other attr ≡ false
 other_name name other attr apart here = ap (λ text. bytes_eq text other) ((bytes_eq-Decides attr.name.local name).0 here) ∙ apart
 
 attr_of-with_value-other : (name other value : List ℕ) (attrs : List Attr) → bytes_eq name other ≡ false → attr_of (with_value name value attrs) other ≡ attr_of attrs other
@@ -55,28 +55,28 @@ attr_of-with_value-other name other value [] apart = refl
 attr_of-with_value-other name other value (attr ∷ attrs) apart =
     let changed = λ (b : Bool). attr_of (cond b (record attr { value = value } ∷ attrs) (attr ∷ with_value name value attrs)) other in
     let more = attr_of-with_value-other name other value attrs apart in
-    elim (cases_Bool (is_named name attr)) [
+    elim (cases_Bool (is_attr_named name attr)) [
       | inl t ↦ ap changed t
-          ∙ ap (λ b. option_map (λ one. one.value) (cond b (Some (record attr { value = value })) (find (is_named other) attrs))) (other_name name other attr apart t)
-          ∙ sym (ap (λ b. option_map (λ one. one.value) (cond b (Some attr) (find (is_named other) attrs))) (other_name name other attr apart t))
-      | inr f ↦ ap changed f ∙ elim (cases_Bool (is_named other attr)) [
-        | inl here ↦ ap (λ b. option_map (λ one. one.value) (cond b (Some attr) (find (is_named other) (with_value name value attrs)))) here
-            ∙ sym (ap (λ b. option_map (λ one. one.value) (cond b (Some attr) (find (is_named other) attrs))) here)
-        | inr gone ↦ ap (λ b. option_map (λ one. one.value) (cond b (Some attr) (find (is_named other) (with_value name value attrs)))) gone
+          ∙ ap (λ b. option_map (λ one. one.value) (cond b (Some (record attr { value = value })) (find (is_attr_named other) attrs))) (other_name name other attr apart t)
+          ∙ sym (ap (λ b. option_map (λ one. one.value) (cond b (Some attr) (find (is_attr_named other) attrs))) (other_name name other attr apart t))
+      | inr f ↦ ap changed f ∙ elim (cases_Bool (is_attr_named other attr)) [
+        | inl here ↦ ap (λ b. option_map (λ one. one.value) (cond b (Some attr) (find (is_attr_named other) (with_value name value attrs)))) here
+            ∙ sym (ap (λ b. option_map (λ one. one.value) (cond b (Some attr) (find (is_attr_named other) attrs))) here)
+        | inr gone ↦ ap (λ b. option_map (λ one. one.value) (cond b (Some attr) (find (is_attr_named other) (with_value name value attrs)))) gone
             ∙ more
-            ∙ sym (ap (λ b. option_map (λ one. one.value) (cond b (Some attr) (find (is_named other) attrs))) gone)
+            ∙ sym (ap (λ b. option_map (λ one. one.value) (cond b (Some attr) (find (is_attr_named other) attrs))) gone)
       ]
     ]
 
-attr_of-added-other : (other : List ℕ) (attrs : List Attr) (last : Attr) → is_named other last ≡ false → attr_of (attrs ++ last ∷ []) other ≡ attr_of attrs other
+attr_of-added-other : (other : List ℕ) (attrs : List Attr) (last : Attr) → is_attr_named other last ≡ false → attr_of (attrs ++ last ∷ []) other ≡ attr_of attrs other
 attr_of-added-other other [] last apart = ap (λ b. option_map (λ one. one.value) (cond b (Some last) None)) apart
 attr_of-added-other other (attr ∷ attrs) last apart =
-    elim (cases_Bool (is_named other attr)) [
-      | inl here ↦ ap (λ b. option_map (λ one. one.value) (cond b (Some attr) (find (is_named other) (attrs ++ last ∷ [])))) here
-          ∙ sym (ap (λ b. option_map (λ one. one.value) (cond b (Some attr) (find (is_named other) attrs))) here)
-      | inr gone ↦ ap (λ b. option_map (λ one. one.value) (cond b (Some attr) (find (is_named other) (attrs ++ last ∷ [])))) gone
+    elim (cases_Bool (is_attr_named other attr)) [
+      | inl here ↦ ap (λ b. option_map (λ one. one.value) (cond b (Some attr) (find (is_attr_named other) (attrs ++ last ∷ [])))) here
+          ∙ sym (ap (λ b. option_map (λ one. one.value) (cond b (Some attr) (find (is_attr_named other) attrs))) here)
+      | inr gone ↦ ap (λ b. option_map (λ one. one.value) (cond b (Some attr) (find (is_attr_named other) (attrs ++ last ∷ [])))) gone
           ∙ attr_of-added-other other attrs last apart
-          ∙ sym (ap (λ b. option_map (λ one. one.value) (cond b (Some attr) (find (is_named other) attrs))) gone)
+          ∙ sym (ap (λ b. option_map (λ one. one.value) (cond b (Some attr) (find (is_attr_named other) attrs))) gone)
     ]
 
 pub attr_of-with_attr-other : (name other value : List ℕ) (attrs : List Attr) → bytes_eq name other ≡ false → attr_of (with_attr name value attrs) other ≡ attr_of attrs other
@@ -91,10 +91,10 @@ pub attr_of-without_name : (name : List ℕ) (attrs : List Attr) → attr_of (wi
 attr_of-without_name name [] = refl
 attr_of-without_name name (attr ∷ attrs) =
     let left = λ (b : Bool). attr_of (cond (not b) (attr ∷ without_name name attrs) (without_name name attrs)) name in
-    elim (cases_Bool (is_named name attr)) [
+    elim (cases_Bool (is_attr_named name attr)) [
       | inl t ↦ ap left t ∙ attr_of-without_name name attrs
       | inr f ↦ ap left f
-          ∙ ap (λ b. option_map (λ one. one.value) (cond b (Some attr) (find (is_named name) (without_name name attrs)))) f
+          ∙ ap (λ b. option_map (λ one. one.value) (cond b (Some attr) (find (is_attr_named name) (without_name name attrs)))) f
           ∙ attr_of-without_name name attrs
     ]
 

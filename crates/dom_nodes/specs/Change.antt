@@ -1,4 +1,4 @@
--- One change of a node, what it leaves, and whether it asks for memory.
+-- One change of a node, what it leaves, and whether it may allocate memory.
 use Rattle.std.specs.Prelude.{◌≡◌, Bool, true, false, not, ◌&&◌, List, [], codes, is_some, map, Result, IsOk, OnOk, OnErr}
 use Rattle.dom_nodes.specs.declared.fault.OutOfMemory.{OutOfMemory}
 use Rattle.dom_nodes.specs.declared.name.Attr.{Attr}
@@ -21,24 +21,24 @@ changed (Rename name) node = on_element (renamed name.now) node
 changed (AddClass classes) node = with_attrs (with_classes classes.now) node
 changed (RemoveClass classes) node = with_attrs (without_classes classes.now) node
 
--- the change may ask for memory. Blank classes are none
-abbrev pub asks : Change → Bool
-asks (AddClass classes) = not (is_blank classes.now)
-asks (RemoveClass classes) = not (is_blank classes.now)
-asks (RemoveAttr name) = false
-asks (RemoveAttrs names) = false
-asks (RetainAttrs names) = false
-asks RemoveAllAttrs = false
-asks _ = true
+-- the change may allocate memory. Blank classes are none
+abbrev pub may_allocate : Change → Bool
+may_allocate (AddClass classes) = not (is_blank classes.now)
+may_allocate (RemoveClass classes) = not (is_blank classes.now)
+may_allocate (RemoveAttr name) = false
+may_allocate (RemoveAttrs names) = false
+may_allocate (RetainAttrs names) = false
+may_allocate RemoveAllAttrs = false
+may_allocate _ = true
 
 -- there is something to change: classes are taken out only where an attribute holds some
-abbrev pub finds : Change → List Attr → Bool
-finds (RemoveClass classes) attrs = is_some (attr_of attrs (codes "class"))
-finds _ attrs = true
+abbrev pub has_target : Change → List Attr → Bool
+has_target (RemoveClass classes) attrs = is_some (attr_of attrs (codes "class"))
+has_target _ attrs = true
 
--- the change may ask for memory at this node
-abbrev pub asks_of : Change → NodeData → Bool
-asks_of change node = is_element node && finds change (attrs_in node) && asks change
+-- the change may allocate memory at this node
+abbrev pub may_allocate_of : Change → NodeData → Bool
+may_allocate_of change node = is_element node && has_target change (attrs_in node) && may_allocate change
 
 -- what should come was made, or a request for memory was refused and nothing changed
 pub record Tried {A : Type 0} (result : Result Unit OutOfMemory) (old new after : A) (asking : Bool) : Type 0 where

@@ -13,8 +13,8 @@ use Rattle.dom_nodes.specs.Names.{same_name}
 use Rattle.dom_nodes.specs.Words.{is_among}
 
 -- the attribute has that local name
-abbrev pub is_named : List ℕ → Attr → Bool
-is_named name attr = bytes_eq attr.name.local name
+abbrev pub is_attr_named : List ℕ → Attr → Bool
+is_attr_named name attr = bytes_eq attr.name.local name
 
 -- the attribute's local name is one of the names
 abbrev pub is_named_in : List (List ℕ) → Attr → Bool
@@ -32,7 +32,7 @@ plain_attr name value = record { name = plain_name name; value = value }
 abbrev pub with_value : List ℕ → List ℕ → List Attr → List Attr
 with_value name value [] = []
 with_value name value (attr ∷ attrs) =
-    if is_named name attr then record attr { value = value } ∷ attrs else attr ∷ with_value name value attrs
+    if is_attr_named name attr then record attr { value = value } ∷ attrs else attr ∷ with_value name value attrs
 
 -- the first attribute of that local name has the value; where there is none, one is added at the end
 abbrev pub with_attr : List ℕ → List ℕ → List Attr → List Attr
@@ -41,7 +41,7 @@ with_attr name value attrs =
 
 -- the attributes of other local names
 abbrev pub without_name : List ℕ → List Attr → List Attr
-without_name name attrs = filter (λ attr. not (is_named name attr)) attrs
+without_name name attrs = filter (λ attr. not (is_attr_named name attr)) attrs
 
 abbrev pub without_names : List (List ℕ) → List Attr → List Attr
 without_names names attrs = filter (λ attr. not (is_named_in names attr)) attrs
@@ -51,12 +51,12 @@ abbrev pub only_names : List (List ℕ) → List Attr → List Attr
 only_names names attrs = filter (is_named_in names) attrs
 
 -- an attribute of that name, with its prefix and namespace, stands among them
-abbrev pub has_name : List Attr → QualName → Bool
-has_name attrs name = list_any (λ attr. same_name attr.name name) attrs
+abbrev pub has_attr_named : List Attr → QualName → Bool
+has_attr_named attrs name = list_any (λ attr. same_name attr.name name) attrs
 
 -- the attributes, and behind them those of others whose names none of them has
 abbrev pub with_missing : List Attr → List Attr → List Attr
-with_missing added attrs = attrs ++ filter (λ attr. not (has_name attrs attr.name)) added
+with_missing added attrs = attrs ++ filter (λ attr. not (has_attr_named attrs attr.name)) added
 
 -- the element with that local name
 abbrev pub renamed : List ℕ → Element → Element

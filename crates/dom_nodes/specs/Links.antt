@@ -6,8 +6,8 @@ use Rattle.std.proofs.lemmas.Bool.{ltb-false}
 use Rattle.dom_nodes.specs.declared.link.Link.TheInside.{Inside}
 
 -- the last number leads nowhere
-abbrev pub led_to : ℕ → Option ℕ
-led_to value = if ltb value 4294967295 then Some value else None
+abbrev pub link_target : ℕ → Option ℕ
+link_target value = if ltb value 4294967295 then Some value else None
 
 abbrev pub value_for : Option ℕ → ℕ
 value_for (Some value) = value
@@ -16,15 +16,15 @@ value_for None = 4294967295
 abbrev pub link_of : Option ℕ → Inside
 link_of id = record { value = value_for id }
 
-value_same : (value : ℕ) → value ≤ 4294967295 → value_for (led_to value) ≡ value
+value_same : (value : ℕ) → value ≤ 4294967295 → value_for (link_target value) ≡ value
 value_same value small = at (ltb value 4294967295) refl
   where
     at : (below : Bool) → ltb value 4294967295 ≡ below → value_for (if below then Some value else None) ≡ value
     at true _ = refl
     at false past = le_antisymm (ltb-false value 4294967295 past) small
 
--- where a link leads tells its bytes
-pub link_same : (link : Inside) → link.value ≤ 4294967295 → link_of (led_to link.value) ≡ link
+-- the target of a link determines its bytes
+pub link_same : (link : Inside) → link.value ≤ 4294967295 → link_of (link_target link.value) ≡ link
 link_same link small =
     let of : ℕ → Inside = λ value. record { value = value } in
     ap of (value_same link.value small)

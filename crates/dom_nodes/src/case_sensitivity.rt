@@ -1,4 +1,4 @@
-//! Whether letters are told apart by their case.
+//! Whether letters are distinguished by their case.
 
 ghost use Rattle.std.specs.Prelude.{◌≡◌};
 

@@ -185,7 +185,7 @@ impl TreeNode {
         ensures { OnOk result (made.new.items ≡ made.old.items ++ nodes.now) }
     {
         for node in nodes {
-            push_node(made, node)?;
+            push_copy(made, node)?;
         }
         Ok(())
     }
@@ -193,7 +193,7 @@ impl TreeNode {
 
 /// Adds a copy of a node. Texts and elements, which most nodes are, are made where they go.
 #[inline(always)]
-fn push_node(made: &mut Vec<TreeNode>, node: &TreeNode) -> Result<(), OutOfMemory>
+fn push_copy(made: &mut Vec<TreeNode>, node: &TreeNode) -> Result<(), OutOfMemory>
     ensures { OnOk result (made.new.items ≡ made.old.items ++ node.now ∷ []) }
 {
     match &node.content {

@@ -1,4 +1,4 @@
-//! What is true of numbers, attributes and classes, told to the crates above. The functions do
+//! What is true of numbers, attributes and classes, stated for the crates above. The functions do
 //! nothing.
 
 ghost use Rattle.std.specs.Prelude.{◌≡◌, ◌==◌, ◌&&◌, ℕ, List, false, None, Some};

@@ -17,9 +17,9 @@ impl Model for Link {
 
     ghost Value = { Option ℕ };
 
-    ghost use Rattle.dom_nodes.specs.Links.{led_to, link_of, link_same};
+    ghost use Rattle.dom_nodes.specs.Links.{link_target, link_of, link_same};
 
-    ghost view = { λ link. led_to link.value };
+    ghost view = { λ link. link_target link.value };
 
     ghost invariant = { λ link. link.value ≤ 4294967295 };
 

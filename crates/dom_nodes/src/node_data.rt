@@ -55,6 +55,7 @@ impl Attrs {
         Attrs { items }
     }
 
+    /// The attributes, in order.
     pub fn as_slice(&self) -> &[Attr]
         ensures { result.now ≡ self.now }
     {
@@ -106,6 +107,7 @@ impl Element {
     ghost use Rattle.dom_nodes.specs.Attrs.{attr_of};
     ghost use Rattle.dom_nodes.specs.Words.{class_words, is_among};
 
+    /// An element of that name, with these attributes, template contents and flag.
     pub fn new(
         name: QualName,
         attrs: Attrs,
@@ -229,7 +231,7 @@ impl NodeData {
     ghost use Rattle.std.specs.Prelude.{◌≡◌};
     ghost use Rattle.std.specs.Option.{option_copied};
     ghost use Rattle.dom_nodes.specs.Attrs.{element_of};
-    ghost use Rattle.dom_nodes.specs.Kinds.{contents_named, is_fragment, is_top, may_bear};
+    ghost use Rattle.dom_nodes.specs.Kinds.{contents_named, is_fragment, is_top, children_allowed};
 
     /// The element that the node is.
     pub fn as_element(&self) -> Option<&Element>
@@ -241,6 +243,7 @@ impl NodeData {
         }
     }
 
+    /// Whether the node is a fragment.
     pub fn is_fragment(&self) -> bool
         ensures { result ≡ is_fragment self.now }
     {
@@ -254,8 +257,9 @@ impl NodeData {
         matches!(self, NodeData::Document | NodeData::Fragment)
     }
 
+    /// Whether the node is a document, a fragment or an element.
     pub fn may_have_children(&self) -> bool
-        ensures { result ≡ may_bear self.now }
+        ensures { result ≡ children_allowed self.now }
     {
         matches!(
             self,

@@ -1,6 +1,7 @@
 //! Texts: bytes of valid UTF-8, short ones without memory of their own.
 
-ghost use Rattle.std.specs.Prelude.{◌≡◌, ◌≤◌, ◌++◌, IfOk, IfSome, MatchOption, OnErr, OnOk, List, ℕ, length};
+ghost use Rattle.std.specs.Prelude.{◌≡◌, ◌≤◌, ◌++◌, IfOk, IfSome, MatchOption, OnErr, OnOk, List};
+ghost use Rattle.std.specs.Prelude.{ℕ, length};
 ghost use Rattle.dom_nodes.specs.Forms.{form_bytes};
 
 mod rare;
@@ -55,6 +56,7 @@ impl Text {
     }
 
     #[inline(always)]
+    /// The text.
     pub fn as_str(&self) -> &str
         ensures { result.now ≡ self.now }
     {

@@ -8,81 +8,93 @@ use Rattle.dom_links.specs.Forest.{Forest}
 use Rattle.dom_markup.specs.Writing.{AppendsBeginning}
 use Rattle.dom_selectors.specs.Syntax.{SelectorList}
 use Rattle.dom_links.specs.Lists.{without}
+use Rattle.dom_links.specs.Sound.{IsForest}
 use Rattle.dom_select.specs.Meaning.{Means}
 use Rattle.dom_select.specs.Selected.{Selected}
+use Rattle.dom_sanitize.specs.Clean.{Lists}
+use Rattle.dom_sanitize.specs.Laws.{HasOneClean}
 use Rattle.dom_query.specs.declared.script.Command.{Command}
-use Rattle.dom_query.specs.declared.script.Command.TheVariants.{Nothing, Pick, Go, Show, Attr, Edit}
-use Rattle.dom_query.specs.declared.script.Picking.{Picking}
-use Rattle.dom_query.specs.declared.script.Picking.TheVariants.{Select, Find, Filter, Add}
+use Rattle.dom_query.specs.declared.script.Command.TheVariants.{Nothing, Query, Navigate, Render, Attr, Edit, Sanitize}
+use Rattle.dom_query.specs.declared.script.QueryKind.{QueryKind}
+use Rattle.dom_query.specs.declared.script.QueryKind.TheVariants.{Select, Find, Filter, Add}
+use Rattle.dom_query.specs.Cleaning.{allow_of}
 use Rattle.dom_query.specs.Editing.{IsRefusal, line_edit, targets}
 use Rattle.dom_query.specs.Out.{Does, DoesAll, Ending, Fails}
 use Rattle.dom_query.specs.Out.Ending.{done, refused}
-use Rattle.dom_query.specs.Picking.{Picked}
-use Rattle.dom_query.specs.Runs.{CommandTells, CommandsTell, DidBegin, IsEnding}
+use Rattle.dom_query.specs.Queries.{QueryResult}
+use Rattle.dom_query.specs.Runs.{CommandCause, CommandsCause, DidBegin, IsEnding}
 use Rattle.dom_query.specs.declared.runner.RunFault.{RunFault}
 use Rattle.dom_query.specs.declared.runner.RunFault.TheVariants.{BadScript, BadMarkup, TooManyNodes, Memory, Write, Edit as RunEdit}
 use Rattle.dom_query.proofs.EditLemmas.{done-not-refused, each-once, refused-once}
-use Rattle.dom_query.proofs.PickLemmas.{picks-once}
-use Rattle.dom_markup.proofs.WritingLemmas.{beginning-then, beginning-more, written-then}
+use Rattle.dom_query.proofs.QueryLemmas.{filtered-once}
+use Rattle.dom_markup.proofs.html.WritingLemmas.{beginning-then, beginning-more, written-then}
 
 -- a selector selects one list of nodes at most
 abbrev pub OneSelection : Type 0
 OneSelection = (forest : Forest) (roots : List ℕ) (selector : SelectorList) (a b : List ℕ) → Selected forest roots selector a → Selected forest roots selector b → a ≡ b
 
--- a line of each kind picks one list of nodes at most
-picked-once : OneSelection → (forest : Forest) (selection : List ℕ) (picking : Picking) (selector : SelectorList) (a b : List ℕ)
-    → Picked forest selection picking selector a → Picked forest selection picking selector b → a ≡ b
-picked-once one forest selection Select selector a b p q = one forest _ selector a b p q
-picked-once one forest selection Find selector a b p q = one forest _ selector a b p q
-picked-once one forest selection Filter selector a b p q = picks-once (Means selector forest) selection a b p q
-picked-once one forest [] Add selector a b p q = p ∙ sym q
-picked-once one forest (n ∷ ns) Add selector a b (more, p, is) (others, q, so) =
+-- what is left of a forest by the same lists is one forest
+abbrev pub OneClean : Type 0
+OneClean = (allow : Lists) (forest : Forest) → IsForest forest → HasOneClean allow forest
+
+-- a line of each kind selects one list of nodes at most
+queried-once : OneSelection → (forest : Forest) (selection : List ℕ) (kind : QueryKind) (selector : SelectorList) (a b : List ℕ)
+    → QueryResult forest selection kind selector a → QueryResult forest selection kind selector b → a ≡ b
+queried-once one forest selection Select selector a b p q = one forest _ selector a b p q
+queried-once one forest selection Find selector a b p q = one forest _ selector a b p q
+queried-once one forest selection Filter selector a b p q = filtered-once (Means selector forest) selection a b p q
+queried-once one forest [] Add selector a b p q = p ∙ sym q
+queried-once one forest (n ∷ ns) Add selector a b (more, p, is) (others, q, so) =
     is ∙ ap (λ ms. (n ∷ ns) ++ without (n ∷ ns) ms) (one forest _ selector more others p q) ∙ sym so
 
 -- a command writes one text and leaves one selection and one forest at most
-pub does-once : OneSelection → (forest : Forest) (selection : List ℕ) (command : Command) (text other selected others : List ℕ) (after last : Forest)
+pub does-once : OneSelection → OneClean → (forest : Forest) (selection : List ℕ) (command : Command) (text other selected others : List ℕ) (after last : Forest)
     → Does forest selection command text after selected → Does forest selection command other last others → (text ≡ other) × (selected ≡ others) × (after ≡ last)
-does-once one forest selection Nothing text other selected others after last a b = (a.0 ∙ sym b.0, a.1 ∙ sym b.1, a.2 ∙ sym b.2)
-does-once one forest selection (Pick picking selector) text other selected others after last a b =
-    (a.0 ∙ sym b.0, picked-once one forest selection picking selector selected others a.1 b.1, a.2 ∙ sym b.2)
-does-once one forest selection (Go going) text other selected others after last a b = (a.0 ∙ sym b.0, a.1 ∙ sym b.1, a.2 ∙ sym b.2)
-does-once one forest selection (Show showing) text other selected others after last a b = (a.0 ∙ sym b.0, a.1 ∙ sym b.1, a.2 ∙ sym b.2)
-does-once one forest selection (Attr name) text other selected others after last a b = (a.0 ∙ sym b.0, a.1 ∙ sym b.1, a.2 ∙ sym b.2)
-does-once one forest selection (Edit edit) text other selected others after last a b =
+does-once one clean forest selection Nothing text other selected others after last a b = (a.0 ∙ sym b.0, a.1 ∙ sym b.1, a.2 ∙ sym b.2)
+does-once one clean forest selection (Query kind selector) text other selected others after last a b =
+    (a.0 ∙ sym b.0, queried-once one forest selection kind selector selected others a.1 b.1, a.2 ∙ sym b.2)
+does-once one clean forest selection (Navigate navigation) text other selected others after last a b = (a.0 ∙ sym b.0, a.1 ∙ sym b.1, a.2 ∙ sym b.2)
+does-once one clean forest selection (Render rendering) text other selected others after last a b = (a.0 ∙ sym b.0, a.1 ∙ sym b.1, a.2 ∙ sym b.2)
+does-once one clean forest selection (Attr name) text other selected others after last a b = (a.0 ∙ sym b.0, a.1 ∙ sym b.1, a.2 ∙ sym b.2)
+does-once one clean forest selection (Edit edit) text other selected others after last a b =
     (a.0 ∙ sym b.0, a.1 ∙ sym b.1, each-once (line_edit edit) (targets edit selection) forest after last a.2 b.2)
+does-once one clean forest selection (Sanitize lists) text other selected others after last a b =
+    (a.0 ∙ sym b.0, a.1 ∙ sym b.1, clean (allow_of lists) forest a.2.was after last a.2.is b.2.is a.2.cleaned b.2.cleaned)
 
 -- a command that is done isn't refused
 does-not-fail : (forest : Forest) (selection : List ℕ) (command : Command) (text selected : List ℕ) (after : Forest) (fault : EditFault)
     → Does forest selection command text after selected → Fails forest selection command fault → IsRefusal fault → ⊥
 does-not-fail forest selection Nothing text selected after fault does fails is = fails
-does-not-fail forest selection (Pick picking selector) text selected after fault does fails is = fails
-does-not-fail forest selection (Go going) text selected after fault does fails is = fails
-does-not-fail forest selection (Show showing) text selected after fault does fails is = fails
+does-not-fail forest selection (Query kind selector) text selected after fault does fails is = fails
+does-not-fail forest selection (Navigate navigation) text selected after fault does fails is = fails
+does-not-fail forest selection (Render rendering) text selected after fault does fails is = fails
 does-not-fail forest selection (Attr name) text selected after fault does fails is = fails
+does-not-fail forest selection (Sanitize lists) text selected after fault does fails is = fails
 does-not-fail forest selection (Edit edit) text selected after fault does fails is = done-not-refused edit (targets edit selection) forest after fault does.2 fails is
 
 fails-once : (forest : Forest) (selection : List ℕ) (command : Command) (fault other : EditFault)
     → Fails forest selection command fault → Fails forest selection command other → IsRefusal fault → IsRefusal other → fault ≡ other
 fails-once forest selection Nothing fault other p q is so = absurd p
-fails-once forest selection (Pick picking selector) fault other p q is so = absurd p
-fails-once forest selection (Go going) fault other p q is so = absurd p
-fails-once forest selection (Show showing) fault other p q is so = absurd p
+fails-once forest selection (Query kind selector) fault other p q is so = absurd p
+fails-once forest selection (Navigate navigation) fault other p q is so = absurd p
+fails-once forest selection (Render rendering) fault other p q is so = absurd p
 fails-once forest selection (Attr name) fault other p q is so = absurd p
+fails-once forest selection (Sanitize lists) fault other p q is so = absurd p
 fails-once forest selection (Edit edit) fault other p q is so = refused-once edit (targets edit selection) forest fault other p q is so
 
 -- commands write one text and end in one way at most
-pub does-all-once : OneSelection → (forest : Forest) (selection : List ℕ) (line : ℕ) (commands : List Command) (text other : List ℕ) (ending last : Ending) → IsEnding ending → IsEnding last
+pub does-all-once : OneSelection → OneClean → (forest : Forest) (selection : List ℕ) (line : ℕ) (commands : List Command) (text other : List ℕ) (ending last : Ending) → IsEnding ending → IsEnding last
     → DoesAll forest selection line commands text ending → DoesAll forest selection line commands other last → (text ≡ other) × (ending ≡ last)
-does-all-once one forest selection line [] text other ending last is so a b = (a.0 ∙ sym b.0, a.1 ∙ sym b.1)
-does-all-once one forest selection line (command ∷ commands) text other ending last is so (inl (f, p, t, e)) (inl (g, q, u, d)) =
+does-all-once one clean forest selection line [] text other ending last is so a b = (a.0 ∙ sym b.0, a.1 ∙ sym b.1)
+does-all-once one clean forest selection line (command ∷ commands) text other ending last is so (inl (f, p, t, e)) (inl (g, q, u, d)) =
     (t ∙ sym u, e ∙ ap (refused line) (fails-once forest selection command f g p q (subst IsEnding e is) (subst IsEnding d so)) ∙ sym d)
-does-all-once one forest selection line (command ∷ commands) text other ending last is so (inl (f, p, t, e)) (inr (y, ys, ss, c, isb, dob, restb)) =
+does-all-once one clean forest selection line (command ∷ commands) text other ending last is so (inl (f, p, t, e)) (inr (y, ys, ss, c, isb, dob, restb)) =
     absurd (does-not-fail forest selection command y ss c f dob p (subst IsEnding e is))
-does-all-once one forest selection line (command ∷ commands) text other ending last is so (inr (x, xs, s, b, isa, doa, resta)) (inl (g, q, u, d)) =
+does-all-once one clean forest selection line (command ∷ commands) text other ending last is so (inr (x, xs, s, b, isa, doa, resta)) (inl (g, q, u, d)) =
     absurd (does-not-fail forest selection command x s b g doa q (subst IsEnding d so))
-does-all-once one forest selection line (command ∷ commands) text other ending last is so (inr (x, xs, s, b, isa, doa, resta)) (inr (y, ys, ss, c, isb, dob, restb)) =
-    let same = does-once one forest selection command x y s ss b c doa dob in
-    let later = does-all-once one c ss (line + 1) commands xs ys ending last is so
+does-all-once one clean forest selection line (command ∷ commands) text other ending last is so (inr (x, xs, s, b, isa, doa, resta)) (inr (y, ys, ss, c, isb, dob, restb)) =
+    let same = does-once one clean forest selection command x y s ss b c doa dob in
+    let later = does-all-once one clean c ss (line + 1) commands xs ys ending last is so
     (subst (λ f. DoesAll f ss (line + 1) commands xs ending) same.2 (subst (λ ns. DoesAll b ns (line + 1) commands xs ending) same.1 resta)) restb in
     (isa ∙ (ap (λ zs. zs ++ xs) same.0 ∙ (ap (λ zs. y ++ zs) later.0 ∙ sym isb)), later.1)
 
@@ -104,10 +116,10 @@ reaches-next forest at_first all i command now selection line front within is r 
     subst (λ left. Reaches forest at_first all left now selection line front) (next ∙ ap (λ c. c ∷ drop (i + 1) all) (sym is)) r
 
 -- one more command is done
-pub reaches-more : OneSelection → (forest : Forest) (at_first : List ℕ) (all : List Command) (command : Command) (left : List Command) (now : Forest) (selection : List ℕ) (line : ℕ) (front text selected : List ℕ) (after : Forest)
+pub reaches-more : OneSelection → OneClean → (forest : Forest) (at_first : List ℕ) (all : List Command) (command : Command) (left : List Command) (now : Forest) (selection : List ℕ) (line : ℕ) (front text selected : List ℕ) (after : Forest)
     → Reaches forest at_first all (command ∷ left) now selection line front → Does now selection command text after selected
     → Reaches forest at_first all left after selected (line + 1) (front ++ text)
-reaches-more one forest at_first all command left now selection line front text selected after r does = record {
+reaches-more one clean forest at_first all command left now selection line front text selected after r does = record {
   forth = λ rest ending d. subst (λ t. DoesAll forest at_first 1 all t ending) (sym (append_assoc front text rest)) (r.forth (text ++ rest) ending (inr (text, rest, selected, after, refl, does, d)));
   back = λ whole ending is d. back-more whole ending is (r.back whole ending is d);
 }
@@ -116,7 +128,7 @@ reaches-more one forest at_first all command left now selection line front text 
         → (rest : List ℕ) × (whole ≡ (front ++ text) ++ rest) × DoesAll after selected (line + 1) left rest ending
     back-more whole ending is (more, so, inl (f, fails, t, e)) = absurd (does-not-fail now selection command text selected after f does fails (subst IsEnding e is))
     back-more whole ending is (more, same_whole, inr (x, xs, s, b, so, did, later)) =
-        let same = does-once one now selection command x text s selected b after did does in (
+        let same = does-once one clean now selection command x text s selected b after did does in (
           xs,
           same_whole ∙ (ap (λ zs. front ++ zs) (so ∙ ap (λ zs. zs ++ xs) same.0) ∙ sym (append_assoc front text xs)),
           subst (λ f. DoesAll f selected (line + 1) left xs ending) same.2 (subst (λ ns. DoesAll b ns (line + 1) left xs ending) same.1 later),
@@ -147,10 +159,10 @@ reaches-fault forest at_first all command left now selection line front a b c r 
         subst (AppendsBeginning a c) (sym (same_whole ∙ ap (λ zs. front ++ zs) so))
         (beginning-then a b c front (x ++ xs) written (beginning-more b c x xs (begun.0 x s after did)))
 
--- what a fault of the next command tells of all
-pub commands-tell : (forest : Forest) (at_first : List ℕ) (all : List Command) (command : Command) (left : List Command) (now : Forest) (selection : List ℕ) (line : ℕ) (front : List ℕ) (a b c : Option (List ℕ)) (fault : RunFault)
-    → Reaches forest at_first all (command ∷ left) now selection line front → Appends a b front → CommandTells now selection command line b c fault → CommandsTell forest at_first all a c fault
-commands-tell forest at_first all command left now selection line front a b c (RunEdit place fault) r written (is, refusal, fails, none) = (
+-- what a fault of the next command says of all
+pub commands-cause : (forest : Forest) (at_first : List ℕ) (all : List Command) (command : Command) (left : List Command) (now : Forest) (selection : List ℕ) (line : ℕ) (front : List ℕ) (a b c : Option (List ℕ)) (fault : RunFault)
+    → Reaches forest at_first all (command ∷ left) now selection line front → Appends a b front → CommandCause now selection command line b c fault → CommandsCause forest at_first all a c fault
+commands-cause forest at_first all command left now selection line front a b c (RunEdit place fault) r written (is, refusal, fails, none) = (
   refusal,
   (
     front,
@@ -158,9 +170,9 @@ commands-tell forest at_first all command left now selection line front a b c (R
     subst (Appends a c) (append-nil front) (written-then a b c front [] written none),
   ),
 )
-commands-tell forest at_first all command left now selection line front a b c TooManyNodes r written (fails, none) =
+commands-cause forest at_first all command left now selection line front a b c TooManyNodes r written (fails, none) =
     (line, (front, reaches-refused forest at_first all command left now selection line front TooMany r fails, subst (Appends a c) (append-nil front) (written-then a b c front [] written none)))
-commands-tell forest at_first all command left now selection line front a b c Memory r written told = tt
-commands-tell forest at_first all command left now selection line front a b c Write r written told = tt
-commands-tell forest at_first all command left now selection line front a b c (BadScript place) r written told = absurd told
-commands-tell forest at_first all command left now selection line front a b c BadMarkup r written told = absurd told
+commands-cause forest at_first all command left now selection line front a b c Memory r written cause = tt
+commands-cause forest at_first all command left now selection line front a b c Write r written cause = tt
+commands-cause forest at_first all command left now selection line front a b c (BadScript place) r written cause = absurd cause
+commands-cause forest at_first all command left now selection line front a b c BadMarkup r written cause = absurd cause

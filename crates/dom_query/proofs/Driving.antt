@@ -3,17 +3,17 @@ use Rattle.std.proofs.Common.{Global, ◌≡◌, ◌⊎◌, inl, inr, ℕ, List,
 use Rattle.std.specs.Prelude.{String, string_bytes}
 use Rattle.std.specs.Io.KnownBytes.{Appends}
 use Rattle.dom_markup.specs.Writing.{AppendsBeginning, Writes}
-use Rattle.dom_markup.proofs.WritingLemmas.{nothing-written}
+use Rattle.dom_markup.proofs.html.WritingLemmas.{nothing-written}
 use Rattle.dom_query.specs.declared.driver.Job.{Job}
 use Rattle.dom_query.specs.declared.driver.Job.TheVariants.{Script, Markdown}
 use Rattle.dom_query.specs.declared.runner.RunFault.{RunFault}
 use Rattle.dom_query.specs.declared.runner.RunFault.TheVariants.{BadScript, BadMarkup, Edit, TooManyNodes, Memory, Write}
-use Rattle.dom_query.specs.declared.telling.DriveFault.{DriveFault}
-use Rattle.dom_query.specs.declared.telling.DriveFault.TheVariants.{Read, Run}
-use Rattle.dom_query.specs.Drive.{AsksFor, BeganOver, JobBegan, JobTells, Ran, Stopped, words_of}
-use Rattle.dom_query.specs.Markdown.{MarkdownTells, WroteMarkdown}
+use Rattle.dom_query.specs.declared.reporting.DriveFault.{DriveFault}
+use Rattle.dom_query.specs.declared.reporting.DriveFault.TheVariants.{Read, Run}
+use Rattle.dom_query.specs.Drive.{AsksFor, BeganOver, JobBegan, JobCause, Ran, Stopped, words_of}
+use Rattle.dom_query.specs.Markdown.{MarkdownCause, WroteMarkdown}
 use Rattle.dom_query.specs.Out.{Ending, HasOneOutput}
-use Rattle.dom_query.specs.Showing.{line_of}
+use Rattle.dom_query.specs.Rendering.{line_of}
 use Rattle.dom_query.specs.Runs.{Began, Ended}
 use Rattle.dom_query.proofs.Writing.{whole-begun}
 
@@ -47,11 +47,11 @@ read-as None given items same read = tt
 read-as (Some xs) given items same read = same ∙ read
 
 -- memory was refused, and nothing was written
-refused : (job : Job) (markup : List ℕ) (a : Option (List ℕ)) → JobTells job markup a a Memory
+refused : (job : Job) (markup : List ℕ) (a : Option (List ℕ)) → JobCause job markup a a Memory
 refused (Script text) markup a = tt
 refused Markdown markup a = (tt, nothing-written a)
 
-ran-refused : (words : List (List ℕ)) (known a : Option (List ℕ)) (job : Job) → AsksFor words job → Ran words known (λ asked markup. JobTells asked markup a a Memory)
+ran-refused : (words : List (List ℕ)) (known a : Option (List ℕ)) (job : Job) → AsksFor words job → Ran words known (λ asked markup. JobCause asked markup a a Memory)
 ran-refused words None a job asked = (job, [], asked, tt, refused job [] a)
 ran-refused words (Some xs) a job asked = (job, xs, asked, refl, refused job xs a)
 
@@ -65,7 +65,7 @@ given-is : (known : Option (List ℕ)) (given markup : List ℕ) → IfSome know
 given-is None given markup read is = cc
 given-is (Some xs) given markup read is = let same : xs ≡ markup = cc in read ∙ same
 
--- a beginning was written, told of the markup that the reader had and the job that the words ask for
+-- a beginning was written, of the markup that the reader had and the job that the words ask for
 pub began-over : (words : List (List ℕ)) (known : Option (List ℕ)) (job : Job) (given : List ℕ) (a b : Option (List ℕ))
     → AsksFor words job → IfSome known (λ xs. given ≡ xs) → JobBegan job given a b → BeganOver words known a b
 began-over words known job given a b asked read began = λ other markup asks is.
@@ -75,12 +75,12 @@ began-over words known job given a b asked read began = λ other markup asks is.
 pub wrote-begun : (markup : List ℕ) (a b : Option (List ℕ)) → WroteMarkdown markup a b → JobBegan Markdown markup a b
 wrote-begun markup a b (is, text, written) = (line_of text, written)
 
-pub fault-begun : (markup : List ℕ) (a b : Option (List ℕ)) (fault : RunFault) → MarkdownTells markup a b fault → JobBegan Markdown markup a b
-fault-begun markup a b (BadScript line) tells = ([], tells.1)
-fault-begun markup a b BadMarkup tells = ([], tells.1)
-fault-begun markup a b (Edit line fault) tells = ([], tells.1)
-fault-begun markup a b TooManyNodes tells = ([], tells.1)
-fault-begun markup a b Memory tells = ([], tells.1)
+pub fault-begun : (markup : List ℕ) (a b : Option (List ℕ)) (fault : RunFault) → MarkdownCause markup a b fault → JobBegan Markdown markup a b
+fault-begun markup a b (BadScript line) reports = ([], reports.1)
+fault-begun markup a b BadMarkup reports = ([], reports.1)
+fault-begun markup a b (Edit line fault) reports = ([], reports.1)
+fault-begun markup a b TooManyNodes reports = ([], reports.1)
+fault-begun markup a b Memory reports = ([], reports.1)
 fault-begun markup a b Write (is, text, written) = (text, written)
 
 -- what was written whole was begun
@@ -89,7 +89,7 @@ pub began-ended : ((markup script : List ℕ) → HasOneOutput markup script)
 began-ended one markup script a b ending (text, out, written) = λ other last so.
     whole-begun a b other (subst (Appends a b) (one markup script text other ending last out so).0 written)
 
--- a line was told, or a beginning of it
-pub told-begun : {T E : Type 0} (a b : Option (List ℕ)) (r : Result T E) (text : List ℕ) → Writes a b r text → AppendsBeginning a b text
-told-begun a b (Ok x) text wrote = whole-begun a b text wrote
-told-begun a b (Err e) text wrote = wrote
+-- a line was reported, or a beginning of it
+pub report-begun : {T E : Type 0} (a b : Option (List ℕ)) (r : Result T E) (text : List ℕ) → Writes a b r text → AppendsBeginning a b text
+report-begun a b (Ok x) text wrote = whole-begun a b text wrote
+report-begun a b (Err e) text wrote = wrote

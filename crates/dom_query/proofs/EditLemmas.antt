@@ -1,4 +1,4 @@
--- What an edit does as a line tells it.
+-- What an edit does as a line states it.
 use Rattle.std.proofs.Common.{◌≡◌, ◌<◌, ◌≤◌, ◌⊎◌, inl, inr, ap, false, not, ℕ, zero, suc, List, [], ◌∷◌, Some, Result, Ok, Err, refl, sym, ◌∙◌, subst, take, length, arith}
 use Rattle.std.specs.Prelude.{slice_get}
 use Rattle.std.proofs.lemmas.Option.{none-some, same_Some}
@@ -19,7 +19,7 @@ use Rattle.dom_links.specs.declared.gap.Place.TheVariants.{After, Around, AtEnd,
 use Rattle.dom_edits.specs.Edits.{Each, PutKnownCause, putting_known}
 use Rattle.dom_query.specs.declared.script.edit_line.EditLine.{EditLine}
 use Rattle.dom_query.specs.declared.script.edit_line.EditLine.TheVariants.{SetAttr, RemoveAttr, Rename, AddClass, RemoveClass, SetText, Strip, Put, Remove, Unwrap, Normalize}
-use Rattle.dom_query.specs.Editing.{EditsOrFails, FailsAtOne, IsRefusal, RewriteCause, line_edit, rewriting}
+use Rattle.dom_query.specs.Editing.{EditsOrFails, FailsAtOne, IsRefusal, line_edit, rewriting}
 
 -- ---- changes of data
 
@@ -27,15 +27,15 @@ each-rewrites : (change : Change) (ns : List ℕ) (old new : Forest) → Each (�
 each-rewrites change [] old new done = done
 each-rewrites change (n ∷ ns) old new done = (done.0, each-rewrites change ns _ new done.1)
 
-rewrite-cause : (n : ℕ) (change : Change) (forest : Forest) (fault : EditFault) → ChangeCause n change forest fault → RewriteCause n forest fault
-rewrite-cause n change forest UnknownNode told = told
-rewrite-cause n change forest Memory told = tt
-rewrite-cause n change forest NoChildrenHere told = told
-rewrite-cause n change forest RootOrFragment told = told
-rewrite-cause n change forest Cycle told = told
-rewrite-cause n change forest TooManyNodes told = told
-rewrite-cause n change forest BadContents told = told
-rewrite-cause n change forest (Markup fault) told = told
+rewrite-cause : (n : ℕ) (change : Change) (forest : Forest) (fault : EditFault) → ChangeCause n change forest fault → JoinCause n forest fault
+rewrite-cause n change forest UnknownNode evidence = evidence
+rewrite-cause n change forest Memory evidence = tt
+rewrite-cause n change forest NoChildrenHere evidence = evidence
+rewrite-cause n change forest RootOrFragment evidence = evidence
+rewrite-cause n change forest Cycle evidence = evidence
+rewrite-cause n change forest TooManyNodes evidence = evidence
+rewrite-cause n change forest BadContents evidence = evidence
+rewrite-cause n change forest (Markup fault) evidence = evidence
 
 fails-rewrites : (change : Change) (ns : List ℕ) (old : Forest) (fault : EditFault) → FailsAtOne (λ n. changing n change) ns old fault → FailsAtOne (rewriting (changed change)) ns old fault
 fails-rewrites change ns old fault (done, after, stops) = (
@@ -49,56 +49,46 @@ fails-rewrites change ns old fault (done, after, stops) = (
   },
 )
 
--- a change leaves what the line tells
-pub line-rewrites : (r : Result Unit EditFault) (old new : Forest) (ns : List ℕ) (change : Change) (told : NodeData → NodeData) → changed change ≡ told
-    → EditsOrFails r old new ns (λ n. changing n change) → EditsOrFails r old new ns (rewriting told)
-line-rewrites (Ok x) old new ns change told is edits = record { ok = subst (λ f. Each (rewriting f) ns old new) is (each-rewrites change ns old new edits.ok); err = tt }
-line-rewrites (Err fault) old new ns change told is edits = record {
+-- a change leaves what the line states
+pub line-rewrites : (r : Result Unit EditFault) (old new : Forest) (ns : List ℕ) (change : Change) (evidence : NodeData → NodeData) → changed change ≡ evidence
+    → EditsOrFails r old new ns (λ n. changing n change) → EditsOrFails r old new ns (rewriting evidence)
+line-rewrites (Ok x) old new ns change evidence is edits = record { ok = subst (λ f. Each (rewriting f) ns old new) is (each-rewrites change ns old new edits.ok); err = tt }
+line-rewrites (Err fault) old new ns change evidence is edits = record {
   ok = tt;
   err = λ other. subst (λ f. FailsAtOne (rewriting f) ns old fault) is (fails-rewrites change ns old fault (edits.err other));
 }
 
 -- ---- refusals
 
-rewrite-unknown : (n : ℕ) (forest : Forest) (fault : EditFault) → IsRefusal fault → RewriteCause n forest fault → (fault ≡ UnknownNode) × (length forest.content ≤ n)
-rewrite-unknown n forest UnknownNode is told = (refl, told)
-rewrite-unknown n forest Memory is told = absurd is
-rewrite-unknown n forest NoChildrenHere is told = absurd told
-rewrite-unknown n forest RootOrFragment is told = absurd told
-rewrite-unknown n forest Cycle is told = absurd told
-rewrite-unknown n forest TooManyNodes is told = absurd told
-rewrite-unknown n forest BadContents is told = absurd told
-rewrite-unknown n forest (Markup fault) is told = absurd told
-
 known-unknown : (n : ℕ) (forest : Forest) (fault : EditFault) → KnownCause n forest fault → (fault ≡ UnknownNode) × (length forest.content ≤ n)
-known-unknown n forest UnknownNode told = (refl, told)
-known-unknown n forest Memory told = absurd told
-known-unknown n forest NoChildrenHere told = absurd told
-known-unknown n forest RootOrFragment told = absurd told
-known-unknown n forest Cycle told = absurd told
-known-unknown n forest TooManyNodes told = absurd told
-known-unknown n forest BadContents told = absurd told
-known-unknown n forest (Markup fault) told = absurd told
+known-unknown n forest UnknownNode evidence = (refl, evidence)
+known-unknown n forest Memory evidence = absurd evidence
+known-unknown n forest NoChildrenHere evidence = absurd evidence
+known-unknown n forest RootOrFragment evidence = absurd evidence
+known-unknown n forest Cycle evidence = absurd evidence
+known-unknown n forest TooManyNodes evidence = absurd evidence
+known-unknown n forest BadContents evidence = absurd evidence
+known-unknown n forest (Markup fault) evidence = absurd evidence
 
 join-unknown : (n : ℕ) (forest : Forest) (fault : EditFault) → IsRefusal fault → JoinCause n forest fault → (fault ≡ UnknownNode) × (length forest.content ≤ n)
-join-unknown n forest UnknownNode is told = (refl, told)
-join-unknown n forest Memory is told = absurd is
-join-unknown n forest NoChildrenHere is told = absurd told
-join-unknown n forest RootOrFragment is told = absurd told
-join-unknown n forest Cycle is told = absurd told
-join-unknown n forest TooManyNodes is told = absurd told
-join-unknown n forest BadContents is told = absurd told
-join-unknown n forest (Markup fault) is told = absurd told
+join-unknown n forest UnknownNode is evidence = (refl, evidence)
+join-unknown n forest Memory is evidence = absurd is
+join-unknown n forest NoChildrenHere is evidence = absurd evidence
+join-unknown n forest RootOrFragment is evidence = absurd evidence
+join-unknown n forest Cycle is evidence = absurd evidence
+join-unknown n forest TooManyNodes is evidence = absurd evidence
+join-unknown n forest BadContents is evidence = absurd evidence
+join-unknown n forest (Markup fault) is evidence = absurd evidence
 
 set-unknown : (n : ℕ) (forest : Forest) (fault : EditFault) → IsRefusal fault → SetCause n forest fault → (fault ≡ UnknownNode) × (length forest.content ≤ n)
-set-unknown n forest UnknownNode is told = (refl, told)
-set-unknown n forest Memory is told = absurd is
-set-unknown n forest NoChildrenHere is told = absurd told
-set-unknown n forest RootOrFragment is told = absurd told
-set-unknown n forest Cycle is told = absurd told
-set-unknown n forest TooManyNodes is told = absurd is
-set-unknown n forest BadContents is told = absurd told
-set-unknown n forest (Markup fault) is told = absurd told
+set-unknown n forest UnknownNode is evidence = (refl, evidence)
+set-unknown n forest Memory is evidence = absurd is
+set-unknown n forest NoChildrenHere is evidence = absurd evidence
+set-unknown n forest RootOrFragment is evidence = absurd evidence
+set-unknown n forest Cycle is evidence = absurd evidence
+set-unknown n forest TooManyNodes is evidence = absurd is
+set-unknown n forest BadContents is evidence = absurd evidence
+set-unknown n forest (Markup fault) is evidence = absurd evidence
 
 -- ---- one refusal
 
@@ -114,8 +104,8 @@ record IsRefusedUnknown (edit : ℕ → TreeEdit) : Type 0 where
 
 unknown-once : (edit : ℕ → TreeEdit) → IsRefusedUnknown edit → HasOneRefusal edit
 unknown-once edit only = record {
-  apart = λ n forest fault may told is. omega (arith, only.known n forest may, (only.unknown n forest fault is told).1);
-  once = λ n forest fault other told tells is so. (only.unknown n forest fault is told).0 ∙ sym (only.unknown n forest other so tells).0;
+  apart = λ n forest fault may evidence is. omega (arith, only.known n forest may, (only.unknown n forest fault is evidence).1);
+  once = λ n forest fault other evidence reports is so. (only.unknown n forest fault is evidence).0 ∙ sym (only.unknown n forest other so reports).0;
 }
 
 -- why what was read isn't put at a place, as a fault
@@ -149,14 +139,14 @@ PutRefusal place n forest fault =
     ((fault ≡ UnknownNode) × (length forest.content ≤ n)) ⊎ ((fault ≡ fault_for place) × (n < length forest.content) × (is_open (gap_at place n) forest ≡ false))
 
 put-cause : (place : Place) (read : Forest) (n : ℕ) (forest : Forest) (fault : EditFault) → IsRefusal fault → PutKnownCause place n read forest fault → PutRefusal place n forest fault
-put-cause place read n forest UnknownNode is told = inl (refl, told)
-put-cause place read n forest NoChildrenHere is told = let lacks = lacks-children place n forest told.1 in inr (lacks.0, told.0, lacks.1)
-put-cause place read n forest RootOrFragment is told = let lacks = lacks-siblings place n forest told.1 in inr (lacks.0, told.0, lacks.1)
-put-cause place read n forest Cycle is told = absurd told.1
-put-cause place read n forest TooManyNodes is told = absurd is
-put-cause place read n forest Memory is told = absurd is
-put-cause place read n forest BadContents is told = absurd told.1
-put-cause place read n forest (Markup fault) is told = absurd told.1
+put-cause place read n forest UnknownNode is evidence = inl (refl, evidence)
+put-cause place read n forest NoChildrenHere is evidence = let lacks = lacks-children place n forest evidence.1 in inr (lacks.0, evidence.0, lacks.1)
+put-cause place read n forest RootOrFragment is evidence = let lacks = lacks-siblings place n forest evidence.1 in inr (lacks.0, evidence.0, lacks.1)
+put-cause place read n forest Cycle is evidence = absurd evidence.1
+put-cause place read n forest TooManyNodes is evidence = absurd is
+put-cause place read n forest Memory is evidence = absurd is
+put-cause place read n forest BadContents is evidence = absurd evidence.1
+put-cause place read n forest (Markup fault) is evidence = absurd evidence.1
 
 put-apart : (place : Place) (n : ℕ) (forest : Forest) (fault : EditFault) → IsOpenAt place n forest → PutRefusal place n forest fault → ⊥
 put-apart place n forest fault may (inl p) = let no : ⊥ = omega (arith, may.0, p.1) in no
@@ -170,21 +160,21 @@ put-same place n forest fault other (inr p) (inr q) = p.0 ∙ sym q.0
 
 puts-once : (place : Place) (read : Forest) → HasOneRefusal (putting_known place read)
 puts-once place read = record {
-  apart = λ n forest fault may told is. put-apart place n forest fault may (put-cause place read n forest fault is told);
-  once = λ n forest fault other told tells is so. put-same place n forest fault other (put-cause place read n forest fault is told) (put-cause place read n forest other so tells);
+  apart = λ n forest fault may evidence is. put-apart place n forest fault may (put-cause place read n forest fault is evidence);
+  once = λ n forest fault other evidence reports is so. put-same place n forest fault other (put-cause place read n forest fault is evidence) (put-cause place read n forest other so reports);
 }
 
 line-refusal : (edit : EditLine) → HasOneRefusal (line_edit edit)
-line-refusal (SetAttr name value) = unknown-once _ (record { known = λ n forest may. may; unknown = rewrite-unknown })
-line-refusal (RemoveAttr name) = unknown-once _ (record { known = λ n forest may. may; unknown = rewrite-unknown })
-line-refusal (Rename name) = unknown-once _ (record { known = λ n forest may. may; unknown = rewrite-unknown })
-line-refusal (AddClass classes) = unknown-once _ (record { known = λ n forest may. may; unknown = rewrite-unknown })
-line-refusal (RemoveClass classes) = unknown-once _ (record { known = λ n forest may. may; unknown = rewrite-unknown })
+line-refusal (SetAttr name value) = unknown-once _ (record { known = λ n forest may. may; unknown = join-unknown })
+line-refusal (RemoveAttr name) = unknown-once _ (record { known = λ n forest may. may; unknown = join-unknown })
+line-refusal (Rename name) = unknown-once _ (record { known = λ n forest may. may; unknown = join-unknown })
+line-refusal (AddClass classes) = unknown-once _ (record { known = λ n forest may. may; unknown = join-unknown })
+line-refusal (RemoveClass classes) = unknown-once _ (record { known = λ n forest may. may; unknown = join-unknown })
 line-refusal (SetText text) = unknown-once _ (record { known = λ n forest may. may; unknown = set-unknown })
-line-refusal (Strip names) = unknown-once _ (record { known = λ n forest may. may; unknown = λ n forest fault is told. known-unknown n forest fault told })
+line-refusal (Strip names) = unknown-once _ (record { known = λ n forest may. may; unknown = λ n forest fault is evidence. known-unknown n forest fault evidence })
 line-refusal (Put place read) = puts-once place read
-line-refusal Remove = unknown-once _ (record { known = λ n forest may. may; unknown = λ n forest fault is told. known-unknown n forest fault told })
-line-refusal Unwrap = unknown-once _ (record { known = λ n forest may. may; unknown = λ n forest fault is told. known-unknown n forest fault told })
+line-refusal Remove = unknown-once _ (record { known = λ n forest may. may; unknown = λ n forest fault is evidence. known-unknown n forest fault evidence })
+line-refusal Unwrap = unknown-once _ (record { known = λ n forest may. may; unknown = λ n forest fault is evidence. known-unknown n forest fault evidence })
 line-refusal Normalize = unknown-once _ (record { known = λ n forest may. may; unknown = join-unknown })
 
 -- what is done at each of the nodes leaves one forest
@@ -204,16 +194,16 @@ all-done edit one (m ∷ ns) old all after (suc done) n fault each next before c
 one-stop : (edit : ℕ → TreeEdit) → HasOneRefusal edit → (ns : List ℕ) (old a b : Forest) (i j n m : ℕ) (fault other : EditFault)
     → slice_get ns i ≡ Some n → Each edit (take i ns) old a → (edit n).Cause a fault → IsRefusal fault
     → slice_get ns j ≡ Some m → Each edit (take j ns) old b → (edit m).Cause b other → IsRefusal other → fault ≡ other
-one-stop edit one [] old a b i j n m fault other next before cause is again front tells so = absurd (none-some n next)
-one-stop edit one (x ∷ ns) old a b zero zero n m fault other next before cause is again front tells so =
+one-stop edit one [] old a b i j n m fault other next before cause is again front reports so = absurd (none-some n next)
+one-stop edit one (x ∷ ns) old a b zero zero n m fault other next before cause is again front reports so =
     one.once x old fault other (subst (λ f. (edit x).Cause f fault) before (subst (λ k. (edit k).Cause a fault) (sym (same_Some x n next)) cause))
-    (subst (λ f. (edit x).Cause f other) front (subst (λ k. (edit k).Cause b other) (sym (same_Some x m again)) tells)) is so
-one-stop edit one (x ∷ ns) old a b zero (suc j) n m fault other next before cause is again front tells so =
+    (subst (λ f. (edit x).Cause f other) front (subst (λ k. (edit k).Cause b other) (sym (same_Some x m again)) reports)) is so
+one-stop edit one (x ∷ ns) old a b zero (suc j) n m fault other next before cause is again front reports so =
     absurd (one.apart x old fault front.0 (subst (λ f. (edit x).Cause f fault) before (subst (λ k. (edit k).Cause a fault) (sym (same_Some x n next)) cause)) is)
-one-stop edit one (x ∷ ns) old a b (suc i) zero n m fault other next before cause is again front tells so =
-    absurd (one.apart x old other before.0 (subst (λ f. (edit x).Cause f other) front (subst (λ k. (edit k).Cause b other) (sym (same_Some x m again)) tells)) so)
-one-stop edit one (x ∷ ns) old a b (suc i) (suc j) n m fault other next before cause is again front tells so =
-    one-stop edit one ns ((edit x).after old) a b i j n m fault other next before.1 cause is again front.1 tells so
+one-stop edit one (x ∷ ns) old a b (suc i) zero n m fault other next before cause is again front reports so =
+    absurd (one.apart x old other before.0 (subst (λ f. (edit x).Cause f other) front (subst (λ k. (edit k).Cause b other) (sym (same_Some x m again)) reports)) so)
+one-stop edit one (x ∷ ns) old a b (suc i) (suc j) n m fault other next before cause is again front reports so =
+    one-stop edit one ns ((edit x).after old) a b i j n m fault other next before.1 cause is again front.1 reports so
 
 pub done-not-refused : (edit : EditLine) (ns : List ℕ) (old all : Forest) (fault : EditFault) → Each (line_edit edit) ns old all → FailsAtOne (line_edit edit) ns old fault → IsRefusal fault → ⊥
 done-not-refused edit ns old all fault each (done, after, stops) is =

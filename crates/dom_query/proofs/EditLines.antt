@@ -66,9 +66,9 @@ pub markup-read : {E : Type 0} (line word argument : List ℕ) (r : Result (Opti
     → IfOk r (λ found. MatchOption found (SpellsNothing argument) (IsSpelled argument)) → IfOk r (λ found. MatchOption found (HasNoMarkup line word) (HasMarkup line word))
 markup-read line word argument (Ok (Some read)) is spelled = (argument, is, spelled)
 markup-read line word argument (Ok None) is none = no-markup line word argument is none
-markup-read line word argument (Err e) is told = tt
+markup-read line word argument (Err e) is evidence = tt
 
 pub line-limit : (line word argument : List ℕ) (fault : ScriptFault) → HasArgument line word argument → MarkupLimit argument fault → LineRefused line fault
-line-limit line word argument NoNumbers is told = (word, argument, is, told)
-line-limit line word argument NoMemory is told = tt
-line-limit line word argument (BadLine number) is told = told
+line-limit line word argument NoNumbers is evidence = (word, argument, is, evidence)
+line-limit line word argument NoMemory is evidence = tt
+line-limit line word argument (BadLine number) is evidence = evidence

@@ -1,7 +1,8 @@
-pub mod PickLemmas
+pub mod QueryLemmas
 pub mod Lines
 pub mod Names
 pub mod EditLines
+pub mod ListLines
 pub mod EditLemmas
 pub mod Reading
 pub mod Writing

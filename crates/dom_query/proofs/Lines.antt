@@ -8,14 +8,15 @@ use Rattle.std.specs.Str.Pattern.{FindsTextPrefix, StripsPrefix}
 use Rattle.std.proofs.lemmas.List.{append_cancel_left}
 use Rattle.dom_selectors.specs.Grammar.{StandsFor}
 use Rattle.dom_selectors.specs.Syntax.{SelectorList}
-use Rattle.dom_query.specs.declared.script.Command.TheVariants.{Nothing, Pick, Go, Show, Attr, Edit}
-use Rattle.dom_query.specs.declared.script.Going.{Going}
-use Rattle.dom_query.specs.declared.script.Going.TheVariants.{Parent, Children, Ancestors, Next, Prev, First, Last}
-use Rattle.dom_query.specs.declared.script.Picking.TheVariants.{Select, Find, Filter, Add}
-use Rattle.dom_query.specs.declared.script.Showing.{Showing}
-use Rattle.dom_query.specs.declared.script.Showing.TheVariants.{Count, Text, Formatted, Html, InnerHtml, Document}
+use Rattle.dom_query.specs.declared.script.Command.TheVariants.{Nothing, Query, Navigate, Render, Attr, Edit, Sanitize}
+use Rattle.dom_query.specs.declared.script.Navigation.{Navigation}
+use Rattle.dom_query.specs.declared.script.Navigation.TheVariants.{Parent, Children, Ancestors, Next, Prev, First, Last}
+use Rattle.dom_query.specs.declared.script.QueryKind.TheVariants.{Select, Find, Filter, Add}
+use Rattle.dom_query.specs.declared.script.Rendering.{Rendering}
+use Rattle.dom_query.specs.declared.script.Rendering.TheVariants.{Count, Text, Formatted, Html, InnerHtml, Document}
+use Rattle.dom_query.specs.Cleaning.{IsNoSanitize, are_lists}
 use Rattle.dom_query.specs.EditLine.{IsNoEdit}
-use Rattle.dom_query.specs.Script.{HasNoSelector, HasSelector, IsBad, IsNoPick, StandsForNothing, going_word, showing_word}
+use Rattle.dom_query.specs.Script.{HasNoSelector, HasSelector, IsBad, IsNoQuery, StandsForNothing, navigation_word, rendering_word}
 use Rattle.dom_query.specs.Words.{HasArgument, HasNoName, is_name}
 
 pub argument-none : (line word : List ℕ) → FindsTextPrefix word line None → (argument : List ℕ) → HasArgument line word argument → ⊥
@@ -50,8 +51,8 @@ argument-once line word a b (inl p) (inr q) = let e : 32 ∷ a ≡ [] = behind-i
 argument-once line word a b (inr p) (inl q) = let e : 32 ∷ b ≡ [] = behind-is line word (32 ∷ b) [] q (p.0 ∙ sym (append-nil word)) in cc
 argument-once line word a b (inr p) (inr q) = p.1 ∙ sym q.1
 
--- the line goes nowhere
-pub record IsNoGoing (line : List ℕ) : Type 0 where
+-- the line is no direction
+pub record IsNoNavigation (line : List ℕ) : Type 0 where
   pub parent : line ≢ codes "parent"
   pub children : line ≢ codes "children"
   pub ancestors : line ≢ codes "ancestors"
@@ -60,17 +61,17 @@ pub record IsNoGoing (line : List ℕ) : Type 0 where
   pub first : line ≢ codes "first"
   pub last : line ≢ codes "last"
 
-pub goes-nowhere : (line : List ℕ) → IsNoGoing line → (going : Going) → line ≢ going_word going
-goes-nowhere line none Parent e = none.parent e
-goes-nowhere line none Children e = none.children e
-goes-nowhere line none Ancestors e = none.ancestors e
-goes-nowhere line none Next e = none.next e
-goes-nowhere line none Prev e = none.prev e
-goes-nowhere line none First e = none.first e
-goes-nowhere line none Last e = none.last e
+pub no-navigation : (line : List ℕ) → IsNoNavigation line → (navigation : Navigation) → line ≢ navigation_word navigation
+no-navigation line none Parent e = none.parent e
+no-navigation line none Children e = none.children e
+no-navigation line none Ancestors e = none.ancestors e
+no-navigation line none Next e = none.next e
+no-navigation line none Prev e = none.prev e
+no-navigation line none First e = none.first e
+no-navigation line none Last e = none.last e
 
--- the line shows nothing
-pub record IsNoShowing (line : List ℕ) : Type 0 where
+-- the line renders nothing
+pub record IsNoRendering (line : List ℕ) : Type 0 where
   pub count : line ≢ codes "count"
   pub text : line ≢ codes "text"
   pub formatted : line ≢ codes "formatted"
@@ -78,20 +79,20 @@ pub record IsNoShowing (line : List ℕ) : Type 0 where
   pub inner_html : line ≢ codes "inner-html"
   pub document : line ≢ codes "document"
 
-pub shows-nothing : (line : List ℕ) → IsNoShowing line → (showing : Showing) → line ≢ showing_word showing
-shows-nothing line none Count e = none.count e
-shows-nothing line none Text e = none.text e
-shows-nothing line none Formatted e = none.formatted e
-shows-nothing line none Html e = none.html e
-shows-nothing line none InnerHtml e = none.inner_html e
-shows-nothing line none Document e = none.document e
+pub no-rendering : (line : List ℕ) → IsNoRendering line → (rendering : Rendering) → line ≢ rendering_word rendering
+no-rendering line none Count e = none.count e
+no-rendering line none Text e = none.text e
+no-rendering line none Formatted e = none.formatted e
+no-rendering line none Html e = none.html e
+no-rendering line none InnerHtml e = none.inner_html e
+no-rendering line none Document e = none.document e
 
--- the line picks nothing
-pub picks-nothing : (line : List ℕ) → HasNoSelector line (codes "select") → HasNoSelector line (codes "find") → HasNoSelector line (codes "filter") → HasNoSelector line (codes "add") → IsNoPick line
-picks-nothing line select find filter add Select = select
-picks-nothing line select find filter add Find = find
-picks-nothing line select find filter add Filter = filter
-picks-nothing line select find filter add Add = add
+-- the line is no query
+pub no-query : (line : List ℕ) → HasNoSelector line (codes "select") → HasNoSelector line (codes "find") → HasNoSelector line (codes "filter") → HasNoSelector line (codes "add") → IsNoQuery line
+no-query line select find filter add Select = select
+no-query line select find filter add Find = find
+no-query line select find filter add Filter = filter
+no-query line select find filter add Add = add
 
 -- a line that has another argument behind the word, or none
 pub no-selector : (line word argument : List ℕ) → HasArgument line word argument → StandsForNothing (chars argument) → HasNoSelector line word
@@ -103,27 +104,32 @@ pub selector-read : {E : Type 0} (line word argument : List ℕ) (r : Result (Op
     → IfOk r (λ found. MatchOption found (HasNoSelector line word) (HasSelector line word))
 selector-read line word argument (Ok (Some selector)) is stands = (argument, is, stands)
 selector-read line word argument (Ok None) is none = no-selector line word argument is none
-selector-read line word argument (Err e) is told = tt
+selector-read line word argument (Err e) is evidence = tt
 
 pub no-name : (line word argument : List ℕ) → HasArgument line word argument → is_name argument ≡ false → HasNoName line word
 no-name line word argument is none = λ name h. false≢true (sym none ∙ ap is_name (argument-once line word argument name is h.0) ∙ h.1)
 
+pub no-sanitize : (line lists : List ℕ) → HasArgument line (codes "sanitize") lists → are_lists lists ≡ false → IsNoSanitize line
+no-sanitize line lists is none other h = false≢true (sym none ∙ ap are_lists (argument-once line (codes "sanitize") lists other is h.0) ∙ h.1)
+
 -- the line asks for nothing
 pub record AsksForNothing (line : List ℕ) : Type 0 where
   pub full : line ≢ []
-  pub goes : (going : Going) → line ≢ going_word going
-  pub shows : (showing : Showing) → line ≢ showing_word showing
+  pub navigates : (navigation : Navigation) → line ≢ navigation_word navigation
+  pub renders : (rendering : Rendering) → line ≢ rendering_word rendering
   pub attr : HasNoName line (codes "attr")
   pub edits : IsNoEdit line
-  pub picks : IsNoPick line
+  pub sanitizes : IsNoSanitize line
+  pub queries : IsNoQuery line
 
 pub bad-line : (line : List ℕ) → AsksForNothing line → IsBad line
 bad-line line none Nothing h = none.full h
-bad-line line none (Pick picking selector) h = none.picks picking selector h
-bad-line line none (Go going) h = none.goes going h
-bad-line line none (Show showing) h = none.shows showing h
+bad-line line none (Query kind selector) h = none.queries kind selector h
+bad-line line none (Navigate navigation) h = none.navigates navigation h
+bad-line line none (Render rendering) h = none.renders rendering h
 bad-line line none (Attr name) h = none.attr name h
 bad-line line none (Edit edit) h = none.edits edit h
+bad-line line none (Sanitize lists) h = none.sanitizes lists h
 
 pub some-name : (text : List ℕ) → text ≢ [] → list_all is_name_byte text ≡ is_name text
 some-name [] some = absurd (some refl)

@@ -10,9 +10,9 @@ use Rattle.dom_query.specs.Out.{DoesAll, Ending, IsNoMarkup, Out, Ran}
 use Rattle.dom_query.specs.Out.Ending.{done, refused, bad_script, bad_markup}
 use Rattle.dom_query.specs.Runs.{Began, DidAllBegin, IsEnding}
 use Rattle.dom_query.specs.Script.{IsScript}
-use Rattle.dom_query.proofs.Doing.{OneSelection, does-all-once}
+use Rattle.dom_query.proofs.Doing.{OneClean, OneSelection, does-all-once}
 use Rattle.dom_query.proofs.Scripts.{OneReading, OneSelector, no-script-none, no-script-once, script-once}
-use Rattle.dom_markup.proofs.WritingLemmas.{nothing-begun}
+use Rattle.dom_markup.proofs.html.WritingLemmas.{nothing-begun}
 
 markup-none : (markup : List ℕ) (trees : ValueTrees) → IsUtf8 markup → Spells markup trees → IsNoMarkup markup → ⊥
 markup-none markup trees utf8 spells (inl none) = none utf8
@@ -49,19 +49,19 @@ pub began-none : (markup script : List ℕ) (old : Option (List ℕ)) → Began 
 began-none markup script old = λ text ending out. nothing-begun old text
 
 -- the law
-pub output-once : OneReading → OneSelector → OneSelection → (markup script text other : List ℕ) (ending last : Ending)
+pub output-once : OneReading → OneSelector → OneSelection → OneClean → (markup script text other : List ℕ) (ending last : Ending)
     → Out markup script text ending → Out markup script other last → (text ≡ other) × (ending ≡ last)
-output-once reading selector selection markup script text other done last (commands, trees, is, utf8, spells, does) b =
+output-once reading selector selection clean markup script text other done last (commands, trees, is, utf8, spells, does) b =
     let found = output-does reading selector markup script commands trees is utf8 spells other last b in
-    does-all-once selection (document_of trees) (0 ∷ []) 1 commands text other done last tt found.0 does found.1
-output-once reading selector selection markup script text other (refused line fault) last (refusal, (commands, trees, is, utf8, spells, does)) b =
+    does-all-once selection clean (document_of trees) (0 ∷ []) 1 commands text other done last tt found.0 does found.1
+output-once reading selector selection clean markup script text other (refused line fault) last (refusal, (commands, trees, is, utf8, spells, does)) b =
     let found = output-does reading selector markup script commands trees is utf8 spells other last b in
-    does-all-once selection (document_of trees) (0 ∷ []) 1 commands text other (refused line fault) last refusal found.0 does found.1
-output-once reading selector selection markup script text other (bad_script n) done a (commands, trees, is, utf8, spells, does) = absurd (no-script-none script commands n is a.0)
-output-once reading selector selection markup script text other (bad_script n) (refused line fault) a (refusal, (commands, trees, is, utf8, spells, does)) = absurd (no-script-none script commands n is a.0)
-output-once reading selector selection markup script text other (bad_script n) (bad_script m) a b = (a.1 ∙ sym b.1, ap bad_script (no-script-once script n m a.0 b.0))
-output-once reading selector selection markup script text other (bad_script n) bad_markup a b = absurd (no-script-none script b.0.0 n b.0.1 a.0)
-output-once reading selector selection markup script text other bad_markup done a (commands, trees, is, utf8, spells, does) = absurd (markup-none markup trees utf8 spells a.1)
-output-once reading selector selection markup script text other bad_markup (refused line fault) a (refusal, (commands, trees, is, utf8, spells, does)) = absurd (markup-none markup trees utf8 spells a.1)
-output-once reading selector selection markup script text other bad_markup (bad_script m) a b = absurd (no-script-none script a.0.0 m a.0.1 b.0)
-output-once reading selector selection markup script text other bad_markup bad_markup a b = (a.2 ∙ sym b.2, refl)
+    does-all-once selection clean (document_of trees) (0 ∷ []) 1 commands text other (refused line fault) last refusal found.0 does found.1
+output-once reading selector selection clean markup script text other (bad_script n) done a (commands, trees, is, utf8, spells, does) = absurd (no-script-none script commands n is a.0)
+output-once reading selector selection clean markup script text other (bad_script n) (refused line fault) a (refusal, (commands, trees, is, utf8, spells, does)) = absurd (no-script-none script commands n is a.0)
+output-once reading selector selection clean markup script text other (bad_script n) (bad_script m) a b = (a.1 ∙ sym b.1, ap bad_script (no-script-once script n m a.0 b.0))
+output-once reading selector selection clean markup script text other (bad_script n) bad_markup a b = absurd (no-script-none script b.0.0 n b.0.1 a.0)
+output-once reading selector selection clean markup script text other bad_markup done a (commands, trees, is, utf8, spells, does) = absurd (markup-none markup trees utf8 spells a.1)
+output-once reading selector selection clean markup script text other bad_markup (refused line fault) a (refusal, (commands, trees, is, utf8, spells, does)) = absurd (markup-none markup trees utf8 spells a.1)
+output-once reading selector selection clean markup script text other bad_markup (bad_script m) a b = absurd (no-script-none script a.0.0 m a.0.1 b.0)
+output-once reading selector selection clean markup script text other bad_markup bad_markup a b = (a.2 ∙ sym b.2, refl)

@@ -50,7 +50,7 @@ no-script script text n m same utf8 counted bad =
 -- a limit was met in a line
 pub line-refused : (script text : List ℕ) (n : ℕ) (line : List ℕ) (fault : ScriptFault) → text ≡ script → n < length (lines_of text) → line ≡ get_or (lines_of text) n line
     → LineRefused line fault → ScriptRefused script fault
-line-refused script text n line NoNumbers same within is told =
-    (line, (n, subst (λ t. slice_get (lines_of t) n ≡ Some line) same (slice_get-get_or (lines_of text) n line within ∙ ap Some (sym is))), told)
-line-refused script text n line NoMemory same within is told = tt
-line-refused script text n line (BadLine number) same within is told = absurd told
+line-refused script text n line NoNumbers same within is cause =
+    (line, (n, subst (λ t. slice_get (lines_of t) n ≡ Some line) same (slice_get-get_or (lines_of text) n line within ∙ ap Some (sym is))), cause)
+line-refused script text n line NoMemory same within is cause = tt
+line-refused script text n line (BadLine number) same within is cause = absurd cause

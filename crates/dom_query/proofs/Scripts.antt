@@ -5,13 +5,13 @@ use Rattle.std.specs.Str.{bytes_eq, chars}
 use Rattle.dom_selectors.specs.Syntax.{SelectorList}
 use Rattle.dom_selectors.specs.Grammar.{StandsFor}
 use Rattle.dom_query.specs.declared.script.Command.{Command}
-use Rattle.dom_query.specs.declared.script.Command.TheVariants.{Nothing, Pick, Go, Show, Attr, Edit}
+use Rattle.dom_query.specs.declared.script.Command.TheVariants.{Nothing, Query, Navigate, Render, Attr, Edit, Sanitize}
 use Rattle.dom_query.specs.declared.script.edit_line.EditLine.TheVariants.{SetAttr, RemoveAttr, Rename, AddClass, RemoveClass, SetText, Strip, Put, Remove, Unwrap, Normalize}
-use Rattle.dom_query.specs.declared.script.Going.TheVariants.{Parent, Children, Ancestors, Next, Prev, First, Last}
-use Rattle.dom_query.specs.declared.script.Picking.{Picking}
-use Rattle.dom_query.specs.declared.script.Picking.TheVariants.{Select, Find, Filter, Add}
-use Rattle.dom_query.specs.declared.script.Showing.TheVariants.{Count, Text, Formatted, Html, InnerHtml, Document}
-use Rattle.dom_query.specs.Script.{AreCommands, FirstBad, HasSelector, IsBad, IsCommand, IsNoScript, IsScript, lines_of, picking_word}
+use Rattle.dom_query.specs.declared.script.Navigation.TheVariants.{Parent, Children, Ancestors, Next, Prev, First, Last}
+use Rattle.dom_query.specs.declared.script.QueryKind.{QueryKind}
+use Rattle.dom_query.specs.declared.script.QueryKind.TheVariants.{Select, Find, Filter, Add}
+use Rattle.dom_query.specs.declared.script.Rendering.TheVariants.{Count, Text, Formatted, Html, InnerHtml, Document}
+use Rattle.dom_query.specs.Script.{AreCommands, FirstBad, HasSelector, IsBad, IsCommand, IsNoScript, IsScript, lines_of, query_word}
 use Rattle.dom_links.specs.Forest.{Forest}
 use Rattle.dom_links.specs.declared.gap.Place.{Place}
 use Rattle.dom_links.specs.declared.gap.Place.TheVariants.{After, Around, AtEnd, AtFront, Before, InsteadOfChildren, InsteadOfNode}
@@ -37,7 +37,7 @@ OneReading = (text : List ℕ) (trees others : ValueTrees) → Spells text trees
 data Reading : Type 0 where
   nothing : Reading
   alone : Command → Reading
-  picking : Picking → Reading
+  kind : QueryKind → Reading
   taking : List ℕ → (List ℕ → Command) → Reading
   setting : Reading
   putting : List ℕ → Place → Reading
@@ -46,23 +46,23 @@ data Reading : Type 0 where
 abbrev reading : List ℕ → Reading
 reading word =
     if bytes_eq word [] then alone Nothing
-    else if bytes_eq word (codes "select") then picking Select
-    else if bytes_eq word (codes "find") then picking Find
-    else if bytes_eq word (codes "filter") then picking Filter
-    else if bytes_eq word (codes "add") then picking Add
-    else if bytes_eq word (codes "parent") then alone (Go Parent)
-    else if bytes_eq word (codes "children") then alone (Go Children)
-    else if bytes_eq word (codes "ancestors") then alone (Go Ancestors)
-    else if bytes_eq word (codes "next") then alone (Go Next)
-    else if bytes_eq word (codes "prev") then alone (Go Prev)
-    else if bytes_eq word (codes "first") then alone (Go First)
-    else if bytes_eq word (codes "last") then alone (Go Last)
-    else if bytes_eq word (codes "count") then alone (Show Count)
-    else if bytes_eq word (codes "text") then alone (Show Text)
-    else if bytes_eq word (codes "formatted") then alone (Show Formatted)
-    else if bytes_eq word (codes "html") then alone (Show Html)
-    else if bytes_eq word (codes "inner-html") then alone (Show InnerHtml)
-    else if bytes_eq word (codes "document") then alone (Show Document)
+    else if bytes_eq word (codes "select") then kind Select
+    else if bytes_eq word (codes "find") then kind Find
+    else if bytes_eq word (codes "filter") then kind Filter
+    else if bytes_eq word (codes "add") then kind Add
+    else if bytes_eq word (codes "parent") then alone (Navigate Parent)
+    else if bytes_eq word (codes "children") then alone (Navigate Children)
+    else if bytes_eq word (codes "ancestors") then alone (Navigate Ancestors)
+    else if bytes_eq word (codes "next") then alone (Navigate Next)
+    else if bytes_eq word (codes "prev") then alone (Navigate Prev)
+    else if bytes_eq word (codes "first") then alone (Navigate First)
+    else if bytes_eq word (codes "last") then alone (Navigate Last)
+    else if bytes_eq word (codes "count") then alone (Render Count)
+    else if bytes_eq word (codes "text") then alone (Render Text)
+    else if bytes_eq word (codes "formatted") then alone (Render Formatted)
+    else if bytes_eq word (codes "html") then alone (Render Html)
+    else if bytes_eq word (codes "inner-html") then alone (Render InnerHtml)
+    else if bytes_eq word (codes "document") then alone (Render Document)
     else if bytes_eq word (codes "attr") then taking (codes "attr") Attr
     else if bytes_eq word (codes "set-attr") then setting
     else if bytes_eq word (codes "remove-attr") then taking (codes "remove-attr") (λ name. Edit (RemoveAttr name))
@@ -80,13 +80,14 @@ reading word =
     else if bytes_eq word (codes "remove") then alone (Edit Remove)
     else if bytes_eq word (codes "unwrap") then alone (Edit Unwrap)
     else if bytes_eq word (codes "normalize") then alone (Edit Normalize)
+    else if bytes_eq word (codes "sanitize") then taking (codes "sanitize") Sanitize
     else nothing
 
 -- a selector stands behind the word, and the command is made of it
-record IsPicked (line : List ℕ) (how : Picking) (command : Command) : Type 0 where
+record IsQueryRead (line : List ℕ) (how : QueryKind) (command : Command) : Type 0 where
   selector : SelectorList
-  has : HasSelector line (picking_word how) selector
-  is : command ≡ Pick how selector
+  has : HasSelector line (query_word how) selector
+  is : command ≡ Query how selector
 
 -- the command is made of what stands behind the word
 record IsTaken (line word : List ℕ) (make : List ℕ → Command) (command : Command) : Type 0 where
@@ -112,7 +113,7 @@ record IsPutIn (line word : List ℕ) (place : Place) (command : Command) : Type
 abbrev IsReadAs : Reading → List ℕ → Command → Type 0
 IsReadAs nothing line command = ⊥
 IsReadAs (alone known) line command = command ≡ known
-IsReadAs (picking how) line command = IsPicked line how command
+IsReadAs (kind how) line command = IsQueryRead line how command
 IsReadAs (taking word make) line command = IsTaken line word make command
 IsReadAs setting line command = IsSet line command
 IsReadAs (putting word place) line command = IsPutIn line word place command
@@ -127,8 +128,8 @@ with_argument : (line word argument : List ℕ) (r : Reading) (command : Command
 with_argument line word argument r command (inl is) spaced bare known = subst (λ k. IsReadAs k line command) (sym (ap (λ (l : List ℕ). reading (word_in l)) is ∙ spaced)) known
 with_argument line word argument r command (inr p) spaced bare known = subst (λ k. IsReadAs k line command) (sym (ap (λ (l : List ℕ). reading (word_in l)) p.0 ∙ bare)) known
 
-picked : (line : List ℕ) (how : Picking) (selector : SelectorList) → HasSelector line (picking_word how) selector → IsPicked line how (Pick how selector)
-picked line how selector h = record { selector = selector; has = h; is = refl }
+query_read : (line : List ℕ) (how : QueryKind) (selector : SelectorList) → HasSelector line (query_word how) selector → IsQueryRead line how (Query how selector)
+query_read line how selector h = record { selector = selector; has = h; is = refl }
 
 taken : (line word argument : List ℕ) (make : List ℕ → Command) → HasArgument line word argument → IsTaken line word make (make argument)
 taken line word argument make h = record { argument = argument; has = h; is = refl }
@@ -144,23 +145,23 @@ with_markup line word place read h spaced bare = with_argument line word h.0 (pu
 -- each command is what the table has for its word
 is_read : (line : List ℕ) (command : Command) → IsCommand line command → IsReadAs (reading (word_in line)) line command
 is_read line Nothing p = at_word line [] Nothing p refl
-is_read line (Pick Select selector) p = with_argument line (codes "select") p.0 (picking Select) (Pick Select selector) p.1 refl refl (picked line Select selector p)
-is_read line (Pick Find selector) p = with_argument line (codes "find") p.0 (picking Find) (Pick Find selector) p.1 refl refl (picked line Find selector p)
-is_read line (Pick Filter selector) p = with_argument line (codes "filter") p.0 (picking Filter) (Pick Filter selector) p.1 refl refl (picked line Filter selector p)
-is_read line (Pick Add selector) p = with_argument line (codes "add") p.0 (picking Add) (Pick Add selector) p.1 refl refl (picked line Add selector p)
-is_read line (Go Parent) p = at_word line (codes "parent") (Go Parent) p refl
-is_read line (Go Children) p = at_word line (codes "children") (Go Children) p refl
-is_read line (Go Ancestors) p = at_word line (codes "ancestors") (Go Ancestors) p refl
-is_read line (Go Next) p = at_word line (codes "next") (Go Next) p refl
-is_read line (Go Prev) p = at_word line (codes "prev") (Go Prev) p refl
-is_read line (Go First) p = at_word line (codes "first") (Go First) p refl
-is_read line (Go Last) p = at_word line (codes "last") (Go Last) p refl
-is_read line (Show Count) p = at_word line (codes "count") (Show Count) p refl
-is_read line (Show Text) p = at_word line (codes "text") (Show Text) p refl
-is_read line (Show Formatted) p = at_word line (codes "formatted") (Show Formatted) p refl
-is_read line (Show Html) p = at_word line (codes "html") (Show Html) p refl
-is_read line (Show InnerHtml) p = at_word line (codes "inner-html") (Show InnerHtml) p refl
-is_read line (Show Document) p = at_word line (codes "document") (Show Document) p refl
+is_read line (Query Select selector) p = with_argument line (codes "select") p.0 (kind Select) (Query Select selector) p.1 refl refl (query_read line Select selector p)
+is_read line (Query Find selector) p = with_argument line (codes "find") p.0 (kind Find) (Query Find selector) p.1 refl refl (query_read line Find selector p)
+is_read line (Query Filter selector) p = with_argument line (codes "filter") p.0 (kind Filter) (Query Filter selector) p.1 refl refl (query_read line Filter selector p)
+is_read line (Query Add selector) p = with_argument line (codes "add") p.0 (kind Add) (Query Add selector) p.1 refl refl (query_read line Add selector p)
+is_read line (Navigate Parent) p = at_word line (codes "parent") (Navigate Parent) p refl
+is_read line (Navigate Children) p = at_word line (codes "children") (Navigate Children) p refl
+is_read line (Navigate Ancestors) p = at_word line (codes "ancestors") (Navigate Ancestors) p refl
+is_read line (Navigate Next) p = at_word line (codes "next") (Navigate Next) p refl
+is_read line (Navigate Prev) p = at_word line (codes "prev") (Navigate Prev) p refl
+is_read line (Navigate First) p = at_word line (codes "first") (Navigate First) p refl
+is_read line (Navigate Last) p = at_word line (codes "last") (Navigate Last) p refl
+is_read line (Render Count) p = at_word line (codes "count") (Render Count) p refl
+is_read line (Render Text) p = at_word line (codes "text") (Render Text) p refl
+is_read line (Render Formatted) p = at_word line (codes "formatted") (Render Formatted) p refl
+is_read line (Render Html) p = at_word line (codes "html") (Render Html) p refl
+is_read line (Render InnerHtml) p = at_word line (codes "inner-html") (Render InnerHtml) p refl
+is_read line (Render Document) p = at_word line (codes "document") (Render Document) p refl
 is_read line (Attr name) p = with_text line (codes "attr") name Attr p.0 refl refl
 is_read line (Edit (SetAttr name value)) p =
     with_argument line (codes "set-attr") p.0 setting (Edit (SetAttr name value)) p.1 refl refl (record { argument = p.0; name = name; value = value; has = p.1; pair = p.2; is = refl })
@@ -180,6 +181,7 @@ is_read line (Edit (Put Around read)) p = absurd p
 is_read line (Edit Remove) p = at_word line (codes "remove") (Edit Remove) p refl
 is_read line (Edit Unwrap) p = at_word line (codes "unwrap") (Edit Unwrap) p refl
 is_read line (Edit Normalize) p = at_word line (codes "normalize") (Edit Normalize) p refl
+is_read line (Sanitize lists) p = with_text line (codes "sanitize") lists Sanitize p.0 refl refl
 
 -- of a text one forest is read at most
 read-once : OneReading → (text : List ℕ) (a b : Forest) → IsSpelled text a → IsSpelled text b → a ≡ b
@@ -188,9 +190,9 @@ read-once unique text a b (trees, p, is) (others, q, so) = is ∙ ap document_of
 reading-once : OneReading → OneSelector → (r : Reading) (line : List ℕ) (a b : Command) → IsReadAs r line a → IsReadAs r line b → a ≡ b
 reading-once unique one nothing line a b p q = absurd p
 reading-once unique one (alone known) line a b p q = p ∙ sym q
-reading-once unique one (picking how) line a b p q =
-    let same = argument-once line (picking_word how) p.has.0 q.has.0 p.has.1 q.has.1 in
-    p.is ∙ ap (Pick how) (one (chars q.has.0) p.selector q.selector (subst (λ text. StandsFor (chars text) p.selector) same p.has.2) q.has.2) ∙ sym q.is
+reading-once unique one (kind how) line a b p q =
+    let same = argument-once line (query_word how) p.has.0 q.has.0 p.has.1 q.has.1 in
+    p.is ∙ ap (Query how) (one (chars q.has.0) p.selector q.selector (subst (λ text. StandsFor (chars text) p.selector) same p.has.2) q.has.2) ∙ sym q.is
 reading-once unique one (putting word place) line a b p q =
     let same = argument-once line word p.has.0 q.has.0 p.has.1 q.has.1 in
     p.is ∙ ap (λ read. Edit (Put place read)) (read-once unique q.has.0 p.read q.read (subst (λ text. IsSpelled text p.read) same p.has.2) q.has.2) ∙ sym q.is

@@ -1,71 +1,71 @@
--- What the status of a drive tells.
+-- What the status of a drive says.
 use Rattle.std.proofs.Common.{ℕ, List, Option, Some, None, ◌≡◌, ◌∙◌, arith, sym}
 use Rattle.dom_query.specs.declared.runner.RunFault.TheVariants.{BadScript, BadMarkup, Edit, TooManyNodes, Memory, Write}
-use Rattle.dom_query.specs.declared.telling.DriveFault.{DriveFault}
-use Rattle.dom_query.specs.declared.telling.DriveFault.TheVariants.{Usage, Read, Run}
-use Rattle.dom_query.specs.Drive.{Drove, StatusTells, Stopped, status_after}
+use Rattle.dom_query.specs.declared.reporting.DriveFault.{DriveFault}
+use Rattle.dom_query.specs.declared.reporting.DriveFault.TheVariants.{Usage, Read, Run}
+use Rattle.dom_query.specs.Drive.{Drove, StatusMeans, Stopped, status_after}
 
 -- no status is two numbers
 other : {A : Type 0} (status n m : ℕ) → status ≡ n → (n ≡ m → ⊥) → status ≡ m → A
 other status n m is apart said = absurd (apart (sym is ∙ said))
 
-tells-by : (words : List (List ℕ)) (known old new : Option (List ℕ)) (status : ℕ) (fault : Option DriveFault)
-    → status ≡ status_after fault → Stopped words known old new fault → StatusTells words known old new status
-tells-by words known old new status None is stopped = record {
+status-by : (words : List (List ℕ)) (known old new : Option (List ℕ)) (status : ℕ) (fault : Option DriveFault)
+    → status ≡ status_after fault → Stopped words known old new fault → StatusMeans words known old new status
+status-by words known old new status None is stopped = record {
   job_done = λ _. stopped;
   bad_script = other status 0 2 is (λ same. omega (arith, same));
   bad_markup = other status 0 3 is (λ same. omega (arith, same));
   usage = other status 0 64 is (λ same. omega (arith, same));
 }
-tells-by words known old new status (Some Usage) is stopped = record {
+status-by words known old new status (Some Usage) is stopped = record {
   job_done = other status 64 0 is (λ same. omega (arith, same));
   bad_script = other status 64 2 is (λ same. omega (arith, same));
   bad_markup = other status 64 3 is (λ same. omega (arith, same));
   usage = λ _. stopped;
 }
-tells-by words known old new status (Some Read) is stopped = record {
+status-by words known old new status (Some Read) is stopped = record {
   job_done = other status 5 0 is (λ same. omega (arith, same));
   bad_script = other status 5 2 is (λ same. omega (arith, same));
   bad_markup = other status 5 3 is (λ same. omega (arith, same));
   usage = other status 5 64 is (λ same. omega (arith, same));
 }
-tells-by words known old new status (Some (Run (BadScript line))) is stopped = record {
+status-by words known old new status (Some (Run (BadScript line))) is stopped = record {
   job_done = other status 2 0 is (λ same. omega (arith, same));
   bad_script = λ _. (line, stopped);
   bad_markup = other status 2 3 is (λ same. omega (arith, same));
   usage = other status 2 64 is (λ same. omega (arith, same));
 }
-tells-by words known old new status (Some (Run BadMarkup)) is stopped = record {
+status-by words known old new status (Some (Run BadMarkup)) is stopped = record {
   job_done = other status 3 0 is (λ same. omega (arith, same));
   bad_script = other status 3 2 is (λ same. omega (arith, same));
   bad_markup = λ _. stopped;
   usage = other status 3 64 is (λ same. omega (arith, same));
 }
-tells-by words known old new status (Some (Run (Edit line fault))) is stopped = record {
+status-by words known old new status (Some (Run (Edit line fault))) is stopped = record {
   job_done = other status 4 0 is (λ same. omega (arith, same));
   bad_script = other status 4 2 is (λ same. omega (arith, same));
   bad_markup = other status 4 3 is (λ same. omega (arith, same));
   usage = other status 4 64 is (λ same. omega (arith, same));
 }
-tells-by words known old new status (Some (Run TooManyNodes)) is stopped = record {
+status-by words known old new status (Some (Run TooManyNodes)) is stopped = record {
   job_done = other status 4 0 is (λ same. omega (arith, same));
   bad_script = other status 4 2 is (λ same. omega (arith, same));
   bad_markup = other status 4 3 is (λ same. omega (arith, same));
   usage = other status 4 64 is (λ same. omega (arith, same));
 }
-tells-by words known old new status (Some (Run Memory)) is stopped = record {
+status-by words known old new status (Some (Run Memory)) is stopped = record {
   job_done = other status 5 0 is (λ same. omega (arith, same));
   bad_script = other status 5 2 is (λ same. omega (arith, same));
   bad_markup = other status 5 3 is (λ same. omega (arith, same));
   usage = other status 5 64 is (λ same. omega (arith, same));
 }
-tells-by words known old new status (Some (Run Write)) is stopped = record {
+status-by words known old new status (Some (Run Write)) is stopped = record {
   job_done = other status 5 0 is (λ same. omega (arith, same));
   bad_script = other status 5 2 is (λ same. omega (arith, same));
   bad_markup = other status 5 3 is (λ same. omega (arith, same));
   usage = other status 5 64 is (λ same. omega (arith, same));
 }
 
-pub status-tells : (words : List (List ℕ)) (known old new err told : Option (List ℕ)) (status : ℕ)
-    → Drove words known old new err told status → StatusTells words known old new status
-status-tells words known old new err told status drove = tells-by words known old new status drove.fault drove.status_is drove.stopped
+pub status-means : (words : List (List ℕ)) (known old new err reported : Option (List ℕ)) (status : ℕ)
+    → Drove words known old new err reported status → StatusMeans words known old new status
+status-means words known old new err reported status drove = status-by words known old new status drove.fault drove.status_is drove.stopped

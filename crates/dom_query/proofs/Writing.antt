@@ -3,7 +3,7 @@ use Rattle.std.proofs.Common.{◌≡◌, ◌<◌, ◌+◌, ℕ, List, [], ◌++�
 use Rattle.std.specs.List.{flat_map}
 use Rattle.std.specs.Io.KnownBytes.{Appends}
 use Rattle.dom_markup.specs.Writing.{AppendsBeginning}
-use Rattle.dom_markup.proofs.WritingLemmas.{beginning-more, beginning-then, fault-first, flat_map-split}
+use Rattle.dom_markup.proofs.html.WritingLemmas.{beginning-more, beginning-then, fault-first, flat_map-split}
 
 -- a whole text is a beginning of itself
 pub whole-begun : (a b : Option (List ℕ)) (text : List ℕ) → Appends a b text → AppendsBeginning a b text

@@ -7,12 +7,12 @@ use Rattle.dom_query.specs.declared.driver.Job.{Job}
 use Rattle.dom_query.specs.declared.driver.Job.TheVariants.{Script, Markdown}
 use Rattle.dom_query.specs.declared.runner.RunFault.{RunFault}
 use Rattle.dom_query.specs.declared.runner.RunFault.TheVariants.{BadScript, BadMarkup}
-use Rattle.dom_query.specs.declared.telling.DriveFault.{DriveFault}
-use Rattle.dom_query.specs.declared.telling.DriveFault.TheVariants.{Usage, Read, Run}
-use Rattle.dom_query.specs.Markdown.{MarkdownTells, WroteMarkdown}
+use Rattle.dom_query.specs.declared.reporting.DriveFault.{DriveFault}
+use Rattle.dom_query.specs.declared.reporting.DriveFault.TheVariants.{Usage, Read, Run}
+use Rattle.dom_query.specs.Markdown.{MarkdownCause, WroteMarkdown}
 use Rattle.dom_query.specs.Out.Ending.{done}
-use Rattle.dom_query.specs.Runs.{Began, Ended, Tells}
-use Rattle.dom_query.specs.Telling.{status_of, told_of}
+use Rattle.dom_query.specs.Runs.{Began, Ended, RunCause}
+use Rattle.dom_query.specs.Reporting.{status_of, report_of}
 
 abbrev pub words_of : List (String Global) → List (List ℕ)
 words_of args = map string_bytes args
@@ -32,11 +32,11 @@ JobDid (Script text) markup old new = Ended markup text.now old new done
 JobDid Markdown markup old new = WroteMarkdown markup old new
 
 -- the job ended early, by this fault
-abbrev pub JobTells : Job → List ℕ → Option (List ℕ) → Option (List ℕ) → RunFault → Type 0
-JobTells (Script text) markup old new fault = Tells markup text.now old new fault
-JobTells Markdown markup old new fault = MarkdownTells markup old new fault
+abbrev pub JobCause : Job → List ℕ → Option (List ℕ) → Option (List ℕ) → RunFault → Type 0
+JobCause (Script text) markup old new fault = RunCause markup text.now old new fault
+JobCause Markdown markup old new fault = MarkdownCause markup old new fault
 
--- the job wrote a beginning of what it writes; of Markdown it is told that what stood before stays
+-- the job wrote a beginning of what it writes; of Markdown it is stated that what stood before stays
 abbrev pub JobBegan : Job → List ℕ → Option (List ℕ) → Option (List ℕ) → Type 0
 JobBegan (Script text) markup old new = Began markup text.now old new
 JobBegan Markdown markup old new = (text : List ℕ) × Appends old new text
@@ -51,33 +51,33 @@ abbrev pub Stopped : List (List ℕ) → Option (List ℕ) → Option (List ℕ)
 Stopped words known old new None = Ran words known (λ job markup. JobDid job markup old new)
 Stopped words known old new (Some Usage) = AsksForNothing words × Appends old new []
 Stopped words known old new (Some Read) = ((job : Job) × AsksFor words job) × Appends old new []
-Stopped words known old new (Some (Run fault)) = Ran words known (λ job markup. JobTells job markup old new fault)
+Stopped words known old new (Some (Run fault)) = Ran words known (λ job markup. JobCause job markup old new fault)
 
 -- what was written is a beginning of what the job writes
 abbrev pub BeganOver : List (List ℕ) → Option (List ℕ) → Option (List ℕ) → Option (List ℕ) → Type 0
 BeganOver words known old new =
     (job : Job) (markup : List ℕ) → AsksFor words job → known ≡ Some markup → JobBegan job markup old new
 
--- the status, and the line that is told
+-- the status, and the line that is reported
 abbrev pub status_after : Option DriveFault → ℕ
 status_after None = 0
 status_after (Some fault) = status_of fault
 
-abbrev pub told_after : Option DriveFault → List ℕ
-told_after None = []
-told_after (Some fault) = told_of fault
+abbrev pub report_after : Option DriveFault → List ℕ
+report_after None = []
+report_after (Some fault) = report_of fault
 
 -- a drive: the status is that of its cause, and standard error, which held `err`, has got its line, or as much of it as
 -- it took
-pub record Drove (words : List (List ℕ)) (known old new err told : Option (List ℕ)) (status : ℕ) : Type 0 where
+pub record Drove (words : List (List ℕ)) (known old new err reported : Option (List ℕ)) (status : ℕ) : Type 0 where
   pub fault : Option DriveFault
   pub status_is : status ≡ status_after fault
-  pub tells : AppendsBeginning err told (told_after fault)
+  pub reports : AppendsBeginning err reported (report_after fault)
   pub stopped : Stopped words known old new fault
   pub begun : BeganOver words known old new
 
--- what a status tells of a drive: the job was done; the script was refused; the markup was; the words ask for nothing
-pub record StatusTells (words : List (List ℕ)) (known old new : Option (List ℕ)) (status : ℕ) : Type 0 where
+-- what a status says of a drive: the job was done; the script was refused; the markup was; the words ask for nothing
+pub record StatusMeans (words : List (List ℕ)) (known old new : Option (List ℕ)) (status : ℕ) : Type 0 where
   pub job_done : status ≡ 0 → Stopped words known old new None
   pub bad_script : status ≡ 2 → (line : ℕ) × Stopped words known old new (Some (Run (BadScript line)))
   pub bad_markup : status ≡ 3 → Stopped words known old new (Some (Run BadMarkup))

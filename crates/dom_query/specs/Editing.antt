@@ -1,27 +1,22 @@
 -- What lines change in the tree.
-use Rattle.std.specs.Prelude.{◌≢◌, ◌≤◌, ℕ, List, [], ◌∷◌, Result, IfErr, OnOk, length}
+use Rattle.std.specs.Prelude.{◌≢◌, ℕ, List, [], ◌∷◌, Result, IfErr, OnOk}
 use Rattle.dom_nodes.specs.Changes.{on_element, renamed, with_attr, with_attrs, without_name}
 use Rattle.dom_nodes.specs.Classes.{with_classes, without_classes}
 use Rattle.dom_nodes.specs.declared.fault.EditFault.{EditFault}
-use Rattle.dom_nodes.specs.declared.fault.EditFault.TheVariants.{UnknownNode, TooManyNodes, Memory}
+use Rattle.dom_nodes.specs.declared.fault.EditFault.TheVariants.{TooManyNodes, Memory}
 use Rattle.dom_nodes.specs.declared.node_data.NodeData.{NodeData}
 use Rattle.dom_links.specs.Contents.{with_content}
 use Rattle.dom_links.specs.Forest.{Forest}
-use Rattle.dom_trees.specs.Edits.{IsKnown, TreeEdit, normalizing, removing, texting, unwrapping}
+use Rattle.dom_trees.specs.Edits.{IsKnown, TreeEdit, normalizing, removing, setting_text, unwrapping}
+use Rattle.dom_trees.specs.Refusals.{JoinCause}
 use Rattle.dom_edits.specs.Edits.{Each, Stops, putting_known, stripping}
 use Rattle.dom_query.specs.declared.script.edit_line.EditLine.{EditLine}
 use Rattle.dom_query.specs.declared.script.edit_line.EditLine.TheVariants.{SetAttr, RemoveAttr, Rename, AddClass, RemoveClass, SetText, Strip, Put, Remove, Unwrap, Normalize}
 use Rattle.dom_query.specs.EditLine.{names_in}
 
--- the data of x could not be changed: x is unknown, or memory was refused
-abbrev pub RewriteCause : ℕ → Forest → EditFault → Type 0
-RewriteCause x forest UnknownNode = length forest.content ≤ x
-RewriteCause x forest Memory = Unit {0}
-RewriteCause x forest _ = ⊥
-
--- the data of x is changed
+-- the data of x is changed; it is refused where x is unknown, or memory was refused
 abbrev pub rewriting : (NodeData → NodeData) → ℕ → TreeEdit
-rewriting change x = record { after = with_content x change; Allowed = IsKnown x; Cause = RewriteCause x }
+rewriting change x = record { after = with_content x change; Allowed = IsKnown x; Cause = JoinCause x }
 
 -- what the line does at a node
 abbrev pub line_edit : EditLine → ℕ → TreeEdit
@@ -30,7 +25,7 @@ line_edit (RemoveAttr name) n = rewriting (with_attrs (without_name name)) n
 line_edit (Rename name) n = rewriting (on_element (renamed name)) n
 line_edit (AddClass classes) n = rewriting (with_attrs (with_classes classes)) n
 line_edit (RemoveClass classes) n = rewriting (with_attrs (without_classes classes)) n
-line_edit (SetText text) n = texting n text
+line_edit (SetText text) n = setting_text n text
 line_edit (Strip names) n = stripping (names_in names) n
 line_edit (Put place read) n = putting_known place read n
 line_edit Remove n = removing n
@@ -47,12 +42,12 @@ abbrev pub FailsAtOne : (ℕ → TreeEdit) → List ℕ → Forest → EditFault
 FailsAtOne edit nodes forest fault =
     (done : ℕ) × (after : Forest) × Stops edit nodes forest after (record { done = done; fault = fault })
 
--- It is done at each of the nodes, or refused at one. That memory was refused tells nothing more
+-- It is done at each of the nodes, or refused at one. That memory was refused says nothing more
 pub record EditsOrFails (result : Result Unit EditFault) (old new : Forest) (nodes : List ℕ) (edit : ℕ → TreeEdit) : Type 0 where
   pub ok : OnOk result (Each edit nodes old new)
   pub err : IfErr result (λ fault. fault ≢ Memory → FailsAtOne edit nodes old fault)
 
--- the fault tells of the edit, and not of numbers or memory that gave out
+-- the fault is of the edit, and not of numbers or memory that gave out
 abbrev pub IsRefusal : EditFault → Type 0
 IsRefusal TooManyNodes = ⊥
 IsRefusal Memory = ⊥

@@ -1,4 +1,4 @@
--- What the faults of single steps tell.
+-- What the faults of single steps say.
 use Rattle.std.specs.Prelude.{◌≡◌, ℕ, List}
 use Rattle.std.specs.Str.{IsUtf8}
 use Rattle.dom_links.specs.Forest.{Forest}
@@ -56,13 +56,13 @@ GaveOut BadMarkup = ⊥
 GaveOut (Edit line fault) = ⊥
 GaveOut TooManyNodes = ⊥
 
--- the fault of a run that tells of a fault of its script
+-- the fault of a run for a fault of its script
 abbrev pub fault_of : ScriptFault → RunFault
 fault_of (BadLine line) = BadScript line
 fault_of NoNumbers = TooManyNodes
 fault_of NoMemory = Memory
 
--- the fault of a run that tells of a fault in writing
+-- the fault of a run for a fault in writing
 abbrev pub limit_of : WriteFault → RunFault
 limit_of NotWritten = Write
 limit_of NoRoom = Memory

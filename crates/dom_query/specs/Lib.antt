@@ -1,13 +1,14 @@
 pub mod Words
 pub mod EditLine
+pub mod Cleaning
 pub mod Script
-pub mod Picking
-pub mod Showing
+pub mod Queries
+pub mod Rendering
 pub mod Editing
 pub mod Out
 pub mod Faults
 pub mod Runs
 pub mod ReadBack
 pub mod Markdown
-pub mod Telling
+pub mod Reporting
 pub mod Drive

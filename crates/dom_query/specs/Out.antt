@@ -8,11 +8,12 @@ use Rattle.dom_markup.specs.Markup.{Spells, SpellsNothing}
 use Rattle.dom_markup.specs.Numbered.{document_of}
 use Rattle.dom_markup.specs.ValueTrees.{ValueTrees}
 use Rattle.dom_query.specs.declared.script.Command.{Command}
-use Rattle.dom_query.specs.declared.script.Command.TheVariants.{Nothing, Pick, Go, Show, Attr, Edit}
+use Rattle.dom_query.specs.declared.script.Command.TheVariants.{Nothing, Query, Navigate, Render, Attr, Edit, Sanitize}
+use Rattle.dom_query.specs.Cleaning.{IsCleaned, allow_of}
 use Rattle.dom_query.specs.Editing.{FailsAtOne, IsRefusal, line_edit, targets}
-use Rattle.dom_query.specs.Picking.{Picked, led}
+use Rattle.dom_query.specs.Queries.{QueryResult, navigated}
 use Rattle.dom_query.specs.Script.{IsScript, IsNoScript}
-use Rattle.dom_query.specs.Showing.{first_attr, line_of, shown}
+use Rattle.dom_query.specs.Rendering.{first_attr, line_of, rendered}
 
 -- the commands were done; an edit is refused at a line; a line is no command; the markup is none
 pub data Ending : Type 0 where
@@ -24,11 +25,12 @@ pub data Ending : Type 0 where
 -- With this selection the command writes the text, and then the forest is `after`, and those nodes are selected
 abbrev pub Does : Forest → List ℕ → Command → List ℕ → Forest → List ℕ → Type 0
 Does forest selection Nothing text after selected = (text ≡ []) × (selected ≡ selection) × (after ≡ forest)
-Does forest selection (Pick picking selector) text after selected = (text ≡ []) × Picked forest selection picking selector selected × (after ≡ forest)
-Does forest selection (Go going) text after selected = (text ≡ []) × (selected ≡ led going forest selection) × (after ≡ forest)
-Does forest selection (Show showing) text after selected = (text ≡ line_of (shown showing forest selection)) × (selected ≡ selection) × (after ≡ forest)
+Does forest selection (Query kind selector) text after selected = (text ≡ []) × QueryResult forest selection kind selector selected × (after ≡ forest)
+Does forest selection (Navigate navigation) text after selected = (text ≡ []) × (selected ≡ navigated navigation forest selection) × (after ≡ forest)
+Does forest selection (Render rendering) text after selected = (text ≡ line_of (rendered rendering forest selection)) × (selected ≡ selection) × (after ≡ forest)
 Does forest selection (Attr name) text after selected = (text ≡ line_of (first_attr name forest selection)) × (selected ≡ selection) × (after ≡ forest)
 Does forest selection (Edit edit) text after selected = (text ≡ []) × (selected ≡ selection) × Each (line_edit edit) (targets edit selection) forest after
+Does forest selection (Sanitize lists) text after selected = (text ≡ []) × (selected ≡ selection) × IsCleaned (allow_of lists) forest after
 
 -- the command is an edit that is refused with this fault
 abbrev pub Fails : Forest → List ℕ → Command → EditFault → Type 0

@@ -1,4 +1,4 @@
--- What a run leaves in a writer that held the bytes `old` and now holds `new`, and what its faults tell.
+-- What a run leaves in a writer that held the bytes `old` and now holds `new`, and what its faults say.
 use Rattle.std.specs.Prelude.{◌≡◌, ◌⊎◌, ℕ, List, [], Option}
 use Rattle.std.specs.Io.KnownBytes.{Appends}
 use Rattle.dom_nodes.specs.declared.fault.EditFault.{EditFault}
@@ -26,20 +26,20 @@ DidBegin forest selection command old new =
     ((text selected : List ℕ) (after : Forest) → Does forest selection command text after selected → AppendsBeginning old new text)
     × ((fault : EditFault) → Fails forest selection command fault → AppendsBeginning old new [])
 
--- the fault of a run that tells of an edit's fault in this line
+-- the fault of a run for an edit's fault in this line
 abbrev pub fault_at : ℕ → EditFault → RunFault
 fault_at line TooMany = TooManyNodes
 fault_at line NoMemory = Memory
 fault_at line fault = Edit line fault
 
 -- the command failed in this line, and nothing was written; or memory or the writer gave out
-abbrev pub CommandTells : Forest → List ℕ → Command → ℕ → Option (List ℕ) → Option (List ℕ) → RunFault → Type 0
-CommandTells forest selection command line old new (Edit at fault) = (at ≡ line) × IsRefusal fault × Fails forest selection command fault × Appends old new []
-CommandTells forest selection command line old new TooManyNodes = Fails forest selection command TooMany × Appends old new []
-CommandTells forest selection command line old new Memory = Unit {0}
-CommandTells forest selection command line old new Write = Unit {0}
-CommandTells forest selection command line old new (BadScript at) = ⊥
-CommandTells forest selection command line old new BadMarkup = ⊥
+abbrev pub CommandCause : Forest → List ℕ → Command → ℕ → Option (List ℕ) → Option (List ℕ) → RunFault → Type 0
+CommandCause forest selection command line old new (Edit at fault) = (at ≡ line) × IsRefusal fault × Fails forest selection command fault × Appends old new []
+CommandCause forest selection command line old new TooManyNodes = Fails forest selection command TooMany × Appends old new []
+CommandCause forest selection command line old new Memory = Unit {0}
+CommandCause forest selection command line old new Write = Unit {0}
+CommandCause forest selection command line old new (BadScript at) = ⊥
+CommandCause forest selection command line old new BadMarkup = ⊥
 
 -- the commands end so, at first with this selection, and what they write was written
 abbrev pub DidAll : Forest → List ℕ → List Command → Option (List ℕ) → Option (List ℕ) → Ending → Type 0
@@ -56,14 +56,14 @@ abbrev pub DidAllBegin : Forest → List ℕ → List Command → Option (List �
 DidAllBegin forest selection commands old new =
     (text : List ℕ) (ending : Ending) → IsEnding ending → DoesAll forest selection 1 commands text ending → AppendsBeginning old new text
 
--- what a fault tells of the commands
-abbrev pub CommandsTell : Forest → List ℕ → List Command → Option (List ℕ) → Option (List ℕ) → RunFault → Type 0
-CommandsTell forest selection commands old new (Edit line fault) = IsRefusal fault × DidAll forest selection commands old new (refused line fault)
-CommandsTell forest selection commands old new TooManyNodes = (line : ℕ) × DidAll forest selection commands old new (refused line TooMany)
-CommandsTell forest selection commands old new Memory = Unit {0}
-CommandsTell forest selection commands old new Write = Unit {0}
-CommandsTell forest selection commands old new (BadScript line) = ⊥
-CommandsTell forest selection commands old new BadMarkup = ⊥
+-- what a fault says of the commands
+abbrev pub CommandsCause : Forest → List ℕ → List Command → Option (List ℕ) → Option (List ℕ) → RunFault → Type 0
+CommandsCause forest selection commands old new (Edit line fault) = IsRefusal fault × DidAll forest selection commands old new (refused line fault)
+CommandsCause forest selection commands old new TooManyNodes = (line : ℕ) × DidAll forest selection commands old new (refused line TooMany)
+CommandsCause forest selection commands old new Memory = Unit {0}
+CommandsCause forest selection commands old new Write = Unit {0}
+CommandsCause forest selection commands old new (BadScript line) = ⊥
+CommandsCause forest selection commands old new BadMarkup = ⊥
 
 -- what the run writes was written, and it ended so
 abbrev pub Ended : List ℕ → List ℕ → Option (List ℕ) → Option (List ℕ) → Ending → Type 0
@@ -81,11 +81,11 @@ RanOut markup script old new =
     ⊎ (((commands : List Command) × IsScript script commands) × BeginsTooManyNodes markup × Appends old new [])
     ⊎ ((line : ℕ) × (text : List ℕ) × Ran markup script text (refused line TooMany) × Appends old new text)
 
--- what a fault tells
-abbrev pub Tells : List ℕ → List ℕ → Option (List ℕ) → Option (List ℕ) → RunFault → Type 0
-Tells markup script old new (BadScript line) = Ended markup script old new (bad_script line)
-Tells markup script old new BadMarkup = Ended markup script old new bad_markup
-Tells markup script old new (Edit line fault) = Ended markup script old new (refused line fault)
-Tells markup script old new TooManyNodes = RanOut markup script old new
-Tells markup script old new Memory = Unit {0}
-Tells markup script old new Write = Unit {0}
+-- what a fault says
+abbrev pub RunCause : List ℕ → List ℕ → Option (List ℕ) → Option (List ℕ) → RunFault → Type 0
+RunCause markup script old new (BadScript line) = Ended markup script old new (bad_script line)
+RunCause markup script old new BadMarkup = Ended markup script old new bad_markup
+RunCause markup script old new (Edit line fault) = Ended markup script old new (refused line fault)
+RunCause markup script old new TooManyNodes = RanOut markup script old new
+RunCause markup script old new Memory = Unit {0}
+RunCause markup script old new Write = Unit {0}

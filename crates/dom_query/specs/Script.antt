@@ -5,13 +5,14 @@ use Rattle.std.specs.Str.{IsUtf8, chars}
 use Rattle.dom_selectors.specs.Grammar.{StandsFor}
 use Rattle.dom_selectors.specs.Syntax.{SelectorList}
 use Rattle.dom_query.specs.declared.script.Command.{Command}
-use Rattle.dom_query.specs.declared.script.Command.TheVariants.{Nothing, Pick, Go, Show, Attr, Edit}
-use Rattle.dom_query.specs.declared.script.Going.{Going}
-use Rattle.dom_query.specs.declared.script.Going.TheVariants.{Parent, Children, Ancestors, Next, Prev, First, Last}
-use Rattle.dom_query.specs.declared.script.Picking.{Picking}
-use Rattle.dom_query.specs.declared.script.Picking.TheVariants.{Select, Find, Filter, Add}
-use Rattle.dom_query.specs.declared.script.Showing.{Showing}
-use Rattle.dom_query.specs.declared.script.Showing.TheVariants.{Count, Text, Formatted, Html, InnerHtml, Document}
+use Rattle.dom_query.specs.declared.script.Command.TheVariants.{Nothing, Query, Navigate, Render, Attr, Edit, Sanitize}
+use Rattle.dom_query.specs.declared.script.Navigation.{Navigation}
+use Rattle.dom_query.specs.declared.script.Navigation.TheVariants.{Parent, Children, Ancestors, Next, Prev, First, Last}
+use Rattle.dom_query.specs.declared.script.QueryKind.{QueryKind}
+use Rattle.dom_query.specs.declared.script.QueryKind.TheVariants.{Select, Find, Filter, Add}
+use Rattle.dom_query.specs.declared.script.Rendering.{Rendering}
+use Rattle.dom_query.specs.declared.script.Rendering.TheVariants.{Count, Text, Formatted, Html, InnerHtml, Document}
+use Rattle.dom_query.specs.Cleaning.{IsSanitize}
 use Rattle.dom_query.specs.EditLine.{HasLargeMarkup, IsEdit}
 use Rattle.dom_query.specs.Words.{HasArgument, HasName}
 
@@ -27,44 +28,45 @@ abbrev pub HasNoSelector : List ℕ → List ℕ → Type 0
 HasNoSelector line word = (selector : SelectorList) → HasSelector line word selector → ⊥
 
 -- the words of lines
-abbrev pub picking_word : Picking → List ℕ
-picking_word Select = codes "select"
-picking_word Find = codes "find"
-picking_word Filter = codes "filter"
-picking_word Add = codes "add"
+abbrev pub query_word : QueryKind → List ℕ
+query_word Select = codes "select"
+query_word Find = codes "find"
+query_word Filter = codes "filter"
+query_word Add = codes "add"
 
-abbrev pub going_word : Going → List ℕ
-going_word Parent = codes "parent"
-going_word Children = codes "children"
-going_word Ancestors = codes "ancestors"
-going_word Next = codes "next"
-going_word Prev = codes "prev"
-going_word First = codes "first"
-going_word Last = codes "last"
+abbrev pub navigation_word : Navigation → List ℕ
+navigation_word Parent = codes "parent"
+navigation_word Children = codes "children"
+navigation_word Ancestors = codes "ancestors"
+navigation_word Next = codes "next"
+navigation_word Prev = codes "prev"
+navigation_word First = codes "first"
+navigation_word Last = codes "last"
 
-abbrev pub showing_word : Showing → List ℕ
-showing_word Count = codes "count"
-showing_word Text = codes "text"
-showing_word Formatted = codes "formatted"
-showing_word Html = codes "html"
-showing_word InnerHtml = codes "inner-html"
-showing_word Document = codes "document"
+abbrev pub rendering_word : Rendering → List ℕ
+rendering_word Count = codes "count"
+rendering_word Text = codes "text"
+rendering_word Formatted = codes "formatted"
+rendering_word Html = codes "html"
+rendering_word InnerHtml = codes "inner-html"
+rendering_word Document = codes "document"
 
--- the line asks for this pick; for none
-abbrev pub IsPick : List ℕ → Picking → SelectorList → Type 0
-IsPick line picking selector = HasSelector line (picking_word picking) selector
+-- the line asks for this query; for none
+abbrev pub IsQuery : List ℕ → QueryKind → SelectorList → Type 0
+IsQuery line kind selector = HasSelector line (query_word kind) selector
 
-abbrev pub IsNoPick : List ℕ → Type 0
-IsNoPick line = (picking : Picking) → HasNoSelector line (picking_word picking)
+abbrev pub IsNoQuery : List ℕ → Type 0
+IsNoQuery line = (kind : QueryKind) → HasNoSelector line (query_word kind)
 
 -- the line asks for this command
 abbrev pub IsCommand : List ℕ → Command → Type 0
 IsCommand line Nothing = line ≡ []
-IsCommand line (Pick picking selector) = IsPick line picking selector
-IsCommand line (Go going) = line ≡ going_word going
-IsCommand line (Show showing) = line ≡ showing_word showing
+IsCommand line (Query kind selector) = IsQuery line kind selector
+IsCommand line (Navigate navigation) = line ≡ navigation_word navigation
+IsCommand line (Render rendering) = line ≡ rendering_word rendering
 IsCommand line (Attr name) = HasName line (codes "attr") name
 IsCommand line (Edit edit) = IsEdit line edit
+IsCommand line (Sanitize lists) = IsSanitize line lists
 
 -- the line asks for no command
 abbrev pub IsBad : List ℕ → Type 0

@@ -6,8 +6,8 @@ ghost use Rattle.dom_query.specs.Drive.{BeganOver, Drove, Stopped};
 
 use crate::laws::one_output;
 use crate::markdown::write_markdown;
+use crate::reporting::{DriveFault, report, status_of_fault};
 use crate::runner::{RunFault, run};
-use crate::telling::{DriveFault, status_of_fault, tell};
 use std::alloc::Global;
 use std::io::{ErrorKind, Read, Write};
 
@@ -84,7 +84,7 @@ fn run_words<R: Read, W: Write>(
 /// Runs the script that is the one word over what the reader has, or writes the Markdown of that
 /// and a line feed where the word is `--md`. Gives the program's status: 0, or 64 where there isn't
 /// one word, 2 for a bad script, 3 for bad markup, 4 where numbers gave out, 5 where memory, the
-/// reader or the writer did. Where it isn't 0, a line on `err` tells why.
+/// reader or the writer did. Where it isn't 0, a line on `err` says why.
 pub fn drive<R: Read, W: Write, E: Write>(
     alloc: Global,
     args: &[String],
@@ -92,7 +92,7 @@ pub fn drive<R: Read, W: Write, E: Write>(
     out: &mut W,
     err: &mut E,
 ) -> u8
-    // Each status comes by its cause, and then the line of that cause is told.
+    // Each status comes by its cause, and then the line of that cause is reported.
     ensures drove { Drove (words_of args.now) (R.remaining input.old) (W.contents out.old)
         (W.contents out.new) (E.contents err.old) (E.contents err.new) result }
     // The words are looked at first.
@@ -103,7 +103,7 @@ pub fn drive<R: Read, W: Write, E: Write>(
         Ok(()) => 0,
         Err(fault) => {
             // No status waits on the line.
-            let _ = tell(err, fault);
+            let _ = report(err, fault);
             status_of_fault(fault)
         }
     }

@@ -1,9 +1,10 @@
 //! What is true of every run. The functions do nothing.
 
 ghost use Rattle.std.specs.Prelude.{ℕ, List, Option};
-ghost use Rattle.dom_query.specs.Drive.{Drove, StatusTells};
+ghost use Rattle.dom_query.specs.Drive.{Drove, StatusMeans};
 ghost use Rattle.dom_query.specs.Out.{HasOneOutput};
-ghost use Rattle.dom_query.specs.ReadBack.{ReadsBack};
+ghost use Rattle.dom_query.specs.ReadBack.{EndReadsBack, ReadsBack};
+ghost use Rattle.dom_query.specs.declared.script.Command.{Command};
 
 /// A run has one text and one ending at most.
 pub fn one_output()
@@ -12,6 +13,7 @@ pub fn one_output()
     dom_markup::laws::one_reading();
     dom_select::laws::one_reading();
     dom_select::laws::one_selection();
+    dom_sanitize::laws::one_clean();
 }
 
 /// Where the script is the one line `document` and the document of the markup is plain, what a run
@@ -25,9 +27,20 @@ pub fn document_reads_back()
     dom_markup::laws::plain::plain_documents_are_spelled();
 }
 
-/// The status of a drive tells how it ended: 0 that its job was done, 2 that the script was
+/// Where a script ends in the line `document`, what a run writes that is done is the text of the
+/// lines before it, and then a line: where they leave a plain document, it spells the same tree.
+pub fn last_document_reads_back()
+    ensures { (markup script : List ℕ) (commands : List Command) (text : List ℕ)
+        → EndReadsBack markup script commands text }
+{
+    dom_markup::laws::one_reading();
+    dom_select::laws::one_reading();
+    dom_markup::laws::plain::plain_documents_are_spelled();
+}
+
+/// The status of a drive says how it ended: 0 that its job was done, 2 that the script was
 /// refused, 3 that the markup was, 64 that the words ask for nothing.
-pub fn a_status_tells()
-    ensures { (words : List (List ℕ)) (known old new err told : Option (List ℕ)) (status : ℕ)
-        → Drove words known old new err told status → StatusTells words known old new status }
+pub fn status_determines_ending()
+    ensures { (words : List (List ℕ)) (known old new err reported : Option (List ℕ)) (status : ℕ)
+        → Drove words known old new err reported status → StatusMeans words known old new status }
 {}

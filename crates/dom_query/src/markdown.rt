@@ -1,7 +1,7 @@
 //! The Markdown of markup.
 
 ghost use Rattle.std.specs.Prelude.{IfErr, OnOk};
-ghost use Rattle.dom_query.specs.Markdown.{MarkdownTells, WroteMarkdown};
+ghost use Rattle.dom_query.specs.Markdown.{MarkdownCause, WroteMarkdown};
 
 use crate::document_md::DocumentMd;
 use crate::runner::{RunFault, read_markup};
@@ -13,7 +13,7 @@ use std::io::Write;
 pub fn write_markdown<W: Write>(alloc: Global, markup: &[u8], out: &mut W) -> Result<(), RunFault>
     ensures done { OnOk result (WroteMarkdown markup.now
         (W.contents out.old) (W.contents out.new)) }
-    ensures cause { IfErr result (MarkdownTells markup.now
+    ensures cause { IfErr result (MarkdownCause markup.now
         (W.contents out.old) (W.contents out.new)) }
 {
     let document = read_markup(alloc, markup)?;

@@ -3,16 +3,18 @@
 ghost use Rattle.std.specs.Prelude.{◌≡◌, ◌∷◌, [], IfErr, IfOk, OnErr, OnOk};
 ghost use Rattle.dom_query.specs.Faults.{IsMarkup, MarkupRefused};
 ghost use Rattle.dom_query.specs.Out.Ending.{done};
-ghost use Rattle.dom_query.specs.Runs.{Began, CommandTells, CommandsTell, Did, DidAll};
-ghost use Rattle.dom_query.specs.Runs.{DidAllBegin, DidBegin, Ended, Tells, fault_at};
+ghost use Rattle.dom_query.specs.Runs.{Began, CommandCause, CommandsCause, Did, DidAll};
+ghost use Rattle.dom_query.specs.Runs.{DidAllBegin, DidBegin, Ended, RunCause, fault_at};
 
+mod cleaning;
 mod editing;
-mod picking;
-mod showing;
+mod query;
+mod rendering;
 
+use crate::runner::cleaning::clean;
 use crate::runner::editing::edit_selected;
-use crate::runner::picking::{go, pick};
-use crate::runner::showing::{show, write_attr};
+use crate::runner::query::{navigate, query};
+use crate::runner::rendering::{render, write_attr};
 use crate::script::{Command, ScriptFault, read_script};
 use dom_markup::document::Document;
 use dom_markup::serializing::WriteFault;
@@ -92,7 +94,7 @@ impl From<ScriptFault> for RunFault {
     }
 }
 
-/// The fault of the run that tells of an edit's fault in this line.
+/// The fault of the run for an edit's fault in this line.
 fn fault_at(line: usize, fault: EditFault) -> RunFault
     ensures { result ≡ fault_at line fault }
 {
@@ -115,15 +117,15 @@ fn do_command<W: Write>(
         (W.contents out.old) (W.contents out.new) tree.new selected.items) }
     ensures begun { OnErr result (DidBegin tree.old selection.items command.now
         (W.contents out.old) (W.contents out.new)) }
-    ensures cause { IfErr result (CommandTells tree.old selection.items command.now line
+    ensures cause { IfErr result (CommandCause tree.old selection.items command.now line
         (W.contents out.old) (W.contents out.new)) }
 {
     match command {
         Command::Nothing => Ok(selection),
-        Command::Pick(picking, matcher) => Ok(pick(tree, &selection, *picking, matcher)?),
-        Command::Go(going) => Ok(go(tree, &selection, *going)?),
-        Command::Show(showing) => {
-            show(tree, &selection, *showing, out)?;
+        Command::Query(kind, matcher) => Ok(query(tree, &selection, *kind, matcher)?),
+        Command::Navigate(navigation) => Ok(navigate(tree, &selection, *navigation)?),
+        Command::Render(rendering) => {
+            render(tree, &selection, *rendering, out)?;
             Ok(selection)
         }
         Command::Attr(name) => {
@@ -134,19 +136,20 @@ fn do_command<W: Write>(
             Ok(()) => Ok(selection),
             Err(fault) => Err(fault_at(line, fault)),
         },
+        Command::Sanitize(lists) => {
+            clean(tree, lists.as_str())?;
+            Ok(selection)
+        }
     }
 }
 
 /// The root alone.
-fn root_alone(alloc: Global) -> Result<Vec<NodeId>, RunFault>
-    ensures ok { IfOk result (λ selection. selection.items ≡ 0 ∷ []) }
-    ensures err { IfErr result (λ fault. fault ≡ RunFault.Memory) }
+fn root_alone(alloc: Global) -> Result<Vec<NodeId>, OutOfMemory>
+    ensures { IfOk result (λ selection. selection.items ≡ 0 ∷ []) }
 {
     let mut selection = Vec::new(alloc);
-    match selection.push(NodeId::root()) {
-        Ok(()) => Ok(selection),
-        Err(_) => Err(RunFault::Memory),
-    }
+    selection.push(NodeId::root())?;
+    Ok(selection)
 }
 
 /// Does the lines in their order, at first with the root selected.
@@ -160,10 +163,11 @@ fn do_commands<W: Write>(
         (W.contents out.old) (W.contents out.new) done) }
     ensures begun { OnErr result (DidAllBegin tree.old (0 ∷ []) commands.now
         (W.contents out.old) (W.contents out.new)) }
-    ensures cause { IfErr result (CommandsTell tree.old (0 ∷ []) commands.now
+    ensures cause { IfErr result (CommandsCause tree.old (0 ∷ []) commands.now
         (W.contents out.old) (W.contents out.new)) }
 {
     dom_select::laws::one_selection();
+    dom_sanitize::laws::one_clean();
     let mut selection = root_alone(alloc)?;
     let mut line = 0usize;
     for command in commands {
@@ -205,7 +209,7 @@ pub fn run<W: Write>(
     ensures begun { OnErr result (Began markup.now script.now
         (W.contents out.old) (W.contents out.new)) }
     // When each fault comes.
-    ensures cause { IfErr result (Tells markup.now script.now
+    ensures cause { IfErr result (RunCause markup.now script.now
         (W.contents out.old) (W.contents out.new)) }
 {
     dom_markup::laws::one_reading();

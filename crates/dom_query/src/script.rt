@@ -2,23 +2,25 @@
 
 ghost use Rattle.std.specs.Prelude.{◌≡◌, ◌∷◌, ◌++◌, [], IfErr, IfOk, OnOk, MatchOption};
 ghost use Rattle.dom_query.specs.Faults.{LineRefused, ScriptRefused};
-ghost use Rattle.dom_query.specs.Script.{IsBad, IsCommand, IsNoPick, IsPick, IsScript};
+ghost use Rattle.dom_query.specs.Script.{IsBad, IsCommand, IsNoQuery, IsQuery, IsScript};
 
 mod arguments;
 pub mod edit_line;
+pub mod lists;
 mod words;
 
 use crate::script::arguments::{name_behind, selector_behind};
 use crate::script::edit_line::{EditLine, edit_of};
-use crate::script::words::{going_of, showing_of};
+use crate::script::lists::lists_behind;
+use crate::script::words::{navigation_of, rendering_of};
 use dom_nodes::fault::OutOfMemory;
 use dom_nodes::text::Text;
 use dom_select::matcher::Matcher;
 use std::alloc::Global;
 
-/// What a selector is asked for.
+/// Which nodes a selector selects from.
 #[derive(Clone, Copy, Drop)]
-pub enum Picking {
+pub enum QueryKind {
     /// The matches below the root.
     Select,
     /// The matches below the selected nodes.
@@ -29,28 +31,28 @@ pub enum Picking {
     Add,
 }
 
-/// Where the selected nodes lead.
+/// The nodes that are selected next, relative to the selected ones.
 #[derive(Clone, Copy, Drop)]
-pub enum Going {
-    /// To their parents.
+pub enum Navigation {
+    /// Their parents.
     Parent,
-    /// To their children.
+    /// Their child elements.
     Children,
-    /// To the elements above them.
+    /// Their ancestor elements.
     Ancestors,
-    /// To the nearest elements after them.
+    /// The nearest elements after them.
     Next,
-    /// To the nearest elements before them.
+    /// The nearest elements before them.
     Prev,
-    /// To the first of them.
+    /// The first of them.
     First,
-    /// To the last of them.
+    /// The last of them.
     Last,
 }
 
 /// What of the selected nodes is written.
 #[derive(Clone, Copy, Drop)]
-pub enum Showing {
+pub enum Rendering {
     /// Their number.
     Count,
     /// Their texts.
@@ -71,15 +73,17 @@ pub enum Command {
     /// The line is empty.
     Nothing,
     /// Nodes are selected by a selector.
-    Pick(Picking, Matcher),
-    /// Nodes are selected that the selected ones lead to.
-    Go(Going),
+    Query(QueryKind, Matcher),
+    /// Nodes are selected relative to the selected ones.
+    Navigate(Navigation),
     /// Something is written.
-    Show(Showing),
+    Render(Rendering),
     /// The first node's attribute of this local name is written.
     Attr(Text),
     /// The tree is changed.
     Edit(EditLine),
+    /// The tree is cleaned by three lists of names, which a semicolon parts.
+    Sanitize(Text),
 }
 
 /// Why a text was not read as a script.
@@ -103,22 +107,22 @@ impl From<OutOfMemory> for ScriptFault {
     }
 }
 
-/// The pick that the line asks for, if it asks for one.
-fn pick_of(alloc: Global, line: &str) -> Result<Option<(Picking, Matcher)>, OutOfMemory>
-    ensures { IfOk result (λ found. MatchOption found (IsNoPick line.now)
-        (λ pick. IsPick line.now pick.0 pick.1)) }
+/// The query that the line asks for, if it asks for one.
+fn query_of(alloc: Global, line: &str) -> Result<Option<(QueryKind, Matcher)>, OutOfMemory>
+    ensures { IfOk result (λ found. MatchOption found (IsNoQuery line.now)
+        (λ query. IsQuery line.now query.0 query.1)) }
 {
     if let Some(matcher) = selector_behind(alloc, line, "select")? {
-        return Ok(Some((Picking::Select, matcher)));
+        return Ok(Some((QueryKind::Select, matcher)));
     }
     if let Some(matcher) = selector_behind(alloc, line, "find")? {
-        return Ok(Some((Picking::Find, matcher)));
+        return Ok(Some((QueryKind::Find, matcher)));
     }
     if let Some(matcher) = selector_behind(alloc, line, "filter")? {
-        return Ok(Some((Picking::Filter, matcher)));
+        return Ok(Some((QueryKind::Filter, matcher)));
     }
     if let Some(matcher) = selector_behind(alloc, line, "add")? {
-        return Ok(Some((Picking::Add, matcher)));
+        return Ok(Some((QueryKind::Add, matcher)));
     }
     Ok(None)
 }
@@ -131,11 +135,11 @@ fn command_of(alloc: Global, line: &str) -> Result<Option<Command>, ScriptFault>
     if line.is_empty() {
         return Ok(Some(Command::Nothing));
     }
-    if let Some(going) = going_of(line) {
-        return Ok(Some(Command::Go(going)));
+    if let Some(navigation) = navigation_of(line) {
+        return Ok(Some(Command::Navigate(navigation)));
     }
-    if let Some(showing) = showing_of(line) {
-        return Ok(Some(Command::Show(showing)));
+    if let Some(rendering) = rendering_of(line) {
+        return Ok(Some(Command::Render(rendering)));
     }
     if let Some(name) = name_behind(alloc, line, "attr")? {
         return Ok(Some(Command::Attr(name)));
@@ -143,20 +147,20 @@ fn command_of(alloc: Global, line: &str) -> Result<Option<Command>, ScriptFault>
     if let Some(edit) = edit_of(alloc, line)? {
         return Ok(Some(Command::Edit(edit)));
     }
-    match pick_of(alloc, line)? {
-        Some((picking, matcher)) => Ok(Some(Command::Pick(picking, matcher))),
+    if let Some(lists) = lists_behind(alloc, line)? {
+        return Ok(Some(Command::Sanitize(lists)));
+    }
+    match query_of(alloc, line)? {
+        Some((kind, matcher)) => Ok(Some(Command::Query(kind, matcher))),
         None => Ok(None),
     }
 }
 
-fn push_command(commands: &mut Vec<Command>, command: Command) -> Result<(), ScriptFault>
-    ensures ok { OnOk result (commands.new.items ≡ commands.old.items ++ command ∷ []) }
-    ensures err { IfErr result (λ fault. fault ≡ ScriptFault.Memory) }
+fn push_command(commands: &mut Vec<Command>, command: Command) -> Result<(), OutOfMemory>
+    ensures { OnOk result (commands.new.items ≡ commands.old.items ++ command ∷ []) }
 {
-    match commands.push(command) {
-        Ok(()) => Ok(()),
-        Err(_) => Err(ScriptFault::Memory),
-    }
+    commands.push(command)?;
+    Ok(())
 }
 
 /// The commands of a script, one for each line.

@@ -1,5 +1,5 @@
 -- Names that the last compounds of selectors begin with.
-use Rattle.std.proofs.Common.{◌≡◌, ℕ, Bool, true, false, List, [], ◌∷◌, ◌++◌, Option, None, Some, IfSome, map, slice_get, sym, ap, ◌∙◌, refl, subst, inl, inr, MatchBool, true≢false, length, arith}
+use Rattle.std.proofs.Common.{◌≡◌, ℕ, Bool, true, false, List, [], ◌∷◌, ◌++◌, Option, None, Some, IfSome, map, slice_get, sym, ap, ◌∙◌, refl, subst, inl, inr, true≢false, length, arith}
 use Rattle.std.specs.Prelude.{◌⊎◌}
 use Rattle.std.specs.Borrow.{Bor}
 use Rattle.std.proofs.lemmas.Option.{none-some, same_Some}
@@ -9,19 +9,20 @@ use Rattle.dom_selectors.specs.declared.syntax.Compound.{Compound}
 use Rattle.dom_selectors.specs.declared.syntax.Part.{Part}
 use Rattle.dom_selectors.specs.declared.syntax.Selector.{Selector, out-Selector}
 use Rattle.dom_selectors.specs.ListsAsTrees.{lists_of, selector_list, steps_of}
+use Rattle.dom_selectors.specs.Spelling.{Decides}
 use Rattle.dom_selectors.specs.Syntax.{CompoundSelector, compound}
 use Rattle.dom_selectors.specs.ValuesAsTrees.{read_compound, read_list, read_nested, read_selector, read_step}
 use Rattle.dom_selectors.proofs.Layers.{read_compound_is, read_selector_is}
 use Rattle.dom_select.specs.declared.matcher.has.Start.{Start}
-use Rattle.dom_select.specs.declared.matcher.has.Start.TheVariants.{Anywhere, From}
-use Rattle.dom_select.specs.Ends.{BeginsAs, EndsAmong, EndsAs}
+use Rattle.dom_select.specs.declared.matcher.has.Start.TheVariants.{Absolute, Relative}
+use Rattle.dom_select.specs.Ends.{ImpliesType, SubjectIsAmong, SubjectImpliesType}
 use Rattle.dom_select.specs.Has.{Begins}
-use Rattle.dom_select.specs.Meaning.{Holds, MayBeside, Means, PartsHold, Reaches}
+use Rattle.dom_select.specs.Meaning.{Holds, MayBeOperand, Means, PartsHold, ChainMatches}
 use Rattle.dom_select.specs.Parts.{PartHolds}
-use Rattle.dom_select.proofs.FollowLemmas.{reaches_end}
+use Rattle.dom_select.proofs.FollowLemmas.{chain_end}
 
 -- a compound that begins with a type holds of what bears its name
-pub begins_as : (name : List ℕ) (c : Compound) (parts : List Part) (p : Part) → parts ≡ c.parts.items → Some p ≡ slice_get parts 0 → p ≡ Part.«Type» name → BeginsAs name (read_compound c)
+pub begins_as : (name : List ℕ) (c : Compound) (parts : List Part) (p : Part) → parts ≡ c.parts.items → Some p ≡ slice_get parts 0 → p ≡ Part.«Type» name → ImpliesType name (read_compound c)
 unfolding PartsHold
 begins_as name c parts p same is named forest n held = first c.parts.items (is ∙ ap (λ qs. slice_get qs 0) same) all.0
   where
@@ -33,17 +34,17 @@ begins_as name c parts p same is named forest n held = first c.parts.items (is �
     first (q ∷ qs) at h = (h.0, (subst (λ r. PartHolds r forest n) (same_Some q p (sym at) ∙ named) h.1.0, tt))
 
 begun : (start : Start) (first : CompoundSelector) (forest : Forest) (n : ℕ) → Begins start first forest n → Holds first forest n
-begun Anywhere first forest n h = h
-begun (From k x) first forest n h = h.1
+begun Absolute first forest n h = h
+begun (Relative k x) first forest n h = h.1
 
 pub behind_as : (found : Option (Bor (List ℕ))) (first : CompoundSelector) (steps front : List (Combinator × CompoundSelector)) (last : Combinator × CompoundSelector) → steps ≡ front ++ last ∷ [] →
-    IfSome found (λ name. BeginsAs name.now last.1) → IfSome found (λ name. EndsAs name.now first steps)
+    IfSome found (λ name. ImpliesType name.now last.1) → IfSome found (λ name. SubjectImpliesType name.now first steps)
 behind_as None first steps front last is h = h
-behind_as (Some name) first steps front last is h = λ start forest spared n r. h forest n ((reaches_end forest spared (Begins start first forest) steps n r).behind front last is).1
+behind_as (Some name) first steps front last is h = λ start forest exempt n r. h forest n ((chain_end forest exempt (Begins start first forest) steps n r).behind front last is).1
 
 -- what the first selector means is what its compounds reach
 means_one : (s : Selector) (more : List Selector) (forest : Forest) (n : ℕ) → Means (read_list (s ∷ more)) forest n →
-    Reaches (Begins Anywhere (read_compound (out-Selector s).first) forest) (steps_of (map read_step (out-Selector s).rest.items)) forest n n ⊎ Means (read_list more) forest n
+    ChainMatches (Begins Absolute (read_compound (out-Selector s).first) forest) (steps_of (map read_step (out-Selector s).rest.items)) forest n n ⊎ Means (read_list more) forest n
 means_one s more forest n h = subst (λ (t : Combinator × CompoundSelector × _). Means (selector_list (t ∷ map read_selector more)) forest n) (read_selector_is s) h
 
 pub none_left : (xs : List Selector) → length xs ≡ 0 → xs ≡ []
@@ -51,24 +52,28 @@ none_left [] e = refl
 none_left (x ∷ xs) e = absurd (omega (arith, e))
 
 -- each of the selectors ends in a name
-pub among_one : (name : List ℕ) (all more : List Selector) (s : Selector) → all ≡ s ∷ more → more ≡ [] → EndsAs name (read_compound (out-Selector s).first) (map read_step (out-Selector s).rest.items) → EndsAmong name name (read_list all)
+pub among_one : (name : List ℕ) (all more : List Selector) (s : Selector) → all ≡ s ∷ more → more ≡ [] → SubjectImpliesType name (read_compound (out-Selector s).first) (map read_step (out-Selector s).rest.items) → SubjectIsAmong name name (read_list all)
 among_one name all more s is none ends forest n h =
     elim (means_one s more forest n (subst (λ (l : List Selector). Means (read_list l) forest n) is h)) [
-      | inl r ↦ inl (ends Anywhere forest n n r)
+      | inl r ↦ inl (ends Absolute forest n n r)
       | inr m ↦ absurd (subst (λ (l : List Selector). Means (read_list l) forest n) none m)
     ]
 
 pub among_two : (one other : List ℕ) (all more rest : List Selector) (s t : Selector) → all ≡ s ∷ more → more ≡ t ∷ rest → rest ≡ [] →
-    EndsAs one (read_compound (out-Selector s).first) (map read_step (out-Selector s).rest.items) → EndsAs other (read_compound (out-Selector t).first) (map read_step (out-Selector t).rest.items) → EndsAmong one other (read_list all)
+    SubjectImpliesType one (read_compound (out-Selector s).first) (map read_step (out-Selector s).rest.items) → SubjectImpliesType other (read_compound (out-Selector t).first) (map read_step (out-Selector t).rest.items) → SubjectIsAmong one other (read_list all)
 among_two one other all more rest s t is then none ends ends_too forest n h =
     elim (means_one s more forest n (subst (λ (l : List Selector). Means (read_list l) forest n) is h)) [
-      | inl r ↦ inl (ends Anywhere forest n n r)
+      | inl r ↦ inl (ends Absolute forest n n r)
       | inr m ↦ elim (among_one other more rest t then none ends_too forest n m) [ inl x ↦ inr x | inr y ↦ inr y ]
     ]
 
--- a node that doesn't bear the name isn't reached
-pub not_reached : (name : List ℕ) (first : CompoundSelector) (steps : List (Combinator × CompoundSelector)) (k : Combinator) (forest : Forest) (spared n : ℕ) (b : Bool) → EndsAs name first steps →
-    MatchBool b (PartsHold (Part.«Type» name ∷ []) forest n) (PartsHold (Part.«Type» name ∷ []) forest n → ⊥) →
-    (start : Start) → b ≡ false → MayBeside forest spared k n × Reaches (Begins start first forest) (steps_of steps) forest spared n → ⊥
-not_reached name first steps k forest spared n true ends h start lacks r = true≢false lacks
-not_reached name first steps k forest spared n false ends h start lacks r = h (ends start forest spared n r.1)
+-- a node that is no candidate isn't reached
+pub not_reached : (found : Option (Bor (List ℕ))) (first : CompoundSelector) (steps : List (Combinator × CompoundSelector)) (k : Combinator) (forest : Forest) (exempt n : ℕ) (b : Bool) → IfSome found (λ name. SubjectImpliesType name.now first steps) →
+    Decides b (MayBeOperand forest exempt k n × IfSome found (λ name. PartsHold (Part.«Type» name.now ∷ []) forest n)) → b ≡ false →
+    (start : Start) → MayBeOperand forest exempt k n × ChainMatches (Begins start first forest) (steps_of steps) forest exempt n → ⊥
+not_reached found first steps k forest exempt n true ends h e start r = true≢false e
+not_reached found first steps k forest exempt n false ends h e start r = h (r.0, bears found ends)
+  where
+    bears : (o : Option (Bor (List ℕ))) → IfSome o (λ name. SubjectImpliesType name.now first steps) → IfSome o (λ name. PartsHold (Part.«Type» name.now ∷ []) forest n)
+    bears None none = tt
+    bears (Some name) implied = implied start forest exempt n r.1

@@ -5,24 +5,24 @@ use Rattle.std.proofs.lemmas.List.{append-nil}
 use Rattle.dom_links.specs.Forest.{Forest}
 use Rattle.dom_trees.specs.declared.node_ref.NodeRef.{NodeRef}
 use Rattle.dom_selectors.specs.Syntax.{SelectorList}
-use Rattle.dom_select.specs.Selected.{Picks}
+use Rattle.dom_select.specs.Selected.{FiltersTo}
 use Rattle.dom_select.specs.Descendants.{Matches, IsFirstMatch, IsMatch, ToCome, GivesMatch}
 
 abbrev pub walk_of : List ℕ → Bor Forest → SelectorList → Matches
 walk_of left tree selector = record { left = left; tree = tree; selector = selector }
 
 module _ (P : ℕ → Type 0) where
-  -- none of the numbers is picked, nor one more behind them
-  none_more : (ns : List ℕ) (n : ℕ) → Picks P ns [] → (P n → ⊥) → Picks P (ns ++ n ∷ []) []
+  -- none of the numbers is matched, nor one more behind them
+  none_more : (ns : List ℕ) (n : ℕ) → FiltersTo P ns [] → (P n → ⊥) → FiltersTo P (ns ++ n ∷ []) []
   none_more [] n h out = inr (out, refl)
   none_more (m ∷ ms) n (inl h) out = absurd (let e = h.2 in cc)
   none_more (m ∷ ms) n (inr h) out = inr (h.0, none_more ms n h.1 out)
 
-  -- what is picked from the numbers behind some of which none is picked
-  pub picks_behind : (front ns ids : List ℕ) → Picks P front [] → Picks P ns ids → Picks P (front ++ ns) ids
-  picks_behind [] ns ids h k = k
-  picks_behind (m ∷ ms) ns ids (inl h) k = absurd (let e = h.2 in cc)
-  picks_behind (m ∷ ms) ns ids (inr h) k = inr (h.0, picks_behind ms ns ids h.1 k)
+  -- what is matched from the numbers behind some of which none is matched
+  pub filters_behind : (front ns ids : List ℕ) → FiltersTo P front [] → FiltersTo P ns ids → FiltersTo P (front ++ ns) ids
+  filters_behind [] ns ids h k = k
+  filters_behind (m ∷ ms) ns ids (inl h) k = absurd (let e = h.2 in cc)
+  filters_behind (m ∷ ms) ns ids (inr h) k = inr (h.0, filters_behind ms ns ids h.1 k)
 
 -- some nodes were passed over, none of which is meant
 pub record Passes (before now : Matches) : Type 0 where
@@ -30,7 +30,7 @@ pub record Passes (before now : Matches) : Type 0 where
   pub selector : now.selector ≡ before.selector
   pub front : List ℕ
   pub stands : before.left ≡ front ++ now.left
-  pub none : Picks (IsMatch before.selector before.tree.now) front []
+  pub none : FiltersTo (IsMatch before.selector before.tree.now) front []
 
 pub passes_none : (walk : Matches) → Passes walk walk
 passes_none walk = record { tree = refl; selector = refl; front = []; stands = refl; none = refl }
@@ -68,7 +68,7 @@ gives_none before left more tree selector given p e f none =
     let nothing : GivesMatch before None (walk_of more tree selector) = record {
       tree = p.tree;
       selector = p.selector;
-      first = (subst (λ ns. Picks (IsMatch before.selector before.tree.now) ns []) (sym all) p.none, f);
+      first = (subst (λ ns. FiltersTo (IsMatch before.selector before.tree.now) ns []) (sym all) p.none, f);
     } in subst (λ x. GivesMatch before x (walk_of more tree selector)) (sym none) nothing
 
 pub gives_from : (one other : Matches) (given : Option NodeRef) (later : Matches) → one ≡ other → GivesMatch one given later → GivesMatch other given later
@@ -79,8 +79,8 @@ pub come_next : (before later : Matches) (node : NodeRef) → GivesMatch before 
 come_next before later node given ids h =
     let first : IsFirstMatch before node later = given.first in
     let P : ℕ → Type 0 = IsMatch before.selector before.tree.now in
-    let same : Picks P later.left ids = subst (λ (s : SelectorList). Picks (IsMatch s before.tree.now) later.left ids) given.selector (subst (λ (t : Bor Forest). Picks (IsMatch later.selector t.now) later.left ids) given.tree h) in
-    subst (λ ns. Picks P ns (node.id ∷ ids)) (sym first.stands) (picks_behind P first.passed (node.id ∷ later.left) (node.id ∷ ids) first.none_before (inl (first.meant, ids, refl, same)))
+    let same : FiltersTo P later.left ids = subst (λ (s : SelectorList). FiltersTo (IsMatch s before.tree.now) later.left ids) given.selector (subst (λ (t : Bor Forest). FiltersTo (IsMatch later.selector t.now) later.left ids) given.tree h) in
+    subst (λ ns. FiltersTo P ns (node.id ∷ ids)) (sym first.stands) (filters_behind P first.passed (node.id ∷ later.left) (node.id ∷ ids) first.none_before (inl (first.meant, ids, refl, same)))
 
 -- fewer nodes are left behind a match
 pub fewer_left : (before later : Matches) (node : NodeRef) → GivesMatch before (Some node) later → length later.left < length before.left

@@ -13,7 +13,7 @@ use Rattle.dom_selectors.specs.ListsAsTrees.{steps_of}
 use Rattle.dom_links.specs.ListMoves.{element_at}
 use Rattle.dom_select.specs.Leftward.{earlier, left_of, line, ends_at}
 use Rattle.dom_selectors.specs.Syntax.{CompoundSelector, Steps}
-use Rattle.dom_select.specs.Meaning.{ComesFirst, Stands, MayBeside, IsJoined, Holds, Leads, Reaches}
+use Rattle.dom_select.specs.Meaning.{ComesFirst, CombinatorHolds, MayBeOperand, IsJoined, Holds, StepsMatch, ChainMatches}
 
 -- Q holds of a node of the list, with none before it at which the way ends
 abbrev pub SomeOnLine : (ℕ → Bool) → (ℕ → Type 0) → List ℕ → Type 0
@@ -76,63 +76,63 @@ module _ (Q : ℕ → Type 0) where
 
   -- Q holds of some node that stands to x as the combinator says
   pub from_line : (forest : Forest) (k : Combinator) (x : ℕ) → AreLines forest →
-      SomeOnLine (ends_at forest k) Q (line forest k x) → (v : ℕ) × Stands forest k v x × Q v
-  unfolding Stands
+      SomeOnLine (ends_at forest k) Q (line forest k x) → (v : ℕ) × CombinatorHolds forest k v x × Q v
+  unfolding CombinatorHolds
   from_line forest Descendant x h s = from_far (ancestors forest x) s
   from_line forest Child x h s = from_child forest x (parent forest x) h refl s
   from_line forest Adjacent x h s = from_next forest (earlier forest x) s
   from_line forest Sibling x h s = from_far (earlier forest x) s
 
   pub to_line : (forest : Forest) (k : Combinator) (x v : ℕ) → AreLines forest →
-      Stands forest k v x → Q v → SomeOnLine (ends_at forest k) Q (line forest k x)
-  unfolding Stands
+      CombinatorHolds forest k v x → Q v → SomeOnLine (ends_at forest k) Q (line forest k x)
+  unfolding CombinatorHolds
   to_line forest Descendant x v h s q = to_far (ancestors forest x) v s q
   to_line forest Child x v h s q = subst (SomeOnLine (λ v. true) Q) (sym (h.up x v s)) (inl q)
   to_line forest Adjacent x v h s q = to_next forest (earlier forest x) v s q
   to_line forest Sibling x v h s q = to_far (earlier forest x) v s q
 
-module _ (forest : Forest) (spared : ℕ) where
+module _ (forest : Forest) (exempt : ℕ) where
   -- the last step of some, on the right
-  pub leads_last : (ss : List (Combinator × CompoundSelector)) (s : Combinator × CompoundSelector) (w x : ℕ) →
-      Leads (steps_of (ss ++ s ∷ [])) forest spared w x →
-      (v : ℕ) × Leads (steps_of ss) forest spared w v × IsJoined forest spared s.0 v x × Holds s.1 forest x
-  leads_last [] s w x h =
-      (w, refl, subst (λ y. IsJoined forest spared s.0 w y) h.3 h.1, subst (λ y. Holds s.1 forest y) h.3 h.2)
-  leads_last (t ∷ ss) s w x h =
-      let r = leads_last ss s h.0 x h.3 in (r.0, (h.0, h.1, h.2, r.1), r.2, r.3)
+  pub steps_last : (ss : List (Combinator × CompoundSelector)) (s : Combinator × CompoundSelector) (w x : ℕ) →
+      StepsMatch (steps_of (ss ++ s ∷ [])) forest exempt w x →
+      (v : ℕ) × StepsMatch (steps_of ss) forest exempt w v × IsJoined forest exempt s.0 v x × Holds s.1 forest x
+  steps_last [] s w x h =
+      (w, refl, subst (λ y. IsJoined forest exempt s.0 w y) h.3 h.1, subst (λ y. Holds s.1 forest y) h.3 h.2)
+  steps_last (t ∷ ss) s w x h =
+      let r = steps_last ss s h.0 x h.3 in (r.0, (h.0, h.1, h.2, r.1), r.2, r.3)
 
-  pub leads_more : (ss : List (Combinator × CompoundSelector)) (s : Combinator × CompoundSelector) (w v x : ℕ) →
-      Leads (steps_of ss) forest spared w v → IsJoined forest spared s.0 v x → Holds s.1 forest x →
-      Leads (steps_of (ss ++ s ∷ [])) forest spared w x
-  leads_more [] s w v x e j h = (x, subst (λ y. IsJoined forest spared s.0 y x) (sym e) j, h, refl)
-  leads_more (t ∷ ss) s w v x l j h = (l.0, l.1, l.2, leads_more ss s l.0 v x l.3 j h)
+  pub steps_more : (ss : List (Combinator × CompoundSelector)) (s : Combinator × CompoundSelector) (w v x : ℕ) →
+      StepsMatch (steps_of ss) forest exempt w v → IsJoined forest exempt s.0 v x → Holds s.1 forest x →
+      StepsMatch (steps_of (ss ++ s ∷ [])) forest exempt w x
+  steps_more [] s w v x e j h = (x, subst (λ y. IsJoined forest exempt s.0 y x) (sym e) j, h, refl)
+  steps_more (t ∷ ss) s w v x l j h = (l.0, l.1, l.2, steps_more ss s l.0 v x l.3 j h)
 
   -- what a chain of compounds asks of its last node, and of some node on the left
   abbrev pub LastStep : (ℕ → Type 0) → List (Combinator × CompoundSelector) → Combinator × CompoundSelector → ℕ → Type 0
-  LastStep first ss s x = MayBeside forest spared s.0 x × Holds s.1 forest x
-      × ((v : ℕ) × Stands forest s.0 v x × (MayBeside forest spared s.0 v × Reaches first (steps_of ss) forest spared v))
+  LastStep first ss s x = MayBeOperand forest exempt s.0 x × Holds s.1 forest x
+      × ((v : ℕ) × CombinatorHolds forest s.0 v x × (MayBeOperand forest exempt s.0 v × ChainMatches first (steps_of ss) forest exempt v))
 
-  pub from_reaches : (first : ℕ → Type 0) (ss : List (Combinator × CompoundSelector)) (s : Combinator × CompoundSelector) (x : ℕ) →
-      Reaches first (steps_of (ss ++ s ∷ [])) forest spared x → LastStep first ss s x
-  from_reaches first ss s x r =
-      let l = leads_last ss s r.0 x r.2 in
+  pub from_chain : (first : ℕ → Type 0) (ss : List (Combinator × CompoundSelector)) (s : Combinator × CompoundSelector) (x : ℕ) →
+      ChainMatches first (steps_of (ss ++ s ∷ [])) forest exempt x → LastStep first ss s x
+  from_chain first ss s x r =
+      let l = steps_last ss s r.0 x r.2 in
       (l.2.2, l.3, (l.0, l.2.0, (l.2.1, (r.0, r.1, l.1))))
 
-  pub to_reaches : (first : ℕ → Type 0) (ss : List (Combinator × CompoundSelector)) (s : Combinator × CompoundSelector) (x : ℕ) →
-      LastStep first ss s x → Reaches first (steps_of (ss ++ s ∷ [])) forest spared x
-  to_reaches first ss s x h =
+  pub to_chain : (first : ℕ → Type 0) (ss : List (Combinator × CompoundSelector)) (s : Combinator × CompoundSelector) (x : ℕ) →
+      LastStep first ss s x → ChainMatches first (steps_of (ss ++ s ∷ [])) forest exempt x
+  to_chain first ss s x h =
       let r = h.2.2.1 in
-      (r.0, r.1, leads_more ss s r.0 h.2.0 x r.2 (h.2.1, h.2.2.0, h.0) h.1)
+      (r.0, r.1, steps_more ss s r.0 h.2.0 x r.2 (h.2.1, h.2.2.0, h.0) h.1)
 
-  pub reaches_by_last : (first : ℕ → Type 0) (ss front : List (Combinator × CompoundSelector)) (s : Combinator × CompoundSelector) (x : ℕ) →
-      ss ≡ front ++ s ∷ [] → Reaches first (steps_of ss) forest spared x ↔ LastStep first front s x
-  reaches_by_last first ss front s x e =
-      let P : List (Combinator × CompoundSelector) → Type 0 = λ z. Reaches first (steps_of z) forest spared x in
-      (λ r. from_reaches first front s x (subst P e r), λ h. subst P (sym e) (to_reaches first front s x h))
+  pub chain_by_last : (first : ℕ → Type 0) (ss front : List (Combinator × CompoundSelector)) (s : Combinator × CompoundSelector) (x : ℕ) →
+      ss ≡ front ++ s ∷ [] → ChainMatches first (steps_of ss) forest exempt x ↔ LastStep first front s x
+  chain_by_last first ss front s x e =
+      let P : List (Combinator × CompoundSelector) → Type 0 = λ z. ChainMatches first (steps_of z) forest exempt x in
+      (λ r. from_chain first front s x (subst P e r), λ h. subst P (sym e) (to_chain first front s x h))
 
   -- the forest on the way that the steps lead to
   abbrev pub IsMeant : (ℕ → Type 0) → Steps → Combinator → ℕ → Type 0
-  IsMeant first steps k v = MayBeside forest spared k v × Reaches first steps forest spared v
+  IsMeant first steps k v = MayBeOperand forest exempt k v × ChainMatches first steps forest exempt v
 
 -- what a test that failed says
 pub not_so : (b : Bool) (P : Type 0) → (IsTrue b ↔ P) → b ≡ false → P → ⊥

@@ -1,4 +1,4 @@
--- What is picked from a list, and the list of what first occurs in another.
+-- What is matched from a list, and the list of what first occurs in another.
 use Rattle.std.proofs.Common.{ℕ, ◌≡◌, true, false, cond, List, [], ◌∷◌, refl, sym, ap, ◌∙◌, subst, inl, inr}
 use Rattle.std.specs.Prelude.{◌==◌, ◌||◌}
 use Rattle.std.specs.List.{flat_map}
@@ -9,59 +9,59 @@ use Rattle.dom_links.specs.Lists.{stands_in, IsDistinct}
 use Rattle.dom_links.specs.Trees.{walk_below}
 use Rattle.dom_selectors.specs.Syntax.{SelectorList}
 use Rattle.dom_select.specs.Meaning.{Means}
-use Rattle.dom_select.specs.Selected.{Selected, Picks, first_occurrences, walks_below}
+use Rattle.dom_select.specs.Selected.{Selected, FiltersTo, first_occurrences, walks_below}
 use Rattle.dom_links.specs.ListMoves.{element_at}
 use Rattle.dom_select.specs.Selected.{IsSelection}
 
 module _ (P : ℕ → Type 0) where
-  pub picks_once : (ns a b : List ℕ) → Picks P ns a → Picks P ns b → a ≡ b
-  picks_once [] a b h k = h ∙ sym k
-  picks_once (n ∷ ns) a b h k =
+  pub filters_once : (ns a b : List ℕ) → FiltersTo P ns a → FiltersTo P ns b → a ≡ b
+  filters_once [] a b h k = h ∙ sym k
+  filters_once (n ∷ ns) a b h k =
       elim h [
         | inl x ↦ elim k [
-          | inl y ↦ x.2 ∙ ap (λ ms. n ∷ ms) (picks_once ns x.1 y.1 x.3 y.3) ∙ sym y.2
+          | inl y ↦ x.2 ∙ ap (λ ms. n ∷ ms) (filters_once ns x.1 y.1 x.3 y.3) ∙ sym y.2
           | inr y ↦ absurd (y.0 x.0)
         ]
         | inr x ↦ elim k [
           | inl y ↦ absurd (x.0 y.0)
-          | inr y ↦ picks_once ns a b x.1 y.1
+          | inr y ↦ filters_once ns a b x.1 y.1
         ]
       ]
 
-  pub picks-among : (ns picked : List ℕ) → Picks P ns picked → (n : ℕ) → stands_in n picked ≡ true → (stands_in n ns ≡ true) × P n
-  picks-among [] picked h n s = absurd (true≢false (sym s ∙ ap (stands_in n) h))
-  picks-among (m ∷ ns) picked h n s =
+  pub filters-among : (ns matched : List ℕ) → FiltersTo P ns matched → (n : ℕ) → stands_in n matched ≡ true → (stands_in n ns ≡ true) × P n
+  filters-among [] matched h n s = absurd (true≢false (sym s ∙ ap (stands_in n) h))
+  filters-among (m ∷ ns) matched h n s =
       elim h [
         | inl x ↦ elim (or_cases (m == n) (stands_in n x.1) (sym (ap (stands_in n) x.2) ∙ s)) [
           | inl e ↦ (ap (λ b. b || stands_in n ns) e, subst P (eqb-true m n e) x.0)
-          | inr t ↦ let later = picks-among ns x.1 x.3 n t in (or_right (m == n) (stands_in n ns) later.0, later.1)
+          | inr t ↦ let later = filters-among ns x.1 x.3 n t in (or_right (m == n) (stands_in n ns) later.0, later.1)
         ]
-        | inr x ↦ let later = picks-among ns picked x.1 n s in (or_right (m == n) (stands_in n ns) later.0, later.1)
+        | inr x ↦ let later = filters-among ns matched x.1 n s in (or_right (m == n) (stands_in n ns) later.0, later.1)
       ]
 
-  pub picks-all : (ns picked : List ℕ) → Picks P ns picked → (n : ℕ) → stands_in n ns ≡ true → P n → stands_in n picked ≡ true
-  picks-all [] picked h n s here = absurd (true≢false (sym s))
-  picks-all (m ∷ ns) picked h n s here =
+  pub filters-all : (ns matched : List ℕ) → FiltersTo P ns matched → (n : ℕ) → stands_in n ns ≡ true → P n → stands_in n matched ≡ true
+  filters-all [] matched h n s here = absurd (true≢false (sym s))
+  filters-all (m ∷ ns) matched h n s here =
       elim h [
         | inl x ↦ ap (stands_in n) x.2 ∙ (elim (or_cases (m == n) (stands_in n ns) s) [
           | inl e ↦ ap (λ b. b || stands_in n x.1) e
-          | inr t ↦ or_right (m == n) (stands_in n x.1) (picks-all ns x.1 x.3 n t here)
+          | inr t ↦ or_right (m == n) (stands_in n x.1) (filters-all ns x.1 x.3 n t here)
         ])
         | inr x ↦ elim (or_cases (m == n) (stands_in n ns) s) [
           | inl e ↦ absurd (x.0 (subst P (sym (eqb-true m n e)) here))
-          | inr t ↦ picks-all ns picked x.1 n t here
+          | inr t ↦ filters-all ns matched x.1 n t here
         ]
       ]
 
-  pub picks-distinct : (ns picked : List ℕ) → IsDistinct ns → Picks P ns picked → IsDistinct picked
-  picks-distinct [] picked d h = subst IsDistinct (sym h) tt
-  picks-distinct (m ∷ ns) picked d h =
+  pub filters-distinct : (ns matched : List ℕ) → IsDistinct ns → FiltersTo P ns matched → IsDistinct matched
+  filters-distinct [] matched d h = subst IsDistinct (sym h) tt
+  filters-distinct (m ∷ ns) matched d h =
       elim h [
         | inl x ↦ let absent : stands_in m x.1 ≡ false = elim (cases_Bool (stands_in m x.1)) [
-          | inl t ↦ absurd (true≢false (sym (picks-among ns x.1 x.3 m t).0 ∙ d.0))
+          | inl t ↦ absurd (true≢false (sym (filters-among ns x.1 x.3 m t).0 ∙ d.0))
           | inr f ↦ f
-        ] in subst IsDistinct (sym x.2) (absent, picks-distinct ns x.1 d.1 x.3)
-        | inr x ↦ picks-distinct ns picked d.1 x.1
+        ] in subst IsDistinct (sym x.2) (absent, filters-distinct ns x.1 d.1 x.3)
+        | inr x ↦ filters-distinct ns matched d.1 x.1
       ]
 
 pub first_occurrences-among : (before ns : List ℕ) (n : ℕ) → stands_in n (first_occurrences before ns) ≡ true → stands_in n ns ≡ true
@@ -123,19 +123,19 @@ first_occurrences-same before (m ∷ ns) once new =
     ] in
     ap (λ b. cond b (first_occurrences before ns) (m ∷ first_occurrences (m ∷ before) ns)) here ∙ ap (λ ms. m ∷ ms) (first_occurrences-same (m ∷ before) ns once.1 later)
 
-pub selection_of : (forest : Forest) (roots : List ℕ) (selector : SelectorList) (picked : List ℕ) → Selected forest roots selector picked → IsSelection forest roots selector picked
+pub selection_of : (forest : Forest) (roots : List ℕ) (selector : SelectorList) (matched : List ℕ) → Selected forest roots selector matched → IsSelection forest roots selector matched
 unfolding Selected
-selection_of forest roots selector picked h =
+selection_of forest roots selector matched h =
     let P : ℕ → Type 0 = λ n. (element_at forest n ≡ true) × Means selector forest n in
     let walks = walks_below forest roots in
     let found = flat_map (walk_below forest) roots in
-    let among : (n : ℕ) → stands_in n picked ≡ true → (stands_in n walks ≡ true) × P n = picks-among P walks picked h in
+    let among : (n : ℕ) → stands_in n matched ≡ true → (stands_in n walks ≡ true) × P n = filters-among P walks matched h in
     record {
       below = λ n s. first_occurrences-among [] found n (among n s).0;
       elements = λ n s. (among n s).1.0;
       meant = λ n s. (among n s).1.1;
-      all = λ n s element means. picks-all P walks picked h n (first_occurrences-all [] found n s refl) (element, means);
-      once = picks-distinct P walks picked (first_occurrences-distinct [] found) h;
+      all = λ n s element means. filters-all P walks matched h n (first_occurrences-all [] found n s refl) (element, means);
+      once = filters-distinct P walks matched (first_occurrences-distinct [] found) h;
     }
 
 -- the walk below one root has each node once
@@ -144,14 +144,14 @@ one_walk forest root once =
     let one : flat_map (walk_below forest) (root ∷ []) ≡ walk_below forest root = append-nil (walk_below forest root) in
     sym (ap (first_occurrences []) one ∙ first_occurrences-same [] (walk_below forest root) once (λ n s. refl))
 
--- what is picked from one root's walk is what is selected below it
-pub selected_below : (forest : Forest) (root : ℕ) (selector : SelectorList) (picked : List ℕ) → IsDistinct (walk_below forest root) →
-    Picks (λ n. (element_at forest n ≡ true) × Means selector forest n) (walk_below forest root) picked → Selected forest (root ∷ []) selector picked
+-- what is matched from one root's walk is what is selected below it
+pub selected_below : (forest : Forest) (root : ℕ) (selector : SelectorList) (matched : List ℕ) → IsDistinct (walk_below forest root) →
+    FiltersTo (λ n. (element_at forest n ≡ true) × Means selector forest n) (walk_below forest root) matched → Selected forest (root ∷ []) selector matched
 unfolding Selected
-selected_below forest root selector picked once h =
-    subst (λ ns. Picks (λ n. (element_at forest n ≡ true) × Means selector forest n) ns picked) (one_walk forest root once) h
+selected_below forest root selector matched once h =
+    subst (λ ns. FiltersTo (λ n. (element_at forest n ≡ true) × Means selector forest n) ns matched) (one_walk forest root once) h
 
 pub selected_once : (forest : Forest) (roots : List ℕ) (selector : SelectorList) (a b : List ℕ) → Selected forest roots selector a → Selected forest roots selector b → a ≡ b
 unfolding Selected
 selected_once forest roots selector a b h k =
-    picks_once (λ n. (element_at forest n ≡ true) × Means selector forest n) (walks_below forest roots) a b h k
+    filters_once (λ n. (element_at forest n ≡ true) × Means selector forest n) (walks_below forest roots) a b h k

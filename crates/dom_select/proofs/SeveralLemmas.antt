@@ -12,7 +12,7 @@ use Rattle.dom_links.specs.Trees.{walk_below}
 use Rattle.dom_links.specs.Walk.{Walk}
 use Rattle.dom_select.specs.Descendants.{IsMatch}
 use Rattle.dom_select.specs.Marks.{first_unmarked, has_mark, left_in}
-use Rattle.dom_select.specs.Selected.{Picks, Selected, first_occurrences, walks_below}
+use Rattle.dom_select.specs.Selected.{FiltersTo, Selected, first_occurrences, walks_below}
 use Rattle.dom_selectors.specs.Syntax.{SelectorList}
 
 -- what a walk still gives, and then the walks below the roots that are left
@@ -100,6 +100,6 @@ walks_once forest roots marks trees e =
     ap (λ (ms : List Bool). first_unmarked ms (flat_map (walk_below forest) roots)) e
     ∙ unmarked_first (flat_map (walk_below forest) roots) none [] (λ m low. get_or-replicate (length forest.content) m false false (subst (λ k. m < k) long low)) (λ m s. subst (λ k. m < k) (sym long) (walks_inside forest roots trees m s))
 
-pub selected_all : (forest : Forest) (roots : List ℕ) (selector : SelectorList) (left ids : List ℕ) → left ≡ walks_below forest roots → Picks (IsMatch selector forest) left ids → Selected forest roots selector ids
+pub selected_all : (forest : Forest) (roots : List ℕ) (selector : SelectorList) (left ids : List ℕ) → left ≡ walks_below forest roots → FiltersTo (IsMatch selector forest) left ids → Selected forest roots selector ids
 unfolding Selected
-selected_all forest roots selector left ids e h = subst (λ ns. Picks (IsMatch selector forest) ns ids) e h
+selected_all forest roots selector left ids e h = subst (λ ns. FiltersTo (IsMatch selector forest) ns ids) e h

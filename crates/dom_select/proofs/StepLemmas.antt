@@ -7,8 +7,8 @@ use Rattle.dom_selectors.specs.ListsAsTrees.{steps_of}
 use Rattle.dom_selectors.specs.ValuesAsTrees.{read_step, read_compound}
 use Rattle.dom_selectors.proofs.Layers.{read_step_is}
 use Rattle.dom_links.specs.Forest.{Forest}
-use Rattle.dom_select.specs.Meaning.{Reaches}
-use Rattle.dom_select.proofs.ReachLemmas.{LastStep, reaches_by_last}
+use Rattle.dom_select.specs.Meaning.{ChainMatches}
+use Rattle.dom_select.proofs.ReachLemmas.{LastStep, chain_by_last}
 use Rattle.dom_selectors.proofs.Weights.{compound_weight, steps_weight}
 
 read_last : (front : List Step) (last : Step) → map read_step (front ++ last ∷ []) ≡ map read_step front ++ (last.combinator, read_compound last.compound) ∷ []
@@ -27,8 +27,8 @@ pub weight_front_and_last : (steps front : List Step) (last : Step) → steps �
 weight_front_and_last steps front last e = ap (λ ss. steps_weight (steps_of ss)) (read_front_and_last steps front last e) ∙ weight_last _ _
 
 -- what the steps ask of their last node, and of some node on the left of it
-pub reaches_by_last_step : (forest : Forest) (spared : ℕ) (first : ℕ → Type 0) (steps front : List Step) (last : Step) (x : ℕ) → steps ≡ front ++ last ∷ [] →
-    Reaches first (steps_of (map read_step steps)) forest spared x
-    ↔ LastStep forest spared first (map read_step front) (last.combinator, read_compound last.compound) x
-reaches_by_last_step forest spared first steps front last x e =
-    reaches_by_last forest spared first (map read_step steps) (map read_step front) (last.combinator, read_compound last.compound) x (read_front_and_last steps front last e)
+pub chain_by_last_step : (forest : Forest) (exempt : ℕ) (first : ℕ → Type 0) (steps front : List Step) (last : Step) (x : ℕ) → steps ≡ front ++ last ∷ [] →
+    ChainMatches first (steps_of (map read_step steps)) forest exempt x
+    ↔ LastStep forest exempt first (map read_step front) (last.combinator, read_compound last.compound) x
+chain_by_last_step forest exempt first steps front last x e =
+    chain_by_last forest exempt first (map read_step steps) (map read_step front) (last.combinator, read_compound last.compound) x (read_front_and_last steps front last e)

@@ -5,7 +5,7 @@ use Rattle.dom_selectors.specs.Spelling.{Decides}
 use Rattle.dom_selectors.specs.Syntax.{NestedLists, no_lists, nested}
 use Rattle.dom_select.specs.Meaning.{ListHolds}
 
--- each truth value tells whether a list of the compound holds of n, in their order
+-- each truth value states whether a list of the compound holds of n, in their order
 abbrev pub AreAnswers : NestedLists → Forest → ℕ → List Bool → Type 0
 AreAnswers no_lists forest n answers = answers ≡ []
 AreAnswers (nested list more) forest n [] = ⊥

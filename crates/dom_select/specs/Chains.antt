@@ -5,16 +5,23 @@ use Rattle.dom_links.specs.Trees.{ancestors}
 use Rattle.dom_selectors.specs.declared.syntax.Combinator.{Combinator}
 use Rattle.dom_selectors.specs.declared.syntax.Combinator.TheVariants.{Descendant, Child, Adjacent, Sibling}
 use Rattle.dom_selectors.specs.ListsAsTrees.{steps_of}
+use Rattle.dom_selectors.specs.ValuesAsTrees.{read_compound}
+use Rattle.dom_select.specs.declared.matcher.matches.Chain.{Chain}
+use Rattle.dom_select.specs.Has.{Begins}
 use Rattle.dom_select.specs.Leftward.{earlier}
-use Rattle.dom_select.specs.Meaning.{Holds, Leads, MayBeside, Reaches, Stands}
+use Rattle.dom_select.specs.Meaning.{Holds, StepsMatch, MayBeOperand, ChainMatches, CombinatorHolds}
 use Rattle.dom_selectors.specs.Syntax.{CompoundSelector}
 
+-- n may be the first node of the chain
+abbrev pub BeginsChain : Chain → Forest → ℕ → Type 0
+BeginsChain chain forest n = Begins chain.start.now (read_compound chain.first.now) forest n
+
 -- how loosely a combinator binds
-abbrev pub looseness : Combinator → ℕ
-looseness Adjacent = 1
-looseness Sibling = 2
-looseness Child = 3
-looseness Descendant = 4
+abbrev pub binding_level : Combinator → ℕ
+binding_level Adjacent = 1
+binding_level Sibling = 2
+binding_level Child = 3
+binding_level Descendant = 4
 
 -- v is farther up than n, or as far up and before it
 abbrev pub Precedes : Forest → ℕ → ℕ → Type 0
@@ -27,37 +34,37 @@ IsOrPrecedes forest v n = (v ≡ n) ⊎ Precedes forest v n
 -- each of the steps binds more tightly
 abbrev pub AreTighter : ℕ → List (Combinator × CompoundSelector) → Type 0
 AreTighter level [] = Unit {0}
-AreTighter level (s ∷ ss) = (looseness s.0 < level) × AreTighter level ss
+AreTighter level (s ∷ ss) = (binding_level s.0 < level) × AreTighter level ss
 
 -- the last of the steps, if there is one, binds as loosely or more so
 abbrev pub EndsLoosely : ℕ → List (Combinator × CompoundSelector) → Type 0
-EndsLoosely level steps = (front : List (Combinator × CompoundSelector)) (last : Combinator × CompoundSelector) → steps ≡ front ++ last ∷ [] → level ≤ looseness last.0
+EndsLoosely level steps = (front : List (Combinator × CompoundSelector)) (last : Combinator × CompoundSelector) → steps ≡ front ++ last ∷ [] → level ≤ binding_level last.0
 
 -- the last compound holds of n, and n may stand as the combinator on its left asks
-pub record EndHolds (forest : Forest) (spared : ℕ) (first : ℕ → Type 0) (steps : List (Combinator × CompoundSelector)) (n : ℕ) : Type 0 where
+pub record LastHolds (forest : Forest) (exempt : ℕ) (first : ℕ → Type 0) (steps : List (Combinator × CompoundSelector)) (n : ℕ) : Type 0 where
   pub alone : steps ≡ [] → first n
   pub behind : (front : List (Combinator × CompoundSelector)) (last : Combinator × CompoundSelector) → steps ≡ front ++ last ∷ [] →
-      MayBeside forest spared last.0 n × Holds last.1 forest n
+      MayBeOperand forest exempt last.0 n × Holds last.1 forest n
 
 -- The last steps, which bind more tightly than this, lead from w to n. The compound before them holds of w, and w is as good
 -- as any other node that they lead from: where the first compound and all steps reach n, the first and the steps left reach w
-pub record Followed (forest : Forest) (spared : ℕ) (first : ℕ → Type 0) (level : ℕ) (steps left : List (Combinator × CompoundSelector)) (n w : ℕ) : Type 0 where
+pub record SuffixMatches (forest : Forest) (exempt : ℕ) (first : ℕ → Type 0) (level : ℕ) (steps left : List (Combinator × CompoundSelector)) (n w : ℕ) : Type 0 where
   pub passed : List (Combinator × CompoundSelector)
   pub split : steps ≡ left ++ passed
   pub tighter : AreTighter level passed
   pub loose : EndsLoosely level left
-  pub led : Leads (steps_of passed) forest spared w n
-  pub held : EndHolds forest spared first left w
-  pub whole : Reaches first (steps_of steps) forest spared n → Reaches first (steps_of left) forest spared w
+  pub led : StepsMatch (steps_of passed) forest exempt w n
+  pub held : LastHolds forest exempt first left w
+  pub whole : ChainMatches first (steps_of steps) forest exempt n → ChainMatches first (steps_of left) forest exempt w
 
 -- some node that stands to n as the combinator says is reached
-abbrev pub ReachesSome : Forest → ℕ → (ℕ → Type 0) → List (Combinator × CompoundSelector) → Combinator → ℕ → Type 0
-ReachesSome forest spared first steps k n = (v : ℕ) × Stands forest k v n × (MayBeside forest spared k v × Reaches first (steps_of steps) forest spared v)
+abbrev pub SomeCandidateMatches : Forest → ℕ → (ℕ → Type 0) → List (Combinator × CompoundSelector) → Combinator → ℕ → Type 0
+SomeCandidateMatches forest exempt first steps k n = (v : ℕ) × CombinatorHolds forest k v n × (MayBeOperand forest exempt k v × ChainMatches first (steps_of steps) forest exempt v)
 
 -- the same from a node that stands to n as the combinator says
-pub record FollowedFrom (forest : Forest) (spared : ℕ) (first : ℕ → Type 0) (k : Combinator) (steps left : List (Combinator × CompoundSelector)) (n w : ℕ) : Type 0 where
+pub record SuffixMatchesFrom (forest : Forest) (exempt : ℕ) (first : ℕ → Type 0) (k : Combinator) (steps left : List (Combinator × CompoundSelector)) (n w : ℕ) : Type 0 where
   pub at : ℕ
-  pub stands : Stands forest k at n
-  pub beside : MayBeside forest spared k at
-  pub followed : Followed forest spared first (looseness k) steps left at w
-  pub whole : ReachesSome forest spared first steps k n → Reaches first (steps_of left) forest spared w
+  pub stands : CombinatorHolds forest k at n
+  pub beside : MayBeOperand forest exempt k at
+  pub followed : SuffixMatches forest exempt first (binding_level k) steps left at w
+  pub whole : SomeCandidateMatches forest exempt first steps k n → ChainMatches first (steps_of left) forest exempt w

@@ -6,7 +6,7 @@ use Rattle.dom_trees.specs.declared.node_ref.NodeRef.{NodeRef}
 use Rattle.dom_selectors.specs.Syntax.{SelectorList}
 use Rattle.dom_select.specs.Meaning.{Means}
 use Rattle.dom_links.specs.ListMoves.{element_at}
-use Rattle.dom_select.specs.Selected.{Picks}
+use Rattle.dom_select.specs.Selected.{FiltersTo}
 
 -- the node is an element that the selector means
 abbrev pub IsMatch : SelectorList → Forest → ℕ → Type 0
@@ -20,7 +20,7 @@ pub record Matches : Type 0 where
 
 -- these are still to come: the elements among the nodes left that the selector means
 abbrev pub ToCome : Matches → List ℕ → Type 0
-ToCome walk ids = Picks (IsMatch walk.selector walk.tree.now) walk.left ids
+ToCome walk ids = FiltersTo (IsMatch walk.selector walk.tree.now) walk.left ids
 
 -- the node is the first among those left that is an element which the selector means, and those behind it are left
 pub record IsFirstMatch (before : Matches) (node : NodeRef) (later : Matches) : Type 0 where
@@ -28,7 +28,7 @@ pub record IsFirstMatch (before : Matches) (node : NodeRef) (later : Matches) : 
   pub meant : IsMatch before.selector before.tree.now node.id
   pub passed : List ℕ
   pub stands : before.left ≡ passed ++ node.id ∷ later.left
-  pub none_before : Picks (IsMatch before.selector before.tree.now) passed []
+  pub none_before : FiltersTo (IsMatch before.selector before.tree.now) passed []
 
 -- a call gives the first that is to come and leaves those behind it, or nothing where nothing is to come
 pub record GivesMatch (before : Matches) (given : Option NodeRef) (later : Matches) : Type 0 where

@@ -7,16 +7,16 @@ use Rattle.dom_selectors.specs.ListsAsTrees.{steps_of}
 use Rattle.dom_selectors.specs.Syntax.{CompoundSelector, SelectorList}
 use Rattle.dom_select.specs.declared.matcher.has.Start.{Start}
 use Rattle.dom_select.specs.Has.{Begins}
-use Rattle.dom_select.specs.Meaning.{Holds, Means, PartsHold, Reaches}
+use Rattle.dom_select.specs.Meaning.{Holds, Means, PartsHold, ChainMatches}
 
 -- the compound holds only of what bears the name as a type
-abbrev pub BeginsAs : List ℕ → CompoundSelector → Type 0
-BeginsAs name c = (forest : Forest) (n : ℕ) → Holds c forest n → PartsHold (Part.«Type» name ∷ []) forest n
+abbrev pub ImpliesType : List ℕ → CompoundSelector → Type 0
+ImpliesType name c = (forest : Forest) (n : ℕ) → Holds c forest n → PartsHold (Part.«Type» name ∷ []) forest n
 
 -- the compounds reach only what bears the name as a type
-abbrev pub EndsAs : List ℕ → CompoundSelector → List (Combinator × CompoundSelector) → Type 0
-EndsAs name first steps = (start : Start) (forest : Forest) (spared n : ℕ) → Reaches (Begins start first forest) (steps_of steps) forest spared n → PartsHold (Part.«Type» name ∷ []) forest n
+abbrev pub SubjectImpliesType : List ℕ → CompoundSelector → List (Combinator × CompoundSelector) → Type 0
+SubjectImpliesType name first steps = (start : Start) (forest : Forest) (exempt n : ℕ) → ChainMatches (Begins start first forest) (steps_of steps) forest exempt n → PartsHold (Part.«Type» name ∷ []) forest n
 
 -- the selectors mean only what bears one of the names as a type
-abbrev pub EndsAmong : List ℕ → List ℕ → SelectorList → Type 0
-EndsAmong one other list = (forest : Forest) (n : ℕ) → Means list forest n → PartsHold (Part.«Type» one ∷ []) forest n ⊎ PartsHold (Part.«Type» other ∷ []) forest n
+abbrev pub SubjectIsAmong : List ℕ → List ℕ → SelectorList → Type 0
+SubjectIsAmong one other list = (forest : Forest) (n : ℕ) → Means list forest n → PartsHold (Part.«Type» one ∷ []) forest n ⊎ PartsHold (Part.«Type» other ∷ []) forest n

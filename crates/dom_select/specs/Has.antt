@@ -5,27 +5,27 @@ use Rattle.dom_links.specs.Lists.{stands_in}
 use Rattle.dom_links.specs.Trees.{walk_below}
 use Rattle.dom_links.specs.Walk.{later}
 use Rattle.dom_select.specs.declared.matcher.has.Start.{Start}
-use Rattle.dom_select.specs.declared.matcher.has.Start.TheVariants.{Anywhere, From}
+use Rattle.dom_select.specs.declared.matcher.has.Start.TheVariants.{Absolute, Relative}
 use Rattle.dom_selectors.specs.declared.syntax.Combinator.{Combinator}
 use Rattle.dom_selectors.specs.declared.syntax.Combinator.TheVariants.{Descendant, Child, Adjacent, Sibling}
 use Rattle.dom_links.specs.ListMoves.{element_at}
-use Rattle.dom_select.specs.Meaning.{Holds, IsJoined, Reaches}
+use Rattle.dom_select.specs.Meaning.{Holds, IsJoined, ChainMatches}
 use Rattle.dom_selectors.specs.Syntax.{CompoundSelector, Steps}
 
 -- a first node holds its compound, and where a start is asked it stands to the right of that as the combinator says
 abbrev pub Begins : Start → CompoundSelector → Forest → ℕ → Type 0
-Begins Anywhere first forest w = Holds first forest w
-Begins (From k x) first forest w = IsJoined forest x k x w × Holds first forest w
+Begins Absolute first forest w = Holds first forest w
+Begins (Relative k x) first forest w = IsJoined forest x k x w × Holds first forest w
 
 -- what is reached from a start is an element
-abbrev pub may_end : Start → Forest → ℕ → Bool
-may_end Anywhere forest n = true
-may_end (From k x) forest n = element_at forest n
+abbrev pub may_be_subject : Start → Forest → ℕ → Bool
+may_be_subject Absolute forest n = true
+may_be_subject (Relative k x) forest n = element_at forest n
 
 -- the compounds lead to n, from the start
-abbrev pub IsReached : Start → CompoundSelector → Steps → Forest → ℕ → Type 0
-IsReached Anywhere first steps forest n = Reaches (Holds first forest) steps forest n n
-IsReached (From k x) first steps forest n = (element_at forest n ≡ true) × Reaches (Begins (From k x) first forest) steps forest n n
+abbrev pub SelectorMatches : Start → CompoundSelector → Steps → Forest → ℕ → Type 0
+SelectorMatches Absolute first steps forest n = ChainMatches (Holds first forest) steps forest n n
+SelectorMatches (Relative k x) first steps forest n = (element_at forest n ≡ true) × ChainMatches (Begins (Relative k x) first forest) steps forest n n
 
 -- what it leads to stands in the same list
 abbrev pub is_sideways : Combinator → Bool
@@ -35,14 +35,14 @@ is_sideways Adjacent = true
 is_sideways Sibling = true
 
 -- The nodes at and below which lies all that a selector with that lead can lead to: the node itself, or its later siblings
-abbrev pub tops : Forest → Combinator → ℕ → List ℕ
-tops forest k x = if is_sideways k then later forest false x else x ∷ []
+abbrev pub search_roots : Forest → Combinator → ℕ → List ℕ
+search_roots forest k x = if is_sideways k then later forest false x else x ∷ []
 
 -- one of them and those that follow
-abbrev pub tops_on : Forest → Combinator → Option ℕ → List ℕ
-tops_on forest k None = []
-tops_on forest k (Some t) = t ∷ (if is_sideways k then later forest false t else [])
+abbrev pub search_roots_from : Forest → Combinator → Option ℕ → List ℕ
+search_roots_from forest k None = []
+search_roots_from forest k (Some t) = t ∷ (if is_sideways k then later forest false t else [])
 
 -- the compounds lead to a node at or below t
-abbrev pub ReachesWithin : Start → CompoundSelector → Steps → Forest → ℕ → Type 0
-ReachesWithin start first steps forest t = (y : ℕ) × ((y ≡ t) ⊎ (stands_in y (walk_below forest t) ≡ true)) × IsReached start first steps forest y
+abbrev pub MatchesWithin : Start → CompoundSelector → Steps → Forest → ℕ → Type 0
+MatchesWithin start first steps forest t = (y : ℕ) × ((y ≡ t) ⊎ (stands_in y (walk_below forest t) ≡ true)) × SelectorMatches start first steps forest y

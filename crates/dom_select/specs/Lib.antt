@@ -9,9 +9,10 @@ pub mod MatcherIters
 pub mod Meaning
 pub mod MiniNodes
 pub mod MiniPaths
-pub mod MiniWalks
 pub mod NodeAnswers
 pub mod Parts
+pub mod PathFlags
+pub mod Roots
 pub mod Selected
 pub mod Texts
 pub mod Traversals

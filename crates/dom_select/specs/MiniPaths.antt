@@ -1,72 +1,61 @@
--- What a path of mini selectors finds, as operations on lists of nodes.
-use Rattle.std.specs.Prelude.{◌≡◌, ℕ, List, [], ◌∷◌, ◌++◌, Bool, true, false, ◌&&◌, not, nat_lt, Option, Some, None, filter, find, length, map, if◌then◌else◌}
-use Rattle.std.specs.List.{flat_map}
+-- What a path of mini selectors leads to: the relative meaning, with mini selectors as the compounds.
+use Rattle.std.specs.Prelude.{◌≡◌, ◌<◌, ℕ, List, [], ◌∷◌, false, true, length, map}
 use Rattle.std.specs.Borrow.{Bor}
-use Rattle.dom_links.specs.Forest.{Forest, children_of}
-use Rattle.dom_links.specs.ListMoves.{element_at}
-use Rattle.dom_links.specs.Trees.{Trees, NoTrees, Tree, trees}
+use Rattle.dom_links.specs.Forest.{Forest}
+use Rattle.dom_links.specs.Lists.{stands_in, IsDistinct}
+use Rattle.dom_links.specs.Trees.{trees, walk}
 use Rattle.dom_links.specs.Walk.{later}
 use Rattle.dom_trees.specs.declared.node_ref.NodeRef.{NodeRef}
 use Rattle.dom_trees.specs.Views.{refs_to}
 use Rattle.dom_selectors.specs.declared.syntax.Combinator.{Combinator}
-use Rattle.dom_selectors.specs.declared.syntax.Combinator.TheVariants.{Descendant, Child, Adjacent, Sibling}
 use Rattle.dom_selectors.specs.MiniGrammar.{SpellsMini, SpellsPath}
-use Rattle.dom_selectors.specs.MiniSyntax.{Mini, combinator_of, is_some_of, named}
+use Rattle.dom_selectors.specs.MiniSyntax.{Mini, combinator_of, named}
+use Rattle.dom_select.specs.Meaning.{Leads}
 use Rattle.dom_select.specs.MiniNodes.{mini_holds}
+use Rattle.dom_select.specs.Selected.{FiltersTo}
 
--- the nodes of some trees, each before what is below it; what is below a node that stops the walk isn't entered
-abbrev pub walk_until : (ℕ → Bool) → Trees → List ℕ
-walk_until stops NoTrees = []
-walk_until stops (Tree n contents children later) = n ∷ ((if stops n then [] else walk_until stops children) ++ walk_until stops later)
+-- the combinator of each mini selector, and of which nodes it holds
+abbrev pub steps_of_path : List Mini → Forest → List (Combinator × (ℕ → Type 0))
+steps_of_path [] forest = []
+steps_of_path (mini ∷ minis) forest = (combinator_of mini, λ n. mini_holds mini forest n ≡ true) ∷ steps_of_path minis forest
 
--- the nodes below that pass, in the order of the walk; but in the last step of a path none below another one
-abbrev pub below_step : Forest → Bool → (ℕ → Bool) → ℕ → List ℕ
-below_step forest is_last passes n = filter passes (walk_until (λ m. not is_last && passes m) (trees forest (children_of forest n)))
+-- there are nodes from x to n, each standing to the one before as its combinator says, and each holding its mini selector
+abbrev pub PathLeads : List Mini → Forest → ℕ → ℕ → Type 0
+PathLeads minis forest x n = Leads (steps_of_path minis forest) forest x x n
 
-abbrev pub one_or_none : Option ℕ → List ℕ
-one_or_none None = []
-one_or_none (Some n) = n ∷ []
+-- a node, what is below it, its later siblings and what is below those, in document order
+abbrev pub onward : Forest → ℕ → List ℕ
+onward forest n = walk (trees forest (n ∷ later forest false n))
 
--- from one node: below it, among its children, the next element among its later siblings, or all its later siblings
-abbrev pub step_by : Combinator → Forest → Bool → (ℕ → Bool) → ℕ → List ℕ
-step_by Descendant forest is_last passes n = below_step forest is_last passes n
-step_by Child forest is_last passes n = filter passes (children_of forest n)
-step_by Adjacent forest is_last passes n = filter passes (one_or_none (find (element_at forest) (later forest false n)))
-step_by Sibling forest is_last passes n = filter passes (later forest false n)
+-- these are the nodes that the path leads to from x, each once, in document order; none where x is unknown
+abbrev pub IsFound : List Mini → Forest → ℕ → List ℕ → Type 0
+IsFound minis forest x found = FiltersTo (λ n. (x < length forest.content) × PathLeads minis forest x n) (onward forest x) found
 
-abbrev pub step_from : Forest → Bool → Mini → ℕ → List ℕ
-step_from forest is_last mini n = step_by (combinator_of mini) forest is_last (mini_holds mini forest) n
+-- the same of names, each of a descendant of the one before
+abbrev pub IsFoundByNames : List (List ℕ) → Forest → ℕ → List ℕ → Type 0
+IsFoundByNames names forest x found = IsFound (map named names) forest x found
 
--- from each of some nodes, one after the other; a node that is found twice stays twice
-abbrev pub step_from_each : Forest → Bool → Mini → List ℕ → List ℕ
-step_from_each forest is_last mini ns = flat_map (step_from forest is_last mini) ns
+-- the nodes are those that the path leads to from x, each once
+pub record AreLedTo (minis : List Mini) (forest : Forest) (x : ℕ) (found : List ℕ) : Type 0 where
+  pub led : (n : ℕ) → stands_in n found ≡ true → PathLeads minis forest x n
+  pub all : (n : ℕ) → PathLeads minis forest x n → stands_in n found ≡ true
+  pub once : IsDistinct found
 
--- step by step; no step leaves the nodes as they are
-abbrev pub path_from : Forest → List Mini → List ℕ → List ℕ
-path_from forest [] ns = ns
-path_from forest (mini ∷ minis) ns = path_from forest minis (step_from_each forest (not (is_some_of minis)) mini ns)
+-- these are the nodes, in the tree, that the names lead to
+abbrev pub AreRefsByNames : List (List ℕ) → Bor Forest → ℕ → List NodeRef → Type 0
+AreRefsByNames names tree x found = (ids : List ℕ) × IsFoundByNames names tree.now x ids × (found ≡ refs_to tree ids)
 
--- the node, if the forest has it
-abbrev pub known : Forest → ℕ → List ℕ
-known forest n = if nat_lt n (length forest.content) then n ∷ [] else []
-
--- what a path finds from a node
-abbrev pub found_from : Forest → List Mini → ℕ → List ℕ
-found_from forest minis n = path_from forest minis (known forest n)
-
--- what names, each below the one before, find from a node
-abbrev pub found_by_names : Forest → List (List ℕ) → ℕ → List ℕ
-found_by_names forest names n = found_from forest (map named names) n
-
--- these are the nodes that a path, written as a text, finds from a node
+-- these are the nodes that a path, written as a text, leads to
 pub record AreRefsFound (path : List ℕ) (tree : Bor Forest) (n : ℕ) (found : List NodeRef) : Type 0 where
   pub minis : List Mini
   pub rest : List ℕ
   pub spelled : SpellsPath minis path rest
-  pub are : found ≡ refs_to tree (found_from tree.now minis n)
+  pub ids : List ℕ
+  pub led : IsFound minis tree.now n ids
+  pub are : found ≡ refs_to tree ids
 
 -- one mini selector can be read, and is true of the node
-pub record IsMet (text : List ℕ) (forest : Forest) (n : ℕ) : Type 0 where
+pub record MiniTextHolds (text : List ℕ) (forest : Forest) (n : ℕ) : Type 0 where
   pub mini : Mini
   pub rest : List ℕ
   pub spelled : SpellsMini mini text rest

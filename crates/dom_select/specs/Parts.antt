@@ -9,10 +9,11 @@ use Rattle.dom_nodes.specs.declared.name.Namespace.{Namespace}
 use Rattle.dom_nodes.specs.declared.name.Namespace.TheVariants.{Html}
 use Rattle.dom_nodes.specs.declared.node_data.Element.{Element}
 use Rattle.dom_nodes.specs.declared.node_data.NodeData.{NodeData}
-use Rattle.dom_nodes.specs.declared.node_data.NodeData.TheVariants.{Element as AnElement, Document}
+use Rattle.dom_nodes.specs.declared.node_data.NodeData.TheVariants.{Element as AnElement}
 use Rattle.dom_nodes.specs.Words.{class_words, is_among}
 use Rattle.dom_links.specs.Forest.{Forest}
 use Rattle.dom_links.specs.Indexes.{IsNth, index_at}
+use Rattle.dom_trees.specs.Views.{root_element_at}
 use Rattle.dom_selectors.specs.Comparisons.{passes}
 use Rattle.dom_select.specs.Texts.{empty_at, has_text_at, joined_contains_at, only_text_at}
 use Rattle.dom_selectors.specs.declared.syntax.Attribute as attributes
@@ -32,13 +33,13 @@ abbrev pub is_without : Namespace → Bool
 is_without Namespace.None = true
 is_without _ = false
 
-abbrev pub asked_passes : Option Comparison → List ℕ → Bool
-asked_passes None value = true
-asked_passes (Some comparison) value = passes comparison value
+abbrev pub comparison_passes : Option Comparison → List ℕ → Bool
+comparison_passes None value = true
+comparison_passes (Some comparison) value = passes comparison value
 
 -- the attribute stands in no namespace, bears the name, and its value is what it is asked for
 abbrev pub attr_passes : Namespace → attributes.Attribute → Attr → Bool
-attr_passes ns asked attr = is_without attr.name.ns && bytes_eq attr.name.local (name_within ns asked.name) && asked_passes asked.comparison attr.value
+attr_passes ns asked attr = is_without attr.name.ns && bytes_eq attr.name.local (name_within ns asked.name) && comparison_passes asked.comparison attr.value
 
 abbrev pub element_passes : Part → Element → Bool
 element_passes Universal element = true
@@ -55,10 +56,9 @@ element_passes (HasText text) element = false
 element_passes (Contains text) element = false
 element_passes (Position position) element = false
 
--- `*` holds of every node, `:root` of documents, any other part of elements alone
+-- `*` holds of every node, any other part of elements alone
 abbrev pub node_passes : Part → NodeData → Bool
 node_passes Universal node = true
-node_passes Root Document = true
 node_passes part (AnElement element) = element_passes part element
 node_passes part _ = false
 
@@ -69,7 +69,8 @@ data_passes part forest n = option_map_or (node_passes part) (slice_get forest.c
 abbrev pub passes_at : Part → Forest → ℕ → Type 0
 passes_at part forest n = data_passes part forest n ≡ true
 
--- the part holds of the node of that number: by where it stands among its siblings, or by what it is
+-- The part holds of the node of that number: by where it stands, or by what it is. `:root` holds of an element whose parent
+-- is node 0
 abbrev pub PartHolds : Part → Forest → ℕ → Type 0
 PartHolds (Position position) forest n = IsNth position.nth (index_at position.kind forest n)
 PartHolds Empty forest n = empty_at forest n ≡ true
@@ -81,7 +82,7 @@ PartHolds (Part.«Type» name) forest n = passes_at (Part.«Type» name) forest 
 PartHolds (Id value) forest n = passes_at (Id value) forest n
 PartHolds (Class word) forest n = passes_at (Class word) forest n
 PartHolds (Attribute asked) forest n = passes_at (Attribute asked) forest n
-PartHolds Root forest n = passes_at Root forest n
+PartHolds Root forest n = root_element_at forest n ≡ true
 PartHolds Link forest n = passes_at Link forest n
 PartHolds Never forest n = passes_at Never forest n
 

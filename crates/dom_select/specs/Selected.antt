@@ -14,9 +14,9 @@ first_occurrences before [] = []
 first_occurrences before (n ∷ ns) = if stands_in n before then first_occurrences before ns else n ∷ first_occurrences (n ∷ before) ns
 
 -- the numbers of which the fact holds, in their order, are these
-abbrev pub Picks : (ℕ → Type 0) → List ℕ → List ℕ → Type 0
-Picks P [] picked = picked ≡ []
-Picks P (n ∷ ns) picked = (P n × (rest : List ℕ) × (picked ≡ n ∷ rest) × Picks P ns rest) ⊎ ((P n → ⊥) × Picks P ns picked)
+abbrev pub FiltersTo : (ℕ → Type 0) → List ℕ → List ℕ → Type 0
+FiltersTo P [] matched = matched ≡ []
+FiltersTo P (n ∷ ns) matched = (P n × (rest : List ℕ) × (matched ≡ n ∷ rest) × FiltersTo P ns rest) ⊎ ((P n → ⊥) × FiltersTo P ns matched)
 
 -- the walks below the roots, one after the other, each node once
 abbrev pub walks_below : Forest → List ℕ → List ℕ
@@ -24,12 +24,12 @@ walks_below forest roots = first_occurrences [] (flat_map (walk_below forest) ro
 
 -- the selector selects these below the roots: the elements in the walks that it means, each once, in their order
 unfoldable pub Selected : Forest → List ℕ → SelectorList → List ℕ → Type 0
-Selected forest roots selector picked = Picks (λ n. (element_at forest n ≡ true) × Means selector forest n) (walks_below forest roots) picked
+Selected forest roots selector matched = FiltersTo (λ n. (element_at forest n ≡ true) × Means selector forest n) (walks_below forest roots) matched
 
--- the nodes picked below the roots are the elements there that the selector means, each once
-pub record IsSelection (forest : Forest) (roots : List ℕ) (selector : SelectorList) (picked : List ℕ) : Type 0 where
-  pub below : (n : ℕ) → stands_in n picked ≡ true → stands_in n (flat_map (walk_below forest) roots) ≡ true
-  pub elements : (n : ℕ) → stands_in n picked ≡ true → element_at forest n ≡ true
-  pub meant : (n : ℕ) → stands_in n picked ≡ true → Means selector forest n
-  pub all : (n : ℕ) → stands_in n (flat_map (walk_below forest) roots) ≡ true → element_at forest n ≡ true → Means selector forest n → stands_in n picked ≡ true
-  pub once : IsDistinct picked
+-- the nodes matched below the roots are the elements there that the selector means, each once
+pub record IsSelection (forest : Forest) (roots : List ℕ) (selector : SelectorList) (matched : List ℕ) : Type 0 where
+  pub below : (n : ℕ) → stands_in n matched ≡ true → stands_in n (flat_map (walk_below forest) roots) ≡ true
+  pub elements : (n : ℕ) → stands_in n matched ≡ true → element_at forest n ≡ true
+  pub meant : (n : ℕ) → stands_in n matched ≡ true → Means selector forest n
+  pub all : (n : ℕ) → stands_in n (flat_map (walk_below forest) roots) ≡ true → element_at forest n ≡ true → Means selector forest n → stands_in n matched ≡ true
+  pub once : IsDistinct matched

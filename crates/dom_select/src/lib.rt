@@ -7,4 +7,5 @@ pub mod laws;
 pub mod matcher;
 pub mod mini_selector;
 pub mod node_select;
+mod printed;
 pub mod traversal;

@@ -1,7 +1,7 @@
 //! A list of selectors that nodes are asked for.
 
 use crate::matcher::caches::SelectorCaches;
-use crate::matcher::matches::{is_meant, last_names, means, type_alone};
+use crate::matcher::matches::{is_meant, means, sole_type, subject_types};
 use dom_nodes::fault::OutOfMemory;
 use dom_selectors::copies::copy_selectors;
 use dom_selectors::fault::SelectorFault;
@@ -24,6 +24,7 @@ pub mod matcher_iter;
 pub(crate) mod matches;
 pub(crate) mod parts;
 pub(crate) mod positions;
+pub(crate) mod roots;
 pub mod several;
 pub(crate) mod texts;
 
@@ -51,7 +52,7 @@ impl Model for Matcher {
 impl Matcher {
     ghost use Rattle.std.specs.Prelude.{◌≡◌, chars, IfErr, IfOk, IfSome};
     ghost use Rattle.dom_selectors.specs.Grammar.{Refused, StandsFor};
-    ghost use Rattle.dom_select.specs.Ends.{EndsAmong};
+    ghost use Rattle.dom_select.specs.Ends.{SubjectIsAmong};
     ghost use Rattle.dom_select.specs.Meaning.{Means, MeansType};
     ghost use Rattle.dom_selectors.specs.Spelling.{Decides};
     ghost use Rattle.dom_selectors.specs.ValuesAsTrees.{read_list};
@@ -83,18 +84,18 @@ impl Matcher {
     }
 
     /// The name, where the selector is a type and nothing else.
-    pub(crate) fn type_alone(&self) -> Option<&SelectorName>
+    pub(crate) fn sole_type(&self) -> Option<&SelectorName>
         ensures { IfSome result (λ name. MeansType name.now self.now) }
     {
-        type_alone(&self.selectors)
+        sole_type(&self.selectors)
     }
 
     /// Two names, which may be one, of which each node that the selectors mean bears one, where
     /// they are one or two and end in a type.
-    pub(crate) fn last_names(&self) -> Option<(&SelectorName, &SelectorName)>
-        ensures { IfSome result (λ names. EndsAmong names.0.now names.1.now self.now) }
+    pub(crate) fn subject_types(&self) -> Option<(&SelectorName, &SelectorName)>
+        ensures { IfSome result (λ names. SubjectIsAmong names.0.now names.1.now self.now) }
     {
-        last_names(&self.selectors)
+        subject_types(&self.selectors)
     }
 
     /// Whether one of the selectors means the node; false for an unknown number. It takes no
@@ -103,7 +104,7 @@ impl Matcher {
         ensures { Decides result (Means self.now node.now.tree.now node.now.id) }
     {
         let mut caches = SelectorCaches::none(node.tree);
-        means(&self.selectors, node.tree, &mut caches, node.id)
+        means(&self.selectors, &mut caches, node.id)
     }
 
     /// Whether one of the selectors means the node of that number in the caches' tree. What the
@@ -116,8 +117,7 @@ impl Matcher {
         ensures is { Decides result (Means self.now caches.old node.now.id) }
         ensures same { caches.new ≡ caches.old }
     {
-        let tree = caches.tree();
-        means(&self.selectors, tree, caches, node.id)
+        means(&self.selectors, caches, node.id)
     }
 }
 
@@ -138,6 +138,6 @@ impl MatchNode for InnerSelector {
         ensures { Decides result (Means (read_list (self.now ∷ [])) node.now.tree.now node.now.id) }
     {
         let mut caches = SelectorCaches::none(node.tree);
-        is_meant(self, node.tree, &mut caches, node.id)
+        is_meant(self, &mut caches, node.id)
     }
 }

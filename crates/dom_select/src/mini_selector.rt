@@ -3,4 +3,4 @@
 pub use dom_selectors::mini_selector::{fault, parser, selector};
 
 pub mod extension;
-pub(crate) mod steps;
+pub(crate) mod search;

@@ -5,9 +5,9 @@ ghost use Rattle.std.specs.List.{list_any};
 ghost use Rattle.dom_nodes.specs.declared.name.Namespace.TheVariants.{Html};
 ghost use Rattle.dom_links.specs.Forest.{Forest};
 ghost use Rattle.dom_links.specs.Indexes.{same_type};
-ghost use Rattle.dom_trees.specs.Views.{has_local_name};
+ghost use Rattle.dom_trees.specs.Views.{has_local_name, root_element_at};
 ghost use Rattle.dom_selectors.specs.declared.fault.SelectorFault.TheVariants.{Memory};
-ghost use Rattle.dom_selectors.specs.declared.syntax.Part.TheVariants.{Link, Root};
+ghost use Rattle.dom_selectors.specs.declared.syntax.Part.TheVariants.{Link};
 ghost use Rattle.dom_select.specs.Descendants.{IsMatch};
 ghost use Rattle.dom_selectors.specs.Grammar.{StandsFor};
 ghost use Rattle.dom_select.specs.NodeAnswers.{has_id_at, has_namespace_at, is_id, pseudo_holds_at};
@@ -68,13 +68,17 @@ pub trait NodeSelect {
     fn is_empty_element(&self) -> bool
         ensures { result ≡ empty_at (forest self.now) (number self.now) };
 
+    /// The same, as the crate's selectors call it.
+    fn is_empty(&self) -> bool
+        ensures { result ≡ empty_at (forest self.now) (number self.now) };
+
     /// Whether it is an element `a`, `area` or `link` with an attribute `href`.
     fn is_link(&self) -> bool
         ensures { result ≡ data_passes Link (forest self.now) (number self.now) };
 
-    /// Whether it is a document.
+    /// Whether it is an element whose parent is node 0.
     fn is_root(&self) -> bool
-        ensures { result ≡ data_passes Root (forest self.now) (number self.now) };
+        ensures { result ≡ root_element_at (forest self.now) (number self.now) };
 
     /// Whether it is an element, as the node of the other's number in its tree is, of an equal
     /// qualified name.
@@ -133,16 +137,23 @@ impl<'a> NodeSelect for NodeRef<'a> {
         is_empty(self.tree, &self.id)
     }
 
+    fn is_empty(&self) -> bool {
+        self.is_empty_element()
+    }
+
     fn is_link(&self) -> bool {
         data_passes(&Part::Link, self.tree, &self.id)
     }
 
     fn is_root(&self) -> bool {
-        data_passes(&Part::Root, self.tree, &self.id)
+        self.is_root()
     }
 
     fn is_same_type(&self, other: &Self) -> bool {
-        let (Some(node), Some(other)) = (self.tree.get(&self.id), self.tree.get(&other.id)) else {
+        let (Some(node), Some(other)) = (
+            self.tree.tree_node(&self.id),
+            self.tree.tree_node(&other.id),
+        ) else {
             return false;
         };
         are_of_one_type(&node.content, &other.content)

@@ -1,23 +1,21 @@
 //! Children and nodes below that are found by their names, over an arena's nodes.
 
-ghost use Rattle.std.specs.Prelude.{◌≡◌, IfOk, MatchBool};
+ghost use Rattle.std.specs.Prelude.{◌≡◌, ◌<◌, ◌≤◌, length, IfOk, MatchBool, None};
 ghost use Rattle.std.specs.Fn.{FnReturnsAt};
 ghost use Rattle.dom_links.specs.Forest.{forest_of};
 ghost use Rattle.dom_links.specs.Sound.{IsSoundArena};
-ghost use Rattle.dom_select.specs.MiniPaths.{found_by_names};
+ghost use Rattle.dom_select.specs.MiniPaths.{IsFoundByNames};
 ghost use Rattle.dom_selectors.specs.MiniSyntax.{texts_of};
 ghost use Rattle.dom_select.specs.Traversals.{FindsChild, IsFailing, IsPassing, child_by_names};
 ghost use Rattle.dom_trees.specs.Views.{child_named, has_local_name};
 
-use crate::mini_selector::steps::follow_names;
+use crate::mini_selector::search::follow_names;
 use dom_links::iters::{find_node, first_child_id, next_sibling_id};
 use dom_links::laws::lines_of_a_forest;
 use dom_nodes::fault::OutOfMemory;
 use dom_nodes::node_data::TreeNode;
 use dom_nodes::node_id::NodeId;
 use std::alloc::Global;
-
-pub(crate) mod walk;
 
 /// Children and nodes below, by their names.
 pub struct Traversal {}
@@ -91,11 +89,14 @@ impl Traversal {
     }
 
     /// From the node to the first child of the first name, to that one's first child of the next
-    /// name, and so on; no name answers the node itself.
+    /// name, and so on; no name answers the node itself, an unknown number nothing.
     pub fn find_descendant_element(nodes: &[TreeNode], id: NodeId, path: &[&str]) -> Option<NodeId>
         requires { IsSoundArena nodes.now }
-        ensures { result ≡ child_by_names (forest_of nodes.now) id (texts_of path.now) }
+        ensures known { id < length (forest_of nodes.now).content →
+            result ≡ child_by_names (forest_of nodes.now) id (texts_of path.now) }
+        ensures unknown { length (forest_of nodes.now).content ≤ id → result ≡ None }
     {
+        find_node(nodes, id)?;
         let mut at = id;
         for name in path {
             at = Traversal::find_child_element_by_name(nodes, at, name)?;
@@ -103,9 +104,8 @@ impl Traversal {
         Some(at)
     }
 
-    /// The nodes that names find, each below the one before; what is below a node that is found
-    /// isn't looked at, but in the last step. No name finds the node itself, and nothing where it
-    /// is unknown.
+    /// The nodes that names lead to, each of a descendant of the one before: each node once, in
+    /// document order. No name leads to the node itself, and to nothing where it is unknown.
     pub fn find_descendant_elements(
         alloc: Global,
         nodes: &[TreeNode],
@@ -114,7 +114,7 @@ impl Traversal {
     ) -> Result<Vec<NodeId>, OutOfMemory>
         requires { IsSoundArena nodes.now }
         ensures { IfOk result
-            (λ found. found.items ≡ found_by_names (forest_of nodes.now) (texts_of path.now) id) }
+            (λ found. IsFoundByNames (texts_of path.now) (forest_of nodes.now) id found.items) }
     {
         follow_names(alloc, nodes, id, path)
     }

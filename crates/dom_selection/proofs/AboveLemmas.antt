@@ -7,19 +7,19 @@ use Rattle.dom_links.specs.ListMoves.{element_at}
 use Rattle.dom_links.specs.Lists.{stands_in}
 use Rattle.dom_links.specs.Sound.{IsForest}
 use Rattle.dom_links.specs.Trees.{ancestors, upward}
-use Rattle.dom_links.proofs.Depth.{parent_inside, upward-none}
-use Rattle.dom_links.proofs.Later.{ancestors-parent, not_above_itself}
-use Rattle.dom_links.proofs.Neighbours.{split_at, stands_in-append}
-use Rattle.dom_links.proofs.Stripping.{stands_in-filter}
+use Rattle.dom_links.proofs.forest.Depth.{parent_inside, upward-none}
+use Rattle.dom_links.proofs.walks.Later.{ancestors-parent, not_above_itself}
+use Rattle.dom_links.proofs.forest.Neighbours.{split_at, stands_in-append}
+use Rattle.dom_links.proofs.moves.Stripping.{stands_in-filter}
 use Rattle.dom_trees.specs.declared.node_ref.NodeRef.{NodeRef}
-use Rattle.dom_selection.specs.Gathering.{HasMet, IsClosed, IsClosedFor, Meets}
-use Rattle.dom_selection.specs.Seen.{meeting}
+use Rattle.dom_selection.specs.Gathering.{HasGathered, IsClosed, IsClosedFor, Gathers}
+use Rattle.dom_selection.specs.Seen.{with_unseen}
 use Rattle.dom_selection.specs.Selections.{elements_above, gathered}
-use Rattle.dom_selection.specs.Steps.{step_of}
+use Rattle.dom_selection.specs.Steps.{related_by}
 use Rattle.dom_selection.specs.declared.selection.gathering.Gathered.{Gathered}
-use Rattle.dom_selection.specs.declared.selection.gathering.Step.{Step}
-use Rattle.dom_selection.specs.declared.selection.gathering.Step.TheVariants.{Parent, Children, Ancestors, Above, Next, Prev}
-use Rattle.dom_selection.proofs.GatherLemmas.{GoesOn, meeting-append, meets_nothing, meets_then, stands-append}
+use Rattle.dom_selection.specs.declared.selection.gathering.Relation.{Relation}
+use Rattle.dom_selection.specs.declared.selection.gathering.Relation.TheVariants.{Parent, Children, Ancestors, Above, Next, Prev}
+use Rattle.dom_selection.proofs.GatherLemmas.{GoesOn, with_unseen-append, gathers_nothing, gathers_then, stands-append}
 use Rattle.dom_selection.proofs.SeenLemmas.{or_moves}
 
 -- ---- what stands among those met
@@ -49,20 +49,20 @@ again n m met rest seen = elim (cases_Bool (n == m)) [
   | inr f ↦ rw f refl
 ]
 
-stands-meeting : (m : ℕ) (met ns : List ℕ) → stands_in m (meeting met ns) ≡ (stands_in m met || stands_in m ns)
-stands-meeting m met [] = sym (or_end (stands_in m met))
-stands-meeting m met (n ∷ ns) = elim (cases_Bool (stands_in n met)) [
-  | inl t ↦ ap (λ b. stands_in m (meeting (cond b met (met ++ n ∷ [])) ns)) t ∙ stands-meeting m met ns ∙ again n m met ns t
-  | inr f ↦ ap (λ b. stands_in m (meeting (cond b met (met ++ n ∷ [])) ns)) f ∙ stands-meeting m (met ++ n ∷ []) ns
+stands-with_unseen : (m : ℕ) (met ns : List ℕ) → stands_in m (with_unseen met ns) ≡ (stands_in m met || stands_in m ns)
+stands-with_unseen m met [] = sym (or_end (stands_in m met))
+stands-with_unseen m met (n ∷ ns) = elim (cases_Bool (stands_in n met)) [
+  | inl t ↦ ap (λ b. stands_in m (with_unseen (cond b met (met ++ n ∷ [])) ns)) t ∙ stands-with_unseen m met ns ∙ again n m met ns t
+  | inr f ↦ ap (λ b. stands_in m (with_unseen (cond b met (met ++ n ∷ [])) ns)) f ∙ stands-with_unseen m (met ++ n ∷ []) ns
       ∙ ap (λ b. b || stands_in m ns) (stands-append m n met) ∙ or_moves (n == m) (stands_in m met) (stands_in m ns)
 ]
 
 -- where all stand there already, nothing is new
-all_met_before : (met ns : List ℕ) → ((m : ℕ) → stands_in m ns ≡ true → stands_in m met ≡ true) → meeting met ns ≡ met
+all_met_before : (met ns : List ℕ) → ((m : ℕ) → stands_in m ns ≡ true → stands_in m met ≡ true) → with_unseen met ns ≡ met
 all_met_before met [] all = refl
 all_met_before met (n ∷ ns) all =
     let here : stands_in n met ≡ true = all n (or_left (n == n) (stands_in n ns) (eq-eqb n n refl)) in
-    ap (λ b. meeting (cond b met (met ++ n ∷ [])) ns) here ∙ all_met_before met ns (λ m s. all m (or_right (n == m) (stands_in m ns) s))
+    ap (λ b. with_unseen (cond b met (met ++ n ∷ [])) ns) here ∙ all_met_before met ns (λ m s. all m (or_right (n == m) (stands_in m ns) s))
 
 -- ---- the nodes above a node
 
@@ -99,11 +99,11 @@ above_trans forest n k m good s t =
       | inr f ↦ rw f t
     ]
 
--- ---- a climb
+-- ---- a gather_all_ancestors
 
 -- some of the nodes above n were met, and these are left
 abbrev pub ClimbsOn : Gathered → Gathered → ℕ → List ℕ → Type 0
-ClimbsOn start now n left = (xs : List ℕ) × Meets start now (filter (element_at start.tree.now) xs) × (ancestors start.tree.now n ≡ xs ++ left)
+ClimbsOn start now n left = (xs : List ℕ) × Gathers start now (filter (element_at start.tree.now) xs) × (ancestors start.tree.now n ≡ xs ++ left)
 
 in_tail : (E : ℕ → Bool) (a : ℕ) (rest : List ℕ) (m : ℕ) → stands_in m (filter E (a ∷ rest)) ≡ true → (a ≡ m) ⊎ (stands_in m (filter E rest) ≡ true)
 in_tail E a rest m s = elim (cases_Bool (E a)) [
@@ -116,47 +116,47 @@ in_tail E a rest m s = elim (cases_Bool (E a)) [
 
 -- it ends at one that was met
 pub ends_early : (start now : Gathered) (n a : ℕ) (rest : List ℕ) → IsForest start.tree.now → IsClosed start.tree.now start.seen → stands_in a now.seen ≡ true → ClimbsOn start now n (a ∷ rest)
-    → Meets start now (elements_above None start.tree.now n)
-ends_early start now n a rest good closed seen (xs, meets, is) =
+    → Gathers start now (elements_above None start.tree.now n)
+ends_early start now n a rest good closed seen (xs, gathers, is) =
     let forest = start.tree.now in
     let E = element_at forest in
     let (up, new) = above-split forest n xs a rest good is in
     record {
-      tree = meets.tree;
+      tree = gathers.tree;
       met = λ before has.
-          let then : HasMet now (meeting before (filter E xs)) = meets.met before has in
-          let met = meeting before (filter E xs) in
+          let then : HasGathered now (with_unseen before (filter E xs)) = gathers.met before has in
+          let met = with_unseen before (filter E xs) in
           let here : stands_in a met ≡ true = sym (then.seen a) ∙ seen in
           let unmet : stands_in a (filter E xs) ≡ false = stands_in-filter E xs a ∙ ap (λ b. b && E a) new in
-          let old : stands_in a before ≡ true = or_last (stands_in a before) (stands_in a (filter E xs)) (sym (stands-meeting a before (filter E xs)) ∙ here) unmet in
+          let old : stands_in a before ≡ true = or_last (stands_in a before) (stands_in a (filter E xs)) (sym (stands-with_unseen a before (filter E xs)) ∙ here) unmet in
           let all : (m : ℕ) → stands_in m (filter E (a ∷ rest)) ≡ true → stands_in m met ≡ true = λ m s. elim (in_tail E a rest m s) [
             | inl same ↦ subst (λ (k : ℕ). stands_in k met ≡ true) same here
-            | inr t ↦ stands-meeting m before (filter E xs)
+            | inr t ↦ stands-with_unseen m before (filter E xs)
                 ∙ or_left (stands_in m before) (stands_in m (filter E xs)) (sym (has.seen m) ∙ closed a m (has.seen a ∙ old) (ap (λ ns. stands_in m (filter E ns)) (sym up) ∙ t))
           ] in
           let split : filter E (ancestors forest n) ≡ filter E xs ++ filter E (a ∷ rest) = ap (filter E) is ∙ filter-append E xs (a ∷ rest) in
-          subst (HasMet now) (sym (ap (meeting before) split ∙ meeting-append before (filter E xs) (filter E (a ∷ rest)) ∙ all_met_before met (filter E (a ∷ rest)) all)) then;
+          subst (HasGathered now) (sym (ap (with_unseen before) split ∙ with_unseen-append before (filter E xs) (filter E (a ∷ rest)) ∙ all_met_before met (filter E (a ∷ rest)) all)) then;
     }
 
 pub climb_starts : (start : Gathered) (n : ℕ) → ClimbsOn start start n (ancestors start.tree.now n)
-climb_starts start n = ([], meets_nothing start, refl)
+climb_starts start n = ([], gathers_nothing start, refl)
 
 -- one more is asked whether it is an element
-pub climbs_one : (start now next : Gathered) (n a : ℕ) (it rest : List ℕ) → ClimbsOn start now n it → it ≡ a ∷ rest → Meets now next (filter (element_at now.tree.now) (a ∷ [])) → ClimbsOn start next n rest
-climbs_one start now next n a it rest (xs, meets, is) split m =
+pub climbs_one : (start now next : Gathered) (n a : ℕ) (it rest : List ℕ) → ClimbsOn start now n it → it ≡ a ∷ rest → Gathers now next (filter (element_at now.tree.now) (a ∷ [])) → ClimbsOn start next n rest
+climbs_one start now next n a it rest (xs, gathers, is) split m =
     let E = element_at start.tree.now in
-    let more : Meets now next (filter E (a ∷ [])) = subst (λ tree. Meets now next (filter (element_at tree.now) (a ∷ []))) meets.tree m in (
+    let more : Gathers now next (filter E (a ∷ [])) = subst (λ tree. Gathers now next (filter (element_at tree.now) (a ∷ []))) gathers.tree m in (
       xs ++ a ∷ [],
-      subst (Meets start next) (sym (filter-append E xs (a ∷ []))) (meets_then start now next (filter E xs) (filter E (a ∷ [])) meets more),
+      subst (Gathers start next) (sym (filter-append E xs (a ∷ []))) (gathers_then start now next (filter E xs) (filter E (a ∷ [])) gathers more),
       is ∙ ap (λ ns. xs ++ ns) split ∙ sym (append_assoc xs (a ∷ []) rest),
     )
 
-pub climbs_end : (start now : Gathered) (n : ℕ) → ClimbsOn start now n [] → Meets start now (elements_above None start.tree.now n)
-climbs_end start now n (xs, meets, is) = subst (λ ns. Meets start now (filter (element_at start.tree.now) ns)) (sym (is ∙ append-nil xs)) meets
+pub climbs_end : (start now : Gathered) (n : ℕ) → ClimbsOn start now n [] → Gathers start now (elements_above None start.tree.now n)
+climbs_end start now n (xs, gathers, is) = subst (λ ns. Gathers start now (filter (element_at start.tree.now) ns)) (sym (is ∙ append-nil xs)) gathers
 
 -- ---- a step from each node
 
-pub closed_start : (step : Step) (g : Gathered) → HasMet g [] → IsClosedFor step g
+pub closed_start : (step : Relation) (g : Gathered) → HasGathered g [] → IsClosedFor step g
 closed_start Above g has = λ n m seen above. absurd (true≢false (sym seen ∙ has.seen n))
 closed_start Parent g has = tt
 closed_start Children g has = tt
@@ -164,26 +164,26 @@ closed_start (Ancestors most) g has = tt
 closed_start Next g has = tt
 closed_start Prev g has = tt
 
-closed_above : (old new : Gathered) (n : ℕ) (before : List ℕ) → IsForest old.tree.now → HasMet old before → IsClosed old.tree.now old.seen → Meets old new (elements_above None old.tree.now n) → IsClosed old.tree.now new.seen
-closed_above old new n before good has closed meets k m seen above =
+closed_above : (old new : Gathered) (n : ℕ) (before : List ℕ) → IsForest old.tree.now → HasGathered old before → IsClosed old.tree.now old.seen → Gathers old new (elements_above None old.tree.now n) → IsClosed old.tree.now new.seen
+closed_above old new n before good has closed gathers k m seen above =
     let forest = old.tree.now in
     let found = elements_above None forest n in
-    let then : HasMet new (meeting before found) = meets.met before has in
-    let where_k : (stands_in k before || stands_in k found) ≡ true = sym (stands-meeting k before found) ∙ sym (then.seen k) ∙ seen in
-    then.seen m ∙ stands-meeting m before found ∙ elim (or_cases (stands_in k before) (stands_in k found) where_k) [
+    let then : HasGathered new (with_unseen before found) = gathers.met before has in
+    let where_k : (stands_in k before || stands_in k found) ≡ true = sym (stands-with_unseen k before found) ∙ sym (then.seen k) ∙ seen in
+    then.seen m ∙ stands-with_unseen m before found ∙ elim (or_cases (stands_in k before) (stands_in k found) where_k) [
       | inl t ↦ or_left (stands_in m before) (stands_in m found) (sym (has.seen m) ∙ closed k m (has.seen k ∙ t) above)
       | inr t ↦ or_right (stands_in m before) (stands_in m found) (above_trans forest n k m good t above)
     ]
 
 -- what is closed stays so
-pub closed_on : (step : Step) (start old new : Gathered) (all left : List ℕ) (n : ℕ) → IsForest old.tree.now → HasMet start [] → GoesOn start old all left → IsClosedFor step old → Meets old new (step_of step old.tree.now n) → IsClosedFor step new
-closed_on Above start old new all left n good none (xs, met, is) closed meets =
-    subst (λ tree. IsClosed tree.now new.seen) (sym meets.tree) (closed_above old new n (meeting [] xs) good (met.met [] none) closed meets)
-closed_on Parent start old new all left n good none on closed meets = tt
-closed_on Children start old new all left n good none on closed meets = tt
-closed_on (Ancestors most) start old new all left n good none on closed meets = tt
-closed_on Next start old new all left n good none on closed meets = tt
-closed_on Prev start old new all left n good none on closed meets = tt
+pub closed_on : (step : Relation) (start old new : Gathered) (all left : List ℕ) (n : ℕ) → IsForest old.tree.now → HasGathered start [] → GoesOn start old all left → IsClosedFor step old → Gathers old new (related_by step old.tree.now n) → IsClosedFor step new
+closed_on Above start old new all left n good none (xs, met, is) closed gathers =
+    subst (λ tree. IsClosed tree.now new.seen) (sym gathers.tree) (closed_above old new n (with_unseen [] xs) good (met.met [] none) closed gathers)
+closed_on Parent start old new all left n good none on closed gathers = tt
+closed_on Children start old new all left n good none on closed gathers = tt
+closed_on (Ancestors most) start old new all left n good none on closed gathers = tt
+closed_on Next start old new all left n good none on closed gathers = tt
+closed_on Prev start old new all left n good none on closed gathers = tt
 
 -- no depth, or 0, is no limit
 pub no_limit : (nodes : List NodeRef) → gathered (elements_above (Some 0)) nodes ≡ gathered (elements_above None) nodes

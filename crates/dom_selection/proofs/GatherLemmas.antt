@@ -7,8 +7,8 @@ use Rattle.dom_links.specs.Lists.{stands_in}
 use Rattle.dom_trees.specs.declared.node_ref.NodeRef.{NodeRef}
 use Rattle.dom_trees.specs.Views.{refs_to}
 use Rattle.dom_selection.specs.declared.selection.gathering.Gathered.{Gathered}
-use Rattle.dom_selection.specs.Gathering.{HasMet, Meets}
-use Rattle.dom_selection.specs.Seen.{HaveSame, meeting}
+use Rattle.dom_selection.specs.Gathering.{HasGathered, Gathers}
+use Rattle.dom_selection.specs.Seen.{HaveSame, with_unseen}
 use Rattle.dom_select.specs.Selected.{first_occurrences}
 use Rattle.dom_selection.specs.Selections.{ids_of, tree_of, gathered}
 use Rattle.dom_links.specs.ListMoves.{element_at}
@@ -16,17 +16,17 @@ use Rattle.std.proofs.Common.{Some, None, get_or, drop, length, ◌<◌, ◌≤�
 use Rattle.std.proofs.lemmas.List.{drop_all}
 use Rattle.std.proofs.lemmas.Option.{none-some, same_Some}
 
-pub meeting-append : (met xs ys : List ℕ) → meeting met (xs ++ ys) ≡ meeting (meeting met xs) ys
-meeting-append met [] ys = refl
-meeting-append met (n ∷ xs) ys = meeting-append (cond (stands_in n met) met (met ++ n ∷ [])) xs ys
+pub with_unseen-append : (met xs ys : List ℕ) → with_unseen met (xs ++ ys) ≡ with_unseen (with_unseen met xs) ys
+with_unseen-append met [] ys = refl
+with_unseen-append met (n ∷ xs) ys = with_unseen-append (cond (stands_in n met) met (met ++ n ∷ [])) xs ys
 
-pub meets_nothing : (g : Gathered) → Meets g g []
-meets_nothing g = record { tree = refl; met = λ before has. has }
+pub gathers_nothing : (g : Gathered) → Gathers g g []
+gathers_nothing g = record { tree = refl; met = λ before has. has }
 
-pub meets_then : (a b c : Gathered) (xs ys : List ℕ) → Meets a b xs → Meets b c ys → Meets a c (xs ++ ys)
-meets_then a b c xs ys m n = record {
+pub gathers_then : (a b c : Gathered) (xs ys : List ℕ) → Gathers a b xs → Gathers b c ys → Gathers a c (xs ++ ys)
+gathers_then a b c xs ys m n = record {
   tree = n.tree ∙ m.tree;
-  met = λ before has. subst (HasMet c) (sym (meeting-append before xs ys)) (n.met (meeting before xs) (m.met before has));
+  met = λ before has. subst (HasGathered c) (sym (with_unseen-append before xs ys)) (n.met (with_unseen before xs) (m.met before has));
 }
 
 -- what stands in a list and one more
@@ -49,12 +49,12 @@ first_occurrences-same a b (n ∷ ns) same =
     ∙ ap (λ ms. cond (stands_in n b) (first_occurrences b ns) (n ∷ ms)) (first_occurrences-same (n ∷ a) (n ∷ b) ns (λ m. ap (λ t. (n == m) || t) (same m)))
 
 -- those met are each number where it stands first
-pub meeting-first : (met ns : List ℕ) → meeting met ns ≡ met ++ first_occurrences met ns
-meeting-first met [] = sym (append-nil met)
-meeting-first met (n ∷ ns) =
-    elim (stands_in n met) as (λ t. meeting (cond t met (met ++ n ∷ [])) ns ≡ met ++ cond t (first_occurrences met ns) (n ∷ first_occurrences (n ∷ met) ns)) [
-      | true ↦ meeting-first met ns
-      | false ↦ meeting-first (met ++ n ∷ []) ns ∙ append_assoc met (n ∷ []) (first_occurrences (met ++ n ∷ []) ns)
+pub with_unseen-first : (met ns : List ℕ) → with_unseen met ns ≡ met ++ first_occurrences met ns
+with_unseen-first met [] = sym (append-nil met)
+with_unseen-first met (n ∷ ns) =
+    elim (stands_in n met) as (λ t. with_unseen (cond t met (met ++ n ∷ [])) ns ≡ met ++ cond t (first_occurrences met ns) (n ∷ first_occurrences (n ∷ met) ns)) [
+      | true ↦ with_unseen-first met ns
+      | false ↦ with_unseen-first (met ++ n ∷ []) ns ∙ append_assoc met (n ∷ []) (first_occurrences (met ++ n ∷ []) ns)
           ∙ ap (λ ms. met ++ n ∷ ms) (first_occurrences-same (met ++ n ∷ []) (n ∷ met) ns (λ m. sym (stands-append m n met)))
     ]
 
@@ -64,12 +64,12 @@ refs-append tree [] id = refl
 refs-append tree (n ∷ ns) id = ap (λ refs. record { id = n; tree = tree } ∷ refs) (refs-append tree ns id)
 
 -- a node that wasn't seen is met
-pub meets_new : (old new : Gathered) (id : ℕ) (node : NodeRef) → new.tree ≡ old.tree → stands_in id old.seen ≡ false → HaveSame (id ∷ old.seen) new.seen
-    → node ≡ record { id = id; tree = old.tree } → new.nodes.items ≡ old.nodes.items ++ node ∷ [] → Meets old new (id ∷ [])
-meets_new old new id node same unseen seen is pushed = record {
+pub gathers_new : (old new : Gathered) (id : ℕ) (node : NodeRef) → new.tree ≡ old.tree → stands_in id old.seen ≡ false → HaveSame (id ∷ old.seen) new.seen
+    → node ≡ record { id = id; tree = old.tree } → new.nodes.items ≡ old.nodes.items ++ node ∷ [] → Gathers old new (id ∷ [])
+gathers_new old new id node same unseen seen is pushed = record {
   tree = same;
   met = λ before has.
-      subst (λ t. HasMet new (cond t before (before ++ id ∷ []))) (sym (sym (has.seen id) ∙ unseen)) (record {
+      subst (λ t. HasGathered new (cond t before (before ++ id ∷ []))) (sym (sym (has.seen id) ∙ unseen)) (record {
         nodes = pushed ∙ ap (λ refs. refs ++ node ∷ []) has.nodes ∙ ap (λ ref. refs_to old.tree before ++ ref ∷ []) is ∙ sym (refs-append old.tree before id) ∙ ap (λ tree. refs_to tree (before ++ id ∷ [])) (sym same);
         seen = λ n. seen n ∙ ap (λ t. (id == n) || t) (has.seen n) ∙ sym (stands-append n id before);
       });
@@ -77,16 +77,16 @@ meets_new old new id node same unseen seen is pushed = record {
 
 -- some were met, and these are left
 abbrev pub GoesOn : Gathered → Gathered → List ℕ → List ℕ → Type 0
-GoesOn start now all left = (xs : List ℕ) × Meets start now xs × (all ≡ xs ++ left)
+GoesOn start now all left = (xs : List ℕ) × Gathers start now xs × (all ≡ xs ++ left)
 
 pub goes_start : (g : Gathered) (all : List ℕ) → GoesOn g g all all
-goes_start g all = ([], meets_nothing g, refl)
+goes_start g all = ([], gathers_nothing g, refl)
 
-pub goes_step : (start now next : Gathered) (all xs left : List ℕ) → GoesOn start now all (xs ++ left) → Meets now next xs → GoesOn start next all left
-goes_step start now next all xs left (met, meets, is) m = (met ++ xs, meets_then start now next met xs meets m, is ∙ sym (append_assoc met xs left))
+pub goes_step : (start now next : Gathered) (all xs left : List ℕ) → GoesOn start now all (xs ++ left) → Gathers now next xs → GoesOn start next all left
+goes_step start now next all xs left (met, gathers, is) m = (met ++ xs, gathers_then start now next met xs gathers m, is ∙ sym (append_assoc met xs left))
 
-pub goes_end : (start now : Gathered) (all : List ℕ) → GoesOn start now all [] → Meets start now all
-goes_end start now all (met, meets, is) = subst (Meets start now) (sym (is ∙ append-nil met)) meets
+pub goes_end : (start now : Gathered) (all : List ℕ) → GoesOn start now all [] → Gathers start now all
+goes_end start now all (met, gathers, is) = subst (Gathers start now) (sym (is ∙ append-nil met)) gathers
 
 pub filter-one : (p : ℕ → Bool) (x : ℕ) (xs : List ℕ) → filter p (x ∷ xs) ≡ filter p (x ∷ []) ++ filter p xs
 filter-one p x xs = elim (p x) as (λ t. cond t (x ∷ filter p xs) (filter p xs) ≡ cond t (x ∷ []) [] ++ filter p xs) [
@@ -103,24 +103,24 @@ unseen id seen t e f = not_true (stands_in id seen) t e f
 
 -- one more node is asked whether it is an element
 pub goes_on_elements : (start now next : Gathered) (all it rest : List ℕ) (n : ℕ) → GoesOn start now all (filter (element_at start.tree.now) it) → it ≡ n ∷ rest
-    → Meets now next (filter (element_at now.tree.now) (n ∷ [])) → GoesOn start next all (filter (element_at start.tree.now) rest)
+    → Gathers now next (filter (element_at now.tree.now) (n ∷ [])) → GoesOn start next all (filter (element_at start.tree.now) rest)
 goes_on_elements start now next all it rest n on is m =
     let split = ap (filter (element_at start.tree.now)) is ∙ filter-one (element_at start.tree.now) n rest in
-    let more : Meets now next (filter (element_at start.tree.now) (n ∷ [])) = subst (λ tree. Meets now next (filter (element_at tree.now) (n ∷ []))) on.1.tree m in
+    let more : Gathers now next (filter (element_at start.tree.now) (n ∷ [])) = subst (λ tree. Gathers now next (filter (element_at tree.now) (n ∷ []))) on.1.tree m in
     goes_step start now next all _ _ (subst (GoesOn start now all) split on) more
 
 -- one more node leads on
 pub goes_on_from : (start now next : Gathered) (step : Forest → ℕ → List ℕ) (all : List ℕ) (it rest : List NodeRef) (node : NodeRef) → GoesOn start now all (flat_map (step start.tree.now) (ids_of it)) → it ≡ node ∷ rest
-    → Meets now next (step now.tree.now node.id) → GoesOn start next all (flat_map (step start.tree.now) (ids_of rest))
+    → Gathers now next (step now.tree.now node.id) → GoesOn start next all (flat_map (step start.tree.now) (ids_of rest))
 goes_on_from start now next step all it rest node on is m =
-    let more : Meets now next (step start.tree.now node.id) = subst (λ tree. Meets now next (step tree.now node.id)) on.1.tree m in
+    let more : Gathers now next (step start.tree.now node.id) = subst (λ tree. Gathers now next (step tree.now node.id)) on.1.tree m in
     goes_step start now next all (step start.tree.now node.id) _ (subst (λ nodes. GoesOn start now all (flat_map (step start.tree.now) (ids_of nodes))) is on) more
 
 -- all that was met, each once
-pub all_met : (start now : Gathered) (all : List ℕ) → HasMet start [] → GoesOn start now all [] → now.nodes.items ≡ refs_to start.tree (first_occurrences [] all)
+pub all_met : (start now : Gathered) (all : List ℕ) → HasGathered start [] → GoesOn start now all [] → now.nodes.items ≡ refs_to start.tree (first_occurrences [] all)
 all_met start now all none on =
     let end = goes_end start now all on in
-    (end.met [] none).nodes ∙ ap (refs_to now.tree) (meeting-first [] all) ∙ ap (λ tree. refs_to tree (first_occurrences [] all)) end.tree
+    (end.met [] none).nodes ∙ ap (refs_to now.tree) (with_unseen-first [] all) ∙ ap (λ tree. refs_to tree (first_occurrences [] all)) end.tree
 
 pub gathered_in : (nodes found : List NodeRef) (step : Forest → ℕ → List ℕ) (tree : Bor Forest) → tree_of nodes ≡ Some tree
     → found ≡ refs_to tree (first_occurrences [] (flat_map (step tree.now) (ids_of nodes))) → found ≡ gathered step nodes
@@ -137,7 +137,7 @@ pub left_from : (nodes : List NodeRef) (i : ℕ) (node : NodeRef) → i < length
 left_from nodes i node within is = rw add-one (drop-cons nodes i node within ∙ ap (λ x. x ∷ drop (suc i) nodes) (sym is))
 
 -- at the end the nodes are where the step leads from all
-pub met_all : (start now : Gathered) (step : Forest → ℕ → List ℕ) (nodes : List NodeRef) (i : ℕ) → HasMet start [] → length nodes ≤ i
+pub met_all : (start now : Gathered) (step : Forest → ℕ → List ℕ) (nodes : List NodeRef) (i : ℕ) → HasGathered start [] → length nodes ≤ i
     → GoesOn start now (flat_map (step start.tree.now) (ids_of nodes)) (flat_map (step start.tree.now) (ids_of (drop i nodes)))
     → now.nodes.items ≡ refs_to start.tree (first_occurrences [] (flat_map (step start.tree.now) (ids_of nodes)))
 met_all start now step nodes i none past on =

@@ -8,14 +8,11 @@ use Rattle.dom_trees.specs.declared.node_ref.NodeRef.{NodeRef}
 use Rattle.dom_trees.specs.Views.{refs_to}
 use Rattle.dom_selectors.specs.Syntax.{SelectorList}
 use Rattle.dom_select.specs.Descendants.{GivesMatch, IsFirstMatch, IsMatch, Matches, ToCome}
-use Rattle.dom_select.specs.MatcherIters.{matches_of}
-use Rattle.dom_select.specs.declared.matcher.matcher_iter.MatcherIter.{MatcherIter}
 use Rattle.dom_select.specs.Meaning.{Means}
 use Rattle.dom_index.specs.Index.{Finds}
 use Rattle.dom_links.specs.Lists.{without}
-use Rattle.dom_select.specs.Selected.{Picks, Selected, walks_below}
-use Rattle.dom_select.proofs.MatchLemmas.{come_next}
-use Rattle.dom_selection.specs.Selecting.{Adds, Keeps, Selects, SelectsFirst}
+use Rattle.dom_select.specs.Selected.{FiltersTo, Selected, walks_below}
+use Rattle.dom_selection.specs.Selecting.{Adds, Keeps, Selects, SelectsFirst, WillSelect}
 use Rattle.dom_selection.specs.Selections.{HasOneTree, added, ids_of, refs_in, tree_of}
 use Rattle.dom_selection.proofs.GatherLemmas.{refs-append}
 use Rattle.dom_selection.proofs.SelectionLemmas.{ids_of-refs_to, one_tree_of}
@@ -29,14 +26,14 @@ MeansIn selector (node ∷ nodes) n = Means selector node.tree.now n
 -- some were kept, and these are left to be asked
 abbrev pub KeptSoFar : SelectorList → List NodeRef → List NodeRef → List NodeRef → Type 0
 KeptSoFar selector all kept left =
-    (ids : List ℕ) × (kept ≡ refs_in all ids) × ((rest : List ℕ) → Picks (MeansIn selector all) (ids_of left) rest → Picks (MeansIn selector all) (ids_of all) (ids ++ rest))
+    (ids : List ℕ) × (kept ≡ refs_in all ids) × ((rest : List ℕ) → FiltersTo (MeansIn selector all) (ids_of left) rest → FiltersTo (MeansIn selector all) (ids_of all) (ids ++ rest))
 
 refs_in-none : (nodes : List NodeRef) → [] ≡ refs_in nodes []
 refs_in-none [] = refl
 refs_in-none (node ∷ nodes) = refl
 
 pub kept_none : (selector : SelectorList) (all left : List NodeRef) → left ≡ all → KeptSoFar selector all [] left
-kept_none selector all left e = ([], refs_in-none all, λ rest h. subst (λ ns. Picks (MeansIn selector all) (ids_of ns) rest) e h)
+kept_none selector all left e = ([], refs_in-none all, λ rest h. subst (λ ns. FiltersTo (MeansIn selector all) (ids_of ns) rest) e h)
 
 refs_in-more : (all : List NodeRef) (tree : Bor Forest) (ids : List ℕ) (n : ℕ) (node : NodeRef) → tree_of all ≡ Some tree → node ≡ record { id = n; tree = tree } → refs_in all ids ++ node ∷ [] ≡ refs_in all (ids ++ n ∷ [])
 refs_in-more [] tree ids n node first is = absurd (none-some tree first)
@@ -55,21 +52,21 @@ keep_one selector all kept rest left tree n node true first is split means (ids,
   ids ++ n ∷ [],
   ap (λ ns. ns ++ node ∷ []) refs ∙ refs_in-more all tree ids n node first is,
   λ more h.
-      subst (Picks (MeansIn selector all) (ids_of all)) (sym (append_assoc ids (n ∷ []) more))
-      (on (n ∷ more) (subst (λ ns. Picks (MeansIn selector all) ns (n ∷ more)) (sym split) (inl (subst (λ (X : Type 0). X) (sym (means_in selector all tree n first)) means, more, refl, h)))),
+      subst (FiltersTo (MeansIn selector all) (ids_of all)) (sym (append_assoc ids (n ∷ []) more))
+      (on (n ∷ more) (subst (λ ns. FiltersTo (MeansIn selector all) ns (n ∷ more)) (sym split) (inl (subst (λ (X : Type 0). X) (sym (means_in selector all tree n first)) means, more, refl, h)))),
 )
 keep_one selector all kept rest left tree n node false first is split out (ids, refs, on) = (
   ids,
   append-nil kept ∙ refs,
   λ more h.
-      on more (subst (λ ns. Picks (MeansIn selector all) ns more) (sym split) (inr ((λ m. out (subst (λ (X : Type 0). X) (means_in selector all tree n first) m)), h))),
+      on more (subst (λ ns. FiltersTo (MeansIn selector all) ns more) (sym split) (inr ((λ m. out (subst (λ (X : Type 0). X) (means_in selector all tree n first) m)), h))),
 )
 
 -- all were asked
 pub keeps_all : (selector : SelectorList) (all kept : List NodeRef) (tree : Bor Forest) → tree_of all ≡ Some tree → KeptSoFar selector all kept [] → Keeps selector all kept
 keeps_all selector [] kept tree first so_far = absurd (none-some tree first)
 keeps_all selector (one ∷ all) kept tree first (ids, refs, on) =
-    (ids, subst (Picks (MeansIn selector (one ∷ all)) (ids_of (one ∷ all))) (append-nil ids) (on [] refl), refs)
+    (ids, subst (FiltersTo (MeansIn selector (one ∷ all)) (ids_of (one ∷ all))) (append-nil ids) (on [] refl), refs)
 
 pub kept_tree : (selector : SelectorList) (all kept left : List NodeRef) → KeptSoFar selector all kept left → HasOneTree kept
 kept_tree selector [] kept left (ids, refs, on) = subst HasOneTree (sym refs) tt
@@ -85,6 +82,17 @@ found_selects selector (one ∷ nodes) tree found first (ids, selected, is) =
       is ∙ ap (λ (t : Bor Forest). refs_to t ids) (sym here),
     )
 
+-- what a walk below the nodes will give is what is selected below them
+pub will_select : (selector : SelectorList) (nodes lent : List NodeRef) (tree : Bor Forest) (walk : Matches) → tree_of nodes ≡ Some tree → lent ≡ nodes → walk.tree ≡ tree
+    → ((ids : List ℕ) → ToCome walk ids → Selected tree.now (ids_of lent) selector ids) → WillSelect selector nodes walk
+will_select selector nodes lent tree walk first same at selected ids to_come =
+    subst (λ (t : Bor Forest). Selects selector nodes (refs_to t ids)) (sym at)
+    (found_selects selector nodes tree (refs_to tree ids) first (ids, subst (λ ns. Selected tree.now (ids_of ns) selector ids) same (selected ids to_come), refl))
+
+pub no_nodes : (nodes : List NodeRef) → tree_of nodes ≡ None → nodes ≡ []
+no_nodes [] none = refl
+no_nodes (node ∷ nodes) none = absurd (none-some node.tree (sym none))
+
 pub found_tree : (tree : Bor Forest) (roots : List ℕ) (selector : SelectorList) (found : List NodeRef) → Finds tree roots selector found → HasOneTree found
 found_tree tree roots selector found (ids, selected, is) = one_tree_of found tree ids is
 
@@ -95,7 +103,7 @@ first_none selector [] tree ids walk later first here left same asked given = ab
 first_none selector (one ∷ nodes) tree ids walk later first here left same asked given =
     let at : walk.tree ≡ one.tree = same ∙ sym (same_Some one.tree tree first) in
     let all : walk.left ≡ walks_below one.tree.now (ids_of (one ∷ nodes)) = left ∙ ap (λ (t : Bor Forest). walks_below t.now ids) (sym (same_Some one.tree tree first)) ∙ ap (walks_below one.tree.now) here in
-    ([], subst (λ ns. Picks (IsMatch selector one.tree.now) ns []) all (subst (λ (t : Bor Forest). Picks (IsMatch selector t.now) walk.left []) at (subst (λ l. Picks (IsMatch l walk.tree.now) walk.left []) asked given.first.0)), refl)
+    ([], subst (λ ns. FiltersTo (IsMatch selector one.tree.now) ns []) all (subst (λ (t : Bor Forest). FiltersTo (IsMatch selector t.now) walk.left []) at (subst (λ l. FiltersTo (IsMatch l walk.tree.now) walk.left []) asked given.first.0)), refl)
 
 -- the first that is to come
 pub first_some : (selector : SelectorList) (nodes : List NodeRef) (tree : Bor Forest) (ids : List ℕ) (walk later : Matches) (node : NodeRef) → tree_of nodes ≡ Some tree → ids ≡ ids_of nodes → walk.left ≡ walks_below tree.now ids → walk.tree ≡ tree → walk.selector ≡ selector
@@ -113,7 +121,7 @@ first_some selector (one ∷ nodes) tree ids walk later node first here left sam
         met.passed,
         later.left,
         sym all ∙ met.stands,
-        subst (λ (t : Bor Forest). Picks (Is selector t) met.passed []) at (subst (λ l. Picks (Is l walk.tree) met.passed []) asked met.none_before),
+        subst (λ (t : Bor Forest). FiltersTo (Is selector t) met.passed []) at (subst (λ l. FiltersTo (Is l walk.tree) met.passed []) asked met.none_before),
       ),
       ap (λ (t : Bor Forest). record { id = node.id; tree = t } ∷ []) (met.tree ∙ at),
     )

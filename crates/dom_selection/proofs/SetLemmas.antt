@@ -1,5 +1,5 @@
 -- Lists of nodes as sets.
-use Rattle.std.proofs.Common.{ℕ, ◌≡◌, ◌≢◌, ◌≤◌, ◌||◌, true, false, Bool, List, [], ◌∷◌, ◌++◌, Some, refl, ap, sym, ◌∙◌, cond, append_assoc, append-nil, not, filter, drop, length}
+use Rattle.std.proofs.Common.{ℕ, ◌≡◌, ◌≢◌, ◌≤◌, ◌==◌, ◌||◌, true, false, Bool, List, [], ◌∷◌, ◌++◌, Some, refl, ap, sym, ◌∙◌, cond, append_assoc, append-nil, not, filter, drop, length}
 use Rattle.std.proofs.lemmas.List.{drop_all}
 use Rattle.std.proofs.lemmas.Option.{none-some, same_Some}
 use Rattle.std.specs.List.{list_any}
@@ -9,7 +9,7 @@ use Rattle.dom_links.specs.Lists.{stands_in, without}
 use Rattle.dom_trees.specs.declared.node_ref.NodeRef.{NodeRef}
 use Rattle.dom_trees.specs.Views.{refs_to}
 use Rattle.dom_selection.specs.Seen.{HaveSame}
-use Rattle.dom_selection.specs.Selections.{HasOneTree, added, common, ids_of, refs_in, tree_of}
+use Rattle.dom_selection.specs.Selections.{HasOneTree, added, common, has_number, ids_of, refs_in, tree_of}
 use Rattle.dom_selection.proofs.SelectionLemmas.{one_tree_of}
 
 abbrev pub is_among : List NodeRef → NodeRef → Bool
@@ -89,3 +89,8 @@ pub any_same : (others seen : List ℕ) (nodes : List NodeRef) → HaveSame othe
 any_same others seen [] same = refl
 any_same others seen (node ∷ nodes) same =
     ap (λ t. t || list_any (λ (n : NodeRef). stands_in n.id seen) nodes) (same node.id) ∙ ap (λ t. stands_in node.id others || t) (any_same others seen nodes same)
+
+-- a number is that of one of the nodes
+pub any_id : (n : ℕ) (nodes : List NodeRef) → list_any (has_number n) nodes ≡ stands_in n (ids_of nodes)
+any_id n [] = refl
+any_id n (node ∷ nodes) = ap (λ t. (node.id == n) || t) (any_id n nodes)

@@ -3,27 +3,27 @@ use Rattle.std.specs.Prelude.{ℕ, ◌≡◌, true, List, None}
 use Rattle.dom_links.specs.Forest.{Forest}
 use Rattle.dom_links.specs.Lists.{stands_in}
 use Rattle.dom_trees.specs.Views.{refs_to}
-use Rattle.dom_selection.specs.Seen.{HaveSame, meeting}
+use Rattle.dom_selection.specs.Seen.{HaveSame, with_unseen}
 use Rattle.dom_selection.specs.Selections.{elements_above}
 use Rattle.dom_selection.specs.declared.selection.gathering.Gathered.{Gathered}
-use Rattle.dom_selection.specs.declared.selection.gathering.Step.{Step}
-use Rattle.dom_selection.specs.declared.selection.gathering.Step.TheVariants.{Above}
+use Rattle.dom_selection.specs.declared.selection.gathering.Relation.{Relation}
+use Rattle.dom_selection.specs.declared.selection.gathering.Relation.TheVariants.{Above}
 
 -- these were met so far, and no others
-pub record HasMet (gathered : Gathered) (met : List ℕ) : Type 0 where
+pub record HasGathered (gathered : Gathered) (met : List ℕ) : Type 0 where
   pub nodes : gathered.nodes.items ≡ refs_to gathered.tree met
   pub seen : HaveSame met gathered.seen
 
 -- these were met one after the other, in the same tree
-pub record Meets (old new : Gathered) (ids : List ℕ) : Type 0 where
+pub record Gathers (old new : Gathered) (ids : List ℕ) : Type 0 where
   pub tree : new.tree ≡ old.tree
-  pub met : (before : List ℕ) → HasMet old before → HasMet new (meeting before ids)
+  pub met : (before : List ℕ) → HasGathered old before → HasGathered new (with_unseen before ids)
 
 -- with each node that was seen, all elements above it were
 abbrev pub IsClosed : Forest → List ℕ → Type 0
 IsClosed forest seen = (n m : ℕ) → stands_in n seen ≡ true → stands_in m (elements_above None forest n) ≡ true → stands_in m seen ≡ true
 
 -- so it is where all ancestors are met
-abbrev pub IsClosedFor : Step → Gathered → Type 0
+abbrev pub IsClosedFor : Relation → Gathered → Type 0
 IsClosedFor Above gathered = IsClosed gathered.tree.now gathered.seen
 IsClosedFor step gathered = Unit {0}

@@ -7,6 +7,6 @@ abbrev pub HaveSame : List ℕ → List ℕ → Type 0
 HaveSame old new = (n : ℕ) → stands_in n new ≡ stands_in n old
 
 -- the numbers that were met, and then those that weren't met before, each once
-abbrev pub meeting : List ℕ → List ℕ → List ℕ
-meeting met [] = met
-meeting met (n ∷ ns) = meeting (if stands_in n met then met else met ++ n ∷ []) ns
+abbrev pub with_unseen : List ℕ → List ℕ → List ℕ
+with_unseen met [] = met
+with_unseen met (n ∷ ns) = with_unseen (if stands_in n met then met else met ++ n ∷ []) ns

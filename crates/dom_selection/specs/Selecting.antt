@@ -7,25 +7,29 @@ use Rattle.dom_trees.specs.declared.node_ref.NodeRef.{NodeRef}
 use Rattle.dom_trees.specs.Views.{refs_to}
 use Rattle.dom_selectors.specs.Grammar.{StandsFor}
 use Rattle.dom_selectors.specs.Syntax.{SelectorList}
-use Rattle.dom_select.specs.Descendants.{IsMatch}
+use Rattle.dom_select.specs.Descendants.{IsMatch, Matches, ToCome}
 use Rattle.dom_select.specs.Meaning.{Means}
-use Rattle.dom_select.specs.Selected.{Picks, Selected, walks_below}
+use Rattle.dom_select.specs.Selected.{FiltersTo, Selected, walks_below}
 use Rattle.dom_selection.specs.Selections.{ids_of}
 
--- these are the nodes of numbers of which it is told, of the forest and the numbers of the nodes, in their tree; none where
+-- the nodes of the numbers that stand in the relation to the forest and the numbers of the nodes, in their tree; none where
 -- there are no nodes
 abbrev pub AreFound : (Forest → List ℕ → List ℕ → Type 0) → List NodeRef → List NodeRef → Type 0
-AreFound Told [] found = found ≡ []
-AreFound Told (node ∷ nodes) found = (ids : List ℕ) × Told node.tree.now (ids_of (node ∷ nodes)) ids × (found ≡ refs_to node.tree ids)
+AreFound Decided [] found = found ≡ []
+AreFound Decided (node ∷ nodes) found = (ids : List ℕ) × Decided node.tree.now (ids_of (node ∷ nodes)) ids × (found ≡ refs_to node.tree ids)
 
 -- the selector selects these below the nodes
 abbrev pub Selects : SelectorList → List NodeRef → List NodeRef → Type 0
 Selects selector nodes found = AreFound (λ forest ns ids. Selected forest ns selector ids) nodes found
 
+-- whatever is still to come, the selector selects it below the nodes
+abbrev pub WillSelect : SelectorList → List NodeRef → Matches → Type 0
+WillSelect selector nodes walk = (ids : List ℕ) → ToCome walk ids → Selects selector nodes (refs_to walk.tree ids)
+
 -- the first of the numbers of which the fact holds, alone; none where it holds of none
 abbrev pub PicksFirst : (ℕ → Type 0) → List ℕ → List ℕ → Type 0
-PicksFirst P ns [] = Picks P ns []
-PicksFirst P ns (n ∷ more) = (more ≡ []) × P n × (passed : List ℕ) × (later : List ℕ) × (ns ≡ passed ++ n ∷ later) × Picks P passed []
+PicksFirst P ns [] = FiltersTo P ns []
+PicksFirst P ns (n ∷ more) = (more ≡ []) × P n × (passed : List ℕ) × (later : List ℕ) × (ns ≡ passed ++ n ∷ later) × FiltersTo P passed []
 
 -- the first of those that the selector selects below the nodes, alone; none where it selects none
 abbrev pub SelectsFirst : SelectorList → List NodeRef → List NodeRef → Type 0
@@ -33,7 +37,7 @@ SelectsFirst selector nodes found = AreFound (λ forest ns ids. PicksFirst (IsMa
 
 -- those of the nodes that the selector means
 abbrev pub Keeps : SelectorList → List NodeRef → List NodeRef → Type 0
-Keeps selector nodes found = AreFound (λ forest ns ids. Picks (Means selector forest) ns ids) nodes found
+Keeps selector nodes found = AreFound (λ forest ns ids. FiltersTo (Means selector forest) ns ids) nodes found
 
 -- the nodes, and then those that the selector selects below the root and that don't stand among them
 abbrev pub Adds : SelectorList → List NodeRef → List NodeRef → Type 0

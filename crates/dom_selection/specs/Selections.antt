@@ -1,5 +1,5 @@
 -- Lists of nodes of one tree, and what is made of them.
-use Rattle.std.specs.Prelude.{ℕ, ◌≡◌, Bool, List, [], ◌∷◌, ◌++◌, Option, Some, None, Result, IfOk, IfSome, filter, find, map}
+use Rattle.std.specs.Prelude.{ℕ, ◌≡◌, ◌==◌, Bool, List, [], ◌∷◌, ◌++◌, Option, Some, None, Result, IfOk, IfSome, filter, find, map}
 use Rattle.std.specs.Prelude.{false, true}
 use Rattle.std.specs.Borrow.{Bor}
 use Rattle.std.specs.List.{flat_map, list_any}
@@ -31,15 +31,15 @@ abbrev pub in_one_tree : List NodeRef → List NodeRef
 in_one_tree [] = []
 in_one_tree (node ∷ nodes) = refs_to node.tree (ids_of (node ∷ nodes))
 
--- what is told of the first node, or else the default
+-- the answer for the first node, or else the default
 abbrev pub at_first : {A : Type 0} → (Forest → ℕ → A) → A → List NodeRef → A
 at_first answer default [] = default
 at_first answer default (node ∷ nodes) = answer node.tree.now node.id
 
--- there is a first node, and this text is told of it
+-- there is a first node, and this is its text
 abbrev pub IsOfFirst : List ℕ → (Forest → ℕ → List ℕ) → List NodeRef → Type 0
-IsOfFirst text told [] = ⊥
-IsOfFirst text told (node ∷ nodes) = text ≡ told node.tree.now node.id
+IsOfFirst text answer [] = ⊥
+IsOfFirst text answer (node ∷ nodes) = text ≡ answer node.tree.now node.id
 
 -- the first node alone; none of none
 abbrev pub first_alone : List NodeRef → List NodeRef
@@ -98,6 +98,9 @@ refs_in (node ∷ nodes) ids = refs_to node.tree ids
 abbrev pub added : List NodeRef → List NodeRef → List NodeRef
 added [] others = others
 added (node ∷ nodes) others = (node ∷ nodes) ++ refs_in (node ∷ nodes) (without (ids_of (node ∷ nodes)) (ids_of others))
+
+abbrev pub has_number : ℕ → NodeRef → Bool
+has_number n node = node.id == n
 
 -- some number stands in both lists
 abbrev pub have_common : List NodeRef → List NodeRef → Bool

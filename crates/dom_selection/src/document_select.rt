@@ -1,4 +1,4 @@
-//! What selectors select in a document.
+//! The elements that selectors select in a document.
 
 ghost use Rattle.std.specs.Prelude.{◌≡◌, ◌≢◌, [], chars, IfErr, IfOk, MatchOption};
 ghost use Rattle.dom_links.specs.Forest.{Forest};
@@ -17,12 +17,12 @@ pub trait DocumentSelect {
     // The forest of the document.
     ghost forest: { Self → Forest };
 
-    /// The elements that one of the matcher's selectors means, each before those below it.
+    /// The elements that match one of the matcher's selectors, in preorder.
     fn select_matcher(&self, matcher: &Matcher) -> Result<Selection<'_>, OutOfMemory>
         ensures { IfOk result (SelectsIn matcher.now (forest self.now)) };
 
-    /// The elements that one of the selectors in the text means, each before those below it.
-    /// Refused as `Matcher::new` refuses the text.
+    /// The elements that match one of the selectors in the text, in preorder. Refused as
+    /// `Matcher::new` refuses the text.
     fn select(&self, selectors: &str) -> Result<Selection<'_>, SelectorFault>
         ensures ok { IfOk result (λ found.
             ByText selectors.now (λ list. SelectsIn list (forest self.now) found)) }
@@ -41,11 +41,11 @@ pub trait DocumentSelect {
             (λ some. (some ≢ [])
             × ByText selectors.now (λ list. SelectsIn list (forest self.now) some))) };
 
-    /// The first of what `select_matcher` gives, alone; none of none.
+    /// The first of what `select_matcher` returns, alone; none of none.
     fn select_single_matcher(&self, matcher: &Matcher) -> Result<Selection<'_>, OutOfMemory>
         ensures { IfOk result (SelectsFirstIn matcher.now (forest self.now)) };
 
-    /// The first of what `select` gives, alone; none of none.
+    /// The first of what `select` returns, alone; none of none.
     fn select_single(&self, selectors: &str) -> Result<Selection<'_>, SelectorFault>
         ensures ok { IfOk result (λ found.
             ByText selectors.now (λ list. SelectsFirstIn list (forest self.now) found)) }

@@ -19,6 +19,7 @@ mod asking;
 mod first_node;
 mod gathering;
 pub mod iter;
+mod printed;
 mod seen;
 mod selecting;
 mod sets;
@@ -172,8 +173,8 @@ impl<'a> Selection<'a> {
         }
     }
 
-    /// Where the selection's memory comes from. No clause: a contract sees the selection as the list
-    /// of its nodes, and this says nothing of it.
+    /// The allocator of the selection's memory. No clause: a contract sees the selection as the
+    /// list of its nodes, and this says nothing of it.
     pub fn allocator(&self) -> Global {
         match &self.nodes {
             Nodes::One(node) => node.tree.allocator(),

@@ -12,7 +12,7 @@ use Rattle.dom_selectors.specs.declared.syntax.Attribute.{Attribute}
 use Rattle.dom_selectors.specs.Strings.{is_quote}
 use Rattle.dom_selectors.specs.Attributes.{SpellsOperator, SpellsValue, SpellsFlag, SpellsCase, SpellsComparison, SpellsAsked, SpellsAttribute, flag_of}
 use Rattle.dom_selectors.proofs.Runs.{IsOnce}
-use Rattle.dom_selectors.proofs.NameLemmas.{both, told, name_once}
+use Rattle.dom_selectors.proofs.NameLemmas.{both, by_test, name_once}
 use Rattle.dom_selectors.proofs.StringLemmas.{string_once}
 
 pub operator_once : IsOnce SpellsOperator
@@ -94,7 +94,7 @@ pub case_from_flag : (text : List ℕ) → begins (λ d. nat_eq d 93) text ≡ f
 case_from_flag text e v rest h = subst (λ b. MatchBool b ((v ≡ CaseSensitive) × (text ≡ 93 ∷ rest)) (SpellsFlag v text rest)) (sym e) h
 
 pub flag_from_case : (text : List ℕ) → begins (λ d. nat_eq d 93) text ≡ false → (v : CaseSensitivity) (rest : List ℕ) → SpellsCase v text rest → SpellsFlag v text rest
-flag_from_case text e v rest h = told (begins (λ d. nat_eq d 93) text) _ _ _ (λ t _. absurd (true≢false (sym t ∙ e))) (λ _ p. p) h
+flag_from_case text e v rest h = by_test (begins (λ d. nat_eq d 93) text) _ _ _ (λ t _. absurd (true≢false (sym t ∙ e))) (λ _ p. p) h
 
 pub comparison_no_value : (text mid : List ℕ) (o : AttrOperator) → SpellsOperator o text mid → SpellsNone SpellsValue (after_white mid) → SpellsNone SpellsComparison text
 comparison_no_value text mid o h none v rest k =
@@ -110,7 +110,7 @@ comparison_no_case text mid after o value h valued none v rest k =
 
 pub asked_no_comparison : (text : List ℕ) → begins (λ d. nat_eq d 93) text ≡ false → SpellsNone SpellsComparison text → SpellsNone SpellsAsked text
 asked_no_comparison text e none v rest h =
-    told (begins (λ d. nat_eq d 93) text) _ _ _ (λ t _. true≢false (sym t ∙ e)) (λ _ p. none p.0 rest p.1) h
+    by_test (begins (λ d. nat_eq d 93) text) _ _ _ (λ t _. true≢false (sym t ∙ e)) (λ _ p. none p.0 rest p.1) h
 
 pub attribute_no_name : (text : List ℕ) → SpellsNone SpellsName (after_white text) → SpellsNone SpellsAttribute text
 attribute_no_name text none v rest h = none v.name h.after_name h.name

@@ -13,12 +13,12 @@ refuses_more TooDeep cause cause' P Q f h t = (f TooDeep t.0, h t.1)
 refuses_more Memory cause cause' P Q f h t = tt
 
 -- the same causes
-pub tells_more : (e : SelectorFault) (cause : SelectorFault → Type 0) (P Q : Type 0) → (P → Q) → Refuses cause e P → Refuses cause e Q
-tells_more e cause P Q h t = refuses_more e cause cause P Q (λ f k. k) h t
+pub refuses_wider : (e : SelectorFault) (cause : SelectorFault → Type 0) (P Q : Type 0) → (P → Q) → Refuses cause e P → Refuses cause e Q
+refuses_wider e cause P Q h t = refuses_more e cause cause P Q (λ f k. k) h t
 
 -- a fault where there was no pseudo-class
-pub told_so : (e : SelectorFault) (cause : SelectorFault → Type 0) (P Q : Type 0) → (P → Q) → Refuses no_other e P → Refuses cause e Q
-told_so e cause P Q h t = refuses_more e no_other cause P Q (λ f n. absurd n) h t
+pub refuses_without_cause : (e : SelectorFault) (cause : SelectorFault → Type 0) (P Q : Type 0) → (P → Q) → Refuses no_other e P → Refuses cause e Q
+refuses_without_cause e cause P Q h t = refuses_more e no_other cause P Q (λ f n. absurd n) h t
 
 -- the exit of a `?` that passes a fault on
 pub passed_on : {T : Type 0} (r : Result T SelectorFault) (e : SelectorFault) (P : T → Type 0) (F : SelectorFault → Type 0) → (y : SelectorFault) × (r ≡ Err y) × (y ≡ e) → F e → MatchResult r P F

@@ -7,7 +7,7 @@ use Rattle.dom_nodes.specs.declared.indexes.Signed.{Signed}
 use Rattle.dom_selectors.specs.declared.syntax.Combinator.{Combinator}
 use Rattle.dom_selectors.specs.declared.syntax.Combinator.TheVariants.{Descendant}
 use Rattle.dom_selectors.specs.declared.syntax.Pseudo.{Pseudo}
-use Rattle.dom_selectors.specs.declared.syntax.Room.{Room}
+use Rattle.dom_selectors.specs.declared.syntax.ParseContext.{ParseContext}
 use Rattle.dom_selectors.specs.Nth.{SpellsNumber, SpellsOffset, SpellsAfterNumber, SpellsUnsigned, SpellsNth, after_sign, begins_even, begins_odd, is_n, is_sign}
 use Rattle.dom_selectors.specs.Pseudos.{is_relative}
 use Rattle.dom_selectors.specs.Spelling.{Many}
@@ -17,7 +17,7 @@ use Rattle.dom_selectors.specs.Strings.{SpellsStringEscape, SpellsPiece, SpellsS
 use Rattle.dom_selectors.specs.Attributes.{SpellsOperator, SpellsValue, SpellsCase, SpellsComparison, SpellsAsked, SpellsAttribute}
 use Rattle.dom_selectors.specs.Syntax.{SelectorList}
 use Rattle.dom_selectors.specs.Grammar.{Opens, SpellsEnclosed, SpellsLead, SpellsWithin, combinator_of, SpellsForm, SpellsPseudo, SpellsItem, is_star, SpellsType, SpellsCompound, is_combinator, SpellsCombinator, SpellsStep, SpellsSelector, SpellsLater, SpellsList, SpellsInner}
-use Rattle.dom_selectors.proofs.NameLemmas.{told}
+use Rattle.dom_selectors.proofs.NameLemmas.{by_test}
 
 -- a number that a character at the front never makes less
 abbrev pub Grows : (List ℕ → ℕ) → Type 0
@@ -79,7 +79,7 @@ module _ (m : List ℕ → ℕ) (grows : Grows m) where
   escape_keeps : Keeps SpellsEscape
   escape_keeps v [] r h = absurd h
   escape_keeps v (c ∷ more) r h =
-      told (is_hex c) _ _ _
+      by_test (is_hex c) _ _ _
       (λ _ p. let is = ap m p.1 in let space = space_keeps (drop (hex_len (c ∷ more)) (c ∷ more)) in let long = drop_keeps (hex_len (c ∷ more)) (c ∷ more) in omega arith)
       (λ _ p. let is = ap m p.2 in let more = grows c more in omega arith)
       h
@@ -88,7 +88,7 @@ module _ (m : List ℕ → ℕ) (grows : Grows m) where
   name_char_keeps v [] r h = absurd h
   name_char_keeps v (c ∷ more) r h =
       let front = grows c more in
-      told (is_name_char c) _ _ _ (λ _ p. let is = ap m p.1 in omega arith) (λ _ p. let less = escape_keeps v more r p.1 in omega arith) h
+      by_test (is_name_char c) _ _ _ (λ _ p. let is = ap m p.1 in omega arith) (λ _ p. let less = escape_keeps v more r p.1 in omega arith) h
 
   pub name_keeps : Keeps SpellsName
   name_keeps v text r h = many_keeps SpellsNameChar name_char_keeps h.name text r h.run.each
@@ -110,14 +110,14 @@ module _ (m : List ℕ → ℕ) (grows : Grows m) where
 
   string_escape_keeps : Keeps SpellsStringEscape
   string_escape_keeps v text r h =
-      told (begins is_line_end text) _ _ _ (λ _ p. let is = ap m p.1 in let le = line_end_keeps text in omega arith)
+      by_test (begins is_line_end text) _ _ _ (λ _ p. let is = ap m p.1 in let le = line_end_keeps text in omega arith)
       (λ _ p. let le = escape_keeps p.0 text r p.1 in omega arith) h
 
   piece_keeps : (quote : ℕ) → Keeps (SpellsPiece quote)
   piece_keeps quote v [] r h = absurd h
   piece_keeps quote v (c ∷ more) r h =
       let front = grows c more in
-      told (nat_eq c 92) _ _ _ (λ _ p. let le = string_escape_keeps v more r p in omega arith) (λ _ p. let is = ap m p.2 in omega arith) h.1
+      by_test (nat_eq c 92) _ _ _ (λ _ p. let le = string_escape_keeps v more r p in omega arith) (λ _ p. let is = ap m p.2 in omega arith) h.1
 
   string_keeps : Keeps SpellsString
   string_keeps v text r h =
@@ -131,15 +131,15 @@ module _ (m : List ℕ → ℕ) (grows : Grows m) where
   operator_keeps v [] r h = absurd h
   operator_keeps v (c ∷ more) r h =
       let front = grows c more in
-      told (nat_eq c 61) _ _ _ (λ _ p. let is = ap m p.1 in omega arith) (λ _ p. let is = ap m p.1 in let sign = grows 61 r in omega arith) h
+      by_test (nat_eq c 61) _ _ _ (λ _ p. let is = ap m p.1 in omega arith) (λ _ p. let is = ap m p.1 in let sign = grows 61 r in omega arith) h
 
   value_keeps : Keeps SpellsValue
-  value_keeps v text r h = told (begins is_quote text) _ _ _ (λ _ p. string_keeps v text r p) (λ _ p. name_keeps v text r p) h
+  value_keeps v text r h = by_test (begins is_quote text) _ _ _ (λ _ p. string_keeps v text r p) (λ _ p. name_keeps v text r p) h
 
   case_keeps : Keeps SpellsCase
   case_keeps v text r h =
       let close = grows 93 r in
-      told (begins (λ c. nat_eq c 93) text) _ _ _ (λ _ p. let is = ap m p.1 in omega arith)
+      by_test (begins (λ c. nat_eq c 93) text) _ _ _ (λ _ p. let is = ap m p.1 in omega arith)
       (λ _ p. let name = name_keeps p.name text p.after p.named in let white = white_keeps p.after in let is = ap m p.closes in omega arith) h
 
   comparison_keeps : Keeps SpellsComparison
@@ -154,7 +154,7 @@ module _ (m : List ℕ → ℕ) (grows : Grows m) where
   asked_keeps : Keeps SpellsAsked
   asked_keeps v text r h =
       let close = grows 93 r in
-      told (begins (λ c. nat_eq c 93) text) _ _ _ (λ _ p. let is = ap m p.1 in omega arith) (λ _ p. comparison_keeps p.0 text r p.1) h
+      by_test (begins (λ c. nat_eq c 93) text) _ _ _ (λ _ p. let is = ap m p.1 in omega arith) (λ _ p. comparison_keeps p.0 text r p.1) h
 
   attribute_keeps : Keeps SpellsAttribute
   attribute_keeps v text r h =
@@ -166,14 +166,14 @@ module _ (m : List ℕ → ℕ) (grows : Grows m) where
 
   pub type_keeps : Keeps SpellsType
   type_keeps v text r h =
-      told (begins is_star text) _ _ _ (λ _ p. let is = ap m p.1 in let le = drop_keeps 1 text in omega arith)
-      (λ _ p. told (starts_name text) _ _ _ (λ _ x. name_keeps x.0 text r x.1) (λ _ x. let is = ap m x.1 in omega arith) p) h
+      by_test (begins is_star text) _ _ _ (λ _ p. let is = ap m p.1 in let le = drop_keeps 1 text in omega arith)
+      (λ _ p. by_test (starts_name text) _ _ _ (λ _ x. name_keeps x.0 text r x.1) (λ _ x. let is = ap m x.1 in omega arith) p) h
 
   pub combinator_keeps : Keeps SpellsCombinator
   combinator_keeps v [] r h = absurd h
   combinator_keeps v (c ∷ more) r h =
       let front = grows c more in
-      told (is_combinator c) _ _ _ (λ _ p. let is = ap m p.1 in let le = white_keeps more in omega arith) (λ _ p. let is = ap m p.1 in omega arith) h
+      by_test (is_combinator c) _ _ _ (λ _ p. let is = ap m p.1 in let le = white_keeps more in omega arith) (λ _ p. let is = ap m p.1 in omega arith) h
 
   pub number_keeps : Keeps SpellsNumber
   number_keeps v text r h = let is = ap m h.rest_is in let le = drop_keeps (digits_len text) text in omega arith
@@ -183,16 +183,16 @@ module _ (m : List ℕ → ℕ) (grows : Grows m) where
       let a = white_keeps text in
       let b = drop_keeps 1 (after_white text) in
       let d = white_keeps (drop 1 (after_white text)) in
-      told (begins is_sign (after_white text)) _ _ _ (λ _ p. let e = number_keeps p.0 _ r p.1 in omega arith) (λ _ p. let is = ap m p.1 in omega arith) h
+      by_test (begins is_sign (after_white text)) _ _ _ (λ _ p. let e = number_keeps p.0 _ r p.1 in omega arith) (λ _ p. let is = ap m p.1 in omega arith) h
 
   after_number_keeps : (number : Signed) → Keeps (SpellsAfterNumber number)
   after_number_keeps number v text r h =
       let a = drop_keeps 1 text in
-      told (begins is_n text) _ _ _ (λ _ p. let b = offset_keeps v.b (drop 1 text) r p.1 in omega arith) (λ _ p. let is = ap m p.2 in omega arith) h
+      by_test (begins is_n text) _ _ _ (λ _ p. let b = offset_keeps v.b (drop 1 text) r p.1 in omega arith) (λ _ p. let is = ap m p.2 in omega arith) h
 
   unsigned_keeps : (is_negative : Bool) → Keeps (SpellsUnsigned is_negative)
   unsigned_keeps is_negative v text r h =
-      told (begins is_n text) _ _ _ (λ _ p. after_number_keeps _ v text r p)
+      by_test (begins is_n text) _ _ _ (λ _ p. after_number_keeps _ v text r p)
       (λ _ p. let a = number_keeps p.0 text p.1 p.2 in let b = after_number_keeps _ v p.1 r p.3 in omega arith) h
 
   pub after_sign_keeps : (text : List ℕ) → m (after_sign text) ≤ m text
@@ -207,8 +207,8 @@ module _ (m : List ℕ → ℕ) (grows : Grows m) where
 
   pub nth_keeps : Keeps SpellsNth
   nth_keeps v text r h =
-      told (begins_even text) _ _ _ (λ _ p. let is = ap m p.1 in let le = drop_keeps 4 text in omega arith)
-      (λ _ p. told (begins_odd text) _ _ _ (λ _ x. let is = ap m x.1 in let le = drop_keeps 3 text in omega arith)
+      by_test (begins_even text) _ _ _ (λ _ p. let is = ap m p.1 in let le = drop_keeps 4 text in omega arith)
+      (λ _ p. by_test (begins_odd text) _ _ _ (λ _ x. let is = ap m x.1 in let le = drop_keeps 3 text in omega arith)
       (λ _ x. let a = after_sign_keeps text in let b = unsigned_keeps _ v (after_sign text) r x in omega arith) p) h
 
   pub opens_keeps : (depth : ℕ) (text r : List ℕ) → Opens depth text r → m r ≤ m text
@@ -241,51 +241,51 @@ module _ (m : List ℕ → ℕ) (grows : Grows m) where
       let le : m (after_white more) ≤ m (c ∷ more) = omega arith in
       led_keeps (combinator_of c) v (c ∷ more) (after_white more) r le h
 
-  module _ (room : Room) (Inner : Bool → SelectorList → List ℕ → List ℕ → Type 0) (inner_keeps : (relative : Bool) → Keeps (Inner relative)) where
-    form_keeps : (pseudo : Pseudo) → Keeps (SpellsForm room Inner pseudo)
+  module _ (context : ParseContext) (Inner : Bool → SelectorList → List ℕ → List ℕ → Type 0) (inner_keeps : (relative : Bool) → Keeps (Inner relative)) where
+    form_keeps : (pseudo : Pseudo) → Keeps (SpellsForm context Inner pseudo)
     form_keeps (Pseudo.Plain bare) v text r h = let is = ap m h.2 in omega arith
-    form_keeps (Pseudo.Listed q) v text r h = enclosed_keeps room.depth (Inner (is_relative q)) (inner_keeps (is_relative q)) h.1 text r h.2
-    form_keeps (Pseudo.Nth kind) v text r h = enclosed_keeps room.depth SpellsNth nth_keeps h.0 text r h.1
-    form_keeps (Pseudo.Text test) v text r h = enclosed_keeps room.depth SpellsString string_keeps h.0 text r h.1
+    form_keeps (Pseudo.Listed q) v text r h = enclosed_keeps context.depth (Inner (is_relative q)) (inner_keeps (is_relative q)) h.1 text r h.2
+    form_keeps (Pseudo.Nth kind) v text r h = enclosed_keeps context.depth SpellsNth nth_keeps h.0 text r h.1
+    form_keeps (Pseudo.Text test) v text r h = enclosed_keeps context.depth SpellsString string_keeps h.0 text r h.1
 
-    pseudo_keeps : Keeps (SpellsPseudo room Inner)
+    pseudo_keeps : Keeps (SpellsPseudo context Inner)
     pseudo_keeps v text r h =
         let a = name_keeps h.name text h.after h.named in
         let b = form_keeps h.pseudo v h.after r h.form in
         omega arith
 
     -- what follows an item is a part of what follows its first character
-    pub item_rest : (v : _) (c : ℕ) (more r : List ℕ) → SpellsItem room Inner v (c ∷ more) r → m r ≤ m more
+    pub item_rest : (v : _) (c : ℕ) (more r : List ℕ) → SpellsItem context Inner v (c ∷ more) r → m r ≤ m more
     item_rest v c more r h =
-        told (nat_eq c 35) _ _ (m r ≤ m more) (λ _ p. name_keeps p.0 more r p.1)
-        (λ _ p. told (nat_eq c 46) _ _ (m r ≤ m more) (λ _ p. name_keeps p.0 more r p.1)
-        (λ _ p. told (nat_eq c 91) _ _ (m r ≤ m more) (λ _ p. attribute_keeps p.0 more r p.1) (λ _ p. pseudo_keeps v more r p.1) p) p) h
+        by_test (nat_eq c 35) _ _ (m r ≤ m more) (λ _ p. name_keeps p.0 more r p.1)
+        (λ _ p. by_test (nat_eq c 46) _ _ (m r ≤ m more) (λ _ p. name_keeps p.0 more r p.1)
+        (λ _ p. by_test (nat_eq c 91) _ _ (m r ≤ m more) (λ _ p. attribute_keeps p.0 more r p.1) (λ _ p. pseudo_keeps v more r p.1) p) p) h
 
-    pub item_keeps : Keeps (SpellsItem room Inner)
+    pub item_keeps : Keeps (SpellsItem context Inner)
     item_keeps v [] r h = absurd h
     item_keeps v (c ∷ more) r h = let front = grows c more in let le = item_rest v c more r h in omega arith
 
-    pub compound_keeps : Keeps (SpellsCompound room Inner)
+    pub compound_keeps : Keeps (SpellsCompound context Inner)
     compound_keeps v text r h =
         let a = type_keeps h.front text h.after h.first in
-        let b = many_keeps (SpellsItem room Inner) item_keeps h.items h.after r h.run.each in
+        let b = many_keeps (SpellsItem context Inner) item_keeps h.items h.after r h.run.each in
         omega arith
 
-    pub step_keeps : Keeps (SpellsStep room Inner)
+    pub step_keeps : Keeps (SpellsStep context Inner)
     step_keeps v text r h =
         let a = white_keeps text in
         let b = combinator_keeps v.0 (after_white text) h.mid h.combinator in
         let d = compound_keeps v.1 h.mid r h.compound in
         omega arith
 
-    pub selector_keeps : Keeps (SpellsSelector room Inner)
+    pub selector_keeps : Keeps (SpellsSelector context Inner)
     selector_keeps v text r h =
-        let l = lead_keeps room.is_relative v.0 text h.begin h.lead in
+        let l = lead_keeps context.is_relative v.0 text h.begin h.lead in
         let a = compound_keeps v.1 h.begin h.after h.first in
-        let b = many_keeps (SpellsStep room Inner) step_keeps h.steps h.after r h.run.each in
+        let b = many_keeps (SpellsStep context Inner) step_keeps h.steps h.after r h.run.each in
         omega arith
 
-    pub later_keeps : Keeps (SpellsLater room Inner)
+    pub later_keeps : Keeps (SpellsLater context Inner)
     later_keeps v text r h =
         let a = white_keeps text in
         let b = drop_keeps 1 (after_white text) in
@@ -293,10 +293,10 @@ module _ (m : List ℕ → ℕ) (grows : Grows m) where
         let e = selector_keeps v _ r h.selector in
         omega arith
 
-    pub list_keeps : Keeps (SpellsList room Inner)
+    pub list_keeps : Keeps (SpellsList context Inner)
     list_keeps v text r h =
         let a = selector_keeps h.one text h.after h.first in
-        let b = many_keeps (SpellsLater room Inner) later_keeps h.more h.after r h.run.each in
+        let b = many_keeps (SpellsLater context Inner) later_keeps h.more h.after r h.run.each in
         omega arith
 
   within_keeps : (depth : ℕ) (in_has relative : Bool) → Keeps (SpellsWithin depth in_has relative)
@@ -305,5 +305,5 @@ module _ (m : List ℕ → ℕ) (grows : Grows m) where
   within_keeps (suc depth) in_has relative v text r h =
       list_keeps (record { depth = depth; in_has = in_has || relative; is_relative = relative }) (SpellsWithin depth (in_has || relative)) (λ other. within_keeps depth (in_has || relative) other) v text r h
 
-  pub inner_keeps : (room : Room) (relative : Bool) → Keeps (SpellsInner room relative)
-  inner_keeps room relative = within_keeps room.depth room.in_has relative
+  pub inner_keeps : (context : ParseContext) (relative : Bool) → Keeps (SpellsInner context relative)
+  inner_keeps context relative = within_keeps context.depth context.in_has relative

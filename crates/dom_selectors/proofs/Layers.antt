@@ -7,7 +7,7 @@ use Rattle.dom_selectors.specs.declared.syntax.Nested.TheVariants.{rolls-Is, rol
 use Rattle.dom_selectors.specs.declared.syntax.Nested.TheFolds.{fold-roll-Nested}
 use Rattle.dom_selectors.specs.declared.syntax.Selector.{Selector, out-Selector, fold_out-Selector}
 use Rattle.dom_selectors.specs.declared.syntax.Step.{Step, fold_out-Step}
-use Rattle.dom_selectors.specs.Syntax.{compound, some_means, none_means, leads_on}
+use Rattle.dom_selectors.specs.Syntax.{compound, is_list, not_list, has_list}
 use Rattle.dom_selectors.specs.ListsAsTrees.{lists_of, steps_of, selector_list}
 use Rattle.dom_selectors.specs.ValuesAsTrees.{read_nested, read_compound, read_selector, read_step, nested_layer, compound_layer, selector_layer, step_layer}
 
@@ -20,11 +20,11 @@ read_step_is = fold_out-Step _ _ _ _ nested_layer compound_layer selector_layer 
 pub read_selector_is : (s : Selector) → read_selector s ≡ ((out-Selector s).lead, read_compound (out-Selector s).first, steps_of (map read_step (out-Selector s).rest.items))
 read_selector_is = fold_out-Selector _ _ _ _ nested_layer compound_layer selector_layer step_layer
 
-pub read_is : (v : Vec Selector Global) → read_nested (Is v) ≡ some_means (selector_list (map read_selector v.items))
+pub read_is : (v : Vec Selector Global) → read_nested (Is v) ≡ is_list (selector_list (map read_selector v.items))
 read_is v = ap read_nested (sym (rolls-Is v)) ∙ fold-roll-Nested _ _ _ _ nested_layer compound_layer selector_layer step_layer (Nested-F.Is v)
 
-pub read_not : (v : Vec Selector Global) → read_nested (Not v) ≡ none_means (selector_list (map read_selector v.items))
+pub read_not : (v : Vec Selector Global) → read_nested (Not v) ≡ not_list (selector_list (map read_selector v.items))
 read_not v = ap read_nested (sym (rolls-Not v)) ∙ fold-roll-Nested _ _ _ _ nested_layer compound_layer selector_layer step_layer (Nested-F.Not v)
 
-pub read_has : (v : Vec Selector Global) → read_nested (Has v) ≡ leads_on (selector_list (map read_selector v.items))
+pub read_has : (v : Vec Selector Global) → read_nested (Has v) ≡ has_list (selector_list (map read_selector v.items))
 read_has v = ap read_nested (sym (rolls-Has v)) ∙ fold-roll-Nested _ _ _ _ nested_layer compound_layer selector_layer step_layer (Nested-F.Has v)

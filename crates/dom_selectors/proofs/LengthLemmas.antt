@@ -4,7 +4,7 @@ use Rattle.std.specs.Char.{is_ascii_whitespace}
 use Rattle.std.specs.List.{prefix_len}
 use Rattle.std.proofs.lemmas.Bool.{or_cases}
 use Rattle.std.proofs.lemmas.Bool.Decides.{when_true}
-use Rattle.dom_selectors.specs.declared.syntax.Room.{Room}
+use Rattle.dom_selectors.specs.declared.syntax.ParseContext.{ParseContext}
 use Rattle.dom_selectors.specs.Characters.{after_white, begins}
 use Rattle.dom_selectors.specs.Grammar.{SpellsItem, is_combinator, SpellsCombinator, SpellsStep, begins_compound, SpellsLater, SpellsInner}
 use Rattle.dom_selectors.proofs.Runs.{Shortens}
@@ -30,22 +30,22 @@ comma_shortens : (text : List ℕ) → begins (λ c. nat_eq c 44) text ≡ true 
 comma_shortens [] e = absurd (true≢false (sym e))
 comma_shortens (c ∷ text) e = omega arith
 
-module _ (room : Room) where
-  pub item_shortens : Shortens (SpellsItem room (SpellsInner room))
+module _ (context : ParseContext) where
+  pub item_shortens : Shortens (SpellsItem context (SpellsInner context))
   item_shortens v [] r h = absurd h
-  item_shortens v (c ∷ more) r h = let le = item_rest length length_grows room (SpellsInner room) (inner_keeps length length_grows room) v c more r h in omega arith
+  item_shortens v (c ∷ more) r h = let le = item_rest length length_grows context (SpellsInner context) (inner_keeps length length_grows context) v c more r h in omega arith
 
-  pub step_shortens : Shortens (SpellsStep room (SpellsInner room))
+  pub step_shortens : Shortens (SpellsStep context (SpellsInner context))
   step_shortens v text r h =
-      let d = compound_keeps length length_grows room (SpellsInner room) (inner_keeps length length_grows room) v.1 h.mid r h.compound in
+      let d = compound_keeps length length_grows context (SpellsInner context) (inner_keeps length length_grows context) v.1 h.mid r h.compound in
       ⊎_elim (λ e. let a = white_keeps length length_grows text in let b = sign_shortens v.0 (after_white text) h.mid e h.combinator in omega arith)
       (λ e. let a = white_shortens text (and_first (begins is_ascii_whitespace text) (begins_compound (after_white text)) e) in let b = combinator_keeps length length_grows v.0 (after_white text) h.mid h.combinator in omega arith)
       (or_cases _ _ h.on)
 
-  pub later_shortens : Shortens (SpellsLater room (SpellsInner room))
+  pub later_shortens : Shortens (SpellsLater context (SpellsInner context))
   later_shortens v text r h =
       let a = white_keeps length length_grows text in
       let b = comma_shortens (after_white text) h.comma in
       let d = white_keeps length length_grows (drop 1 (after_white text)) in
-      let e = selector_keeps length length_grows room (SpellsInner room) (inner_keeps length length_grows room) v _ r h.selector in
+      let e = selector_keeps length length_grows context (SpellsInner context) (inner_keeps length length_grows context) v _ r h.selector in
       omega arith

@@ -14,7 +14,7 @@ use Rattle.dom_selectors.specs.MiniGrammar.{Maybe, SpellsWord, SpellsMarked, Spe
 use Rattle.dom_selectors.specs.Spelling.{Many}
 use Rattle.dom_selectors.specs.Strings.{is_quote}
 use Rattle.dom_selectors.proofs.Runs.{Shortens}
-use Rattle.dom_selectors.proofs.NameLemmas.{told}
+use Rattle.dom_selectors.proofs.NameLemmas.{by_test}
 
 pub after_le : (p : ℕ → Bool) (text : List ℕ) → length (after_while p text) ≤ length text
 after_le p text = omega (arith, length-drop (prefix_len p text) text)
@@ -44,14 +44,14 @@ lead_shortens v text r h =
 operator_shortens : Shortens SpellsOperator
 operator_shortens v [] r h = absurd h
 operator_shortens v (c ∷ more) r h =
-    told (nat_eq c 61) ((v ≡ Equals) × (r ≡ more)) ((operator_of c ≡ Some v) × (more ≡ 61 ∷ r)) _ (λ _ p. omega (arith, ap length p.1)) (λ _ p. omega (arith, ap length p.1)) h
+    by_test (nat_eq c 61) ((v ≡ Equals) × (r ≡ more)) ((operator_of c ≡ Some v) × (more ≡ 61 ∷ r)) _ (λ _ p. omega (arith, ap length p.1)) (λ _ p. omega (arith, ap length p.1)) h
 
 quoted_shortens : Shortens SpellsQuoted
 quoted_shortens v [] r h = absurd h
 quoted_shortens v (q ∷ inside) r h = omega (arith, ap length h.3, after_le (isnt q) inside)
 
 value_le : (v text r : List ℕ) → SpellsValue v text r → length r ≤ length text
-value_le v text r h = told (begins is_quote text) _ _ _ (λ _ p. omega (arith, quoted_shortens v text r p)) (λ _ p. omega (arith, ap length p.2, after_le (isnt right_bracket) text)) h
+value_le v text r h = by_test (begins is_quote text) _ _ _ (λ _ p. omega (arith, quoted_shortens v text r p)) (λ _ p. omega (arith, ap length p.2, after_le (isnt right_bracket) text)) h
 
 pub test_shortens : Shortens SpellsTest
 test_shortens v text r h =

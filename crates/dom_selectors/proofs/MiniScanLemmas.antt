@@ -7,8 +7,8 @@ use Rattle.std.proofs.lemmas.Bool.{true≢false}
 use Rattle.std.proofs.lemmas.Bool.Decides.{nat_tests}
 use Rattle.std.proofs.lemmas.List.Sums.{prefix_len-le-length, prefix_len_passes, prefix_len_stops}
 use Rattle.std.proofs.lemmas.Str.{IsCharBoundary-after_ascii, IsCharBoundary-start}
-use Rattle.dom_selectors.specs.declared.mini_selector.scan.Stretch.{Stretch}
-use Rattle.dom_selectors.specs.declared.mini_selector.scan.Stretch.TheVariants.{Blank, Word}
+use Rattle.dom_selectors.specs.declared.mini_selector.scan.CharKind.{CharKind}
+use Rattle.dom_selectors.specs.declared.mini_selector.scan.CharKind.TheVariants.{Blank, Word}
 use Rattle.dom_selectors.specs.Characters.{begins}
 use Rattle.dom_selectors.specs.MiniLetters.{is_blank, is_word, isnt, passes}
 
@@ -29,9 +29,9 @@ ascii_boundary p text u small = go (prefix_len p text) (prefix_len-le-length p t
     go zero l h = IsCharBoundary-start text u
     go (suc n) l h = rw (← add-one n) (IsCharBoundary-after_ascii text n u (omega arith) (small _ (h n (omega arith))))
 
-pub stretch_boundary : (stretch : Stretch) (text : List ℕ) → IsUtf8 text → IsCharBoundary text (prefix_len (passes stretch) text)
-stretch_boundary Blank text u = ascii_boundary is_blank text u blank_small
-stretch_boundary Word text u = ascii_boundary is_word text u word_small
+pub run_boundary : (kind : CharKind) (text : List ℕ) → IsUtf8 text → IsCharBoundary text (prefix_len (passes kind) text)
+run_boundary Blank text u = ascii_boundary is_blank text u blank_small
+run_boundary Word text u = ascii_boundary is_word text u word_small
 
 -- and before an ASCII character
 pub stop_boundary : (stop : ℕ) (text : List ℕ) → stop < 128 → IsCharBoundary text (prefix_len (isnt stop) text)

@@ -16,14 +16,14 @@ hex_small n i d small h = let more : i + 1 ≡ suc i = omega arith in rw more (o
 pub hex_fits : (n i d : ℕ) → i < 6 → d ≤ 36 → n + 3 ≤ 3 * 16 ^ i → n * 16 + d < 2 ^ 32
 hex_fits n i d low small h = let most : 16 ^ i ≤ 16 ^ 5 = pow-le-pow_right {n = 16} (omega arith) {i = i} {j = 5} (omega arith) in omega arith
 
--- two facts that are told by one test
+-- two facts that are by_test by one test
 pub both : (b : Bool) (P Q P' Q' R : Type 0) → (b ≡ true → P → P' → R) → (b ≡ false → Q → Q' → R) → MatchBool b P Q → MatchBool b P' Q' → R
 both true P Q P' Q' R left right h k = left refl h k
 both false P Q P' Q' R left right h k = right refl h k
 
-pub told : (b : Bool) (P Q R : Type 0) → (b ≡ true → P → R) → (b ≡ false → Q → R) → MatchBool b P Q → R
-told true P Q R left right h = left refl h
-told false P Q R left right h = right refl h
+pub by_test : (b : Bool) (P Q R : Type 0) → (b ≡ true → P → R) → (b ≡ false → Q → R) → MatchBool b P Q → R
+by_test true P Q R left right h = left refl h
+by_test false P Q R left right h = right refl h
 
 -- the text of one character more
 pub push_encodes : (new old : List ℕ) (read : List ℕ) (c : ℕ) → new ≡ old ++ encode_utf8 c → old ≡ encode_utf8_all read → new ≡ encode_utf8_all (read ++ c ∷ [])
@@ -59,7 +59,7 @@ hex_some c more h = let e : hex_len (c ∷ more) ≡ 1 + prefix_len is_hex (take
 pub escape_shortens : Shortens SpellsEscape
 escape_shortens v [] r h = absurd h
 escape_shortens v (c ∷ more) r h =
-    told (is_hex c) _ _ _
+    by_test (is_hex c) _ _ _
     (λ t p. let some = hex_some c more t in
     let le = after_space_le (drop (hex_len (c ∷ more)) (c ∷ more)) in
     let long = length-drop (hex_len (c ∷ more)) (c ∷ more) in
@@ -71,12 +71,12 @@ escape_shortens v (c ∷ more) r h =
 pub name_char_shortens : Shortens SpellsNameChar
 name_char_shortens v [] r h = absurd h
 name_char_shortens v (c ∷ more) r h =
-    told (is_name_char c) _ _ _ (λ _ p. let is = ap length p.1 in omega arith) (λ _ p. let less = escape_shortens v more r p.1 in omega arith) h
+    by_test (is_name_char c) _ _ _ (λ _ p. let is = ap length p.1 in omega arith) (λ _ p. let less = escape_shortens v more r p.1 in omega arith) h
 
 pub name_char_goes_on : GoesOn SpellsNameChar goes_on
 name_char_goes_on v [] r h = absurd h
 name_char_goes_on v (c ∷ more) r h =
-    told (is_name_char c) _ _ _ (λ t _. ap (λ b. b || nat_eq c 92) t) (λ _ p. ap (λ d. is_name_char d || nat_eq d 92) p.0) h
+    by_test (is_name_char c) _ _ _ (λ t _. ap (λ b. b || nat_eq c 92) t) (λ _ p. ap (λ d. is_name_char d || nat_eq d 92) p.0) h
 
 pub name_once : IsOnce SpellsName
 name_once v w text r s h k =

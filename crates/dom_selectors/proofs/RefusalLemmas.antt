@@ -5,7 +5,7 @@ use Rattle.dom_selectors.specs.declared.syntax.Part.{Part}
 use Rattle.dom_selectors.specs.declared.syntax.Pseudo.{Pseudo}
 use Rattle.dom_nodes.specs.declared.indexes.IndexKind.{IndexKind}
 use Rattle.dom_selectors.specs.declared.syntax.Quantifier.{Quantifier}
-use Rattle.dom_selectors.specs.declared.syntax.Room.{Room}
+use Rattle.dom_selectors.specs.declared.syntax.ParseContext.{ParseContext}
 use Rattle.dom_selectors.specs.declared.syntax.TextTest.{TextTest}
 use Rattle.dom_selectors.specs.Nth.{SpellsNth}
 use Rattle.dom_selectors.specs.Strings.{SpellsString}
@@ -19,7 +19,7 @@ use Rattle.dom_selectors.specs.Syntax.{CompoundSelector, SelectorList, Steps, Ne
 use Rattle.dom_selectors.specs.ListsAsTrees.{Item, simple, two_parts, listed, parts_among, lists_among, lists_of}
 use Rattle.dom_selectors.specs.Pseudos.{is_relative, pseudo_of}
 use Rattle.dom_selectors.specs.Attributes.{SpellsAttribute}
-use Rattle.dom_selectors.specs.Grammar.{StandsFor, SpellsListed, Opens, SpellsEnclosed, SpellsLead, SpellsWithin, inner_room, stands_for, whole, SpellsForm, SpellsPseudo, SpellsItem, begins_item, is_star, SpellsType, begins_compound, SpellsCompound, SpellsCombinator, SpellsStep, begins_step, SpellsSelector, begins_comma, SpellsLater, SpellsList, SpellsInner}
+use Rattle.dom_selectors.specs.Grammar.{StandsFor, SpellsListed, Opens, SpellsEnclosed, SpellsLead, SpellsWithin, inner_context, stands_for, whole, SpellsForm, SpellsPseudo, SpellsItem, begins_item, is_star, SpellsType, begins_compound, SpellsCompound, SpellsCombinator, SpellsStep, begins_step, SpellsSelector, begins_comma, SpellsLater, SpellsList, SpellsInner}
 use Rattle.dom_selectors.specs.ValuesAsTrees.{PushesItem, lists_then}
 use Rattle.dom_selectors.proofs.Runs.{IsOnce, run_none}
 use Rattle.dom_selectors.proofs.NameLemmas.{name_once}
@@ -48,18 +48,18 @@ list_from_within (suc depth) in_has relative some v text rest h =
     let e : suc depth - 1 ≡ depth = omega arith in
     subst (λ d. SpellsList (record { depth = d; in_has = in_has || relative; is_relative = relative }) (SpellsWithin d (in_has || relative)) v text rest) (sym e) h
 
--- the list in parentheses is read in the room inside them
-pub inner_from_list : (room : Room) (relative : Bool) → 0 < room.depth → (v : SelectorList) (text rest : List ℕ) →
-    SpellsList (inner_room room relative) (SpellsInner (inner_room room relative)) v text rest → SpellsInner room relative v text rest
-inner_from_list room relative some v text rest h = within_from_list room.depth room.in_has relative some v text rest h
+-- the list in parentheses is read in the context inside them
+pub inner_from_list : (context : ParseContext) (relative : Bool) → 0 < context.depth → (v : SelectorList) (text rest : List ℕ) →
+    SpellsList (inner_context context relative) (SpellsInner (inner_context context relative)) v text rest → SpellsInner context relative v text rest
+inner_from_list context relative some v text rest h = within_from_list context.depth context.in_has relative some v text rest h
 
-pub list_from_inner : (room : Room) (relative : Bool) → 0 < room.depth → (v : SelectorList) (text rest : List ℕ) →
-    SpellsInner room relative v text rest → SpellsList (inner_room room relative) (SpellsInner (inner_room room relative)) v text rest
-list_from_inner room relative some v text rest h = list_from_within room.depth room.in_has relative some v text rest h
+pub list_from_inner : (context : ParseContext) (relative : Bool) → 0 < context.depth → (v : SelectorList) (text rest : List ℕ) →
+    SpellsInner context relative v text rest → SpellsList (inner_context context relative) (SpellsInner (inner_context context relative)) v text rest
+list_from_inner context relative some v text rest h = list_from_within context.depth context.in_has relative some v text rest h
 
-pub same_room : (e : SelectorFault) (room other : Room) (text : List ℕ) → room ≡ other →
-    Refuses (stands_for room text) e (SpellsNone (SpellsList room (SpellsInner room)) text) → Refuses (stands_for other text) e (SpellsNone (SpellsList other (SpellsInner other)) text)
-same_room e room other text is h = subst (λ q. Refuses (stands_for q text) e (SpellsNone (SpellsList q (SpellsInner q)) text)) is h
+pub same_room : (e : SelectorFault) (context other : ParseContext) (text : List ℕ) → context ≡ other →
+    Refuses (stands_for context text) e (SpellsNone (SpellsList context (SpellsInner context)) text) → Refuses (stands_for other text) e (SpellsNone (SpellsList other (SpellsInner other)) text)
+same_room e context other text is h = subst (λ q. Refuses (stands_for q text) e (SpellsNone (SpellsList q (SpellsInner q)) text)) is h
 
 -- what is not spelled inside the parentheses is not in them
 module _ (depth : ℕ) {A : Type 0} (S : A → List ℕ → List ℕ → Type 0) (text : List ℕ) where
@@ -76,11 +76,11 @@ module _ (depth : ℕ) {A : Type 0} (S : A → List ℕ → List ℕ → Type 0)
       let moved = subst (λ t. S w t h.after) (opens_once depth text h.inside inside h.opens opens) h.value in
       none rest (ap after_white (once v w inside after h.after given moved).1 ∙ h.closes)
 
-module _ (room : Room) where
-  pub pseudo_no_name : (text : List ℕ) → SpellsNone SpellsName text → SpellsNone (SpellsPseudo room (SpellsInner room)) text
+module _ (context : ParseContext) where
+  pub pseudo_no_name : (text : List ℕ) → SpellsNone SpellsName text → SpellsNone (SpellsPseudo context (SpellsInner context)) text
   pseudo_no_name text none v rest h = none h.name h.after h.named
 
-  pub pseudo_unknown : (text name after : List ℕ) → SpellsName name text after → pseudo_of name ≡ None → SpellsNone (SpellsPseudo room (SpellsInner room)) text
+  pub pseudo_unknown : (text name after : List ℕ) → SpellsName name text after → pseudo_of name ≡ None → SpellsNone (SpellsPseudo context (SpellsInner context)) text
   pseudo_unknown text name after named none v rest h =
       let same = name_once name h.name text after h.after named h.named in
       let alike = same.0 in
@@ -88,113 +88,113 @@ module _ (room : Room) where
       cc
 
   pub pseudo_no_form : (text name after : List ℕ) (pseudo : Pseudo) → SpellsName name text after → pseudo_of name ≡ Some pseudo →
-      SpellsNone (SpellsForm room (SpellsInner room) pseudo) after → SpellsNone (SpellsPseudo room (SpellsInner room)) text
+      SpellsNone (SpellsForm context (SpellsInner context) pseudo) after → SpellsNone (SpellsPseudo context (SpellsInner context)) text
   pseudo_no_form text name after pseudo named known none v rest h =
       let same = name_once name h.name text after h.after named h.named in
       let alike = same.0 in
       let known_h = h.known in
       let one : h.pseudo ≡ pseudo = cc in
-      none v rest (subst (λ p. SpellsForm room (SpellsInner room) p v after rest) one (subst (λ t. SpellsForm room (SpellsInner room) h.pseudo v t rest) (sym same.1) h.form))
+      none v rest (subst (λ p. SpellsForm context (SpellsInner context) p v after rest) one (subst (λ t. SpellsForm context (SpellsInner context) h.pseudo v t rest) (sym same.1) h.form))
 
-  pub compound_no_start : (text : List ℕ) → begins_compound text ≡ false → SpellsNone (SpellsCompound room (SpellsInner room)) text
+  pub compound_no_start : (text : List ℕ) → begins_compound text ≡ false → SpellsNone (SpellsCompound context (SpellsInner context)) text
   compound_no_start text e v rest h = true≢false (sym h.some ∙ e)
 
-  pub compound_no_type : (text : List ℕ) → SpellsNone SpellsType text → SpellsNone (SpellsCompound room (SpellsInner room)) text
+  pub compound_no_type : (text : List ℕ) → SpellsNone SpellsType text → SpellsNone (SpellsCompound context (SpellsInner context)) text
   compound_no_type text none v rest h = none h.front h.after h.first
 
-  pub compound_no_item : (text after mid : List ℕ) (front : List Part) (items : List Item) → SpellsType front text after → Many (SpellsItem room (SpellsInner room)) items after mid →
-      begins_item mid ≡ true → SpellsNone (SpellsItem room (SpellsInner room)) mid → SpellsNone (SpellsCompound room (SpellsInner room)) text
+  pub compound_no_item : (text after mid : List ℕ) (front : List Part) (items : List Item) → SpellsType front text after → Many (SpellsItem context (SpellsInner context)) items after mid →
+      begins_item mid ≡ true → SpellsNone (SpellsItem context (SpellsInner context)) mid → SpellsNone (SpellsCompound context (SpellsInner context)) text
   compound_no_item text after mid front items first many on none v rest h =
       let same = type_once front h.front text after h.after first h.first in
-      run_none (SpellsItem room (SpellsInner room)) (item_once room (SpellsInner room) (inner_once room)) begins_item (item_goes_on room (SpellsInner room) (inner_once room)) items after mid many on none h.items rest
-      (subst (λ t. Run (SpellsItem room (SpellsInner room)) begins_item h.items t rest) (sym same.1) h.run)
+      run_none (SpellsItem context (SpellsInner context)) (item_once context (SpellsInner context) (inner_once context)) begins_item (item_goes_on context (SpellsInner context) (inner_once context)) items after mid many on none h.items rest
+      (subst (λ t. Run (SpellsItem context (SpellsInner context)) begins_item h.items t rest) (sym same.1) h.run)
 
-  pub step_no_compound : (text mid : List ℕ) (k : Combinator) → SpellsCombinator k (after_white text) mid → SpellsNone (SpellsCompound room (SpellsInner room)) mid → SpellsNone (SpellsStep room (SpellsInner room)) text
+  pub step_no_compound : (text mid : List ℕ) (k : Combinator) → SpellsCombinator k (after_white text) mid → SpellsNone (SpellsCompound context (SpellsInner context)) mid → SpellsNone (SpellsStep context (SpellsInner context)) text
   step_no_compound text mid k sign none v rest h =
       let same = combinator_once k v.0 (after_white text) mid h.mid sign h.combinator in
-      none v.1 rest (subst (λ t. SpellsCompound room (SpellsInner room) v.1 t rest) (sym same.1) h.compound)
+      none v.1 rest (subst (λ t. SpellsCompound context (SpellsInner context) v.1 t rest) (sym same.1) h.compound)
 
-  pub selector_no_first : (text begin : List ℕ) (lead : Combinator) → SpellsLead room.is_relative lead text begin → SpellsNone (SpellsCompound room (SpellsInner room)) begin →
-      SpellsNone (SpellsSelector room (SpellsInner room)) text
+  pub selector_no_first : (text begin : List ℕ) (lead : Combinator) → SpellsLead context.is_relative lead text begin → SpellsNone (SpellsCompound context (SpellsInner context)) begin →
+      SpellsNone (SpellsSelector context (SpellsInner context)) text
   selector_no_first text begin lead led none v rest h =
-      let same = lead_once room.is_relative lead v.0 text begin h.begin led h.lead in
-      none v.1 h.after (subst (λ t. SpellsCompound room (SpellsInner room) v.1 t h.after) (sym same.1) h.first)
+      let same = lead_once context.is_relative lead v.0 text begin h.begin led h.lead in
+      none v.1 h.after (subst (λ t. SpellsCompound context (SpellsInner context) v.1 t h.after) (sym same.1) h.first)
 
-  pub selector_no_step : (text begin after mid : List ℕ) (lead : Combinator) (first : CompoundSelector) (steps : List (Combinator × CompoundSelector)) → SpellsLead room.is_relative lead text begin →
-      SpellsCompound room (SpellsInner room) first begin after → Many (SpellsStep room (SpellsInner room)) steps after mid →
-      begins_step mid ≡ true → SpellsNone (SpellsStep room (SpellsInner room)) mid → SpellsNone (SpellsSelector room (SpellsInner room)) text
+  pub selector_no_step : (text begin after mid : List ℕ) (lead : Combinator) (first : CompoundSelector) (steps : List (Combinator × CompoundSelector)) → SpellsLead context.is_relative lead text begin →
+      SpellsCompound context (SpellsInner context) first begin after → Many (SpellsStep context (SpellsInner context)) steps after mid →
+      begins_step mid ≡ true → SpellsNone (SpellsStep context (SpellsInner context)) mid → SpellsNone (SpellsSelector context (SpellsInner context)) text
   selector_no_step text begin after mid lead first steps led h many on none v rest k =
-      let start = lead_once room.is_relative lead v.0 text begin k.begin led k.lead in
-      let same = compound_once room (SpellsInner room) (inner_once room) first v.1 begin after k.after h (subst (λ t. SpellsCompound room (SpellsInner room) v.1 t k.after) (sym start.1) k.first) in
-      run_none (SpellsStep room (SpellsInner room)) (step_once room (SpellsInner room) (inner_once room)) begins_step (step_goes_on room (SpellsInner room) (inner_once room)) steps after mid many on none k.steps rest
-      (subst (λ t. Run (SpellsStep room (SpellsInner room)) begins_step k.steps t rest) (sym same.1) k.run)
+      let start = lead_once context.is_relative lead v.0 text begin k.begin led k.lead in
+      let same = compound_once context (SpellsInner context) (inner_once context) first v.1 begin after k.after h (subst (λ t. SpellsCompound context (SpellsInner context) v.1 t k.after) (sym start.1) k.first) in
+      run_none (SpellsStep context (SpellsInner context)) (step_once context (SpellsInner context) (inner_once context)) begins_step (step_goes_on context (SpellsInner context) (inner_once context)) steps after mid many on none k.steps rest
+      (subst (λ t. Run (SpellsStep context (SpellsInner context)) begins_step k.steps t rest) (sym same.1) k.run)
 
-  pub list_no_first : (text : List ℕ) → SpellsNone (SpellsSelector room (SpellsInner room)) text → SpellsNone (SpellsList room (SpellsInner room)) text
+  pub list_no_first : (text : List ℕ) → SpellsNone (SpellsSelector context (SpellsInner context)) text → SpellsNone (SpellsList context (SpellsInner context)) text
   list_no_first text none v rest h = none h.one h.after h.first
 
-  pub list_no_later : (text after mid : List ℕ) (one : Combinator × CompoundSelector × Steps) (more : List (Combinator × CompoundSelector × Steps)) → SpellsSelector room (SpellsInner room) one text after → Many (SpellsLater room (SpellsInner room)) more after mid →
-      begins_comma mid ≡ true → SpellsNone (SpellsLater room (SpellsInner room)) mid → SpellsNone (SpellsList room (SpellsInner room)) text
+  pub list_no_later : (text after mid : List ℕ) (one : Combinator × CompoundSelector × Steps) (more : List (Combinator × CompoundSelector × Steps)) → SpellsSelector context (SpellsInner context) one text after → Many (SpellsLater context (SpellsInner context)) more after mid →
+      begins_comma mid ≡ true → SpellsNone (SpellsLater context (SpellsInner context)) mid → SpellsNone (SpellsList context (SpellsInner context)) text
   list_no_later text after mid one more h many on none v rest k =
-      let same = selector_once room (SpellsInner room) (inner_once room) one k.one text after k.after h k.first in
-      run_none (SpellsLater room (SpellsInner room)) (later_once room (SpellsInner room) (inner_once room)) begins_comma (later_goes_on room (SpellsInner room) (inner_once room)) more after mid many on none k.more rest
-      (subst (λ t. Run (SpellsLater room (SpellsInner room)) begins_comma k.more t rest) (sym same.1) k.run)
+      let same = selector_once context (SpellsInner context) (inner_once context) one k.one text after k.after h k.first in
+      run_none (SpellsLater context (SpellsInner context)) (later_once context (SpellsInner context) (inner_once context)) begins_comma (later_goes_on context (SpellsInner context) (inner_once context)) more after mid many on none k.more rest
+      (subst (λ t. Run (SpellsLater context (SpellsInner context)) begins_comma k.more t rest) (sym same.1) k.run)
 
-pub listed_no_list : (room : Room) (quantifier : Quantifier) (relative : Bool) (text : List ℕ) → relative ≡ is_relative quantifier → SpellsNone (SpellsEnclosed room.depth (SpellsInner room relative)) text →
-    SpellsNone (SpellsListed room (SpellsInner room) quantifier) text
-listed_no_list room quantifier relative text e none v rest h =
-    let refused : SpellsNone (SpellsEnclosed room.depth (SpellsInner room (is_relative quantifier))) text = subst (λ b. SpellsNone (SpellsEnclosed room.depth (SpellsInner room b)) text) e none in
+pub listed_no_list : (context : ParseContext) (quantifier : Quantifier) (relative : Bool) (text : List ℕ) → relative ≡ is_relative quantifier → SpellsNone (SpellsEnclosed context.depth (SpellsInner context relative)) text →
+    SpellsNone (SpellsListed context (SpellsInner context) quantifier) text
+listed_no_list context quantifier relative text e none v rest h =
+    let refused : SpellsNone (SpellsEnclosed context.depth (SpellsInner context (is_relative quantifier))) text = subst (λ b. SpellsNone (SpellsEnclosed context.depth (SpellsInner context b)) text) e none in
     refused h.1 rest h.2
 
-pub form_no_nth : (room : Room) (pseudo : Pseudo) (kind : IndexKind) (text : List ℕ) → pseudo ≡ Pseudo.Nth kind → SpellsNone (SpellsEnclosed room.depth SpellsNth) text → SpellsNone (SpellsForm room (SpellsInner room) pseudo) text
-form_no_nth room pseudo kind text e none v rest h = let x = subst (λ p. SpellsForm room (SpellsInner room) p v text rest) e h in none x.0 rest x.1
+pub form_no_nth : (context : ParseContext) (pseudo : Pseudo) (kind : IndexKind) (text : List ℕ) → pseudo ≡ Pseudo.Nth kind → SpellsNone (SpellsEnclosed context.depth SpellsNth) text → SpellsNone (SpellsForm context (SpellsInner context) pseudo) text
+form_no_nth context pseudo kind text e none v rest h = let x = subst (λ p. SpellsForm context (SpellsInner context) p v text rest) e h in none x.0 rest x.1
 
-pub form_no_string : (room : Room) (pseudo : Pseudo) (test : TextTest) (text : List ℕ) → pseudo ≡ Pseudo.Text test → SpellsNone (SpellsEnclosed room.depth SpellsString) text → SpellsNone (SpellsForm room (SpellsInner room) pseudo) text
-form_no_string room pseudo test text e none v rest h = let x = subst (λ p. SpellsForm room (SpellsInner room) p v text rest) e h in none x.0 rest x.1
+pub form_no_string : (context : ParseContext) (pseudo : Pseudo) (test : TextTest) (text : List ℕ) → pseudo ≡ Pseudo.Text test → SpellsNone (SpellsEnclosed context.depth SpellsString) text → SpellsNone (SpellsForm context (SpellsInner context) pseudo) text
+form_no_string context pseudo test text e none v rest h = let x = subst (λ p. SpellsForm context (SpellsInner context) p v text rest) e h in none x.0 rest x.1
 
-module _ (room : Room) (c : ℕ) (text more : List ℕ) (begun : text ≡ c ∷ more) where
-  opened : (v : Item) (rest : List ℕ) → SpellsItem room (SpellsInner room) v text rest → SpellsItem room (SpellsInner room) v (c ∷ more) rest
-  opened v rest h = subst (λ t. SpellsItem room (SpellsInner room) v t rest) begun h
+module _ (context : ParseContext) (c : ℕ) (text more : List ℕ) (begun : text ≡ c ∷ more) where
+  opened : (v : Item) (rest : List ℕ) → SpellsItem context (SpellsInner context) v text rest → SpellsItem context (SpellsInner context) v (c ∷ more) rest
+  opened v rest h = subst (λ t. SpellsItem context (SpellsInner context) v t rest) begun h
 
-  pub item_no_identifier : c ≡ 35 → SpellsNone SpellsName more → SpellsNone (SpellsItem room (SpellsInner room)) text
+  pub item_no_identifier : c ≡ 35 → SpellsNone SpellsName more → SpellsNone (SpellsItem context (SpellsInner context)) text
   item_no_identifier e none v rest h = let test : nat_eq c 35 ≡ true = ap (λ d. nat_eq d 35) e in let x = when_true _ _ test (opened v rest h) in none x.0 rest x.1
 
-  pub item_no_class : c ≡ 46 → SpellsNone SpellsName more → SpellsNone (SpellsItem room (SpellsInner room)) text
+  pub item_no_class : c ≡ 46 → SpellsNone SpellsName more → SpellsNone (SpellsItem context (SpellsInner context)) text
   item_no_class e none v rest h =
       let other : nat_eq c 35 ≡ false = ap (λ d. nat_eq d 35) e in
       let test : nat_eq c 46 ≡ true = ap (λ d. nat_eq d 46) e in
       let x = when_true _ _ test (when_false _ _ other (opened v rest h)) in none x.0 rest x.1
 
-  pub item_no_attribute : c ≡ 91 → SpellsNone SpellsAttribute more → SpellsNone (SpellsItem room (SpellsInner room)) text
+  pub item_no_attribute : c ≡ 91 → SpellsNone SpellsAttribute more → SpellsNone (SpellsItem context (SpellsInner context)) text
   item_no_attribute e none v rest h =
       let first : nat_eq c 35 ≡ false = ap (λ d. nat_eq d 35) e in
       let second : nat_eq c 46 ≡ false = ap (λ d. nat_eq d 46) e in
       let test : nat_eq c 91 ≡ true = ap (λ d. nat_eq d 91) e in
       let x = when_true _ _ test (when_false _ _ second (when_false _ _ first (opened v rest h))) in none x.0 rest x.1
 
-  pub item_no_pseudo : c ≡ 58 → SpellsNone (SpellsPseudo room (SpellsInner room)) more → SpellsNone (SpellsItem room (SpellsInner room)) text
+  pub item_no_pseudo : c ≡ 58 → SpellsNone (SpellsPseudo context (SpellsInner context)) more → SpellsNone (SpellsItem context (SpellsInner context)) text
   item_no_pseudo e none v rest h =
       let first : nat_eq c 35 ≡ false = ap (λ d. nat_eq d 35) e in
       let second : nat_eq c 46 ≡ false = ap (λ d. nat_eq d 46) e in
       let third : nat_eq c 91 ≡ false = ap (λ d. nat_eq d 91) e in
       let x = when_false _ _ third (when_false _ _ second (when_false _ _ first (opened v rest h))) in none v rest x.1
 
-  pub item_from_pseudo : c ≡ 58 → (v : Item) (rest : List ℕ) → SpellsPseudo room (SpellsInner room) v more rest → SpellsItem room (SpellsInner room) v text rest
+  pub item_from_pseudo : c ≡ 58 → (v : Item) (rest : List ℕ) → SpellsPseudo context (SpellsInner context) v more rest → SpellsItem context (SpellsInner context) v text rest
   item_from_pseudo e v rest h =
-      let colon : SpellsItem room (SpellsInner room) v (58 ∷ more) rest = (refl, h) in
-      subst (λ t. SpellsItem room (SpellsInner room) v t rest) (sym (begun ∙ ap (λ d. d ∷ more) e)) colon
+      let colon : SpellsItem context (SpellsInner context) v (58 ∷ more) rest = (refl, h) in
+      subst (λ t. SpellsItem context (SpellsInner context) v t rest) (sym (begun ∙ ap (λ d. d ∷ more) e)) colon
 
 -- behind a comma the selector stands
 pub comma_stands : (text rest : List ℕ) → after_white text ≡ 44 ∷ rest → (begins_comma text ≡ true) × (drop 1 (after_white text) ≡ rest)
 comma_stands text rest e = (ap (λ t. begins (λ c. nat_eq c 44) t) e, ap (λ t. drop 1 t) e)
 
-module _ (room : Room) (text rest : List ℕ) (comma : after_white text ≡ 44 ∷ rest) where
-  pub later_from_selector : (v : Combinator × CompoundSelector × Steps) (end : List ℕ) → SpellsSelector room (SpellsInner room) v (after_white rest) end → SpellsLater room (SpellsInner room) v text end
+module _ (context : ParseContext) (text rest : List ℕ) (comma : after_white text ≡ 44 ∷ rest) where
+  pub later_from_selector : (v : Combinator × CompoundSelector × Steps) (end : List ℕ) → SpellsSelector context (SpellsInner context) v (after_white rest) end → SpellsLater context (SpellsInner context) v text end
   later_from_selector v end h =
       let stands = comma_stands text rest comma in
-      record { comma = stands.0; selector = subst (λ t. SpellsSelector room (SpellsInner room) v (after_white t) end) (sym stands.1) h }
+      record { comma = stands.0; selector = subst (λ t. SpellsSelector context (SpellsInner context) v (after_white t) end) (sym stands.1) h }
 
-  pub later_no_selector : SpellsNone (SpellsSelector room (SpellsInner room)) (after_white rest) → SpellsNone (SpellsLater room (SpellsInner room)) text
-  later_no_selector none v end h = none v end (subst (λ t. SpellsSelector room (SpellsInner room) v (after_white t) end) (comma_stands text rest comma).1 h.selector)
+  pub later_no_selector : SpellsNone (SpellsSelector context (SpellsInner context)) (after_white rest) → SpellsNone (SpellsLater context (SpellsInner context)) text
+  later_no_selector none v end h = none v end (subst (λ t. SpellsSelector context (SpellsInner context) v (after_white t) end) (comma_stands text rest comma).1 h.selector)
 
 parts_last : (items : List Item) (part : Part) → parts_among (items ++ simple part ∷ []) ≡ parts_among items ++ part ∷ []
 parts_last [] part = refl

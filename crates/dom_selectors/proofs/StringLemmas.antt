@@ -6,7 +6,7 @@ use Rattle.dom_selectors.specs.Spelling.{Many, Run, SpellsNone}
 use Rattle.dom_selectors.specs.Characters.{is_line_end, begins}
 use Rattle.dom_selectors.specs.Strings.{SpellsStringEscape, SpellsPiece, SpellsString, after_line_end, goes_on_in, present}
 use Rattle.dom_selectors.proofs.Runs.{IsOnce, GoesOn, Shortens, run_once, run_none}
-use Rattle.dom_selectors.proofs.NameLemmas.{both, told, escape_once, escape_shortens}
+use Rattle.dom_selectors.proofs.NameLemmas.{both, by_test, escape_once, escape_shortens}
 
 pub string_escape_once : IsOnce SpellsStringEscape
 string_escape_once v w text r s h k =
@@ -29,13 +29,13 @@ after_line_end_le (c ∷ d ∷ text) = by (nat_eq c 13 && nat_eq d 10)
 
 string_escape_le : (v : Option ℕ) (text r : List ℕ) → SpellsStringEscape v text r → length r ≤ length text
 string_escape_le v text r h =
-    told (begins is_line_end text) _ _ _ (λ _ p. let is = ap length p.1 in let le = after_line_end_le text in omega arith)
+    by_test (begins is_line_end text) _ _ _ (λ _ p. let is = ap length p.1 in let le = after_line_end_le text in omega arith)
     (λ _ p. let less = escape_shortens p.0 text r p.1 in omega arith) h
 
 pub piece_shortens : (quote : ℕ) → Shortens (SpellsPiece quote)
 piece_shortens quote v [] r h = absurd h
 piece_shortens quote v (c ∷ more) r h =
-    told (nat_eq c 92) _ _ _ (λ _ p. let le = string_escape_le v more r p in omega arith) (λ _ p. let is = ap length p.2 in omega arith) h.1
+    by_test (nat_eq c 92) _ _ _ (λ _ p. let le = string_escape_le v more r p in omega arith) (λ _ p. let is = ap length p.2 in omega arith) h.1
 
 pub piece_goes_on : (quote : ℕ) → GoesOn (SpellsPiece quote) (goes_on_in quote)
 piece_goes_on quote v [] r h = absurd h

@@ -1,6 +1,6 @@
 -- A number that falls from a selector to its parts.
 use Rattle.std.proofs.Common.{ℕ, ◌+◌}
-use Rattle.dom_selectors.specs.Syntax.{CompoundSelector, compound, NestedLists, no_lists, nested, NestedList, some_means, none_means, leads_on, SelectorList, no_selectors, alternative, Steps, no_steps, step}
+use Rattle.dom_selectors.specs.Syntax.{CompoundSelector, compound, NestedLists, no_lists, nested, NestedList, is_list, not_list, has_list, SelectorList, no_selectors, alternative, Steps, no_steps, step}
 
 abbrev mutual
   pub compound_weight : CompoundSelector → ℕ
@@ -11,9 +11,9 @@ abbrev mutual
   lists_weight (nested list more) = 1 + list_weight list + lists_weight more
 
   pub list_weight : NestedList → ℕ
-  list_weight (some_means list) = 1 + selectors_weight list
-  list_weight (none_means list) = 1 + selectors_weight list
-  list_weight (leads_on list) = 1 + selectors_weight list
+  list_weight (is_list list) = 1 + selectors_weight list
+  list_weight (not_list list) = 1 + selectors_weight list
+  list_weight (has_list list) = 1 + selectors_weight list
 
   pub selectors_weight : SelectorList → ℕ
   selectors_weight no_selectors = 0

@@ -1,4 +1,4 @@
--- The characters that the grammar tells apart.
+-- The classes of characters in the grammar.
 use Rattle.std.specs.Prelude.{ℕ, ◌+◌, List, [], ◌∷◌, Bool, false, ◌||◌, nat_eq, nat_le, nat_lt, cond, drop, take}
 use Rattle.std.specs.Char.{is_ascii_alphabetic, is_ascii_digit, is_ascii_whitespace}
 use Rattle.std.specs.List.{prefix_len}

@@ -1,4 +1,4 @@
--- The grammar of selectors: which text stands for which list of them. Texts are lists of characters. The room tells where in a
+-- The grammar of selectors: which text stands for which list of them. Texts are lists of characters. The context states where in a
 -- selector's text something stands. `Inner` is what stands for a list between parentheses, that of `:has` or another; it is the same
 -- grammar with one depth less, so each layer is said once, of any inner relation, and the depth of 64 is a number that falls.
 use Rattle.std.specs.Prelude.{◌≡◌, ◌<◌, ◌≤◌, ◌+◌, ◌-◌, ℕ, zero, suc, List, [], ◌∷◌, ◌++◌, Bool, true, false, ◌&&◌, ◌||◌, nat_eq, cond, drop, Option, Some, None, MatchBool, MatchOption, Result}
@@ -11,7 +11,7 @@ use Rattle.dom_selectors.specs.declared.fault.SelectorFault.{SelectorFault}
 use Rattle.dom_selectors.specs.declared.fault.SelectorFault.TheVariants.{Syntax, UnknownPseudoClass, Number, NestedHas, TooDeep, Memory}
 use Rattle.dom_selectors.specs.declared.syntax.Bare.{Bare}
 use Rattle.dom_selectors.specs.declared.syntax.Quantifier.{Quantifier}
-use Rattle.dom_selectors.specs.declared.syntax.Room.{Room}
+use Rattle.dom_selectors.specs.declared.syntax.ParseContext.{ParseContext}
 use Rattle.dom_selectors.specs.declared.syntax.Attribute as attributes
 use Rattle.dom_selectors.specs.declared.syntax.Combinator.{Combinator}
 use Rattle.dom_selectors.specs.declared.syntax.Combinator.TheVariants.{Descendant, Child, Adjacent, Sibling}
@@ -88,20 +88,20 @@ SpellsLead false v text rest = (v ≡ Descendant) × (rest ≡ text)
 SpellsLead true v [] rest = (v ≡ Descendant) × (rest ≡ [])
 SpellsLead true v (c ∷ more) rest = MatchOption (combinator_of c) ((v ≡ Descendant) × (rest ≡ c ∷ more)) (λ k. (v ≡ k) × (rest ≡ after_white more))
 
-module _ (room : Room) (Inner : Bool → SelectorList → List ℕ → List ℕ → Type 0) where
+module _ (context : ParseContext) (Inner : Bool → SelectorList → List ℕ → List ℕ → Type 0) where
   -- a list in parentheses; that of `:has` stands in no other
   abbrev pub SpellsListed : Quantifier → Item → List ℕ → List ℕ → Type 0
   SpellsListed quantifier v text rest =
-      (is_relative quantifier && room.in_has ≡ false) × (list : SelectorList) × SpellsEnclosed room.depth (Inner (is_relative quantifier)) list text rest × (v ≡ listed (quantified quantifier list))
+      (is_relative quantifier && context.in_has ≡ false) × (list : SelectorList) × SpellsEnclosed context.depth (Inner (is_relative quantifier)) list text rest × (v ≡ listed (quantified quantifier list))
 
   -- what follows the name of a pseudo-class
   abbrev pub SpellsForm : Pseudo → Item → List ℕ → List ℕ → Type 0
   SpellsForm (Pseudo.Plain bare) v text rest = SpellsPlain bare v text rest
   SpellsForm (Pseudo.Listed quantifier) v text rest = SpellsListed quantifier v text rest
   SpellsForm (Pseudo.Nth kind) v text rest =
-      (nth : indexes.Nth) × SpellsEnclosed room.depth SpellsNth nth text rest × (v ≡ simple (Position (record { kind = kind; nth = nth })))
+      (nth : indexes.Nth) × SpellsEnclosed context.depth SpellsNth nth text rest × (v ≡ simple (Position (record { kind = kind; nth = nth })))
   SpellsForm (Pseudo.Text test) v text rest =
-      (string : List ℕ) × SpellsEnclosed room.depth SpellsString string text rest × (v ≡ simple (text_part test string))
+      (string : List ℕ) × SpellsEnclosed context.depth SpellsString string text rest × (v ≡ simple (text_part test string))
 
   -- a name, and what belongs to it
   pub record SpellsPseudo (v : Item) (text rest : List ℕ) : Type 0 where
@@ -139,7 +139,7 @@ module _ (room : Room) (Inner : Bool → SelectorList → List ℕ → List ℕ 
   -- compounds with a combinator between each two
   pub record SpellsSelector (v : Combinator × CompoundSelector × Steps) (text rest : List ℕ) : Type 0 where
     pub begin : List ℕ
-    pub lead : SpellsLead room.is_relative v.0 text begin
+    pub lead : SpellsLead context.is_relative v.0 text begin
     pub after : List ℕ
     pub first : SpellsCompound v.1 begin after
     pub steps : List (Combinator × CompoundSelector)
@@ -161,8 +161,8 @@ module _ (room : Room) (Inner : Bool → SelectorList → List ℕ → List ℕ 
     pub is : v ≡ selector_list (one ∷ more)
 
 -- inside the parentheses that open there
-abbrev pub inner_room : Room → Bool → Room
-inner_room room relative = record { depth = room.depth - 1; in_has = room.in_has || relative; is_relative = relative }
+abbrev pub inner_context : ParseContext → Bool → ParseContext
+inner_context context relative = record { depth = context.depth - 1; in_has = context.in_has || relative; is_relative = relative }
 
 -- the lists in parentheses, of which so many may open, in `:has` or not; the list of `:has` or another
 unfoldable pub SpellsWithin : ℕ → Bool → Bool → SelectorList → List ℕ → List ℕ → Type 0
@@ -170,11 +170,11 @@ SpellsWithin zero in_has relative v text rest = ⊥
 SpellsWithin (suc depth) in_has relative v text rest =
     SpellsList (record { depth = depth; in_has = in_has || relative; is_relative = relative }) (SpellsWithin depth (in_has || relative)) v text rest
 
-abbrev pub SpellsInner : Room → Bool → SelectorList → List ℕ → List ℕ → Type 0
-SpellsInner room = SpellsWithin room.depth room.in_has
+abbrev pub SpellsInner : ParseContext → Bool → SelectorList → List ℕ → List ℕ → Type 0
+SpellsInner context = SpellsWithin context.depth context.in_has
 
 -- a selector's text as a whole: 64 parentheses may nest
-abbrev pub whole : Room
+abbrev pub whole : ParseContext
 whole = record { depth = 64; in_has = false; is_relative = false }
 
 -- the text stands for the list, with whitespace round it, and has no U+0000
@@ -184,33 +184,33 @@ pub record StandsFor (text : List ℕ) (list : SelectorList) : Type 0 where
   pub ends : after_white after ≡ []
   pub no_zero : list_all (λ c. cond (nat_eq c 0) false true) text ≡ true
 
--- What stands in the text where a fault is told of it: a colon before an unknown pseudo-class, a number past the limit, the colons
+-- What stands in the text where a fault is returned: a colon before an unknown pseudo-class, a number past the limit, the colons
 -- of a `:has` and of that round it, and more parentheses than may open
-abbrev pub stands_for : Room → List ℕ → SelectorFault → Type 0
-stands_for room text UnknownPseudoClass = 1 ≤ how_many colon text
-stands_for room text Number = 1 ≤ how_many_large text
-stands_for room text NestedHas = cond room.in_has 1 2 ≤ how_many colon text
-stands_for room text TooDeep = room.depth + 1 ≤ how_many left_parenthesis text
-stands_for room text Syntax = Unit {0}
-stands_for room text Memory = Unit {0}
+abbrev pub stands_for : ParseContext → List ℕ → SelectorFault → Type 0
+stands_for context text UnknownPseudoClass = 1 ≤ how_many colon text
+stands_for context text Number = 1 ≤ how_many_large text
+stands_for context text NestedHas = cond context.in_has 1 2 ≤ how_many colon text
+stands_for context text TooDeep = context.depth + 1 ≤ how_many left_parenthesis text
+stands_for context text Syntax = Unit {0}
+stands_for context text Memory = Unit {0}
 
 -- the same of what follows a pseudo-class's colon
-abbrev pub stands_behind : Room → List ℕ → SelectorFault → Type 0
-stands_behind room text UnknownPseudoClass = Unit {0}
-stands_behind room text Number = 1 ≤ how_many_large text
-stands_behind room text NestedHas = cond room.in_has 0 1 ≤ how_many colon text
-stands_behind room text TooDeep = room.depth + 1 ≤ how_many left_parenthesis text
-stands_behind room text Syntax = Unit {0}
-stands_behind room text Memory = Unit {0}
+abbrev pub stands_behind : ParseContext → List ℕ → SelectorFault → Type 0
+stands_behind context text UnknownPseudoClass = Unit {0}
+stands_behind context text Number = 1 ≤ how_many_large text
+stands_behind context text NestedHas = cond context.in_has 0 1 ≤ how_many colon text
+stands_behind context text TooDeep = context.depth + 1 ≤ how_many left_parenthesis text
+stands_behind context text Syntax = Unit {0}
+stands_behind context text Memory = Unit {0}
 
--- What a call gives that reads something in a room, or what follows a pseudo-class's colon there
-abbrev pub TakesIn : {T A : Type 0} → Room → Result (T × Bor (List ℕ)) SelectorFault → (T → A) → (A → List ℕ → List ℕ → Type 0) → List ℕ → Type 0
-TakesIn room result read Spells text = Takes result read Spells (stands_for room text) text
+-- What a call gives that reads something in a context, or what follows a pseudo-class's colon there
+abbrev pub TakesIn : {T A : Type 0} → ParseContext → Result (T × Bor (List ℕ)) SelectorFault → (T → A) → (A → List ℕ → List ℕ → Type 0) → List ℕ → Type 0
+TakesIn context result read Spells text = Takes result read Spells (stands_for context text) text
 
-abbrev pub TakesBehind : {T A : Type 0} → Room → Result (T × Bor (List ℕ)) SelectorFault → (T → A) → (A → List ℕ → List ℕ → Type 0) → List ℕ → Type 0
-TakesBehind room result read Spells text = Takes result read Spells (stands_behind room text) text
+abbrev pub TakesBehind : {T A : Type 0} → ParseContext → Result (T × Bor (List ℕ)) SelectorFault → (T → A) → (A → List ℕ → List ℕ → Type 0) → List ℕ → Type 0
+TakesBehind context result read Spells text = Takes result read Spells (stands_behind context text) text
 
--- What a fault tells of the text: that it stands for nothing; an unknown pseudo-class that a colon stands in it, a number that one
+-- What a fault states of the text: that it stands for nothing; an unknown pseudo-class that a colon stands in it, a number that one
 -- past 2147483647 does, a nested `:has` that two colons do, too deep that 65 opening parentheses do
 abbrev pub Refused : List ℕ → SelectorFault → Type 0
 Refused text fault = Refuses (stands_for whole text) fault ((list : SelectorList) → StandsFor text list → ⊥)

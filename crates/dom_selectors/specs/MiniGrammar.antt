@@ -152,22 +152,22 @@ IsBadPath text = MeetsBad SpellsStep IsBadStep text
 abbrev pub IsPlainlyNone : {A : Type 0} → (A → List ℕ → List ℕ → Type 0) → (List ℕ → Type 0) → List ℕ → Type 0
 IsPlainlyNone Spells IsBad text = SpellsNone Spells text × (IsBad text → ⊥)
 
--- What a fault tells of the text: that none can be read, and no bad value is why; or that a bad value is met. No fault but a
+-- What a fault states of the text: that none can be read, and no bad value is why; or that a bad value is met. No fault but a
 -- refusal of memory comes where a mini selector can be read
 abbrev pub RefusesMini : MiniFault → List ℕ → Type 0
 RefusesMini NoSelector text = IsPlainlyNone SpellsMini IsBadMini text
 RefusesMini BadQuotedValue text = SpellsNone SpellsMini text × IsBadMini text
 RefusesMini Memory text = Unit {0}
 
--- what a fault tells where nothing needs to be read: that a bad value is met
-abbrev pub TellsBad : MiniFault → Type 0 → Type 0
-TellsBad NoSelector bad = ⊥
-TellsBad BadQuotedValue bad = bad
-TellsBad Memory bad = Unit {0}
+-- what a fault states where nothing needs to be read: that a bad value is met
+abbrev pub ReportsBad : MiniFault → Type 0 → Type 0
+ReportsBad NoSelector bad = ⊥
+ReportsBad BadQuotedValue bad = bad
+ReportsBad Memory bad = Unit {0}
 
 -- the same of a list, which may be empty
 abbrev pub RefusesPath : MiniFault → List ℕ → Type 0
-RefusesPath fault text = TellsBad fault (SpellsNone SpellsPath text × IsBadPath text)
+RefusesPath fault text = ReportsBad fault (SpellsNone SpellsPath text × IsBadPath text)
 
 -- a text has one reading at most, and the same is left of it
 abbrev pub HasOneReading : {A : Type 0} → (A → List ℕ → List ℕ → Type 0) → Type 0

@@ -3,8 +3,8 @@ use Rattle.std.specs.Prelude.{ℕ, List, Bool, ◌||◌, not, nat_eq, drop}
 use Rattle.std.specs.Char.{is_ascii_alphanumeric}
 use Rattle.std.specs.List.{prefix_len}
 use Rattle.dom_nodes.specs.Ascii.{space, tab, line_feed, carriage_return, hyphen}
-use Rattle.dom_selectors.specs.declared.mini_selector.scan.Stretch.{Stretch}
-use Rattle.dom_selectors.specs.declared.mini_selector.scan.Stretch.TheVariants.{Blank, Word}
+use Rattle.dom_selectors.specs.declared.mini_selector.scan.CharKind.{CharKind}
+use Rattle.dom_selectors.specs.declared.mini_selector.scan.CharKind.TheVariants.{Blank, Word}
 
 abbrev pub is_blank : ℕ → Bool
 is_blank c = nat_eq c space || nat_eq c tab || nat_eq c line_feed || nat_eq c carriage_return
@@ -13,8 +13,8 @@ is_blank c = nat_eq c space || nat_eq c tab || nat_eq c line_feed || nat_eq c ca
 abbrev pub is_word : ℕ → Bool
 is_word c = is_ascii_alphanumeric c || nat_eq c hyphen
 
--- the character of a stretch
-abbrev pub passes : Stretch → ℕ → Bool
+-- the character of a kind
+abbrev pub passes : CharKind → ℕ → Bool
 passes Blank c = is_blank c
 passes Word c = is_word c
 

@@ -7,11 +7,11 @@ use Rattle.dom_selectors.specs.declared.syntax.Bare.{Bare}
 use Rattle.dom_selectors.specs.declared.syntax.Part as parts
 use Rattle.dom_selectors.specs.declared.syntax.Pseudo.{Pseudo}
 use Rattle.dom_selectors.specs.declared.syntax.Quantifier.{Quantifier}
-use Rattle.dom_selectors.specs.declared.syntax.Quantifier.TheVariants.{SomeOf, NoneOf, LeadsOn}
+use Rattle.dom_selectors.specs.declared.syntax.Quantifier.TheVariants.{SomeOf, NoneOf, RelativeOf}
 use Rattle.dom_selectors.specs.declared.syntax.TextTest.{TextTest}
 use Rattle.dom_selectors.specs.ListsAsTrees.{Item, simple, two_parts}
 use Rattle.dom_selectors.specs.Nth.{signed}
-use Rattle.dom_selectors.specs.Syntax.{NestedList, SelectorList, some_means, none_means, leads_on}
+use Rattle.dom_selectors.specs.Syntax.{NestedList, SelectorList, is_list, not_list, has_list}
 
 -- a name in any case
 abbrev pub is_word : List ℕ → List ℕ → Bool
@@ -44,7 +44,7 @@ bare_of name =
 abbrev pub quantifier_of : List ℕ → Option Quantifier
 quantifier_of name =
     cond (is_word name (codes "is") || is_word name (codes "where")) (Some SomeOf)
-    (cond (is_word name (codes "not")) (Some NoneOf) (cond (is_word name (codes "has")) (Some LeadsOn) None))
+    (cond (is_word name (codes "not")) (Some NoneOf) (cond (is_word name (codes "has")) (Some RelativeOf) None))
 
 -- those of `an+b`
 abbrev pub index_kind_of : List ℕ → Option IndexKind
@@ -87,12 +87,12 @@ bare_item (Bare.Only kind other) = two_parts (first_of kind) (first_of other)
 abbrev pub is_relative : Quantifier → Bool
 is_relative SomeOf = false
 is_relative NoneOf = false
-is_relative LeadsOn = true
+is_relative RelativeOf = true
 
 abbrev pub quantified : Quantifier → SelectorList → NestedList
-quantified SomeOf list = some_means list
-quantified NoneOf list = none_means list
-quantified LeadsOn list = leads_on list
+quantified SomeOf list = is_list list
+quantified NoneOf list = not_list list
+quantified RelativeOf list = has_list list
 
 abbrev pub text_part : TextTest → List ℕ → parts.Part
 text_part TextTest.InOne text = parts.Part.HasText text

@@ -10,7 +10,7 @@ use Rattle.dom_nodes.specs.declared.indexes.Nth.{Nth}
 use Rattle.dom_nodes.specs.declared.indexes.Signed.{Signed}
 use Rattle.dom_selectors.specs.Characters.{is_name_char, is_name_start, replacement_character}
 use Rattle.dom_selectors.specs.Css.{css_text, hex_of}
-use Rattle.dom_selectors.specs.Syntax.{CompoundSelector, compound, NestedLists, no_lists, nested, NestedList, some_means, none_means, leads_on, SelectorList, no_selectors, alternative, Steps, no_steps, step}
+use Rattle.dom_selectors.specs.Syntax.{CompoundSelector, compound, NestedLists, no_lists, nested, NestedList, is_list, not_list, has_list, SelectorList, no_selectors, alternative, Steps, no_steps, step}
 use Rattle.dom_selectors.specs.declared.syntax.AttrOperator.{AttrOperator}
 use Rattle.dom_selectors.specs.declared.syntax.AttrOperator.TheVariants.{Equals, Includes, DashMatch, Prefix, Suffix, Substring}
 use Rattle.dom_selectors.specs.declared.syntax.Combinator.{Combinator}
@@ -108,9 +108,9 @@ abbrev mutual
   lists_css (nested list more) = list_css list ++ lists_css more
 
   pub list_css : NestedList → List ℕ
-  list_css (some_means list) = codes ":is(" ++ selectors_css true false list ++ codes ")"
-  list_css (none_means list) = codes ":not(" ++ selectors_css true false list ++ codes ")"
-  list_css (leads_on list) = codes ":has(" ++ selectors_css true true list ++ codes ")"
+  list_css (is_list list) = codes ":is(" ++ selectors_css true false list ++ codes ")"
+  list_css (not_list list) = codes ":not(" ++ selectors_css true false list ++ codes ")"
+  list_css (has_list list) = codes ":has(" ++ selectors_css true true list ++ codes ")"
 
   -- the selectors with commas between them, from the first on or from a later one
   pub selectors_css : Bool → Bool → SelectorList → List ℕ

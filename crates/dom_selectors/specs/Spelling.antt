@@ -20,7 +20,7 @@ pub record Run {A : Type 0} (Spells : A → List ℕ → List ℕ → Type 0) (g
 abbrev pub SpellsNone : {A : Type 0} → (A → List ℕ → List ℕ → Type 0) → List ℕ → Type 0
 SpellsNone {A} Spells text = (v : A) (rest : List ℕ) → Spells v text rest → ⊥
 
--- What a fault tells where a text may be outside the grammar: that it is, and what else is so where this fault is told. Memory may
+-- What a fault states of a text: that it is outside the grammar, and what else is so where this fault is returned. Memory may
 -- be refused whatever the text is
 abbrev pub Refuses : (SelectorFault → Type 0) → SelectorFault → Type 0 → Type 0
 Refuses cause Syntax outside = outside
@@ -39,7 +39,7 @@ abbrev pub large_stands : List ℕ → SelectorFault → Type 0
 large_stands text Number = 1 ≤ how_many_large text
 large_stands text _ = ⊥
 
--- the answer tells whether it is so
+-- the answer states whether it is so
 abbrev pub Decides : Bool → Type 0 → Type 0
 Decides answer P = MatchBool answer P (P → ⊥)
 
@@ -51,6 +51,6 @@ abbrev pub Takes : {T A : Type 0} → Result (T × Bor (List ℕ)) SelectorFault
 Takes result read Spells cause text =
     MatchResult result (λ p. Spells (read p.0) text p.1.now) (λ fault. Refuses cause fault (SpellsNone Spells text))
 
--- the same where no fault is told
+-- the same where no fault is returned
 abbrev pub TakesSome : {T : Type 0} → Option (T × Bor (List ℕ)) → (T → List ℕ → List ℕ → Type 0) → List ℕ → Type 0
 TakesSome result Spells text = MatchOption result (SpellsNone Spells text) (λ p. Spells p.0 text p.1.now)

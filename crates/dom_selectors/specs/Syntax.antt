@@ -15,10 +15,10 @@ mutual
 
   pub data NestedList : Type 0 where
     -- `:is` and `:where`, `:not`
-    some_means : SelectorList → NestedList
-    none_means : SelectorList → NestedList
+    is_list : SelectorList → NestedList
+    not_list : SelectorList → NestedList
     -- `:has`
-    leads_on : SelectorList → NestedList
+    has_list : SelectorList → NestedList
 
   pub data SelectorList : Type 0 where
     no_selectors : SelectorList

@@ -1,9 +1,9 @@
--- A selector list as a list of tokens, from which it can be read back: the code that tells the values of a matcher apart.
+-- A selector list as a list of tokens, from which it can be read back: the code that distinguishes the values of a matcher.
 use Rattle.std.specs.Prelude.{◌≡◌, List, [], ◌∷◌, refl}
 use Rattle.std.proofs.Common.{ap, ◌∙◌}
 use Rattle.dom_selectors.specs.declared.syntax.Combinator.{Combinator}
 use Rattle.dom_selectors.specs.declared.syntax.Part.{Part}
-use Rattle.dom_selectors.specs.Syntax.{CompoundSelector, compound, NestedLists, no_lists, nested, NestedList, some_means, none_means, leads_on, SelectorList, no_selectors, alternative, Steps, no_steps, step}
+use Rattle.dom_selectors.specs.Syntax.{CompoundSelector, compound, NestedLists, no_lists, nested, NestedList, is_list, not_list, has_list, SelectorList, no_selectors, alternative, Steps, no_steps, step}
 
 pub data Token : Type 0 where
   a_compound : List Part → Token
@@ -11,7 +11,7 @@ pub data Token : Type 0 where
   a_list : Token
   some_of : Token
   none_of : Token
-  leads_of : Token
+  relative_of : Token
   last_selector : Token
   a_selector : Combinator → Token
   last_step : Token
@@ -29,9 +29,9 @@ abbrev pub with_token : Token → List Piece → List Piece
 with_token (a_compound parts) (of_lists lists ∷ pieces) = of_compound (compound parts lists) ∷ pieces
 with_token last_list pieces = of_lists no_lists ∷ pieces
 with_token a_list (of_lists lists ∷ of_list list ∷ pieces) = of_lists (nested list lists) ∷ pieces
-with_token some_of (of_selectors list ∷ pieces) = of_list (some_means list) ∷ pieces
-with_token none_of (of_selectors list ∷ pieces) = of_list (none_means list) ∷ pieces
-with_token leads_of (of_selectors list ∷ pieces) = of_list (leads_on list) ∷ pieces
+with_token some_of (of_selectors list ∷ pieces) = of_list (is_list list) ∷ pieces
+with_token none_of (of_selectors list ∷ pieces) = of_list (not_list list) ∷ pieces
+with_token relative_of (of_selectors list ∷ pieces) = of_list (has_list list) ∷ pieces
 with_token last_selector pieces = of_selectors no_selectors ∷ pieces
 with_token (a_selector lead) (of_selectors list ∷ of_steps steps ∷ of_compound first ∷ pieces) = of_selectors (alternative lead first steps list) ∷ pieces
 with_token last_step pieces = of_steps no_steps ∷ pieces
@@ -52,9 +52,9 @@ abbrev mutual
   lists_tokens (nested list more) tokens = list_tokens list (lists_tokens more (a_list ∷ tokens))
 
   pub list_tokens : NestedList → List Token → List Token
-  list_tokens (some_means list) tokens = selectors_tokens list (some_of ∷ tokens)
-  list_tokens (none_means list) tokens = selectors_tokens list (none_of ∷ tokens)
-  list_tokens (leads_on list) tokens = selectors_tokens list (leads_of ∷ tokens)
+  list_tokens (is_list list) tokens = selectors_tokens list (some_of ∷ tokens)
+  list_tokens (not_list list) tokens = selectors_tokens list (none_of ∷ tokens)
+  list_tokens (has_list list) tokens = selectors_tokens list (relative_of ∷ tokens)
 
   pub selectors_tokens : SelectorList → List Token → List Token
   selectors_tokens no_selectors tokens = last_selector ∷ tokens
@@ -73,9 +73,9 @@ mutual
   lists_back (nested list more) tokens pieces = list_back list (lists_tokens more (a_list ∷ tokens)) pieces ∙ lists_back more (a_list ∷ tokens) (of_list list ∷ pieces)
 
   list_back : (list : NestedList) (tokens : List Token) (pieces : List Piece) → put_together (list_tokens list tokens) pieces ≡ put_together tokens (of_list list ∷ pieces)
-  list_back (some_means list) tokens pieces = selectors_back list (some_of ∷ tokens) pieces
-  list_back (none_means list) tokens pieces = selectors_back list (none_of ∷ tokens) pieces
-  list_back (leads_on list) tokens pieces = selectors_back list (leads_of ∷ tokens) pieces
+  list_back (is_list list) tokens pieces = selectors_back list (some_of ∷ tokens) pieces
+  list_back (not_list list) tokens pieces = selectors_back list (none_of ∷ tokens) pieces
+  list_back (has_list list) tokens pieces = selectors_back list (relative_of ∷ tokens) pieces
 
   selectors_back : (list : SelectorList) (tokens : List Token) (pieces : List Piece) → put_together (selectors_tokens list tokens) pieces ≡ put_together tokens (of_selectors list ∷ pieces)
   selectors_back no_selectors tokens pieces = refl

@@ -8,14 +8,14 @@ use Rattle.dom_selectors.specs.declared.syntax.Compound.{Compound, Compound-F, f
 use Rattle.dom_selectors.specs.declared.syntax.Nested.{Nested, Nested-F, fold-Nested}
 use Rattle.dom_selectors.specs.declared.syntax.Selector.{Selector, Selector-F, fold-Selector}
 use Rattle.dom_selectors.specs.declared.syntax.Step.{Step, Step-F, fold-Step}
-use Rattle.dom_selectors.specs.Syntax.{CompoundSelector, compound, NestedLists, no_lists, nested, NestedList, some_means, none_means, leads_on, SelectorList, Steps}
+use Rattle.dom_selectors.specs.Syntax.{CompoundSelector, compound, NestedLists, no_lists, nested, NestedList, is_list, not_list, has_list, SelectorList, Steps}
 use Rattle.dom_selectors.specs.ListsAsTrees.{Item, simple, two_parts, listed, lists_of, steps_of, selector_list}
 
 -- one layer of a value, with what its children stand for in their place
 abbrev pub nested_layer : Nested-F NestedList CompoundSelector (Combinator × CompoundSelector × Steps) (Combinator × CompoundSelector) → NestedList
-nested_layer (Nested-F.Is list) = some_means (selector_list list.items)
-nested_layer (Nested-F.Not list) = none_means (selector_list list.items)
-nested_layer (Nested-F.Has list) = leads_on (selector_list list.items)
+nested_layer (Nested-F.Is list) = is_list (selector_list list.items)
+nested_layer (Nested-F.Not list) = not_list (selector_list list.items)
+nested_layer (Nested-F.Has list) = has_list (selector_list list.items)
 
 abbrev pub compound_layer : Compound-F NestedList CompoundSelector (Combinator × CompoundSelector × Steps) (Combinator × CompoundSelector) → CompoundSelector
 compound_layer c = compound c.parts.items (lists_of c.nested.items)

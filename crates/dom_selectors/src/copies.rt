@@ -148,6 +148,15 @@ fn copy_selector(alloc: Global, selector: &Selector) -> Result<Selector, OutOfMe
     })
 }
 
+impl Selector {
+    /// The same selector in memory of its own.
+    pub fn try_clone(&self) -> Result<Selector, OutOfMemory>
+        ensures { IfOk result (λ made. read_selector made ≡ read_selector self.now) }
+    {
+        copy_selector(*self.rest.allocator(), self)
+    }
+}
+
 #[cycle(copying)]
 fn copy_steps(alloc: Global, steps: &[Step]) -> Result<Vec<Step>, OutOfMemory>
     ensures { IfOk result (λ made. map read_step made.items ≡ map read_step steps.now) }

@@ -24,7 +24,7 @@ pub trait ToCss {
 
 /// A text that is written as a string: in `"`, with `"` and `\` behind a `\`, U+0001 to U+001F and
 /// U+007F as `\`, their number in lower-case hexadecimal and a space, and U+0000 as U+FFFD.
-#[derive(Drop)]
+#[derive(PartialEq, Eq, Debug, Drop)]
 pub struct CssString(pub Text);
 
 impl CssString {
@@ -54,7 +54,7 @@ impl ToCss for CssString {
 }
 
 /// A local name, which is written as it is.
-#[derive(Drop)]
+#[derive(PartialEq, Eq, Debug, Drop)]
 pub struct CssLocalName(pub LocalName);
 
 impl CssLocalName {

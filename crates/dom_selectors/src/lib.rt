@@ -2,6 +2,7 @@
 #![tactic(auto)]
 
 pub(crate) mod attributes;
+mod compared;
 pub mod comparisons;
 pub mod copies;
 pub mod css;

@@ -13,7 +13,7 @@ ghost use Rattle.dom_selectors.specs.Grammar.{SpellsLead, SpellsList, SpellsList
 ghost use Rattle.dom_selectors.specs.Grammar.{SpellsPseudo, SpellsSelector, SpellsStep, SpellsType};
 ghost use Rattle.dom_selectors.specs.Grammar.{begins_comma, begins_compound, begins_item};
 ghost use Rattle.dom_selectors.specs.Grammar.{begins_open};
-ghost use Rattle.dom_selectors.specs.Grammar.{begins_step, combinator_of, inner_room};
+ghost use Rattle.dom_selectors.specs.Grammar.{begins_step, combinator_of, inner_context};
 ghost use Rattle.dom_selectors.specs.Grammar.{is_combinator};
 ghost use Rattle.dom_selectors.specs.Grammar.{is_star, stands_behind, stands_for, whole};
 ghost use Rattle.dom_selectors.specs.ListsAsTrees.{Item, lists_of};
@@ -32,8 +32,8 @@ use crate::nth::take_nth;
 use crate::pseudos::{bare_item, is_relative, pseudo_of, quantified, text_part};
 use crate::strings::take_string;
 use crate::syntax::{
-    Bare, Combinator, Compound, Item, Nested, Part, Position, Pseudo, Quantifier, Room, Selector,
-    Step, TextTest,
+    Bare, Combinator, Compound, Item, Nested, ParseContext, Part, Position, Pseudo, Quantifier,
+    Selector, Step, TextTest,
 };
 use dom_nodes::indexes::Nth;
 use dom_nodes::text::Text;
@@ -64,15 +64,15 @@ fn begins_open(text: &[char]) -> bool
 }
 
 /// What follows the parenthesis at the front and whitespace.
-fn take_opening(room: Room, text: &[char]) -> Result<&[char], SelectorFault>
-    ensures { MatchResult result (λ rest. Opens room.depth text.now rest.now)
-        (λ fault. Refuses (stands_behind room text.now) fault
-        ((rest : List ℕ) → Opens room.depth text.now rest → ⊥)) }
+fn take_opening(context: ParseContext, text: &[char]) -> Result<&[char], SelectorFault>
+    ensures { MatchResult result (λ rest. Opens context.depth text.now rest.now)
+        (λ fault. Refuses (stands_behind context text.now) fault
+        ((rest : List ℕ) → Opens context.depth text.now rest → ⊥)) }
 {
     let Some(inside) = after_char(text, '(') else {
         return Err(SelectorFault::UnknownPseudoClass);
     };
-    if room.depth == 0 {
+    if context.depth == 0 {
         return Err(SelectorFault::TooDeep);
     }
     Ok(after_white(inside))
@@ -91,8 +91,12 @@ fn take_closing(text: &[char]) -> Result<&[char], SelectorFault>
 }
 
 /// The part of a pseudo-class without parentheses, and what follows it.
-fn take_plain(room: Room, bare: Bare, text: &[char]) -> Result<(Item, &[char]), SelectorFault>
-    ensures { TakesBehind room result read_item (SpellsPlain bare) text.now }
+fn take_plain(
+    context: ParseContext,
+    bare: Bare,
+    text: &[char],
+) -> Result<(Item, &[char]), SelectorFault>
+    ensures { TakesBehind context result read_item (SpellsPlain bare) text.now }
 {
     if begins_open(text) {
         return Err(SelectorFault::UnknownPseudoClass);
@@ -101,10 +105,10 @@ fn take_plain(room: Room, bare: Bare, text: &[char]) -> Result<(Item, &[char]), 
 }
 
 /// The `an+b` in parentheses, and what follows it.
-fn take_enclosed_nth(room: Room, text: &[char]) -> Result<(Nth, &[char]), SelectorFault>
-    ensures { TakesBehind room result same (SpellsEnclosed room.depth SpellsNth) text.now }
+fn take_enclosed_nth(context: ParseContext, text: &[char]) -> Result<(Nth, &[char]), SelectorFault>
+    ensures { TakesBehind context result same (SpellsEnclosed context.depth SpellsNth) text.now }
 {
-    let inside = take_opening(room, text)?;
+    let inside = take_opening(context, text)?;
     let (nth, after) = take_nth(inside)?;
     let rest = take_closing(after)?;
     Ok((nth, rest))
@@ -113,25 +117,25 @@ fn take_enclosed_nth(room: Room, text: &[char]) -> Result<(Nth, &[char]), Select
 /// The string in parentheses, and what follows it.
 fn take_enclosed_string(
     alloc: Global,
-    room: Room,
+    context: ParseContext,
     text: &[char],
 ) -> Result<(Text, &[char]), SelectorFault>
-    ensures { TakesBehind room result same (SpellsEnclosed room.depth SpellsString) text.now }
+    ensures { TakesBehind context result same (SpellsEnclosed context.depth SpellsString) text.now }
 {
-    let inside = take_opening(room, text)?;
+    let inside = take_opening(context, text)?;
     let (string, after) = take_string(alloc, inside)?;
     let rest = take_closing(after)?;
     Ok((string, rest))
 }
 
-/// The room between parentheses that open here.
-fn inner_room(room: Room, relative: bool) -> Room
-    requires { 0 < room.depth }
-    ensures { result ≡ inner_room room relative }
+/// The context between parentheses that open here.
+fn inner_context(context: ParseContext, relative: bool) -> ParseContext
+    requires { 0 < context.depth }
+    ensures { result ≡ inner_context context relative }
 {
-    Room {
-        depth: room.depth - 1,
-        in_has: room.in_has || relative,
+    ParseContext {
+        depth: context.depth - 1,
+        in_has: context.in_has || relative,
         is_relative: relative,
     }
 }
@@ -140,15 +144,15 @@ fn inner_room(room: Room, relative: bool) -> Room
 #[cycle(lists)]
 fn take_enclosed(
     alloc: Global,
-    room: Room,
+    context: ParseContext,
     relative: bool,
     text: &[char],
 ) -> Result<(Vec<Selector>, &[char]), SelectorFault>
-    ensures { TakesBehind room result (λ list. read_list list.items)
-        (SpellsEnclosed room.depth (SpellsInner room relative)) text.now }
+    ensures { TakesBehind context result (λ list. read_list list.items)
+        (SpellsEnclosed context.depth (SpellsInner context relative)) text.now }
 {
-    let inside = take_opening(room, text)?;
-    let (list, after) = take_list(alloc, inner_room(room, relative), inside)?;
+    let inside = take_opening(context, text)?;
+    let (list, after) = take_list(alloc, inner_context(context, relative), inside)?;
     let rest = take_closing(after)?;
     Ok((list, rest))
 }
@@ -157,18 +161,18 @@ fn take_enclosed(
 #[cycle(lists)]
 fn take_listed(
     alloc: Global,
-    room: Room,
+    context: ParseContext,
     quantifier: Quantifier,
     text: &[char],
 ) -> Result<(Item, &[char]), SelectorFault>
-    ensures { TakesBehind room result read_item
-        (SpellsListed room (SpellsInner room) quantifier) text.now }
+    ensures { TakesBehind context result read_item
+        (SpellsListed context (SpellsInner context) quantifier) text.now }
 {
     let relative = is_relative(quantifier);
-    if relative && room.in_has {
+    if relative && context.in_has {
         return Err(SelectorFault::NestedHas);
     }
-    let (list, rest) = take_enclosed(alloc, room, relative, text)?;
+    let (list, rest) = take_enclosed(alloc, context, relative, text)?;
     Ok((Item::Listed(quantified(quantifier, list)), rest))
 }
 
@@ -176,22 +180,22 @@ fn take_listed(
 #[cycle(lists)]
 fn take_form(
     alloc: Global,
-    room: Room,
+    context: ParseContext,
     pseudo: Pseudo,
     text: &[char],
 ) -> Result<(Item, &[char]), SelectorFault>
-    ensures { TakesBehind room result read_item
-        (SpellsForm room (SpellsInner room) pseudo) text.now }
+    ensures { TakesBehind context result read_item
+        (SpellsForm context (SpellsInner context) pseudo) text.now }
 {
     match pseudo {
-        Pseudo::Plain(bare) => take_plain(room, bare, text),
-        Pseudo::Listed(quantifier) => take_listed(alloc, room, quantifier, text),
+        Pseudo::Plain(bare) => take_plain(context, bare, text),
+        Pseudo::Listed(quantifier) => take_listed(alloc, context, quantifier, text),
         Pseudo::Nth(kind) => {
-            let (nth, rest) = take_enclosed_nth(room, text)?;
+            let (nth, rest) = take_enclosed_nth(context, text)?;
             Ok((Item::Simple(Part::Position(Position { kind, nth })), rest))
         }
         Pseudo::Text(test) => {
-            let (string, rest) = take_enclosed_string(alloc, room, text)?;
+            let (string, rest) = take_enclosed_string(alloc, context, text)?;
             Ok((Item::Simple(text_part(test, string)), rest))
         }
     }
@@ -199,20 +203,29 @@ fn take_form(
 
 /// The pseudo-class behind its colon, and what follows it.
 #[cycle(lists)]
-fn take_pseudo(alloc: Global, room: Room, text: &[char]) -> Result<(Item, &[char]), SelectorFault>
-    ensures { TakesBehind room result read_item (SpellsPseudo room (SpellsInner room)) text.now }
+fn take_pseudo(
+    alloc: Global,
+    context: ParseContext,
+    text: &[char],
+) -> Result<(Item, &[char]), SelectorFault>
+    ensures { TakesBehind context result read_item
+        (SpellsPseudo context (SpellsInner context)) text.now }
 {
     let (name, after) = take_name(alloc, text)?;
     let Some(pseudo) = pseudo_of(name.as_str()) else {
         return Err(SelectorFault::UnknownPseudoClass);
     };
-    take_form(alloc, room, pseudo, after)
+    take_form(alloc, context, pseudo, after)
 }
 
 /// The part or list at the front, and what follows it.
 #[cycle(lists)]
-fn take_item(alloc: Global, room: Room, text: &[char]) -> Result<(Item, &[char]), SelectorFault>
-    ensures { TakesIn room result read_item (SpellsItem room (SpellsInner room)) text.now }
+fn take_item(
+    alloc: Global,
+    context: ParseContext,
+    text: &[char],
+) -> Result<(Item, &[char]), SelectorFault>
+    ensures { TakesIn context result read_item (SpellsItem context (SpellsInner context)) text.now }
 {
     let Some((sign, more)) = text.split_first() else {
         return Err(SelectorFault::Syntax);
@@ -232,7 +245,7 @@ fn take_item(alloc: Global, room: Room, text: &[char]) -> Result<(Item, &[char])
     if *sign != ':' {
         return Err(SelectorFault::Syntax);
     }
-    take_pseudo(alloc, room, more)
+    take_pseudo(alloc, context, more)
 }
 
 /// The type at the front if there is one, and what follows it.
@@ -287,10 +300,11 @@ fn push_item(parts: &mut Vec<Part>, nested: &mut Vec<Nested>, item: Item) -> Res
 #[cycle(lists)]
 fn take_compound(
     alloc: Global,
-    room: Room,
+    context: ParseContext,
     text: &[char],
 ) -> Result<(Compound, &[char]), SelectorFault>
-    ensures { TakesIn room result read_compound (SpellsCompound room (SpellsInner room)) text.now }
+    ensures { TakesIn context result read_compound
+        (SpellsCompound context (SpellsInner context)) text.now }
 {
     if !begins_compound(text) {
         return Err(SelectorFault::Syntax);
@@ -300,7 +314,7 @@ fn take_compound(
     let mut nested = Vec::new(alloc);
     let mut rest = after;
     while begins_item(rest) {
-        let (item, more) = take_item(alloc, room, rest)?;
+        let (item, more) = take_item(alloc, context, rest)?;
         push_item(&mut parts, &mut nested, item)?;
         rest = more;
     }
@@ -355,8 +369,12 @@ fn begins_step(text: &[char]) -> bool
 
 /// The combinator and compound at the front, and what follows them.
 #[cycle(lists)]
-fn take_step(alloc: Global, room: Room, text: &[char]) -> Result<(Step, &[char]), SelectorFault>
-    ensures { TakesIn room result read_step (SpellsStep room (SpellsInner room)) text.now }
+fn take_step(
+    alloc: Global,
+    context: ParseContext,
+    text: &[char],
+) -> Result<(Step, &[char]), SelectorFault>
+    ensures { TakesIn context result read_step (SpellsStep context (SpellsInner context)) text.now }
 {
     if !begins_step(text) {
         return Err(SelectorFault::Syntax);
@@ -364,7 +382,7 @@ fn take_step(alloc: Global, room: Room, text: &[char]) -> Result<(Step, &[char])
     let Some((combinator, mid)) = take_combinator(after_white(text)) else {
         return Err(SelectorFault::Syntax);
     };
-    let (compound, rest) = take_compound(alloc, room, mid)?;
+    let (compound, rest) = take_compound(alloc, context, mid)?;
     Ok((
         Step {
             combinator,
@@ -394,17 +412,18 @@ fn take_lead(relative: bool, text: &[char]) -> (Combinator, &[char])
 #[cycle(lists)]
 fn take_selector(
     alloc: Global,
-    room: Room,
+    context: ParseContext,
     text: &[char],
 ) -> Result<(Selector, &[char]), SelectorFault>
-    ensures { TakesIn room result read_selector (SpellsSelector room (SpellsInner room)) text.now }
+    ensures { TakesIn context result read_selector
+        (SpellsSelector context (SpellsInner context)) text.now }
 {
-    let (lead, begin) = take_lead(room.is_relative, text);
-    let (first, after) = take_compound(alloc, room, begin)?;
+    let (lead, begin) = take_lead(context.is_relative, text);
+    let (first, after) = take_compound(alloc, context, begin)?;
     let mut steps = Vec::new(alloc);
     let mut rest = after;
     while begins_step(rest) {
-        let (step, more) = take_step(alloc, room, rest)?;
+        let (step, more) = take_step(alloc, context, rest)?;
         steps.push(step)?;
         rest = more;
     }
@@ -428,33 +447,34 @@ fn begins_comma(text: &[char]) -> bool
 #[cycle(lists)]
 fn take_later(
     alloc: Global,
-    room: Room,
+    context: ParseContext,
     text: &[char],
 ) -> Result<(Selector, &[char]), SelectorFault>
-    ensures { TakesIn room result read_selector (SpellsLater room (SpellsInner room)) text.now }
+    ensures { TakesIn context result read_selector
+        (SpellsLater context (SpellsInner context)) text.now }
 {
     let Some(rest) = after_char(after_white(text), ',') else {
         return Err(SelectorFault::Syntax);
     };
-    take_selector(alloc, room, after_white(rest))
+    take_selector(alloc, context, after_white(rest))
 }
 
 /// The list at the front, and what follows it.
 #[cycle(lists)]
 fn take_list(
     alloc: Global,
-    room: Room,
+    context: ParseContext,
     text: &[char],
 ) -> Result<(Vec<Selector>, &[char]), SelectorFault>
-    ensures { TakesIn room result (λ list. read_list list.items)
-        (SpellsList room (SpellsInner room)) text.now }
+    ensures { TakesIn context result (λ list. read_list list.items)
+        (SpellsList context (SpellsInner context)) text.now }
 {
-    let (first, after) = take_selector(alloc, room, text)?;
+    let (first, after) = take_selector(alloc, context, text)?;
     let mut list = Vec::new(alloc);
     list.push(first)?;
     let mut rest = after;
     while begins_comma(rest) {
-        let (selector, more) = take_later(alloc, room, rest)?;
+        let (selector, more) = take_later(alloc, context, rest)?;
         list.push(selector)?;
         rest = more;
     }
@@ -482,7 +502,7 @@ fn parse(alloc: Global, text: &[char]) -> Result<Vec<Selector>, SelectorFault>
     if !has_no_zero(text) {
         return Err(SelectorFault::Syntax);
     }
-    let whole = Room {
+    let whole = ParseContext {
         depth: 64,
         in_has: false,
         is_relative: false,

@@ -8,7 +8,7 @@ use dom_nodes::fault::OutOfMemory;
 use std::alloc::Global;
 
 /// A pseudo-class that looks at more than where an element stands.
-#[derive(Drop)]
+#[derive(PartialEq, Eq, Debug, Drop)]
 pub enum NonTSPseudoClass {
     AnyLink,
     Link,
@@ -26,6 +26,29 @@ pub enum NonTSPseudoClass {
     HasText(CssString),
     /// `:contains(..)`: the texts at and below the node, joined, contain this one.
     Contains(CssString),
+}
+
+impl NonTSPseudoClass {
+    /// The same pseudo-class in memory of its own.
+    pub fn try_clone(&self) -> Result<NonTSPseudoClass, OutOfMemory>
+        ensures { IfOk result (λ made. made ≡ self.now) }
+    {
+        Ok(match self {
+            NonTSPseudoClass::AnyLink => NonTSPseudoClass::AnyLink,
+            NonTSPseudoClass::Link => NonTSPseudoClass::Link,
+            NonTSPseudoClass::Visited => NonTSPseudoClass::Visited,
+            NonTSPseudoClass::Active => NonTSPseudoClass::Active,
+            NonTSPseudoClass::Focus => NonTSPseudoClass::Focus,
+            NonTSPseudoClass::Hover => NonTSPseudoClass::Hover,
+            NonTSPseudoClass::Enabled => NonTSPseudoClass::Enabled,
+            NonTSPseudoClass::Disabled => NonTSPseudoClass::Disabled,
+            NonTSPseudoClass::Checked => NonTSPseudoClass::Checked,
+            NonTSPseudoClass::Indeterminate => NonTSPseudoClass::Indeterminate,
+            NonTSPseudoClass::OnlyText => NonTSPseudoClass::OnlyText,
+            NonTSPseudoClass::HasText(text) => NonTSPseudoClass::HasText(text.try_clone()?),
+            NonTSPseudoClass::Contains(text) => NonTSPseudoClass::Contains(text.try_clone()?),
+        })
+    }
 }
 
 impl ToCss for NonTSPseudoClass {

@@ -91,7 +91,7 @@ fn quantifier_of(name: &str) -> Option<Quantifier>
         return Some(Quantifier::NoneOf);
     }
     if is_word(name, "has") {
-        return Some(Quantifier::LeadsOn);
+        return Some(Quantifier::RelativeOf);
     }
     None
 }
@@ -182,7 +182,7 @@ pub(crate) fn is_relative(quantifier: Quantifier) -> bool
 {
     match quantifier {
         Quantifier::SomeOf | Quantifier::NoneOf => false,
-        Quantifier::LeadsOn => true,
+        Quantifier::RelativeOf => true,
     }
 }
 
@@ -193,7 +193,7 @@ pub(crate) fn quantified(quantifier: Quantifier, list: Vec<Selector>) -> Nested
     match quantifier {
         Quantifier::SomeOf => Nested::Is(list),
         Quantifier::NoneOf => Nested::Not(list),
-        Quantifier::LeadsOn => Nested::Has(list),
+        Quantifier::RelativeOf => Nested::Has(list),
     }
 }
 

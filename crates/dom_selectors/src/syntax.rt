@@ -23,7 +23,7 @@ pub enum AttrOperator {
 }
 
 /// What an attribute's value is asked for.
-#[derive(Drop)]
+#[derive(PartialEq, Eq, Debug, Drop)]
 pub struct Comparison {
     pub operator: AttrOperator,
     pub value: Text,
@@ -31,7 +31,7 @@ pub struct Comparison {
 }
 
 /// An attribute, and what its value is asked for, if anything.
-#[derive(Drop)]
+#[derive(PartialEq, Eq, Debug, Drop)]
 pub struct Attribute {
     pub name: SelectorName,
     pub comparison: Option<Comparison>,
@@ -58,7 +58,7 @@ pub struct Position {
 }
 
 /// A part of a compound that has no selectors in it.
-#[derive(Drop)]
+#[derive(PartialEq, Eq, Debug, Drop)]
 pub enum Part {
     /// `*`: it holds of every node.
     Universal,
@@ -90,7 +90,7 @@ pub enum Part {
 
 /// A list of selectors in a compound.
 #[cycle(selectors)]
-#[derive(Drop)]
+#[derive(PartialEq, Eq, Debug, Drop)]
 pub enum Nested {
     /// `:is` and `:where`: one of them means the node.
     Is(Vec<Selector>),
@@ -102,7 +102,7 @@ pub enum Nested {
 
 /// What is asked of one node: each part, and each nested list.
 #[cycle(selectors)]
-#[derive(Drop)]
+#[derive(PartialEq, Eq, Debug, Drop)]
 pub struct Compound {
     pub parts: Vec<Part>,
     pub nested: Vec<Nested>,
@@ -110,7 +110,7 @@ pub struct Compound {
 
 /// A compound and how the node before it stands to its node.
 #[cycle(selectors)]
-#[derive(Drop)]
+#[derive(PartialEq, Eq, Debug, Drop)]
 pub struct Step {
     pub combinator: Combinator,
     pub compound: Compound,
@@ -119,7 +119,7 @@ pub struct Step {
 /// Compounds with a combinator between each two. In `:has` a combinator stands before the first
 /// too; elsewhere it counts for nothing.
 #[cycle(selectors)]
-#[derive(Drop)]
+#[derive(PartialEq, Eq, Debug, Drop)]
 pub struct Selector {
     pub lead: Combinator,
     pub first: Compound,
@@ -153,7 +153,7 @@ pub(crate) enum Bare {
 pub(crate) enum Quantifier {
     SomeOf,
     NoneOf,
-    LeadsOn,
+    RelativeOf,
 }
 
 /// Which texts a pseudo-class asks for a string.
@@ -176,7 +176,7 @@ pub(crate) enum Pseudo {
 
 /// Where in a selector's text something stands.
 #[derive(Clone, Copy, PartialEq, Eq, Debug, Drop)]
-pub(crate) struct Room {
+pub(crate) struct ParseContext {
     /// How many parentheses may still open.
     pub depth: usize,
     /// Whether it is inside `:has`.

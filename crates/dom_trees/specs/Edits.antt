@@ -13,11 +13,11 @@ use Rattle.dom_links.specs.Forest.{Forest, children_of}
 use Rattle.dom_links.specs.Growth.{DataCause, HasFreeContents, MayAppend, NodeCause, with_child, with_node, with_template}
 use Rattle.dom_links.specs.declared.gap.Place.{Place}
 use Rattle.dom_links.specs.Insertions.{MayInsert, inserted}
-use Rattle.dom_links.specs.ListMoves.{AllowedList, MayReparent, MayWrap, moved_nodes, mover, reparented, replaced, unwrapped, wrapped}
+use Rattle.dom_links.specs.ListMoves.{AllowedList, MayReparent, MayWrap, moved_nodes, moving_id, reparented, replaced, unwrapped, wrapped}
 use Rattle.dom_links.specs.Moves.{cut, moved_to}
 use Rattle.dom_links.specs.Normalized.{normalized}
-use Rattle.dom_links.specs.SetTexts.{texted}
-use Rattle.dom_links.specs.Sound.{bears}
+use Rattle.dom_links.specs.SetTexts.{with_text_content}
+use Rattle.dom_links.specs.Sound.{children_allowed_at}
 use Rattle.dom_links.specs.declared.gap.Gap.{Gap}
 use Rattle.dom_links.specs.declared.gap.Gap.TheVariants.{Before}
 use Rattle.dom_links.specs.declared.gap.Moving.{Moving}
@@ -25,7 +25,7 @@ use Rattle.dom_links.specs.declared.gap.Moving.TheVariants.{Node}
 use Rattle.dom_trees.specs.NewNodes.{element_with}
 use Rattle.dom_trees.specs.Refusals.{ChangeCause, InsertCause, KnownCause, JoinCause, MoveCause, ReparentCause, SetCause, TemplateCause, WrapCause}
 
--- An edit: the forest that it leaves, when it is allowed, and the cause that a fault tells of its refusal
+-- An edit: the forest that it leaves, when it is allowed, and the cause that a fault states of its refusal
 pub record TreeEdit : Type 1 where
   pub after : Forest → Forest
   pub Allowed : Forest → Type 0
@@ -38,7 +38,7 @@ pub record Edits {A : Type 0} (result : Result A EditFault) (old new : Forest) (
   pub err : OnErr result (new ≡ old)
   pub cause : IfErr result (edit.Cause old)
 
--- The same of an edit that makes a node: it answers the next number
+-- The same of an edit that makes a node: it returns the next number
 pub record Makes (result : Result ℕ EditFault) (old new : Forest) (edit : TreeEdit) : Type 0 where
   pub ok : OnOk result (new ≡ edit.after old)
   pub number : IfOk result (λ made. made ≡ length old.content)
@@ -52,7 +52,7 @@ IsKnown x forest = x < length forest.content
 
 -- nodes are known, and may go to the gap
 pub record MayMove (gap : Gap) (moving : Moving) (forest : Forest) : Type 0 where
-  pub known : mover moving < length forest.content
+  pub known : moving_id moving < length forest.content
   pub list : AllowedList forest gap (moved_nodes forest moving)
 
 -- nodes go to a gap
@@ -135,7 +135,7 @@ appending t content = record {
 abbrev pub appending_template : ℕ → QualName → List Attr → TreeEdit
 appending_template t name attrs = record {
   after = λ forest. with_template t (element_with name attrs (length forest.content + 1)) forest;
-  Allowed = λ forest. IsKnown t forest × (bears forest t ≡ true);
+  Allowed = λ forest. IsKnown t forest × (children_allowed_at forest t ≡ true);
   Cause = TemplateCause t;
 }
 
@@ -147,7 +147,7 @@ copying source ns = record {
   Cause = CopyCause source ns;
 }
 
--- The same of such copies: their numbers are told
+-- The same of such copies: their numbers are returned
 pub record Copies (result : Result (Vec ℕ) EditFault) (old new source : Forest) (ns : List ℕ) : Type 0 where
   pub edits : Edits result old new (copying source ns)
   pub numbers : IfOk result (λ made. made.items ≡ copy_numbers source ns old)
@@ -161,8 +161,8 @@ inserting source ns place x = record {
 }
 
 -- the text of x is set
-abbrev pub texting : ℕ → List ℕ → TreeEdit
-texting x text = record { after = texted x text; Allowed = IsKnown x; Cause = SetCause x }
+abbrev pub setting_text : ℕ → List ℕ → TreeEdit
+setting_text x text = record { after = with_text_content x text; Allowed = IsKnown x; Cause = SetCause x }
 
 -- the rows of texts below x are joined
 abbrev pub normalizing : ℕ → TreeEdit

@@ -7,7 +7,7 @@ use Rattle.dom_nodes.specs.declared.name.Attr.{Attr}
 use Rattle.dom_nodes.specs.declared.name.QualName.{QualName}
 use Rattle.dom_nodes.specs.declared.node_data.NodeData.{NodeData}
 use Rattle.dom_nodes.specs.declared.node_data.NodeData.TheVariants.{Element}
-use Rattle.dom_links.specs.AddedTexts.{TextCause, with_text}
+use Rattle.dom_links.specs.AddedTexts.{TextCause, with_text_at}
 use Rattle.dom_links.specs.Contents.{with_content}
 use Rattle.dom_links.specs.Forest.{Forest}
 use Rattle.dom_links.specs.Growth.{NoRoom, NoRoomForTwo, with_lone_template, with_node}
@@ -28,8 +28,8 @@ flagged_element name attrs flags forest = Element (record {
 })
 
 -- the forest with that element, and with a template's contents behind it; both stand alone
-abbrev pub with_element : QualName → List Attr → ElementFlags → Forest → Forest
-with_element name attrs flags forest =
+abbrev pub with_new_element : QualName → List Attr → ElementFlags → Forest → Forest
+with_new_element name attrs flags forest =
     if flags.template then with_lone_template (flagged_element name attrs flags forest) forest
     else with_node (flagged_element name attrs flags forest) forest
 
@@ -41,14 +41,14 @@ ElementCause false count fault = NoRoom count fault
 -- an element is made, which stands alone
 abbrev pub making_element : QualName → List Attr → ElementFlags → TreeEdit
 making_element name attrs flags = record {
-  after = with_element name attrs flags;
+  after = with_new_element name attrs flags;
   Allowed = λ forest. Unit {0};
   Cause = λ forest fault. ElementCause flags.template (length forest.content) fault;
 }
 
 -- the gap is there, and open
-abbrev pub IsOpenAt : Gap → Forest → Type 0
-IsOpenAt gap forest = IsKnown (target gap) forest × (is_open gap forest ≡ true)
+abbrev pub IsOpenGap : Gap → Forest → Type 0
+IsOpenGap gap forest = IsKnown (target gap) forest × (is_open gap forest ≡ true)
 
 -- why no text could come to a gap
 abbrev pub AddTextCause : Gap → Forest → EditFault → Type 0
@@ -59,7 +59,7 @@ AddTextCause gap forest fault = TextCause gap forest fault
 
 -- a text comes to a gap: the text that stands right before it grows, else a new one is put there
 abbrev pub adding_text : Gap → List ℕ → TreeEdit
-adding_text gap text = record { after = with_text gap text; Allowed = IsOpenAt gap; Cause = AddTextCause gap }
+adding_text gap text = record { after = with_text_at gap text; Allowed = IsOpenGap gap; Cause = AddTextCause gap }
 
 -- why no attributes could be added to x
 abbrev pub AttrsCause : ℕ → Forest → EditFault → Type 0

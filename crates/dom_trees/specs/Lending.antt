@@ -29,7 +29,7 @@ pub record ChangesAt (old new : NodeMut) (change : Change) : Type 0 where
   pub made : new.tree.now ≡ with_content old.id (changed change) old.tree.now
   pub loan : IsSameLoan old new
 
--- The lent tree is left as told; node and loan stay
+-- The lent tree is left as stated; node and loan stay
 pub record LeavesAt (old new : NodeMut) (after : Forest → Forest) : Type 0 where
   pub made : new.tree.now ≡ after old.tree.now
   pub loan : IsSameLoan old new

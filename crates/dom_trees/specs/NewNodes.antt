@@ -41,5 +41,5 @@ abbrev pub doctype_node : List ℕ → List ℕ → List ℕ → NodeData
 doctype_node name public_id system_id = Doctype name public_id system_id
 
 -- the element `html` of a fragment
-abbrev pub html_element : NodeData
-html_element = bare_element (html_name (codes "html"))
+abbrev pub html_root_element : NodeData
+html_root_element = bare_element (html_name (codes "html"))

@@ -1,10 +1,10 @@
 -- When two nodes, of one forest or of two, are the same tree.
 use Rattle.std.specs.Prelude.{◌≡◌, ◌<◌, ℕ, false, List, [], ◌∷◌, Option, None, length, map, slice_get}
-use Rattle.std.specs.List.{AllByRecursion}
 use Rattle.std.specs.Option.{option_map}
 use Rattle.dom_nodes.specs.declared.name.Attr.{Attr}
 use Rattle.dom_nodes.specs.declared.node_data.NodeData.{NodeData}
 use Rattle.dom_nodes.specs.declared.node_data.NodeData.TheVariants.{Element}
+use Rattle.dom_links.specs.Copying.{AreNodesOf}
 use Rattle.dom_links.specs.Forest.{Forest}
 use Rattle.dom_links.specs.Trees.{Trees, NoTrees, Tree, trees}
 
@@ -23,28 +23,24 @@ compared (Element element) = Element (record {
 compared content = content
 
 -- Trees without numbers: what is compared of the first tree's root, its contents, its children, and the trees after it
-pub data Shown : Type 0 where
-  nothing : Shown
-  shown_tree : (root : Option NodeData) (contents children later : Shown) → Shown
+pub data TreeShape : Type 0 where
+  nothing : TreeShape
+  shape_of_tree : (root : Option NodeData) (contents children later : TreeShape) → TreeShape
 
-abbrev pub shown : Forest → Trees → Shown
-shown forest NoTrees = nothing
-shown forest (Tree n contents children later) =
-    shown_tree (option_map compared (slice_get forest.content n)) (shown forest contents) (shown forest children) (shown forest later)
+abbrev pub tree_shape : Forest → Trees → TreeShape
+tree_shape forest NoTrees = nothing
+tree_shape forest (Tree n contents children later) =
+    shape_of_tree (option_map compared (slice_get forest.content n)) (tree_shape forest contents) (tree_shape forest children) (tree_shape forest later)
 
 -- n and m are known, and the same tree: what is reached from them by children and contents, they too, can be paired so that each
 -- pair is compared equal, and so are the orders of their children
 pub record SameTree (one : Forest) (n : ℕ) (other : Forest) (m : ℕ) : Type 0 where
   pub known : n < length one.content
   pub other_known : m < length other.content
-  pub same : shown one (trees one (n ∷ [])) ≡ shown other (trees other (m ∷ []))
-
--- the forest has nodes of these numbers
-abbrev pub AreNodesOf : Forest → List ℕ → Type 0
-AreNodesOf forest ns = AllByRecursion (λ n. n < length forest.content) ns
+  pub same : tree_shape one (trees one (n ∷ [])) ≡ tree_shape other (trees other (m ∷ []))
 
 -- some nodes of one forest and some of another are the same trees, in their order
 pub record SameTrees (one : Forest) (ns : List ℕ) (other : Forest) (ms : List ℕ) : Type 0 where
   pub known : AreNodesOf one ns
   pub other_known : AreNodesOf other ms
-  pub same : shown one (trees one ns) ≡ shown other (trees other ms)
+  pub same : tree_shape one (trees one ns) ≡ tree_shape other (trees other ms)

@@ -1,10 +1,10 @@
-//! Whether an edit is allowed, and which fault tells why not.
+//! Whether an edit is allowed, and the fault that states why not.
 
 ghost use Rattle.std.specs.Prelude.{◌≡◌, ◌<◌, ◌≤◌, MatchResult, length, true};
 ghost use Rattle.dom_nodes.specs.declared.fault.EditFault.TheVariants.{TooManyNodes};
 ghost use Rattle.dom_links.specs.Forest.{forest_of};
 ghost use Rattle.dom_links.specs.Insertions.{gap_at};
-ghost use Rattle.dom_links.specs.ListMoves.{EachOf, MayWrap, moved_nodes, mover};
+ghost use Rattle.dom_links.specs.ListMoves.{EachOf, MayWrap, moved_nodes, moving_id};
 ghost use Rattle.dom_links.specs.Sound.{IsSoundArena, MayPlace, is_open, target};
 ghost use Rattle.dom_trees.specs.Edits.{IsKnown, MayMove, MayReparentOf};
 ghost use Rattle.dom_trees.specs.Refusals.{KnownCause, MoveCause, MovedCause, OpenCause};
@@ -64,7 +64,7 @@ pub(crate) fn check_place(nodes: &[TreeNode], x: NodeId, place: Place) -> Result
     check_open(nodes, &place.gap(x))
 }
 
-/// The node that tells the gap.
+/// The node that the gap names.
 pub(crate) fn target_of(gap: &Gap) -> NodeId
     ensures { result ≡ target gap.now }
 {
@@ -73,9 +73,9 @@ pub(crate) fn target_of(gap: &Gap) -> NodeId
     }
 }
 
-/// The node that tells what is moved.
-fn mover_of(moving: &Moving) -> NodeId
-    ensures { result ≡ mover moving.now }
+/// The node that names what is moved.
+fn moving_id_of(moving: &Moving) -> NodeId
+    ensures { result ≡ moving_id moving.now }
 {
     match *moving {
         Moving::Node(x) | Moving::WithLater(x) | Moving::WholeList(x) => x,
@@ -87,7 +87,7 @@ fn mover_of(moving: &Moving) -> NodeId
 fn check_moved(nodes: &[TreeNode], t: NodeId, moving: &Moving) -> Result<(), EditFault>
     requires sound { IsSoundArena nodes.now }
     requires target_known { IsKnown t (forest_of nodes.now) }
-    requires known { IsKnown (mover moving.now) (forest_of nodes.now) }
+    requires known { IsKnown (moving_id moving.now) (forest_of nodes.now) }
     ensures { let moved = moved_nodes (forest_of nodes.now) moving.now
         in MatchResult result (λ _. EachOf moved (MayPlace (forest_of nodes.now) t))
         (MovedCause t moved (forest_of nodes.now)) }
@@ -95,7 +95,7 @@ fn check_moved(nodes: &[TreeNode], t: NodeId, moving: &Moving) -> Result<(), Edi
     if TreeNodeOps::may_move(nodes, t, *moving) {
         return Ok(());
     }
-    if stays_put(nodes, mover_of(moving)) {
+    if stays_put(nodes, moving_id_of(moving)) {
         Err(EditFault::RootOrFragment)
     } else {
         Err(EditFault::Cycle)
@@ -123,7 +123,7 @@ pub(crate) fn check_move(nodes: &[TreeNode], gap: &Gap, moving: &Moving) -> Resu
 {
     let t = target_of(gap);
     check_known(nodes, t)?;
-    check_known(nodes, mover_of(moving))?;
+    check_known(nodes, moving_id_of(moving))?;
     check_open(nodes, gap)?;
     check_moved(nodes, t, moving)
 }

@@ -1,4 +1,4 @@
-//! What is true of every tree, told to the crates above. The functions do nothing.
+//! What is true of every tree, stated for the crates above. The functions do nothing.
 
 ghost use Rattle.std.specs.Prelude.{ℕ, List};
 ghost use Rattle.dom_links.specs.Copies.{MayCopy, copied, copy_numbers};

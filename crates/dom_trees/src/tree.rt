@@ -7,7 +7,7 @@ ghost use Rattle.dom_links.specs.Lists.{IsDistinct};
 ghost use Rattle.dom_links.specs.Sound.{IsSoundArena};
 ghost use Rattle.dom_links.specs.Trees.{ancestors, in_order, limited, walk_below};
 ghost use Rattle.dom_links.specs.Walk.{IsNodeOf, leaves_among};
-ghost use Rattle.dom_links.specs.Validation.{IsRefused, Tells};
+ghost use Rattle.dom_links.specs.Validation.{IsRefused, IsFirstFault};
 ghost use Rattle.dom_links.specs.declared.validation.ValidateFault.TheVariants.{Memory, NoRoot};
 ghost use Rattle.dom_trees.specs.Refusals.{RootCause};
 ghost use Rattle.dom_trees.specs.Views.{ListsNumbers};
@@ -85,7 +85,7 @@ impl Tree {
         ensures ok { IfOk result (λ tree. tree ≡ forest_of nodes.items) }
         ensures back { IfErr result (λ refused. refused.0 ≡ nodes) }
         ensures err { IfErr result (λ refused. IsRefused nodes.items refused.1) }
-        ensures cause { IfErr result (λ refused. Tells nodes.items refused.1) }
+        ensures cause { IfErr result (λ refused. IsFirstFault nodes.items refused.1) }
         ensures empty { nodes.items ≡ [] → IsErrAnd result (λ refused. refused.1 ≡ NoRoot) }
     {
         match TreeNodeOps::validate(*nodes.allocator(), &nodes) {
@@ -117,13 +117,13 @@ impl Tree {
     }
 
     /// Where the tree's memory comes from. No clause: a contract sees the tree as its forest, and
-    /// this tells nothing of it.
+    /// this states nothing of it.
     pub fn allocator(&self) -> Global {
         *self.nodes.allocator()
     }
 
-    /// The node of that number.
-    pub fn get(&self, id: &NodeId) -> Option<&TreeNode>
+    /// What the arena holds at that number: the node's content and its links.
+    pub fn tree_node(&self, id: &NodeId) -> Option<&TreeNode>
         ensures { MatchOption result (length self.now.content ≤ id.now)
             (λ node. IsNodeOf self.now id.now node.now) }
     {

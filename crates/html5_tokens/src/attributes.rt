@@ -68,7 +68,7 @@ impl Attributes {
     }
 
     /// Whether some attribute has the name.
-    fn has(&self, name: &str) -> bool
+    pub fn has(&self, name: &str) -> bool
         ensures { result ≡ list_any (is_named name.now) self.now.kept.items }
     {
         let (_, recent) = self.kept.as_slice().split_at(self.noted);
@@ -87,18 +87,17 @@ impl Attributes {
     }
 
     /// Adds an attribute, with the letters from A to Z of its name in lower case, unless one of its
-    /// name is there. Returns whether it was added.
-    pub fn add(&mut self, alloc: Global, name: String, value: String) -> Result<bool, AllocError>
+    /// name is there.
+    pub fn add(&mut self, alloc: Global, name: String, value: String) -> Result<(), AllocError>
         requires { 0 < length (string_bytes name) }
     {
         let mut name = name;
         name.make_ascii_lowercase();
         if self.has(name.as_str()) {
-            return Ok(false);
+            return Ok(());
         }
         push(&mut self.kept, TagAttr { name, value })?;
-        self.note(alloc)?;
-        Ok(true)
+        self.note(alloc)
     }
 
     /// Takes all attributes out.

@@ -1,6 +1,9 @@
 //! Pages that are read as the HTML Standard reads them: whole, as bytes, in pieces, and as a
 //! fragment.
 
+mod endings;
+mod shapes;
+
 use dom_html5::{
     Context, Options, PageFault, PageParser, parse_page, parse_page_bytes, parse_page_fragment,
 };
@@ -42,6 +45,7 @@ const PAGES: [(&str, &str); 7] = [
 const OPTIONS: Options = Options {
     scripting: false,
     max_depth: None,
+    errors: false,
 };
 
 fn has_html(document: &Document, html: &str) -> Result<bool, Fail> {

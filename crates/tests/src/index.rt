@@ -1,3 +1,3 @@
 //! Tests of `dom_index`.
 
-mod random;
+pub(crate) mod random;

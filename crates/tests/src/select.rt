@@ -1,3 +1,5 @@
 //! Tests of `dom_select`.
 
 mod closures;
+mod paths;
+mod roots;

@@ -1,6 +1,8 @@
 //! What can go wrong.
 
-use dom_query::{EditFault, MarkupFault, OutOfMemory, SelectionFault, SelectorFault, WriteFault};
+use dom_query::{
+    EditFault, MarkupFault, OutOfMemory, PageFault, SelectionFault, SelectorFault, WriteFault,
+};
 use std::io;
 
 #[derive(Debug, Drop, thiserror::Error)]
@@ -17,6 +19,8 @@ pub enum TourFault {
     Memory(#[from] OutOfMemory),
     #[error("{0}")]
     Write(#[from] WriteFault),
+    #[error("page: {0}")]
+    Page(#[from] PageFault),
     #[error("{0}")]
     Output(#[from] io::Error),
 }

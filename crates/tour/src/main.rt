@@ -1,14 +1,16 @@
-//! The snippets of README.md, docs/API.md and docs/SINK.md, one after the other, and small whole
-//! programs over the library. `check` compares the documents with these files.
+//! The snippets of README.md, docs/API.md, docs/SINK.md and docs/PAGES.md, one after the other, and
+//! small whole programs over the library. `check` compares the documents with these files.
 #![tactic(auto)]
 
 mod addresses;
 mod article;
 mod changing;
+mod comments;
 mod fault;
 mod finding;
 mod links;
 mod many;
+mod pages;
 mod parens;
 mod reading;
 mod rewriting;
@@ -30,5 +32,7 @@ fn main(rt: HostRuntime) -> Result<(), TourFault> {
     parens::print_read(alloc, &mut out)?;
     addresses::print_links(alloc, addresses::PAGE, &mut out)?;
     rewriting::print_rewritten(alloc, rewriting::PAGE, &mut out)?;
-    article::print_article(alloc, article::PAGE, &mut out)
+    article::print_article(alloc, article::PAGE, &mut out)?;
+    comments::print_comments(alloc, &comments::COMMENTS, &mut out)?;
+    pages::print_page(alloc, pages::PAGE, &mut out)
 }

@@ -1,8 +1,8 @@
 //! The calls, and how each ended.
 
 use crate::limits::editing::Edit;
-use crate::limits::memory::Taken;
-use crate::limits::{editing, markdown, mini, selectors};
+use crate::limits::memory::Memory;
+use crate::limits::{changing, editing, markdown, mini, selectors};
 use dom_query::{Document, Matcher};
 use std::alloc::Global;
 
@@ -43,6 +43,7 @@ pub enum Call {
     Css,
     Caches,
     Matches,
+    MatcherIter,
     Select,
     Is,
     Mini,
@@ -59,14 +60,16 @@ pub enum Call {
     Serializer,
     Formatted,
     Edit(Edit),
+    Nodes,
 }
 
-pub const CALLS: [(&str, Call); 26] = [
+pub const CALLS: [(&str, Call); 28] = [
     ("Matcher::new", Call::Matcher),
     ("Matcher::try_clone", Call::Clone),
     ("InnerSelector::to_css", Call::Css),
     ("match_element_with_caches", Call::Caches),
     ("Matches::new", Call::Matches),
+    ("select_matcher_iter", Call::MatcherIter),
     ("Document::select", Call::Select),
     ("NodeRef::is", Call::Is),
     ("parse_mini_selector", Call::Mini),
@@ -91,6 +94,7 @@ pub const CALLS: [(&str, Call); 26] = [
         "replace_with_selection",
         Call::Edit(Edit::ReplaceWithSelection),
     ),
+    ("Tree::from_nodes", Call::Nodes),
 ];
 
 /// What the calls are done on.
@@ -100,7 +104,9 @@ pub struct Page {
     pub matcher: Matcher,
 }
 
-const MARKUP: &str = "<div class=\"x y\"><h1>A *title* #</h1><p id=\"k\">one <b>two</b> three</p>\
+/// What the page is read from.
+pub const MARKUP: &str =
+    "<div class=\"x y\"><h1>A *title* #</h1><p id=\"k\">one <b>two</b> three</p>\
     <ul><li>four</li><li><a href=\"/5\" title=\"t\">five</a><ol><li>six</li></ol></li></ul>\
     <table><tr><th>a|b</th></tr><tr><td>c</td></tr></table><blockquote>q</blockquote>\
     <pre>code\n</pre><code>span</code></div>";
@@ -118,37 +124,31 @@ impl Page {
     }
 }
 
-/// Takes all memory but so many bytes; nothing where no number is given.
-pub fn taken(alloc: Global, left: Option<usize>) -> Option<Taken> {
-    match left {
-        Some(left) => Taken::all_but(alloc, left),
-        None => Some(Taken::nothing(alloc)),
-    }
-}
-
 /// Does the call with so much memory.
-pub fn tried(alloc: Global, page: &Page, call: Call, left: Option<usize>) -> Option<Ending> {
+pub fn tried(alloc: Global, page: &Page, call: Call, memory: Memory) -> Option<Ending> {
     match call {
-        Call::Matcher => selectors::reads(alloc, left),
-        Call::Clone => selectors::copies(alloc, page, left),
-        Call::Css => selectors::writes(alloc, page, left),
-        Call::Caches => selectors::asks_caches(alloc, page, left),
-        Call::Matches => selectors::walks(alloc, page, left),
-        Call::Select => selectors::selects(alloc, page, left),
-        Call::Is => selectors::asks(alloc, page, left),
-        Call::Mini => mini::reads(alloc, left),
-        Call::Path => mini::reads_path(alloc, left),
-        Call::MiniIs => mini::asks(alloc, page, left),
-        Call::FindDescendants => mini::finds(alloc, page, left),
-        Call::TryFind => mini::tries(alloc, page, left),
-        Call::Find => mini::finds_names(alloc, page, left),
-        Call::Chunk => markdown::pushes_chunk(alloc, left),
-        Call::Cell => markdown::escapes_cell(alloc, left),
-        Call::Escape => markdown::escapes(alloc, left),
-        Call::Prefix => markdown::makes_prefix(alloc, left),
-        Call::Md => markdown::writes(alloc, page, left),
-        Call::Serializer => markdown::serializes(alloc, page, left),
-        Call::Formatted => markdown::formats(alloc, page, left),
-        Call::Edit(edit) => editing::edits(alloc, edit, left),
+        Call::Matcher => selectors::reads(alloc, memory),
+        Call::Clone => selectors::copies(alloc, page, memory),
+        Call::Css => selectors::writes(alloc, page, memory),
+        Call::Caches => selectors::asks_caches(alloc, page, memory),
+        Call::Matches => selectors::walks(alloc, page, memory),
+        Call::MatcherIter => selectors::walks_selected(alloc, page, memory),
+        Call::Select => selectors::selects(alloc, page, memory),
+        Call::Is => selectors::asks(alloc, page, memory),
+        Call::Mini => mini::reads(alloc, memory),
+        Call::Path => mini::reads_path(alloc, memory),
+        Call::MiniIs => mini::asks(alloc, page, memory),
+        Call::FindDescendants => mini::finds(alloc, page, memory),
+        Call::TryFind => mini::tries(alloc, page, memory),
+        Call::Find => mini::finds_names(alloc, page, memory),
+        Call::Chunk => markdown::pushes_chunk(alloc, memory),
+        Call::Cell => markdown::escapes_cell(alloc, memory),
+        Call::Escape => markdown::escapes(alloc, memory),
+        Call::Prefix => markdown::makes_prefix(alloc, memory),
+        Call::Md => markdown::writes(alloc, page, memory),
+        Call::Serializer => markdown::serializes(alloc, page, memory),
+        Call::Formatted => markdown::formats(alloc, page, memory),
+        Call::Edit(edit) => editing::edits(alloc, edit, memory),
+        Call::Nodes => changing::takes_nodes(alloc, memory),
     }
 }

@@ -1,6 +1,7 @@
 //! Calls that edit each node of a selection.
 
-use crate::limits::calls::{Ending, done_if, refused_if, taken};
+use crate::limits::calls::{Ending, done_if, refused_if};
+use crate::limits::memory::{Memory, take_memory};
 use dom_query::{Document, EditFault, NodeId, NodeMarkup, SelectionFault, SelectionMut};
 use std::alloc::Global;
 
@@ -49,12 +50,12 @@ fn edited(document: &mut Document, nodes: Vec<NodeId>, edit: Edit) -> Result<(),
 
 /// Does it at the paragraphs with so much memory: exactly the first that the stop counts are then
 /// done.
-pub fn edits(alloc: Global, edit: Edit, left: Option<usize>) -> Option<Ending> {
+pub fn edits(alloc: Global, edit: Edit, memory: Memory) -> Option<Ending> {
     let mut document = Document::parse(alloc, MARKUP).ok()?;
     let nodes = paragraphs(alloc, NODES)?;
-    let memory = taken(alloc, left)?;
+    let held = take_memory(alloc, memory)?;
     let answer = edited(&mut document, nodes, edit);
-    drop(memory);
+    drop(held);
     let done = match &answer {
         Ok(()) => NODES,
         Err(stop) if stop.fault == EditFault::Memory => stop.done,

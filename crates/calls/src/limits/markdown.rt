@@ -1,6 +1,7 @@
 //! Markdown and formatted text.
 
-use crate::limits::calls::{Ending, Page, done_if, refused_if, taken};
+use crate::limits::calls::{Ending, Page, done_if, refused_if};
+use crate::limits::memory::{Memory, take_memory};
 use dom_query::{
     DocumentMd, FormatOpts, ListContext, ListKind, MDSerializer, NodeMd, OutOfMemory,
     escape_table_cell_inplace, html_escape, push_escaped_chunk,
@@ -10,9 +11,9 @@ use std::alloc::Global;
 /// More than a text keeps without asking for memory.
 const LONG: &str = "a text that is longer than what was asked for at first: ";
 
-pub fn pushes_chunk(alloc: Global, left: Option<usize>) -> Option<Ending> {
+pub fn pushes_chunk(alloc: Global, memory: Memory) -> Option<Ending> {
     let mut text = String::from_str(alloc, LONG).ok()?;
-    let held = taken(alloc, left)?;
+    let held = take_memory(alloc, memory)?;
     let answer = push_escaped_chunk(&mut text, "*a*_b_[c]|d|", true, false);
     drop(held);
     Some(match answer {
@@ -21,9 +22,9 @@ pub fn pushes_chunk(alloc: Global, left: Option<usize>) -> Option<Ending> {
     })
 }
 
-pub fn escapes_cell(alloc: Global, left: Option<usize>) -> Option<Ending> {
+pub fn escapes_cell(alloc: Global, memory: Memory) -> Option<Ending> {
     let mut text = String::from_str(alloc, "a|b \\| c|").ok()?;
-    let held = taken(alloc, left)?;
+    let held = take_memory(alloc, memory)?;
     let answer = escape_table_cell_inplace(&mut text);
     drop(held);
     Some(match answer {
@@ -32,8 +33,8 @@ pub fn escapes_cell(alloc: Global, left: Option<usize>) -> Option<Ending> {
     })
 }
 
-pub fn escapes(alloc: Global, left: Option<usize>) -> Option<Ending> {
-    let held = taken(alloc, left)?;
+pub fn escapes(alloc: Global, memory: Memory) -> Option<Ending> {
+    let held = take_memory(alloc, memory)?;
     let answer = html_escape(alloc, "/?q=\"a\"&b=\"c\"");
     drop(held);
     Some(match answer {
@@ -42,9 +43,9 @@ pub fn escapes(alloc: Global, left: Option<usize>) -> Option<Ending> {
     })
 }
 
-pub fn makes_prefix(alloc: Global, left: Option<usize>) -> Option<Ending> {
+pub fn makes_prefix(alloc: Global, memory: Memory) -> Option<Ending> {
     let list = ListContext::new(FormatOpts::new(), ListKind::Ol(12));
-    let held = taken(alloc, left)?;
+    let held = take_memory(alloc, memory)?;
     let answer = list.prefix(alloc);
     drop(held);
     Some(match answer {
@@ -53,8 +54,8 @@ pub fn makes_prefix(alloc: Global, left: Option<usize>) -> Option<Ending> {
     })
 }
 
-pub fn writes(alloc: Global, page: &Page, left: Option<usize>) -> Option<Ending> {
-    let held = taken(alloc, left)?;
+pub fn writes(alloc: Global, page: &Page, memory: Memory) -> Option<Ending> {
+    let held = take_memory(alloc, memory)?;
     let answer = page.document.md(None);
     drop(held);
     Some(match answer {
@@ -68,9 +69,9 @@ fn is_markdown(text: &str) -> bool {
         && text.ends_with("```\ncode\n```\n`span`")
 }
 
-pub fn serializes(alloc: Global, page: &Page, left: Option<usize>) -> Option<Ending> {
+pub fn serializes(alloc: Global, page: &Page, memory: Memory) -> Option<Ending> {
     let root = page.document.root();
-    let held = taken(alloc, left)?;
+    let held = take_memory(alloc, memory)?;
     let answer = MDSerializer::new(&root, Some(&["table"])).serialize(false);
     drop(held);
     Some(match answer {
@@ -79,8 +80,8 @@ pub fn serializes(alloc: Global, page: &Page, left: Option<usize>) -> Option<End
     })
 }
 
-pub fn formats(alloc: Global, page: &Page, left: Option<usize>) -> Option<Ending> {
-    let held = taken(alloc, left)?;
+pub fn formats(alloc: Global, page: &Page, memory: Memory) -> Option<Ending> {
+    let held = take_memory(alloc, memory)?;
     let answer = page.document.formatted_text();
     drop(held);
     Some(match answer {

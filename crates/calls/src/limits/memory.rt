@@ -1,4 +1,4 @@
-//! Memory that is taken so that little is left.
+//! Memory that is taken so that little is left, or that a counter refuses.
 
 use std::alloc::Global;
 
@@ -8,6 +8,43 @@ const GREATEST: usize = 1 << 30;
 const SMALL: usize = 1_200;
 /// So many parts at most.
 const PARTS: usize = 40_000;
+
+/// From this size on a request steers the counter of cases/refuse.c, where that is preloaded: it
+/// answers a block, and until that is given back it refuses the request of that number.
+const COMMAND: usize = 1 << 62;
+/// The same for that request and all behind it.
+const ONWARD: usize = COMMAND + (1 << 32);
+/// A request of this size is granted where one was refused.
+const ASKED: usize = COMMAND + (1 << 33);
+/// Numbers of requests are below this.
+const NUMBERS: usize = 1 << 31;
+
+/// How much memory a call has.
+#[derive(Clone, Copy, PartialEq, Eq, Debug, Drop)]
+pub enum Memory {
+    Ample,
+    /// About so many bytes.
+    Bytes(usize),
+    /// All but the request of that number.
+    Without(usize),
+    /// Requests in front of that number.
+    Before(usize),
+}
+
+/// Leaves a call so much memory, until what is answered is dropped.
+pub fn take_memory(alloc: Global, memory: Memory) -> Option<Taken> {
+    match memory {
+        Memory::Ample => Some(Taken::nothing(alloc)),
+        Memory::Bytes(left) => Taken::all_but(alloc, left),
+        Memory::Without(number) => Taken::by_counter(alloc, COMMAND, number),
+        Memory::Before(number) => Taken::by_counter(alloc, ONWARD, number),
+    }
+}
+
+/// Whether the counter refused a request since it was last steered.
+pub fn was_refused(alloc: Global) -> bool {
+    Vec::<u8>::with_capacity(alloc, ASKED).is_ok()
+}
 
 /// Memory that is taken, until it is dropped.
 #[derive(Drop)]
@@ -21,6 +58,14 @@ impl Taken {
         Taken {
             parts: Vec::new(alloc),
         }
+    }
+
+    /// What the counter answers to a command.
+    fn by_counter(alloc: Global, command: usize, number: usize) -> Option<Taken> {
+        let mut parts = Vec::with_capacity(alloc, 1).ok()?;
+        let size = command.saturating_add(number.min(NUMBERS));
+        parts.push(Vec::with_capacity(alloc, size).ok()?).ok()?;
+        Some(Taken { parts })
     }
 
     /// All memory but about so many bytes, which lie together.

@@ -1,6 +1,7 @@
 //! Mini selectors and paths.
 
-use crate::limits::calls::{Ending, Page, done_if, refused_if, taken};
+use crate::limits::calls::{Ending, Page, done_if, refused_if};
+use crate::limits::memory::{Memory, take_memory};
 use dom_query::{
     MiniFault, MiniSelect, NodeId, NodeRef, OutOfMemory, parse_mini_selector, parse_selector_list,
 };
@@ -8,8 +9,8 @@ use std::alloc::Global;
 
 const PATH: &str = "div.x.y ul > li[a][b=c] + li";
 
-pub fn reads(alloc: Global, left: Option<usize>) -> Option<Ending> {
-    let held = taken(alloc, left)?;
+pub fn reads(alloc: Global, memory: Memory) -> Option<Ending> {
+    let held = take_memory(alloc, memory)?;
     let answer = parse_mini_selector(alloc, PATH);
     drop(held);
     Some(match answer {
@@ -18,8 +19,8 @@ pub fn reads(alloc: Global, left: Option<usize>) -> Option<Ending> {
     })
 }
 
-pub fn reads_path(alloc: Global, left: Option<usize>) -> Option<Ending> {
-    let held = taken(alloc, left)?;
+pub fn reads_path(alloc: Global, memory: Memory) -> Option<Ending> {
+    let held = take_memory(alloc, memory)?;
     let answer = parse_selector_list(alloc, PATH);
     drop(held);
     Some(match answer {
@@ -28,9 +29,9 @@ pub fn reads_path(alloc: Global, left: Option<usize>) -> Option<Ending> {
     })
 }
 
-pub fn asks(alloc: Global, page: &Page, left: Option<usize>) -> Option<Ending> {
+pub fn asks(alloc: Global, page: &Page, memory: Memory) -> Option<Ending> {
     let node = NodeRef::new(NodeId::new(1)?, &page.document.tree);
-    let held = taken(alloc, left)?;
+    let held = take_memory(alloc, memory)?;
     let answer = node.mini_is(PATH);
     drop(held);
     Some(match answer {
@@ -39,17 +40,17 @@ pub fn asks(alloc: Global, page: &Page, left: Option<usize>) -> Option<Ending> {
     })
 }
 
-pub fn finds(alloc: Global, page: &Page, left: Option<usize>) -> Option<Ending> {
+pub fn finds(alloc: Global, page: &Page, memory: Memory) -> Option<Ending> {
     let root = page.document.root();
-    let held = taken(alloc, left)?;
+    let held = take_memory(alloc, memory)?;
     let answer = root.find_descendants("div li");
     drop(held);
     Some(ending_of(answer, 3))
 }
 
-pub fn finds_names(alloc: Global, page: &Page, left: Option<usize>) -> Option<Ending> {
+pub fn finds_names(alloc: Global, page: &Page, memory: Memory) -> Option<Ending> {
     let root = page.document.root();
-    let held = taken(alloc, left)?;
+    let held = take_memory(alloc, memory)?;
     let answer = root.find(&["ul", "li"]);
     drop(held);
     Some(ending_of(answer, 3))
@@ -62,9 +63,9 @@ fn ending_of(answer: Result<Vec<NodeRef<'_>>, OutOfMemory>, count: usize) -> End
     }
 }
 
-pub fn tries(alloc: Global, page: &Page, left: Option<usize>) -> Option<Ending> {
+pub fn tries(alloc: Global, page: &Page, memory: Memory) -> Option<Ending> {
     let root = page.document.root();
-    let held = taken(alloc, left)?;
+    let held = take_memory(alloc, memory)?;
     let answer = root.try_find_descendants("div li > a[title=t]");
     drop(held);
     Some(match answer {

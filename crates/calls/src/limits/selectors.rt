@@ -1,14 +1,15 @@
 //! Selectors: reading, copying, writing, asking.
 
-use crate::limits::calls::{Ending, Page, SELECTOR, done_if, refused_if, taken};
+use crate::limits::calls::{Ending, Page, SELECTOR, done_if, refused_if};
+use crate::limits::memory::{Memory, take_memory};
 use dom_query::{
-    DocumentSelect, Matcher, Matches, NodeId, NodeRef, NodeSelect, OutOfMemory, SelectorCaches,
-    SelectorFault, ToCss, Tree,
+    DocumentSelect, Matcher, MatcherIter, Matches, NodeId, NodeRef, NodeSelect, OutOfMemory,
+    SelectorCaches, SelectorFault, ToCss, Tree,
 };
 use std::alloc::Global;
 
-pub fn reads(alloc: Global, left: Option<usize>) -> Option<Ending> {
-    let held = taken(alloc, left)?;
+pub fn reads(alloc: Global, memory: Memory) -> Option<Ending> {
+    let held = take_memory(alloc, memory)?;
     let answer = Matcher::new(alloc, SELECTOR);
     drop(held);
     Some(match answer {
@@ -17,8 +18,8 @@ pub fn reads(alloc: Global, left: Option<usize>) -> Option<Ending> {
     })
 }
 
-pub fn copies(alloc: Global, page: &Page, left: Option<usize>) -> Option<Ending> {
-    let held = taken(alloc, left)?;
+pub fn copies(alloc: Global, page: &Page, memory: Memory) -> Option<Ending> {
+    let held = take_memory(alloc, memory)?;
     let answer = page.matcher.try_clone();
     drop(held);
     Some(match answer {
@@ -27,10 +28,10 @@ pub fn copies(alloc: Global, page: &Page, left: Option<usize>) -> Option<Ending>
     })
 }
 
-pub fn writes(alloc: Global, page: &Page, left: Option<usize>) -> Option<Ending> {
+pub fn writes(alloc: Global, page: &Page, memory: Memory) -> Option<Ending> {
     let mut text = String::from_str(alloc, "x").ok()?;
     let selector = page.matcher.selectors().first()?;
-    let held = taken(alloc, left)?;
+    let held = take_memory(alloc, memory)?;
     let answer = selector.to_css(&mut text);
     drop(held);
     Some(match answer {
@@ -54,10 +55,10 @@ fn agree(tree: &Tree, matcher: &Matcher, caches: &mut SelectorCaches<'_>) -> boo
 }
 
 /// Caches are refused where they give no index a second time.
-pub fn asks_caches(alloc: Global, page: &Page, left: Option<usize>) -> Option<Ending> {
+pub fn asks_caches(alloc: Global, page: &Page, memory: Memory) -> Option<Ending> {
     let tree = &page.document.tree;
     let mut caches = SelectorCaches::new(tree);
-    let held = taken(alloc, left)?;
+    let held = take_memory(alloc, memory)?;
     let first = agree(tree, &page.matcher, &mut caches);
     let second = agree(tree, &page.matcher, &mut caches);
     drop(held);
@@ -67,7 +68,8 @@ pub fn asks_caches(alloc: Global, page: &Page, left: Option<usize>) -> Option<En
     Some(done_if(first && second))
 }
 
-fn count_of(matches: Matches<'_, '_, '_>) -> usize {
+/// How many nodes walks below roots select.
+pub fn count_of(matches: Matches<'_, '_, '_>) -> usize {
     let mut count: usize = 0;
     for _ in matches {
         count = count.saturating_add(1);
@@ -75,9 +77,9 @@ fn count_of(matches: Matches<'_, '_, '_>) -> usize {
     count
 }
 
-pub fn walks(alloc: Global, page: &Page, left: Option<usize>) -> Option<Ending> {
+pub fn walks(alloc: Global, page: &Page, memory: Memory) -> Option<Ending> {
     let roots = [NodeId::root(), NodeId::new(1)?];
-    let held = taken(alloc, left)?;
+    let held = take_memory(alloc, memory)?;
     let answer = Matches::new(&page.document.tree, &roots, &page.matcher);
     drop(held);
     Some(match answer {
@@ -86,8 +88,30 @@ pub fn walks(alloc: Global, page: &Page, left: Option<usize>) -> Option<Ending> 
     })
 }
 
-pub fn selects(alloc: Global, page: &Page, left: Option<usize>) -> Option<Ending> {
-    let held = taken(alloc, left)?;
+/// How many nodes a matcher selects below those of a selection.
+fn count_below(matches: MatcherIter<'_, '_, '_>) -> usize {
+    let mut count: usize = 0;
+    for _ in matches {
+        count = count.saturating_add(1);
+    }
+    count
+}
+
+/// A walk below two nodes, one of them below the other: what both walks meet comes once.
+pub fn walks_selected(alloc: Global, page: &Page, memory: Memory) -> Option<Ending> {
+    let nodes = page.document.select("div, ul").ok()?;
+    let held = take_memory(alloc, memory)?;
+    let answer = nodes.select_matcher_iter(&page.matcher);
+    drop(held);
+    Some(match answer {
+        Ok(Some(matches)) => done_if(count_below(matches) == 3),
+        Ok(None) => Ending::Wrong,
+        Err(OutOfMemory) => Ending::Refused,
+    })
+}
+
+pub fn selects(alloc: Global, page: &Page, memory: Memory) -> Option<Ending> {
+    let held = take_memory(alloc, memory)?;
     let answer = page.document.select(SELECTOR);
     drop(held);
     Some(match answer {
@@ -96,9 +120,9 @@ pub fn selects(alloc: Global, page: &Page, left: Option<usize>) -> Option<Ending
     })
 }
 
-pub fn asks(alloc: Global, page: &Page, left: Option<usize>) -> Option<Ending> {
+pub fn asks(alloc: Global, page: &Page, memory: Memory) -> Option<Ending> {
     let node = NodeRef::new(NodeId::new(2)?, &page.document.tree);
-    let held = taken(alloc, left)?;
+    let held = take_memory(alloc, memory)?;
     let answer = node.is(SELECTOR);
     drop(held);
     Some(match answer {

@@ -2,7 +2,7 @@
 
 ghost use Rattle.std.specs.Prelude.{◌≡◌, ◌<◌, IfErr, OnErr, OnOk, None, Some, length, true};
 ghost use Rattle.dom_nodes.specs.declared.fault.EditFault.TheVariants.{Memory};
-ghost use Rattle.dom_links.specs.AddedTexts.{TextCause, lengthened, text_before, with_text};
+ghost use Rattle.dom_links.specs.AddedTexts.{TextCause, lengthened, text_before, with_text_at};
 ghost use Rattle.dom_links.specs.Contents.{Changed};
 ghost use Rattle.dom_links.specs.Forest.{forest_of};
 ghost use Rattle.dom_links.specs.ListMoves.{moved_nodes};
@@ -12,7 +12,7 @@ ghost use Rattle.dom_links.specs.declared.gap.Moving.TheVariants.{Node};
 
 use crate::gap::{Gap, Moving};
 use crate::ops::TreeNodeOps;
-use crate::ops::moves::room_at;
+use crate::ops::moves::insertion_point_at;
 use crate::ops::set_text::{is_text_at, owned_text};
 use dom_nodes::fault::{EditFault, OutOfMemory};
 use dom_nodes::node_data::{NodeData, TreeNode};
@@ -25,7 +25,7 @@ pub fn add_text(nodes: &mut Vec<TreeNode>, gap: Gap, text: &str) -> Result<(), E
     requires target_known { target gap < length (forest_of nodes.old.items).content }
     requires open_here { is_open gap (forest_of nodes.old.items) ≡ true }
     ensures made { OnOk result
-        (forest_of nodes.new.items ≡ with_text gap text.now (forest_of nodes.old.items)) }
+        (forest_of nodes.new.items ≡ with_text_at gap text.now (forest_of nodes.old.items)) }
     ensures err { OnErr result (nodes.new.items ≡ nodes.old.items) }
     ensures cause { IfErr result (TextCause gap (forest_of nodes.old.items)) }
     ensures sound { IsSoundArena nodes.new.items }
@@ -42,7 +42,7 @@ fn text_before(nodes: &[TreeNode], gap: &Gap) -> Option<NodeId>
     requires target_known { target gap.now < length (forest_of nodes.now).content }
     ensures { result ≡ text_before gap.now (forest_of nodes.now) }
 {
-    let room = room_at(nodes, *gap);
+    let room = insertion_point_at(nodes, *gap);
     let Some(left) = room.left else {
         return None;
     };
@@ -88,7 +88,7 @@ fn put_new_text(nodes: &mut Vec<TreeNode>, gap: Gap, text: &str) -> Result<(), E
     requires open_here { is_open gap (forest_of nodes.old.items) ≡ true }
     requires alone { text_before gap (forest_of nodes.old.items) ≡ None }
     ensures made { OnOk result
-        (forest_of nodes.new.items ≡ with_text gap text.now (forest_of nodes.old.items)) }
+        (forest_of nodes.new.items ≡ with_text_at gap text.now (forest_of nodes.old.items)) }
     ensures err { OnErr result (nodes.new.items ≡ nodes.old.items) }
     ensures cause { IfErr result (TextCause gap (forest_of nodes.old.items)) }
     ensures sound { IsSoundArena nodes.new.items }

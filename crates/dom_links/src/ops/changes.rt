@@ -5,7 +5,7 @@ ghost use Rattle.std.specs.Prelude.{◌≡◌, IsOk, OnErr, OnOk, false};
 ghost use Rattle.std.specs.Fn.{FnOnceReturnsAtMut};
 ghost use Rattle.dom_nodes.specs.Change.{changed};
 ghost use Rattle.dom_links.specs.Forest.{forest_of};
-ghost use Rattle.dom_links.specs.Contents.{Changed, IsUpdatedAt, asks_at};
+ghost use Rattle.dom_links.specs.Contents.{Changed, IsUpdatedAt, may_allocate_at};
 ghost use Rattle.dom_links.specs.ListMoves.{element_at};
 ghost use Rattle.dom_links.specs.Sound.{IsSoundArena};
 ghost use Rattle.dom_nodes.specs.Changes.{with_attrs, with_missing};
@@ -49,7 +49,7 @@ pub fn apply(nodes: &mut [TreeNode], x: NodeId, change: Change) -> Result<(), Ou
     requires { IsSoundArena nodes.old }
     ensures ok { OnOk result (Changed nodes.old nodes.new x (changed change.entry)) }
     ensures err { OnErr result (nodes.new ≡ nodes.old) }
-    ensures sure { asks_at (forest_of nodes.old) x change.entry ≡ false → IsOk result }
+    ensures sure { may_allocate_at (forest_of nodes.old) x change.entry ≡ false → IsOk result }
 {
     let at = x.value();
     if at < nodes.len() {

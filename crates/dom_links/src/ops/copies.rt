@@ -10,7 +10,7 @@ ghost use Rattle.dom_links.specs.Copies.{FragmentCause, IsPlainElement, fragment
 ghost use Rattle.dom_links.specs.Copies.{copied_data, copy_numbers, data_at};
 ghost use Rattle.dom_links.specs.Copies.{MayCopy, with_contents, with_copies, with_node_below};
 ghost use Rattle.dom_links.specs.Copying.{AreRows, Copying, IsPlaceFor, IsRow, IsTooLarge};
-ghost use Rattle.dom_links.specs.Copying.{AreKnown, IsUnderWay, LacksRoom};
+ghost use Rattle.dom_links.specs.Copying.{AreNodesOf, IsUnderWay, LacksRoom};
 ghost use Rattle.dom_links.specs.Copying.{read_nodes, row_from, with_row, with_rows};
 ghost use Rattle.dom_links.specs.Forest.{IsArenaOf, children_of, forest_of};
 ghost use Rattle.dom_links.specs.Growth.{NoRoom};
@@ -37,7 +37,7 @@ struct Row {
     parent: NodeId,
 }
 
-/// Makes copies of nodes of another arena, each a run of its own, and answers their numbers: all or
+/// Makes copies of nodes of another arena, each a run of its own, and returns their numbers: all or
 /// none.
 pub fn merge(
     nodes: &mut Vec<TreeNode>,
@@ -52,7 +52,7 @@ pub fn merge(
     copy_all(nodes, Some(other), ids)
 }
 
-/// Makes a copy of a node of another arena, a run of its own, and answers its number: as `merge`
+/// Makes a copy of a node of another arena, a run of its own, and returns its number: as `merge`
 /// does of the one node of a list.
 pub(crate) fn merge_one(
     nodes: &mut Vec<TreeNode>,
@@ -69,7 +69,7 @@ pub(crate) fn merge_one(
     copy_one(nodes, Some(other), id)
 }
 
-/// Makes copies of nodes of the same arena, each a run of its own, and answers their numbers: all
+/// Makes copies of nodes of the same arena, each a run of its own, and returns their numbers: all
 /// or none.
 pub fn copy_nodes(nodes: &mut Vec<TreeNode>, ids: &[NodeId]) -> Result<Vec<NodeId>, EditFault>
     requires { IsSoundArena nodes.old.items }
@@ -138,7 +138,7 @@ fn copy_all(
     requires sound { IsSoundArena nodes.old.items }
     requires under_way { IsUnderWay at other nodes.old.items }
     requires base { at.base ≡ forest_of nodes.old.items }
-    requires known { AreKnown at.source ids.now }
+    requires known { AreNodesOf at.source ids.now }
     ensures made { OnOk result (forest_of nodes.new.items
         ≡ copied at.source ids.now (forest_of nodes.old.items)) }
     ensures numbers { IfOk result (λ made. made.items
@@ -168,7 +168,7 @@ fn copy_one(
     requires sound { IsSoundArena nodes.old.items }
     requires under_way { IsUnderWay at other nodes.old.items }
     requires base { at.base ≡ forest_of nodes.old.items }
-    requires known { AreKnown at.source (id ∷ []) }
+    requires known { AreNodesOf at.source (id ∷ []) }
     ensures made { OnOk result (forest_of nodes.new.items
         ≡ copied at.source (id ∷ []) (forest_of nodes.old.items)) }
     ensures numbers { IfOk result (λ made. made ∷ []
@@ -197,7 +197,7 @@ fn copy_each(
 ) -> Result<Vec<NodeId>, EditFault>
     ghost at: { Copying }
     requires under_way { IsUnderWay at other nodes.old.items }
-    requires known { AreKnown at.source ids.now }
+    requires known { AreNodesOf at.source ids.now }
     requires below { IsPlaceFor at (vec_len nodes.old) parent.now }
     ensures under_way { IsUnderWay at other.entry nodes.new.items }
     ensures made { OnOk result (forest_of nodes.new.items

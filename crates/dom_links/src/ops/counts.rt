@@ -3,7 +3,7 @@
 ghost use Rattle.std.specs.Prelude.{◌≡◌, ◌++◌, ℕ, List, length};
 ghost use Rattle.dom_links.specs.Forest.{forest_of};
 ghost use Rattle.dom_links.specs.Sound.{IsSoundArena};
-ghost use Rattle.dom_links.specs.Texts.{IsCounting, collapsed, text_of, told};
+ghost use Rattle.dom_links.specs.Texts.{IsCounting, collapsed, text_of, saturated};
 
 use crate::iters::DescendantNodes;
 use crate::ops::TreeNodeOps;
@@ -13,10 +13,10 @@ use dom_nodes::node_id::NodeId;
 
 impl TreeNodeOps {
     /// How many characters the text of a node has, where each run of whitespace counts as one space
-    /// and none counts at its ends. Takes no memory. More than `usize::MAX` are told as that.
+    /// and none counts at its ends. Takes no memory. The count saturates at `usize::MAX`.
     pub fn normalized_char_count(nodes: &[TreeNode], id: &NodeId) -> usize
         requires { IsSoundArena nodes.now }
-        ensures { result ≡ told (length (collapsed (text_of (forest_of nodes.now) id.now))) }
+        ensures { result ≡ saturated (length (collapsed (text_of (forest_of nodes.now) id.now))) }
     {
         let mut read = Collapsing {
             count: 0,

@@ -1,4 +1,4 @@
-//! Copies of nodes that go to a place in an arena: all that asks for memory comes before a link of
+//! Copies of nodes that go to a place in an arena: all that allocates memory comes before a link of
 //! an old node changes.
 
 ghost use Rattle.std.specs.Prelude.{◌≡◌, ◌<◌, ◌∷◌, [], false, length, true};
@@ -90,7 +90,7 @@ fn put_new(nodes: &mut [TreeNode], x: NodeId, place: Place, new: &[NodeId])
             move_list(nodes, Gap::Before(x), new);
             TreeNodeOps::remove_from_parent(nodes, x);
         }
-        Place::Around => put_round(nodes, x, new),
+        Place::Around => put_around(nodes, x, new),
         Place::AtEnd => move_list(nodes, Gap::EndOf(x), new),
         Place::AtFront => move_list(nodes, Gap::FrontOf(x), new),
         Place::Before => move_list(nodes, Gap::Before(x), new),
@@ -99,7 +99,7 @@ fn put_new(nodes: &mut [TreeNode], x: NodeId, place: Place, new: &[NodeId])
 }
 
 /// Makes nodes a run, and wraps x in the first of them, if that is an element.
-fn put_round(nodes: &mut [TreeNode], x: NodeId, new: &[NodeId])
+fn put_around(nodes: &mut [TreeNode], x: NodeId, new: &[NodeId])
     requires linked { IsArenaOf (forest_of nodes.old) nodes.old }
     requires known { x < length nodes.old }
     requires new { AreNodes (forest_of nodes.old) new.now }
@@ -136,7 +136,7 @@ fn move_list(nodes: &mut [TreeNode], gap: Gap, moved: &[NodeId])
     put_at(nodes, gap, start);
 }
 
-/// Cuts nodes out of their lists, and answers the first of them. They are then a run of their own,
+/// Cuts nodes out of their lists, and returns the first of them. They are then a run of their own,
 /// in their order.
 fn gather(nodes: &mut [TreeNode], moved: &[NodeId]) -> Option<NodeId>
     requires linked { IsArenaOf (forest_of nodes.old) nodes.old }

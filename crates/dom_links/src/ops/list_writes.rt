@@ -2,19 +2,19 @@
 
 ghost use Rattle.std.specs.Prelude.{◌≡◌, ◌<◌, length, IfSome, Some};
 ghost use Rattle.dom_links.specs.Lists.{last};
-ghost use Rattle.dom_links.specs.ListWrites.{NextsKnown, ParentsSet, RunAttached, following};
+ghost use Rattle.dom_links.specs.ListWrites.{NextsKnown, ParentsSet, RunAttached, next_chain};
 
 use crate::ops::writes::join;
 use dom_nodes::link::Link;
 use dom_nodes::node_data::TreeNode;
 use dom_nodes::node_id::NodeId;
 
-/// Gives a parent to a node and to all that follow it by next links, and answers the last of them.
+/// Gives a parent to a node and to all that follow it by next links, and returns the last of them.
 pub(crate) fn set_parents(nodes: &mut [TreeNode], x: NodeId, owner: Option<NodeId>) -> NodeId
     requires known { x < length nodes.old }
     requires nexts_known { NextsKnown nodes.old }
-    ensures set { ParentsSet nodes.old nodes.new (following nodes.old x) owner }
-    ensures end { last (following nodes.old x) ≡ Some result }
+    ensures set { ParentsSet nodes.old nodes.new (next_chain nodes.old x) owner }
+    ensures end { last (next_chain nodes.old x) ≡ Some result }
     ensures end_known { result < length nodes.old }
 {
     let owner = &owner;

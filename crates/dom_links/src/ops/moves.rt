@@ -2,10 +2,10 @@
 
 ghost use Rattle.std.specs.Prelude.{◌≡◌, ◌≢◌, ◌<◌, [], ◌∷◌, false, length, Some};
 ghost use Rattle.dom_links.specs.Forest.{IsArenaOf, forest_of, run_of, siblings};
-ghost use Rattle.dom_links.specs.ListMoves.{Moves, moved_nodes, mover, with_later};
+ghost use Rattle.dom_links.specs.ListMoves.{Moves, moved_nodes, moving_id, with_later};
 ghost use Rattle.dom_links.specs.Lists.{first, stands_in};
 ghost use Rattle.dom_links.specs.Moves.{StartsRun, after_node, before_node, cut, end_of, front_of};
-ghost use Rattle.dom_links.specs.Moves.{left_of, owner_at, put, right_of};
+ghost use Rattle.dom_links.specs.Moves.{before_gap, owner_at, put, after_gap};
 ghost use Rattle.dom_links.specs.Sound.{Removed, target};
 ghost use Rattle.dom_links.specs.declared.gap.Moving.TheVariants.{Node, WholeList, WithLater};
 
@@ -14,7 +14,7 @@ use crate::ops::TreeNodeOps;
 use crate::ops::list_writes::attach_run;
 use crate::ops::lists::cut_with_later;
 use crate::ops::siblings::first_sibling_of;
-use crate::ops::writes::{join, place};
+use crate::ops::writes::{join, set_links};
 use dom_nodes::node_data::TreeNode;
 use dom_nodes::node_id::NodeId;
 
@@ -31,14 +31,14 @@ impl TreeNodeOps {
         let prev = node.prev_sibling.get();
         let next = node.next_sibling.get();
         join(nodes, parent, prev, next);
-        place(nodes, x, None, None, None);
+        set_links(nodes, x, None, None, None);
     }
 
     /// Moves nodes to a gap.
     pub fn move_to(nodes: &mut [TreeNode], gap: Gap, moving: Moving)
         requires linked { IsArenaOf (forest_of nodes.old) nodes.old }
         requires target_known { target gap < length nodes.old }
-        requires known { mover moving < length nodes.old }
+        requires known { moving_id moving < length nodes.old }
         requires apart { stands_in (target gap) (moved_nodes (forest_of nodes.old) moving) ≡ false }
         ensures { Moves nodes.old nodes.new gap moving }
     {
@@ -47,7 +47,7 @@ impl TreeNodeOps {
     }
 
     /// Moves a node to the end of the children of another.
-    #[tactic(auto, using(crate::proofs::BlockMoves::no_other))]
+    #[tactic(auto, using(crate::proofs::moves::BlockMoves::no_other))]
     pub fn append_child_of(nodes: &mut [TreeNode], t: NodeId, x: NodeId)
         requires linked { IsArenaOf (forest_of nodes.old) nodes.old }
         requires target_known { t < length nodes.old }
@@ -59,7 +59,7 @@ impl TreeNodeOps {
     }
 
     /// Moves a node to the front of the children of another.
-    #[tactic(auto, using(crate::proofs::BlockMoves::no_other))]
+    #[tactic(auto, using(crate::proofs::moves::BlockMoves::no_other))]
     pub fn prepend_child_of(nodes: &mut [TreeNode], t: NodeId, x: NodeId)
         requires linked { IsArenaOf (forest_of nodes.old) nodes.old }
         requires target_known { t < length nodes.old }
@@ -71,7 +71,7 @@ impl TreeNodeOps {
     }
 
     /// Moves a node to the place right before another.
-    #[tactic(auto, using(crate::proofs::BlockMoves::no_other))]
+    #[tactic(auto, using(crate::proofs::moves::BlockMoves::no_other))]
     pub fn insert_before_of(nodes: &mut [TreeNode], t: NodeId, x: NodeId)
         requires linked { IsArenaOf (forest_of nodes.old) nodes.old }
         requires target_known { t < length nodes.old }
@@ -83,7 +83,7 @@ impl TreeNodeOps {
     }
 
     /// Moves a node to the place right after another.
-    #[tactic(auto, using(crate::proofs::BlockMoves::no_other))]
+    #[tactic(auto, using(crate::proofs::moves::BlockMoves::no_other))]
     pub fn insert_after_of(nodes: &mut [TreeNode], t: NodeId, x: NodeId)
         requires linked { IsArenaOf (forest_of nodes.old) nodes.old }
         requires target_known { t < length nodes.old }
@@ -140,10 +140,10 @@ impl TreeNodeOps {
     }
 }
 
-/// Cuts nodes out of their list, and answers the first of them. They are then a run of their own.
+/// Cuts nodes out of their list, and returns the first of them. They are then a run of their own.
 fn cut_out(nodes: &mut [TreeNode], moving: Moving) -> NodeId
     requires linked { IsArenaOf (forest_of nodes.old) nodes.old }
-    requires known { mover moving < length nodes.old }
+    requires known { moving_id moving < length nodes.old }
     ensures arena { IsArenaOf
         (cut (moved_nodes (forest_of nodes.old) moving) (forest_of nodes.old)) nodes.new }
     ensures start { first (moved_nodes (forest_of nodes.old) moving) ≡ Some result }
@@ -168,36 +168,36 @@ fn cut_out(nodes: &mut [TreeNode], moving: Moving) -> NodeId
 
 /// What nodes at a gap have as their parent, and beside them.
 #[derive(Drop)]
-pub(crate) struct Room {
+pub(crate) struct InsertionPoint {
     pub(crate) owner: Option<NodeId>,
     pub(crate) left: Option<NodeId>,
     pub(crate) right: Option<NodeId>,
 }
 
-pub(crate) fn room_at(nodes: &[TreeNode], gap: Gap) -> Room
+pub(crate) fn insertion_point_at(nodes: &[TreeNode], gap: Gap) -> InsertionPoint
     requires linked { IsArenaOf (forest_of nodes.now) nodes.now }
     requires target_known { target gap < length nodes.now }
     ensures owner { result.owner ≡ owner_at gap (forest_of nodes.now) }
-    ensures left { result.left ≡ left_of gap (forest_of nodes.now) }
-    ensures right { result.right ≡ right_of gap (forest_of nodes.now) }
+    ensures left { result.left ≡ before_gap gap (forest_of nodes.now) }
+    ensures right { result.right ≡ after_gap gap (forest_of nodes.now) }
 {
     match gap {
-        Gap::EndOf(t) => Room {
+        Gap::EndOf(t) => InsertionPoint {
             owner: Some(t),
             left: nodes[t.value()].last_child.get(),
             right: None,
         },
-        Gap::FrontOf(t) => Room {
+        Gap::FrontOf(t) => InsertionPoint {
             owner: Some(t),
             left: None,
             right: nodes[t.value()].first_child.get(),
         },
-        Gap::Before(t) => Room {
+        Gap::Before(t) => InsertionPoint {
             owner: nodes[t.value()].parent.get(),
             left: nodes[t.value()].prev_sibling.get(),
             right: Some(t),
         },
-        Gap::After(t) => Room {
+        Gap::After(t) => InsertionPoint {
             owner: nodes[t.value()].parent.get(),
             left: Some(t),
             right: nodes[t.value()].next_sibling.get(),
@@ -205,7 +205,7 @@ pub(crate) fn room_at(nodes: &[TreeNode], gap: Gap) -> Room
     }
 }
 
-/// Puts a run at a gap, told by its first node.
+/// Puts a run, given by its first node, at a gap.
 pub(crate) fn put_at(nodes: &mut [TreeNode], gap: Gap, x: NodeId)
     requires linked { IsArenaOf (forest_of nodes.old) nodes.old }
     requires target_known { target gap < length nodes.old }
@@ -214,6 +214,6 @@ pub(crate) fn put_at(nodes: &mut [TreeNode], gap: Gap, x: NodeId)
     requires apart { stands_in (target gap) (run_of (forest_of nodes.old) x) ≡ false }
     ensures { IsArenaOf (put gap (run_of (forest_of nodes.old) x) (forest_of nodes.old)) nodes.new }
 {
-    let room = room_at(nodes, gap);
+    let room = insertion_point_at(nodes, gap);
     attach_run(nodes, x, room.owner, room.left, room.right);
 }

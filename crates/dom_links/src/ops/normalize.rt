@@ -4,7 +4,8 @@ ghost use Rattle.std.specs.Prelude.{◌≡◌, ◌<◌, ◌++◌, ◌∷◌, [],
 ghost use Rattle.std.specs.Prelude.{IfErr, MatchResult, string_bytes};
 ghost use Rattle.dom_nodes.specs.declared.fault.EditFault.TheVariants.{Memory};
 ghost use Rattle.dom_links.specs.Forest.{forest_of};
-ghost use Rattle.dom_links.specs.Normalized.{front_texts, is_empty_text, leads, nearest_before};
+ghost use Rattle.dom_links.specs.Normalized.{front_texts, is_empty_text, starts_text_run};
+ghost use Rattle.dom_links.specs.Normalized.{nearest_before};
 ghost use Rattle.dom_links.specs.Normalized.{normalized};
 ghost use Rattle.dom_links.specs.Rewrites.{is_text_after, listed, rewrite_at, rewrites};
 ghost use Rattle.dom_links.specs.Rewrites.{rewritten};
@@ -117,7 +118,7 @@ fn rewrite_of(alloc: Global, nodes: &[TreeNode], id: NodeId) -> Result<Option<Re
     if !is_text_at(nodes, id) {
         return Ok(None);
     }
-    if !leads(nodes, id) {
+    if !starts_text_run(nodes, id) {
         let text = Text::from(String::new(alloc));
         return Ok(Some(Rewrite {
             id,
@@ -176,9 +177,9 @@ fn is_text_after(nodes: &[TreeNode], id: NodeId) -> bool
 }
 
 /// Whether the node is the first of its row of texts that holds something.
-fn leads(nodes: &[TreeNode], id: NodeId) -> bool
+fn starts_text_run(nodes: &[TreeNode], id: NodeId) -> bool
     requires { IsSoundArena nodes.now }
-    ensures { result ≡ leads (forest_of nodes.now) id }
+    ensures { result ≡ starts_text_run (forest_of nodes.now) id }
 {
     if !is_text_at(nodes, id) {
         return false;

@@ -6,7 +6,8 @@ ghost use Rattle.dom_links.specs.Contents.{Changed};
 ghost use Rattle.dom_links.specs.Forest.{forest_of};
 ghost use Rattle.dom_links.specs.ListMoves.{element_at};
 ghost use Rattle.dom_links.specs.Moves.{end_of};
-ghost use Rattle.dom_links.specs.SetTexts.{SetTextCause, is_text_at, retexted, texted};
+ghost use Rattle.dom_links.specs.SetTexts.{SetTextCause, is_text_at, with_text_data};
+ghost use Rattle.dom_links.specs.SetTexts.{with_text_content};
 ghost use Rattle.dom_links.specs.SetTexts.{with_only_child};
 ghost use Rattle.dom_links.specs.Sound.{Allowed, IsSoundArena};
 
@@ -26,7 +27,8 @@ impl TreeNodeOps {
     pub fn set_text(nodes: &mut Vec<TreeNode>, id: NodeId, text: &str) -> Result<(), EditFault>
         requires { IsSoundArena nodes.old.items }
         ensures made { OnOk result
-            (forest_of nodes.new.items ≡ texted id text.now (forest_of nodes.old.items)) }
+            (forest_of nodes.new.items
+            ≡ with_text_content id text.now (forest_of nodes.old.items)) }
         ensures err { OnErr result (nodes.new.items ≡ nodes.old.items) }
         ensures cause { IfErr result (SetTextCause id (forest_of nodes.old.items)) }
         ensures sound { IsSoundArena nodes.new.items }
@@ -71,7 +73,7 @@ fn replace_children(nodes: &mut Vec<TreeNode>, x: NodeId, text: &str) -> Result<
     requires sound { IsSoundArena nodes.old.items }
     requires element { element_at (forest_of nodes.old.items) x ≡ true }
     ensures made { OnOk result
-        (forest_of nodes.new.items ≡ texted x text.now (forest_of nodes.old.items)) }
+        (forest_of nodes.new.items ≡ with_text_content x text.now (forest_of nodes.old.items)) }
     ensures err { OnErr result (nodes.new.items ≡ nodes.old.items) }
     ensures cause { IfErr result (SetTextCause x (forest_of nodes.old.items)) }
     ensures sound { IsSoundArena nodes.new.items }
@@ -96,16 +98,16 @@ fn set_only_child(nodes: &mut [TreeNode], x: NodeId, child: NodeId)
 /// Gives a text other contents. Any other node stays, and so does all for an unknown number.
 pub(crate) fn put_text(nodes: &mut [TreeNode], x: NodeId, text: Text)
     requires { IsSoundArena nodes.old }
-    ensures { Changed nodes.old nodes.new x (retexted text) }
+    ensures { Changed nodes.old nodes.new x (with_text_data text) }
 {
     let at = x.value();
     if at < nodes.len() {
-        retext(&mut nodes[at], text);
+        set_text_data(&mut nodes[at], text);
     }
 }
 
-fn retext(node: &mut TreeNode, text: Text)
-    ensures { node.new ≡ record node.old { content = retexted text node.old.content } }
+fn set_text_data(node: &mut TreeNode, text: Text)
+    ensures { node.new ≡ record node.old { content = with_text_data text node.old.content } }
 {
     if let NodeData::Text { contents } = &mut node.content {
         *contents = text;

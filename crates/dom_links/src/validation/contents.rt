@@ -2,13 +2,14 @@
 
 ghost use Rattle.std.specs.Prelude.{◌≡◌, ◌<◌, EachIndex, IfErr, IfOk, MatchBool, MatchResult, Some};
 ghost use Rattle.std.specs.Prelude.{SomeIndex, length, slice_get};
-ghost use Rattle.dom_links.specs.Forest.{ids_of};
-ghost use Rattle.dom_links.specs.Validation.{AreHolders, ContentsHold, HoldsContents, IsAlone};
-ghost use Rattle.dom_links.specs.Validation.{IsBorne, IsRefused, LinksKnown, PassesBefore, Tells};
+ghost use Rattle.dom_links.specs.Forest.{arena_ids};
+ghost use Rattle.dom_links.specs.Validation.{AreHosts, ContentsHold, HostsContents, IsAlone};
+ghost use Rattle.dom_links.specs.Validation.{ParentAllowsChildren, IsRefused, LinksKnown};
+ghost use Rattle.dom_links.specs.Validation.{PassesEarlierChecks, IsFirstFault};
 ghost use Rattle.dom_links.specs.declared.validation.ValidateFault.TheVariants.{NoChildrenHere};
 
 use crate::validation::ValidateFault;
-use crate::validation::links::leads_to;
+use crate::validation::links::links_to;
 use dom_nodes::node_data::TreeNode;
 use dom_nodes::node_id::NodeId;
 use std::alloc::{AllocError, Global};
@@ -16,22 +17,22 @@ use std::alloc::{AllocError, Global};
 /// The checks of what the nodes are.
 pub(crate) fn check_contents(
     nodes: &[TreeNode],
-    holders: &[Option<NodeId>],
+    hosts: &[Option<NodeId>],
 ) -> Result<(), ValidateFault>
     requires known { EachIndex nodes.now (λ n. LinksKnown nodes.now n) }
-    requires holders { AreHolders nodes.now holders.now }
-    requires before { PassesBefore nodes.now NoChildrenHere }
-    ensures sound { MatchResult result (λ _. ContentsHold nodes.now holders.now)
+    requires hosts { AreHosts nodes.now hosts.now }
+    requires before { PassesEarlierChecks nodes.now NoChildrenHere }
+    ensures sound { MatchResult result (λ _. ContentsHold nodes.now hosts.now)
         (λ fault. IsRefused nodes.now fault) }
-    ensures cause { IfErr result (λ fault. Tells nodes.now fault) }
+    ensures cause { IfErr result (λ fault. IsFirstFault nodes.now fault) }
 {
-    if !are_borne(nodes) {
+    if !parents_allow_children(nodes) {
         return Err(ValidateFault::NoChildrenHere);
     }
     if !stay_alone(nodes) {
         return Err(ValidateFault::PlacedFragment);
     }
-    if !hold_contents(nodes, holders) {
+    if !host_contents(nodes, hosts) {
         return Err(ValidateFault::BadContents);
     }
     if nodes.len() > 4294967295 {
@@ -41,29 +42,27 @@ pub(crate) fn check_contents(
 }
 
 /// For each node, one that names it as its contents.
-pub(crate) fn holders_of(
-    alloc: Global,
-    nodes: &[TreeNode],
-) -> Result<Vec<Option<NodeId>>, AllocError>
-    requires { EachIndex nodes.now (λ n. slice_get (ids_of nodes.now) n ≡ Some n) }
-    ensures { IfOk result (λ holders. AreHolders nodes.now holders.items) }
+pub(crate) fn hosts_of(alloc: Global, nodes: &[TreeNode]) -> Result<Vec<Option<NodeId>>, AllocError>
+    requires { EachIndex nodes.now (λ n. slice_get (arena_ids nodes.now) n ≡ Some n) }
+    ensures { IfOk result (λ hosts. AreHosts nodes.now hosts.items) }
 {
-    let mut holders = vec![in alloc; None; nodes.len()]?;
+    let mut hosts = vec![in alloc; None; nodes.len()]?;
     for node in nodes {
         if let Some(contents) = node.content.template_contents() {
             if contents.value() < nodes.len() {
-                holders[contents.value()] = Some(node.id);
+                hosts[contents.value()] = Some(node.id);
             }
         }
     }
-    Ok(holders)
+    Ok(hosts)
 }
 
 /// Whether the parent of a node may have children.
-fn is_borne(nodes: &[TreeNode], n: usize) -> bool
+fn parent_allows_children(nodes: &[TreeNode], n: usize) -> bool
     requires known { EachIndex nodes.now (λ n. LinksKnown nodes.now n) }
     requires here { n < length nodes.now }
-    ensures { MatchBool result (IsBorne nodes.now n) (IsBorne nodes.now n → ⊥) }
+    ensures { MatchBool result (ParentAllowsChildren nodes.now n)
+        (ParentAllowsChildren nodes.now n → ⊥) }
 {
     let Some(parent) = nodes[n].parent.get() else {
         return true;
@@ -72,13 +71,13 @@ fn is_borne(nodes: &[TreeNode], n: usize) -> bool
 }
 
 /// Whether all parents may have children.
-pub(crate) fn are_borne(nodes: &[TreeNode]) -> bool
+pub(crate) fn parents_allow_children(nodes: &[TreeNode]) -> bool
     requires { EachIndex nodes.now (λ n. LinksKnown nodes.now n) }
-    ensures { MatchBool result (EachIndex nodes.now (λ n. IsBorne nodes.now n))
-        (SomeIndex nodes.now (λ n. IsBorne nodes.now n → ⊥)) }
+    ensures { MatchBool result (EachIndex nodes.now (λ n. ParentAllowsChildren nodes.now n))
+        (SomeIndex nodes.now (λ n. ParentAllowsChildren nodes.now n → ⊥)) }
 {
     for n in 0..nodes.len() {
-        if !is_borne(nodes, n) {
+        if !parent_allows_children(nodes, n) {
             return false;
         }
     }
@@ -117,11 +116,11 @@ pub(crate) fn stay_alone(nodes: &[TreeNode]) -> bool
 }
 
 /// Whether the contents that a node names are a fragment that it alone holds.
-fn holds_contents(nodes: &[TreeNode], holders: &[Option<NodeId>], n: usize) -> bool
-    requires holders { AreHolders nodes.now holders.now }
+fn hosts_contents(nodes: &[TreeNode], hosts: &[Option<NodeId>], n: usize) -> bool
+    requires hosts { AreHosts nodes.now hosts.now }
     requires here { n < length nodes.now }
-    ensures { MatchBool result (HoldsContents nodes.now holders.now n)
-        (HoldsContents nodes.now holders.now n → ⊥) }
+    ensures { MatchBool result (HostsContents nodes.now hosts.now n)
+        (HostsContents nodes.now hosts.now n → ⊥) }
 {
     let Some(contents) = nodes[n].content.template_contents() else {
         return true;
@@ -133,17 +132,17 @@ fn holds_contents(nodes: &[TreeNode], holders: &[Option<NodeId>], n: usize) -> b
     if !nodes[place].content.is_fragment() {
         return false;
     }
-    leads_to(holders[place], n)
+    links_to(hosts[place], n)
 }
 
-/// Whether all contents are fragments with one holder.
-pub(crate) fn hold_contents(nodes: &[TreeNode], holders: &[Option<NodeId>]) -> bool
-    requires { AreHolders nodes.now holders.now }
-    ensures { MatchBool result (EachIndex nodes.now (λ n. HoldsContents nodes.now holders.now n))
-        (SomeIndex nodes.now (λ n. HoldsContents nodes.now holders.now n → ⊥)) }
+/// Whether all contents are fragments with one host.
+pub(crate) fn host_contents(nodes: &[TreeNode], hosts: &[Option<NodeId>]) -> bool
+    requires { AreHosts nodes.now hosts.now }
+    ensures { MatchBool result (EachIndex nodes.now (λ n. HostsContents nodes.now hosts.now n))
+        (SomeIndex nodes.now (λ n. HostsContents nodes.now hosts.now n → ⊥)) }
 {
     for n in 0..nodes.len() {
-        if !holds_contents(nodes, holders, n) {
+        if !hosts_contents(nodes, hosts, n) {
             return false;
         }
     }

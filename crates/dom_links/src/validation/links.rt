@@ -3,11 +3,11 @@
 ghost use Rattle.std.specs.Prelude.{◌≡◌, ◌<◌, ◌≤◌, [], EachIndex, Err, IfErr, IfSome, IsSomeAnd};
 ghost use Rattle.std.specs.Prelude.{MatchBool, MatchResult, None, Some, SomeIndex, length};
 ghost use Rattle.std.specs.Prelude.{slice_get};
-ghost use Rattle.dom_links.specs.Forest.{ids_of, first_link, last_link, next_link, parent_link};
+ghost use Rattle.dom_links.specs.Forest.{arena_ids, first_link, last_link, next_link, parent_link};
 ghost use Rattle.dom_links.specs.Forest.{prev_link};
 ghost use Rattle.dom_links.specs.Lists.{names};
-ghost use Rattle.dom_links.specs.Validation.{Agrees, IsKnown, IsLinked, IsRefused, LinksAstray};
-ghost use Rattle.dom_links.specs.Validation.{LinksHold, LinksKnown, Tells};
+ghost use Rattle.dom_links.specs.Validation.{Agrees, IsLinkKnown, IsLinked, IsRefused, LinksAstray};
+ghost use Rattle.dom_links.specs.Validation.{LinksHold, LinksKnown, IsFirstFault};
 ghost use Rattle.dom_links.specs.declared.validation.ValidateFault.TheVariants.{NoRoot};
 
 use crate::validation::ValidateFault;
@@ -18,7 +18,7 @@ use dom_nodes::node_id::NodeId;
 pub(crate) fn check_links(nodes: &[TreeNode]) -> Result<(), ValidateFault>
     ensures sound { MatchResult result (λ _. LinksHold nodes.now)
         (λ fault. IsRefused nodes.now fault) }
-    ensures cause { IfErr result (λ fault. Tells nodes.now fault) }
+    ensures cause { IfErr result (λ fault. IsFirstFault nodes.now fault) }
     ensures empty { nodes.now ≡ [] → result ≡ Err NoRoot }
 {
     let Some(root) = nodes.first() else {
@@ -27,7 +27,7 @@ pub(crate) fn check_links(nodes: &[TreeNode]) -> Result<(), ValidateFault>
     if root.parent.get().is_some() {
         return Err(ValidateFault::RootPlaced);
     }
-    if !ids_are_places(nodes) {
+    if !ids_are_indexes(nodes) {
         return Err(ValidateFault::BadId);
     }
     if !are_known(nodes) {
@@ -40,9 +40,10 @@ pub(crate) fn check_links(nodes: &[TreeNode]) -> Result<(), ValidateFault>
 }
 
 /// Whether each node's number is its place.
-pub(crate) fn ids_are_places(nodes: &[TreeNode]) -> bool
-    ensures { MatchBool result (EachIndex nodes.now (λ n. slice_get (ids_of nodes.now) n ≡ Some n))
-        (SomeIndex nodes.now (λ n. slice_get (ids_of nodes.now) n ≡ Some n → ⊥)) }
+pub(crate) fn ids_are_indexes(nodes: &[TreeNode]) -> bool
+    ensures { MatchBool result
+        (EachIndex nodes.now (λ n. slice_get (arena_ids nodes.now) n ≡ Some n))
+        (SomeIndex nodes.now (λ n. slice_get (arena_ids nodes.now) n ≡ Some n → ⊥)) }
 {
     for n in 0..nodes.len() {
         if nodes[n].id.value() != n {
@@ -53,8 +54,8 @@ pub(crate) fn ids_are_places(nodes: &[TreeNode]) -> bool
 }
 
 /// Whether the link, if there is one, names a node.
-fn is_known(nodes: &[TreeNode], link: Option<NodeId>) -> bool
-    ensures { MatchBool result (IsKnown nodes.now link)
+fn is_link_known(nodes: &[TreeNode], link: Option<NodeId>) -> bool
+    ensures { MatchBool result (IsLinkKnown nodes.now link)
         (IsSomeAnd link (λ k. length nodes.now ≤ k)) }
 {
     if let Some(id) = link {
@@ -71,19 +72,19 @@ fn knows(nodes: &[TreeNode], n: usize) -> bool
     ensures { MatchBool result (LinksKnown nodes.now n) (LinksAstray nodes.now n) }
 {
     let node = &nodes[n];
-    if !is_known(nodes, node.parent.get()) {
+    if !is_link_known(nodes, node.parent.get()) {
         return false;
     }
-    if !is_known(nodes, node.prev_sibling.get()) {
+    if !is_link_known(nodes, node.prev_sibling.get()) {
         return false;
     }
-    if !is_known(nodes, node.next_sibling.get()) {
+    if !is_link_known(nodes, node.next_sibling.get()) {
         return false;
     }
-    if !is_known(nodes, node.first_child.get()) {
+    if !is_link_known(nodes, node.first_child.get()) {
         return false;
     }
-    is_known(nodes, node.last_child.get())
+    is_link_known(nodes, node.last_child.get())
 }
 
 /// Whether each link names a node.
@@ -100,7 +101,7 @@ pub(crate) fn are_known(nodes: &[TreeNode]) -> bool
 }
 
 /// Whether the link leads to n.
-pub(crate) fn leads_to(link: Option<NodeId>, n: usize) -> bool
+pub(crate) fn links_to(link: Option<NodeId>, n: usize) -> bool
     ensures { result ≡ names link n }
 {
     match link {
@@ -117,12 +118,12 @@ fn agrees(nodes: &[TreeNode], n: usize) -> bool
 {
     let node = &nodes[n];
     if let Some(prev) = node.prev_sibling.get() {
-        if !leads_to(nodes[prev.value()].next_sibling.get(), n) {
+        if !links_to(nodes[prev.value()].next_sibling.get(), n) {
             return false;
         }
     }
     if let Some(next) = node.next_sibling.get() {
-        if !leads_to(nodes[next.value()].prev_sibling.get(), n) {
+        if !links_to(nodes[next.value()].prev_sibling.get(), n) {
             return false;
         }
     }
@@ -161,14 +162,14 @@ fn shares_parent(nodes: &[TreeNode], n: usize) -> bool
 
 /// Whether a link, if there is one, names a node whose parent is n.
 fn is_child(nodes: &[TreeNode], link: Option<NodeId>, n: usize) -> bool
-    requires { IsKnown nodes.now link }
+    requires { IsLinkKnown nodes.now link }
     ensures { MatchBool result (IfSome link (λ c. parent_link nodes.now c ≡ Some n))
         (IfSome link (λ c. parent_link nodes.now c ≡ Some n) → ⊥) }
 {
     let Some(child) = link else {
         return true;
     };
-    leads_to(nodes[child.value()].parent.get(), n)
+    links_to(nodes[child.value()].parent.get(), n)
 }
 
 /// Whether a node that is first or last in its list is so named by its parent.
@@ -188,10 +189,10 @@ fn is_named(nodes: &[TreeNode], n: usize) -> bool
         return true;
     };
     let above = &nodes[parent.value()];
-    if node.prev_sibling.get().is_none() && !leads_to(above.first_child.get(), n) {
+    if node.prev_sibling.get().is_none() && !links_to(above.first_child.get(), n) {
         return false;
     }
-    if node.next_sibling.get().is_none() && !leads_to(above.last_child.get(), n) {
+    if node.next_sibling.get().is_none() && !links_to(above.last_child.get(), n) {
         return false;
     }
     true

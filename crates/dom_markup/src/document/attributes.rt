@@ -2,16 +2,16 @@
 
 ghost use Rattle.std.specs.Prelude.{◌≡◌, ◌∷◌, [], List, ℕ, Bool, IfOk, OnOk, map, string_bytes};
 ghost use Rattle.std.specs.List.{list_any};
-ghost use Rattle.dom_nodes.specs.Changes.{is_named};
+ghost use Rattle.dom_nodes.specs.Changes.{is_attr_named};
 ghost use Rattle.dom_markup.specs.Attributes.{Gains, IsNoted};
 ghost use Rattle.dom_markup.specs.Bytes.{folded};
 ghost use Rattle.dom_markup.specs.Markup.{EndsTag, kept_after};
 ghost use Rattle.dom_markup.specs.Numbered.{read_attr};
 ghost use Rattle.dom_markup.specs.References.{decoded};
 ghost use Rattle.dom_markup.specs.ValueTrees.{Attribute};
-ghost use Rattle.dom_markup.specs.Stretches.{attribute_of, PastAttributes};
+ghost use Rattle.dom_markup.specs.ByteClasses.{attribute_of, PastAttributes};
 
-use crate::document::scan::{Written, attribute_at, attrs_about};
+use crate::document::scan::{Written, attribute_at, estimate_attrs};
 use crate::references::decode;
 use dom_nodes::fault::OutOfMemory;
 use dom_nodes::name::{Attr, LocalName, Namespace, QualName};
@@ -34,7 +34,7 @@ pub fn folded_name(alloc: Global, name: &str) -> Result<Text, OutOfMemory>
 
 /// Whether some attribute has the local name.
 fn has_attr(attrs: &[Attr], name: &LocalName) -> bool
-    ensures { result ≡ list_any (is_named name.now) attrs.now }
+    ensures { result ≡ list_any (is_attr_named name.now) attrs.now }
 {
     attrs.iter().any(|attr| attr.name.local.is_same(name))
 }
@@ -42,21 +42,21 @@ fn has_attr(attrs: &[Attr], name: &LocalName) -> bool
 /// The attributes of a tag so far. The names of all but the last few stand in a set too, so that a
 /// tag of many attributes is read quickly, whatever their names are.
 #[derive(Drop)]
-struct Kept {
+struct KeptAttrs {
     attrs: Attrs,
     noted: usize,
     older: BTreeSet<String>,
 }
 
-impl Kept {
+impl KeptAttrs {
     /// No attributes, and room for so many.
-    fn new(alloc: Global, room: usize) -> Kept
+    fn new(alloc: Global, room: usize) -> KeptAttrs
         ensures none { result.attrs ≡ [] }
         ensures noted { IsNoted result }
     {
         let mut attrs = Attrs::new(alloc);
         attrs.reserve(room);
-        Kept {
+        KeptAttrs {
             attrs,
             noted: 0,
             older: BTreeSet::new(alloc),
@@ -66,7 +66,7 @@ impl Kept {
     /// Whether some attribute has the local name.
     fn has(&self, name: &LocalName) -> bool
         requires { IsNoted self.now }
-        ensures { result ≡ list_any (is_named name.now) self.now.attrs }
+        ensures { result ≡ list_any (is_attr_named name.now) self.now.attrs }
     {
         let (_, recent) = self.attrs.as_slice().split_at(self.noted);
         self.older.contains(name.as_str()) || has_attr(recent, name)
@@ -130,7 +130,7 @@ pub fn attrs_of(alloc: Global, text: &str) -> Result<(Attrs, &str), OutOfMemory>
     ensures attrs { IfOk result (λ found. (slash : Bool) (all : List Attribute) (rest : List ℕ)
         → EndsTag slash text.now all rest → found.0 ≡ map read_attr (kept_after [] all)) }
 {
-    let mut kept = Kept::new(alloc, attrs_about(text));
+    let mut kept = KeptAttrs::new(alloc, estimate_attrs(text));
     let mut rest = text;
     while let Some((written, after)) = attribute_at(rest) {
         kept.add(alloc, written)?;

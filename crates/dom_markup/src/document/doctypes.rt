@@ -4,9 +4,9 @@ ghost use Rattle.std.specs.Prelude.{◌++◌, codes, List, ℕ, IfNone, IfSome};
 ghost use Rattle.dom_markup.specs.Taking.{Takes, TakesTwo};
 ghost use Rattle.dom_markup.specs.Bytes.{folded, is_name_byte};
 ghost use Rattle.dom_markup.specs.Markup.{BeginsDoctype, BeginsQuoted, BeginsWord, Fails};
-ghost use Rattle.dom_markup.specs.Stretches.{AfterPublic, EndsDoctype, IsWord};
+ghost use Rattle.dom_markup.specs.ByteClasses.{AfterPublic, EndsDoctype, IsWord};
 
-use crate::document::scan::{Stretch, close_at, split_front, split_letter, strip};
+use crate::document::scan::{ByteClass, close_at, split_front, split_letter, strip};
 
 /// A doctype as it is written.
 #[derive(Clone, Copy)]
@@ -20,7 +20,7 @@ pub struct Doctype<'a> {
 fn quoted_at(text: &str) -> Option<(&str, &str)>
     ensures { Takes (BeginsQuoted text.now) result }
 {
-    let (space, quoted) = split_front(Stretch::Whitespace, text);
+    let (space, quoted) = split_front(ByteClass::Whitespace, text);
     if space.is_empty() {
         return None;
     }
@@ -41,8 +41,8 @@ fn word_end<'a>(text: &'a str, word: &str) -> Option<&'a str>
     ensures none { IfNone result ((rest : List ℕ) → Fails is_name_byte rest
         → BeginsWord word.now text.now rest → ⊥) }
 {
-    let (space, behind) = split_front(Stretch::Whitespace, text);
-    let (written, rest) = split_front(Stretch::Name, behind);
+    let (space, behind) = split_front(ByteClass::Whitespace, text);
+    let (written, rest) = split_front(ByteClass::Name, behind);
     if space.is_empty() {
         return None;
     }
@@ -89,9 +89,9 @@ pub fn doctype_at(tag: &str) -> Option<(Doctype<'_>, &str)>
     ensures none { IfNone result ((name public system rest : List ℕ)
         → BeginsDoctype (codes "<!" ++ tag.now) name public system rest → ⊥) }
 {
-    let (word, inner) = split_front(Stretch::Name, tag);
-    let (space, gap) = split_front(Stretch::Whitespace, inner);
-    let (name, behind) = split_front(Stretch::Name, gap);
+    let (word, inner) = split_front(ByteClass::Name, tag);
+    let (space, gap) = split_front(ByteClass::Whitespace, inner);
+    let (name, behind) = split_front(ByteClass::Name, gap);
     if !word.eq_ignore_ascii_case("doctype") {
         return None;
     }

@@ -5,7 +5,7 @@ ghost use Rattle.dom_nodes.specs.declared.fault.EditFault.TheVariants.{Memory};
 ghost use Rattle.dom_nodes.specs.Kinds.{is_top};
 ghost use Rattle.dom_links.specs.Copies.{FragmentCause};
 ghost use Rattle.dom_links.specs.Growth.{lone};
-ghost use Rattle.dom_trees.specs.NewNodes.{html_element};
+ghost use Rattle.dom_trees.specs.NewNodes.{html_root_element};
 ghost use Rattle.dom_trees.specs.Views.{node_is};
 ghost use Rattle.dom_markup.specs.FaultKinds.{HoldsMark, IsLimitFault, IsNestingFault};
 ghost use Rattle.dom_markup.specs.Fragments.{FragmentRefused, IsFragmentFaultAt, IsFragmentOf};
@@ -97,7 +97,9 @@ pub trait NodeFragment {
         ensures ok { IfOk result (λ document.
             document.tree ≡ node_fragment (forest self.now) (number self.now)) }
         ensures cause { let roots = fragment_roots (forest self.now) (number self.now)
-            in IfErr result (λ fault. FragmentCause html_element (forest self.now) roots fault) };
+            in IfErr result (λ fault. FragmentCause html_root_element (forest self.now) roots fault) }
+        ensures no_errors { IfOk result (λ document. document.errors.items ≡ []) }
+        ensures no_quirks { IfOk result (λ document. document.quirks_mode ≡ QuirksMode.NoQuirks) };
 }
 
 impl<'a> NodeFragment for NodeRef<'a> {
@@ -115,7 +117,7 @@ impl<'a> NodeFragment for NodeRef<'a> {
 fn fragment_tree(tree: &Tree, id: NodeId) -> Result<Tree, EditFault>
     ensures ok { IfOk result (λ made. made ≡ node_fragment tree.now id) }
     ensures cause { let roots = fragment_roots tree.now id
-        in IfErr result (λ fault. FragmentCause html_element tree.now roots fault) }
+        in IfErr result (λ fault. FragmentCause html_root_element tree.now roots fault) }
 {
     if is_whole(tree, id) {
         return cloned(tree);
@@ -150,7 +152,7 @@ fn is_whole(tree: &Tree, id: NodeId) -> bool
 fn is_top(tree: &Tree, id: NodeId) -> bool
     ensures { result ≡ node_is is_top tree.now id }
 {
-    match tree.get(&id) {
+    match tree.tree_node(&id) {
         Some(node) => node.content.is_top(),
         None => false,
     }

@@ -19,7 +19,7 @@ use crate::document::attributes::{attrs_of, folded_name};
 use crate::document::doctypes::Doctype;
 use crate::document::front::{Front, front_at};
 use crate::document::names::{is_template, names_element};
-use crate::document::scan::{Stretch, split_front};
+use crate::document::scan::{ByteClass, split_front};
 use crate::document::tags::close_tag;
 use crate::document::within::{Within, within_named};
 use crate::names::is_void_name;
@@ -44,7 +44,7 @@ fn html_name(local: LocalName) -> QualName
     }
 }
 
-/// What a start tag tells: the name as it is written, the element's local name, and its attributes.
+/// What a start tag holds: the name as it is written, the element's local name, and its attributes.
 #[derive(Drop)]
 struct Started<'a> {
     written: &'a str,
@@ -52,14 +52,14 @@ struct Started<'a> {
     attrs: Attrs,
 }
 
-/// What a start tag tells, which is taken while it is scanned, and what follows it. It stands here
+/// What a start tag holds, which is taken while it is scanned, and what follows it. It stands here
 /// behind its `<`.
 fn start_tag_of(alloc: Global, tag: &str) -> Result<(Started<'_>, &str), MarkupFaultKind>
     ensures { let text = codes "<" ++ tag.now in MatchResult result
         (λ found. StartsSo text found.0 found.1.now)
         (λ kind. (kind ≡ MarkupFaultKind.Memory) ⊎ StartCause text kind) }
 {
-    let (written, behind) = split_front(Stretch::Name, tag);
+    let (written, behind) = split_front(ByteClass::Name, tag);
     if !names_element(written) {
         return Err(MarkupFaultKind::BadTag);
     }
@@ -195,7 +195,7 @@ impl<'a> Reader<'a> {
         }
     }
 
-    /// Makes an element with contents as the last child of the innermost open element, and tells
+    /// Makes an element with contents as the last child of the innermost open element, and returns
     /// the contents' number.
     fn append_template(&mut self, name: QualName, attrs: Attrs) -> Result<NodeId, MarkupFaultKind>
         requires { IsReading self.old }
@@ -212,7 +212,7 @@ impl<'a> Reader<'a> {
     }
 
     /// Makes an element as the last child of the innermost open element, with contents where it is
-    /// a template, and tells below which number its children stand.
+    /// a template, and returns below which number its children stand.
     fn append_element(&mut self, started: Started) -> Result<NodeId, MarkupFaultKind>
         requires { IsReading self.old }
         ensures { Grows self.old self.new result
@@ -311,7 +311,7 @@ impl<'a> Reader<'a> {
         }
     }
 
-    /// Reads the item at the front of what is left, and tells what follows it. `Err` where none
+    /// Reads the item at the front of what is left, and returns what follows it. `Err` where none
     /// begins there, for a limit, or where no trees have such items.
     #[inline(always)]
     pub fn read(

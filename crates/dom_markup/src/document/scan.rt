@@ -11,21 +11,21 @@ ghost use Rattle.dom_markup.specs.ValueTrees.{Attribute};
 ghost use Rattle.dom_markup.specs.Markup.{BeginsAttribute, BeginsValue, Closes, EndsAtMark};
 ghost use Rattle.dom_markup.specs.Markup.{HasValue, begins_markup, text_front};
 ghost use Rattle.dom_markup.specs.Taking.{Leaves, Takes};
-ghost use Rattle.dom_markup.specs.Stretches.{attribute_of, passes, PastAttributes, Splits};
+ghost use Rattle.dom_markup.specs.ByteClasses.{attribute_of, passes, PastAttributes, Splits};
 
 use crate::document::names::is_letter;
 use memchr::memchr;
 use std::simd::prelude::*;
 
-/// What a stretch of markup is made of.
+/// A class of bytes, of which runs of markup are made.
 #[derive(Clone, Copy)]
-pub enum Stretch {
+pub enum ByteClass {
     Whitespace,
     Name,
     Bare,
 }
 
-/// Tab, line feed, form feed, carriage return and space. All above a space are told first.
+/// Tab, line feed, form feed, carriage return and space. All above a space are tested first.
 #[inline(always)]
 fn is_whitespace(byte: u8) -> bool
     ensures { result ≡ is_whitespace byte }
@@ -36,7 +36,7 @@ fn is_whitespace(byte: u8) -> bool
     matches!(byte, b'\t' | b'\n' | 0x0c | b'\r' | b' ')
 }
 
-/// Whether a byte may stand in a name. Letters are told first: all above `>` may.
+/// Whether a byte may stand in a name. Letters are tested first: all above `>` may.
 #[inline(always)]
 fn is_name_byte(byte: u8) -> bool
     ensures { result ≡ is_name_byte byte }
@@ -47,27 +47,27 @@ fn is_name_byte(byte: u8) -> bool
     !(is_whitespace(byte) || matches!(byte, b'/' | b'>' | b'<' | b'=' | b'"' | b'\'' | 0))
 }
 
-impl Stretch {
+impl ByteClass {
     /// Whether a byte is of this kind.
     #[inline(always)]
     fn pass(self, byte: u8) -> bool
         ensures { result ≡ passes self byte }
     {
         match self {
-            Stretch::Whitespace => is_whitespace(byte),
-            Stretch::Name => is_name_byte(byte),
-            Stretch::Bare => !(is_whitespace(byte) || byte == b'>'),
+            ByteClass::Whitespace => is_whitespace(byte),
+            ByteClass::Name => is_name_byte(byte),
+            ByteClass::Bare => !(is_whitespace(byte) || byte == b'>'),
         }
     }
 }
 
-/// The same as `stretch_len`, one byte after the other.
+/// The same as `class_len`, one byte after the other.
 #[inline(always)]
-fn front_len(stretch: Stretch, bytes: &[u8]) -> usize
-    ensures { result ≡ prefix_len (passes stretch) bytes.now }
+fn front_len(byte_class: ByteClass, bytes: &[u8]) -> usize
+    ensures { result ≡ prefix_len (passes byte_class) bytes.now }
 {
     for (index, byte) in bytes.iter().enumerate() {
-        if !stretch.pass(*byte) {
+        if !byte_class.pass(*byte) {
             return index;
         }
     }
@@ -76,7 +76,7 @@ fn front_len(stretch: Stretch, bytes: &[u8]) -> usize
 
 /// Which of the bytes are no more than `>`, a bit for each.
 #[inline(always)]
-fn low_places(bytes: u8x16) -> u64
+fn low_bytes(bytes: u8x16) -> u64
     ensures { result ≡ mask_l (map is_low bytes) }
 {
     bytes.simd_le(u8x16::splat(b'>')).to_bitmask()
@@ -88,43 +88,43 @@ fn high_len(bytes: &[u8]) -> usize
     requires { 16 ≤ length bytes.now }
     ensures { result ≡ prefix_len (λ b. not (is_low b)) (chunk 0 16 bytes.now) }
 {
-    let low = low_places(u8x16::from_slice(bytes));
+    let low = low_bytes(u8x16::from_slice(bytes));
     if low == 0 {
         return 16;
     }
     low.trailing_zeros() as usize
 }
 
-/// How many bytes of a name stand at the front. Those above `>` are told by 16 at once, and they
+/// How many bytes of a name stand at the front. Those above `>` are tested by 16 at once, and they
 /// are the whole of most names.
 #[inline(always)]
 fn name_len(bytes: &[u8]) -> usize
     ensures { result ≡ prefix_len is_name_byte bytes.now }
 {
     if bytes.len() < 16 {
-        return front_len(Stretch::Name, bytes);
+        return front_len(ByteClass::Name, bytes);
     }
     let high = high_len(bytes);
-    high + front_len(Stretch::Name, bytes_from(bytes, high))
+    high + front_len(ByteClass::Name, bytes_from(bytes, high))
 }
 
 /// How many bytes of this kind stand at the front.
 #[inline(always)]
-fn stretch_len(stretch: Stretch, bytes: &[u8]) -> usize
-    ensures { result ≡ prefix_len (passes stretch) bytes.now }
+fn class_len(byte_class: ByteClass, bytes: &[u8]) -> usize
+    ensures { result ≡ prefix_len (passes byte_class) bytes.now }
 {
-    match stretch {
-        Stretch::Name => name_len(bytes),
-        _ => front_len(stretch, bytes),
+    match byte_class {
+        ByteClass::Name => name_len(bytes),
+        _ => front_len(byte_class, bytes),
     }
 }
 
 /// The front that is of this kind, as far as it goes, and what follows it.
 #[inline(always)]
-pub fn split_front(stretch: Stretch, text: &str) -> (&str, &str)
-    ensures { Splits (passes stretch) text.now result.0.now result.1.now }
+pub fn split_front(byte_class: ByteClass, text: &str) -> (&str, &str)
+    ensures { Splits (passes byte_class) text.now result.0.now result.1.now }
 {
-    text.split_at(stretch_len(stretch, text.as_bytes()))
+    text.split_at(class_len(byte_class, text.as_bytes()))
 }
 
 /// What follows the letter at the front, if it stands there.
@@ -198,9 +198,9 @@ pub fn split_text(text: &str) -> (&str, &str)
 }
 
 /// About how many nodes the text has: as many as it has `<`, for an element with a text has two of
-/// both. Nothing but room for nodes hangs on it, so a quarter of the text is counted, and a little
-/// more is told than that tells.
-pub fn nodes_about(text: &str) -> usize {
+/// both. Only the room reserved for nodes depends on it, so a quarter of the text is counted, and
+/// four times that count and a little more is returned.
+pub fn estimate_nodes(text: &str) -> usize {
     let bytes = text.as_bytes();
     let mut count: usize = 0;
     let mut at = 0;
@@ -215,7 +215,7 @@ pub fn nodes_about(text: &str) -> usize {
 
 /// About how many attributes stand before the end of a tag: as many as the next 64 bytes have `=`
 /// before a `>`. Nothing but room for attributes hangs on it.
-pub fn attrs_about(text: &str) -> usize {
+pub fn estimate_attrs(text: &str) -> usize {
     let bytes = text.as_bytes();
     if bytes.len() < 64 || bytes[0] == b'>' {
         return 0;
@@ -275,7 +275,7 @@ fn value_at(text: &str) -> Option<(&str, &str)>
         let found = split_letter(inner, b'\'')?;
         return Some(found);
     }
-    let (bare, rest) = split_front(Stretch::Bare, text);
+    let (bare, rest) = split_front(ByteClass::Bare, text);
     if bare.is_empty() {
         return None;
     }
@@ -289,11 +289,11 @@ fn value_behind(after: &str) -> Option<(&str, &str)>
     ensures some { IfSome result (λ found. HasValue after.now (decoded found.0.now) found.1.now) }
     ensures none { IfNone result ((value rest : List ℕ) → HasValue after.now value rest → ⊥) }
 {
-    let (_, equals) = split_front(Stretch::Whitespace, after);
+    let (_, equals) = split_front(ByteClass::Whitespace, after);
     let Some(behind) = strip(equals, '=') else {
         return Some(("", after));
     };
-    let (_, text) = split_front(Stretch::Whitespace, behind);
+    let (_, text) = split_front(ByteClass::Whitespace, behind);
     let found = value_at(text)?;
     Some(found)
 }
@@ -313,11 +313,11 @@ pub fn attribute_at(text: &str) -> Option<(Written<'_>, &str)>
     ensures none { IfNone result ((attribute : Attribute) (rest : List ℕ)
         → BeginsAttribute text.now attribute rest → ⊥) }
 {
-    let (space, behind) = split_front(Stretch::Whitespace, text);
+    let (space, behind) = split_front(ByteClass::Whitespace, text);
     if space.is_empty() {
         return None;
     }
-    let (name, behind) = split_front(Stretch::Name, behind);
+    let (name, behind) = split_front(ByteClass::Name, behind);
     if name.is_empty() {
         return None;
     }
@@ -330,7 +330,7 @@ pub fn attribute_at(text: &str) -> Option<(Written<'_>, &str)>
 pub fn close_at(text: &str, slash: bool) -> Option<&str>
     ensures { Leaves (Closes slash text.now) result }
 {
-    let (_, end) = split_front(Stretch::Whitespace, text);
+    let (_, end) = split_front(ByteClass::Whitespace, text);
     if let Some(rest) = strip(end, '>') {
         return Some(rest);
     }

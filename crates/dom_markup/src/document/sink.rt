@@ -19,7 +19,7 @@ pub enum NodeOrText<'a> {
     AppendText(&'a str),
 }
 
-/// What a parser fills. A node is told by its number; an unknown number reads as nothing. After a
+/// What a parser fills. A node is named by its number; an unknown number reads as nothing. After a
 /// refusal the tree is as it was.
 pub trait TreeSink {
     ghost use Rattle.std.specs.Prelude.{◌≡◌, ◌==◌, Some};
@@ -161,7 +161,7 @@ impl TreeSink for Document {
     }
 
     fn get_template_contents(&self, target: &NodeId) -> Option<NodeId> {
-        self.tree.get(target)?.content.template_contents()
+        self.tree.tree_node(target)?.content.template_contents()
     }
 
     fn set_quirks_mode(&mut self, mode: QuirksMode) {

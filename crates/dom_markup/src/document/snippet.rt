@@ -5,7 +5,7 @@ ghost use Rattle.dom_nodes.specs.Kinds.{is_doctype};
 ghost use Rattle.dom_links.specs.Copies.{FragmentCause};
 ghost use Rattle.dom_links.specs.Forest.{Forest};
 ghost use Rattle.dom_trees.specs.Edits.{Edits};
-ghost use Rattle.dom_trees.specs.NewNodes.{html_element};
+ghost use Rattle.dom_trees.specs.NewNodes.{html_root_element};
 ghost use Rattle.dom_trees.specs.Views.{node_is};
 ghost use Rattle.dom_markup.specs.Documents.{IsSpelled};
 ghost use Rattle.dom_markup.specs.Fragments.{fragment_read, top_nodes};
@@ -13,7 +13,7 @@ ghost use Rattle.dom_markup.specs.Refusals.{IsFaultAt, Refused};
 ghost use Rattle.dom_markup.specs.Setters.{putting, replacing};
 
 use crate::document::Document;
-use crate::document::tops::Tops;
+use crate::document::id_list::IdList;
 use dom_links::gap::Place;
 use dom_nodes::fault::{EditFault, MarkupFault, MarkupFaultKind, OutOfMemory};
 use dom_nodes::node_id::NodeId;
@@ -27,7 +27,7 @@ use std::marker::Model;
 #[derive(Drop)]
 pub struct Snippet {
     tree: Tree,
-    tops: Tops,
+    top_ids: IdList,
 }
 
 impl Model for Snippet {
@@ -39,7 +39,7 @@ impl Model for Snippet {
 
     ghost view = { λ snippet. snippet.tree };
 
-    ghost invariant = { λ snippet. snippet.tops ≡ top_nodes snippet.tree };
+    ghost invariant = { λ snippet. snippet.top_ids ≡ top_nodes snippet.tree };
 }
 
 impl Snippet {
@@ -51,7 +51,7 @@ impl Snippet {
         ensures cause { IfErr result (λ fault. IsFaultAt text.now fault.at fault.kind) }
     {
         let document = Document::read(alloc, text)?;
-        let Ok(tops) = top_nodes(&document.tree) else {
+        let Ok(top_ids) = top_nodes(&document.tree) else {
             return Err(MarkupFault {
                 kind: MarkupFaultKind::Memory,
                 at: text.len(),
@@ -59,12 +59,12 @@ impl Snippet {
         };
         Ok(Snippet {
             tree: document.tree,
-            tops,
+            top_ids,
         })
     }
 
     /// Puts copies of the nodes at the top, but for doctypes, with all that is below them, at a
-    /// place that a node of the tree tells. All is done or nothing, also where there is nothing to
+    /// place at a node of the tree. All is done or nothing, also where there is nothing to
     /// put. Refused as `UnknownNode`; as `NoChildrenHere`, where the place is among the children of
     /// a node that has none; as `RootOrFragment` by the node beside the place; as `TooManyNodes` or
     /// `Memory`.
@@ -72,14 +72,14 @@ impl Snippet {
         ensures { Edits result tree.old tree.new (putting place id.now self.now) }
     {
         self.tree.nodes();
-        tree.merge_at(id, place, &self.tree, self.tops.as_slice())
+        tree.merge_at(id, place, &self.tree, self.top_ids.as_slice())
     }
 
     /// Where the nodes go that take the place of a node: none take none.
     pub(crate) fn replacing(&self) -> Place
         ensures { result ≡ replacing (top_nodes self.now) }
     {
-        if self.tops.as_slice().is_empty() {
+        if self.top_ids.as_slice().is_empty() {
             Place::Before
         } else {
             Place::InsteadOfNode
@@ -91,23 +91,23 @@ impl Snippet {
     pub(super) fn fragment(&self) -> Result<Tree, EditFault>
         ensures ok { IfOk result (λ tree. tree ≡ fragment_read self.now) }
         ensures cause { IfErr result
-            (λ fault. FragmentCause html_element self.now (top_nodes self.now) fault) }
+            (λ fault. FragmentCause html_root_element self.now (top_nodes self.now) fault) }
     {
-        Tree::fragment_of(&self.tree, self.tops.as_slice())
+        Tree::fragment_of(&self.tree, self.top_ids.as_slice())
     }
 }
 
 /// The nodes at the top of what was read, but for doctypes.
-fn top_nodes(tree: &Tree) -> Result<Tops, OutOfMemory>
-    ensures { IfOk result (λ tops. tops ≡ top_nodes tree.now) }
+fn top_nodes(tree: &Tree) -> Result<IdList, OutOfMemory>
+    ensures { IfOk result (λ top_ids. top_ids ≡ top_nodes tree.now) }
 {
-    let mut tops = Tops::new(tree.allocator());
+    let mut top_ids = IdList::new(tree.allocator());
     for id in tree.child_ids_of_it(&NodeId::root(), false) {
         if !is_doctype(tree, id) {
-            tops.push(id)?;
+            top_ids.push(id)?;
         }
     }
-    Ok(tops)
+    Ok(top_ids)
 }
 
 fn is_doctype(tree: &Tree, id: NodeId) -> bool

@@ -5,10 +5,10 @@ ghost use Rattle.dom_markup.specs.Bytes.{folded};
 ghost use Rattle.dom_markup.specs.ValueTrees.{Attribute};
 ghost use Rattle.dom_markup.specs.Markup.{BeginsEnd, BeginsStart, Closes};
 ghost use Rattle.dom_markup.specs.Refusals.{StartCause};
-ghost use Rattle.dom_markup.specs.Stretches.{ClosesNothing};
+ghost use Rattle.dom_markup.specs.ByteClasses.{ClosesNothing};
 
 use crate::document::names::{is_void, names_element};
-use crate::document::scan::{Stretch, attributes_end, close_at, split_front, strip};
+use crate::document::scan::{ByteClass, attributes_end, close_at, split_front, strip};
 use dom_nodes::fault::MarkupFaultKind;
 
 /// What follows the end of a start tag, behind its attributes; that of a void element may be a
@@ -33,7 +33,7 @@ pub fn start_tag_end(tag: &str) -> Result<(&str, &str), MarkupFaultKind>
         (λ found. (all : List Attribute) × BeginsStart text (folded found.0.now) all found.1.now)
         (StartCause text) }
 {
-    let (name, behind) = split_front(Stretch::Name, tag);
+    let (name, behind) = split_front(ByteClass::Name, tag);
     if !names_element(name) {
         return Err(MarkupFaultKind::BadTag);
     }
@@ -49,8 +49,8 @@ pub fn end_tag_end(tag: &str) -> Option<(&str, &str)>
     ensures none { IfNone result ((name rest : List ℕ)
         → BeginsEnd (codes "</" ++ tag.now) name rest → ⊥) }
 {
-    let (name, behind) = split_front(Stretch::Name, tag);
-    let (_, behind) = split_front(Stretch::Whitespace, behind);
+    let (name, behind) = split_front(ByteClass::Name, tag);
+    let (_, behind) = split_front(ByteClass::Whitespace, behind);
     if !names_element(name) {
         return None;
     }

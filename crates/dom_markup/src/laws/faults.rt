@@ -1,4 +1,4 @@
-//! What the faults of markup tell of a text.
+//! What the faults of markup say of a text.
 
 ghost use Rattle.std.specs.Prelude.{[], List, ℕ};
 ghost use Rattle.dom_nodes.specs.declared.fault.MarkupFaultKind.{MarkupFaultKind};
@@ -9,8 +9,8 @@ ghost use Rattle.dom_markup.specs.Names.{Mode, markup};
 ghost use Rattle.dom_markup.specs.Refusals.{Cause, IsFaultAt, Refused};
 ghost use Rattle.dom_markup.specs.ValueTrees.{ValueTrees};
 
-/// Where no token begins, few kinds of faults are told. Of a text that is cut into tokens whole,
-/// only faults of nesting and limits are told, and of one that spells trees only limits. A bad
+/// Where no token begins, few kinds of faults occur. For a text that is cut into tokens whole,
+/// only faults of nesting and limits occur, and for one that spells trees only limits. A bad
 /// comment needs `<!--`, an instruction `<?`, and a stray end `</`.
 pub fn kinds_of_faults()
     ensures tokens { (mode : Mode) (left : List ℕ) (kind : MarkupFaultKind) → Cause mode left kind

@@ -1,7 +1,7 @@
 //! The walk that puts a tree's text, by a stack of what is still to be put. Each node is pushed and
 //! popped once.
 
-ghost use Rattle.std.specs.Prelude.{◌≡◌, ◌+◌, ◌∷◌, [], MatchOption, OnErr, OnOk, Some};
+ghost use Rattle.std.specs.Prelude.{◌≡◌, ◌+◌, ◌∷◌, [], MatchOption, OnErr, OnOk};
 ghost use Rattle.dom_links.specs.Forest.{forest_of};
 ghost use Rattle.dom_links.specs.Sound.{IsSoundArena};
 ghost use Rattle.dom_links.specs.Walk.{IsNodeOf, IsWithin};
@@ -150,7 +150,8 @@ fn put_ops<P: PutText<W>, W>(
     Ok(())
 }
 
-/// Puts the beginning of an entry, and pushes the rest of it.
+/// Puts the beginning of an entry, and pushes the rest of it: for a node its later siblings, and
+/// what is below it.
 fn put_op<P: PutText<W>, W>(
     nodes: &[TreeNode],
     escaper: &Escaper,
@@ -165,33 +166,16 @@ fn put_op<P: PutText<W>, W>(
         Steps forest (P.written w.old) (P.written w.new) result ops.old ops.new
         (op_text forest op) (op_weight forest op) }
 {
+    lines_of_a_forest();
     match op {
-        SerializeOp::Open { id, raw } => put_open::<P, W>(nodes, escaper, id, raw, ops, w),
+        SerializeOp::Open { id, raw } => {
+            let node = node_at(nodes, id);
+            push_open(nodes, node.next_sibling.get(), raw, ops)?;
+            push_following(nodes, id, node, ops)?;
+            put_opening::<P, W>(w, escaper, &node.content, raw)
+        }
         SerializeOp::Close { id } => put_end_tag::<P, W>(w, &node_at(nodes, id).content),
     }
-}
-
-/// Puts what stands before what is below the node, and pushes what comes then.
-fn put_open<P: PutText<W>, W>(
-    nodes: &[TreeNode],
-    escaper: &Escaper,
-    id: NodeId,
-    raw: bool,
-    ops: &mut Stack,
-    w: &mut W,
-) -> Result<(), P::Fault>
-    requires sound { IsSoundArena nodes.now }
-    requires known { IsWithin (forest_of nodes.now) (Some id) }
-    requires all_within { AreWithin (forest_of nodes.now) ops.old }
-    ensures { let forest = forest_of nodes.now in
-        Steps forest (P.written w.old) (P.written w.new) result ops.old ops.new
-        (row_text forest raw (Some id)) (row_weight forest (Some id)) }
-{
-    lines_of_a_forest();
-    let node = node_at(nodes, id);
-    push_open(nodes, node.next_sibling.get(), raw, ops)?;
-    push_following(nodes, id, node, ops)?;
-    put_opening::<P, W>(w, escaper, &node.content, raw)
 }
 
 /// Pushes what follows the opening of a node: its template contents, its children, its end tag.

@@ -12,11 +12,13 @@ ghost use Rattle.dom_md.specs.Formatted.{with_gap, with_open, with_text};
 ghost use Rattle.dom_md.specs.Simple.{is_simple, is_simple_byte};
 ghost use Rattle.dom_md.specs.Written.{written};
 
+use crate::formatting::names::{is_block, is_cell, is_line};
 use crate::serializer::words::push_written;
+use dom_nodes::name::LocalName;
 use std::alloc::{AllocError, Global};
 
 /// An element opens.
-pub(super) fn open_element(text: &mut String, name: &str) -> Result<(), AllocError>
+pub(super) fn open_element(text: &mut String, name: &LocalName) -> Result<(), AllocError>
     ensures { OnOk result (string_bytes text.new ≡ with_open (string_bytes text.old) name.now) }
 {
     if !is_block(name) {
@@ -29,7 +31,7 @@ pub(super) fn open_element(text: &mut String, name: &str) -> Result<(), AllocErr
 }
 
 /// An element closes.
-pub(super) fn close_element(text: &mut String, name: &str) -> Result<(), AllocError>
+pub(super) fn close_element(text: &mut String, name: &LocalName) -> Result<(), AllocError>
     ensures { OnOk result (string_bytes text.new ≡ with_close (string_bytes text.old) name.now) }
 {
     if is_parted(text.as_str()) {
@@ -198,46 +200,4 @@ fn ends_with(text: &str, end: &str) -> bool
     ensures { result ≡ ends_with end.now text.now }
 {
     text.as_bytes().ends_with(end.as_bytes())
-}
-
-/// Whether the element stands in lines of its own, with a blank line behind it.
-#[tactic(auto, unfolding(crate::specs::Formatted::block_names))]
-fn is_block(name: &str) -> bool
-    ensures { result ≡ is_among name.now block_names }
-{
-    matches!(
-        name,
-        "article"
-            | "blockquote"
-            | "section"
-            | "div"
-            | "p"
-            | "pre"
-            | "h1"
-            | "h2"
-            | "h3"
-            | "h4"
-            | "h5"
-            | "h6"
-            | "ul"
-            | "ol"
-            | "dl"
-            | "table"
-    )
-}
-
-/// Whether a line ends with the element.
-#[tactic(auto, unfolding(crate::specs::Formatted::line_names))]
-fn is_line(name: &str) -> bool
-    ensures { result ≡ is_among name.now line_names }
-{
-    matches!(name, "br" | "hr" | "li" | "tr")
-}
-
-/// Whether a space parts the element from the next.
-#[tactic(auto, unfolding(crate::specs::Formatted::cell_names))]
-fn is_cell(name: &str) -> bool
-    ensures { result ≡ is_among name.now cell_names }
-{
-    matches!(name, "td" | "th")
 }

@@ -3,13 +3,14 @@
 use crate::context::FormatOpts;
 use crate::serializer::Writer;
 use crate::serializer::names::{Tag, tag_of};
-use crate::serializer::nodes::can_interrupt_paragraph;
+use crate::serializer::nodes::{can_interrupt_paragraph, local_name};
 use crate::serializer::tables::add_cell_break;
 use crate::serializer::tasks::{Marker, Task};
 use crate::serializer::texts::{
     add_linebreaks, escape_closing_hashes, push_block_space, push_text, trim_end_spaces,
 };
 use dom_nodes::fault::OutOfMemory;
+use dom_nodes::name::LocalName;
 use dom_nodes::node_data::NodeData;
 use dom_nodes::node_id::NodeId;
 use dom_trees::node_ref::NodeRef;
@@ -20,7 +21,7 @@ impl<'a> Writer<'a> {
         let tree = self.tree;
         let mut at = id;
         for _ in 0..u64::MAX {
-            let Some(node) = tree.get(&at) else {
+            let Some(node) = tree.tree_node(&at) else {
                 return Ok(());
             };
             let NodeData::Text { contents } = &node.content else {
@@ -41,12 +42,12 @@ impl<'a> Writer<'a> {
     /// Writes the beginning of a node.
     pub(super) fn open_node(&mut self, id: NodeId, opts: FormatOpts) -> Result<(), OutOfMemory> {
         let tree = self.tree;
-        let Some(node) = tree.get(&id) else {
+        let Some(node) = tree.tree_node(&id) else {
             return Ok(());
         };
         match &node.content {
             NodeData::Text { contents } => push_text(&mut self.text, contents.as_str(), opts),
-            NodeData::Element(element) => self.open_element(id, element.node_name(), opts),
+            NodeData::Element(element) => self.open_element(id, &element.name.local, opts),
             _ => Ok(()),
         }
     }
@@ -54,14 +55,14 @@ impl<'a> Writer<'a> {
     fn open_element(
         &mut self,
         id: NodeId,
-        name: &str,
+        name: &LocalName,
         opts: FormatOpts,
     ) -> Result<(), OutOfMemory> {
         if self.is_skipped(name) {
             return Ok(());
         }
         if opts.skip_md {
-            return self.push_plain(id, opts);
+            return self.push_plain(id, tag_of(name), opts);
         }
         let tag = tag_of(name);
         self.begin_block(id, tag, opts)?;
@@ -102,23 +103,25 @@ impl<'a> Writer<'a> {
             Tag::Code => self.begin_code(id, opts),
             Tag::Strong => self.begin_emphasis(id, Marker::Strong, opts),
             Tag::Emphasis => self.begin_emphasis(id, Marker::Light, opts),
-            _ if opts.link_body => self.push_plain(id, opts),
+            _ if opts.link_body => self.push_plain(id, tag, opts),
             Tag::UnorderedList | Tag::OrderedList => self.begin_list(id, tag, opts),
             Tag::Quote => self.begin_quote(id),
             Tag::Table => self.begin_table(id),
-            _ => self.push_plain(id, opts),
+            _ => self.push_plain(id, tag, opts),
         }
     }
 
-    /// Pushes what is below an element, and its end.
-    fn push_plain(&mut self, id: NodeId, opts: FormatOpts) -> Result<(), OutOfMemory> {
-        self.push(Task::Close { id, opts })?;
+    /// Pushes what is below an element, and its end, where something may be written for it.
+    fn push_plain(&mut self, id: NodeId, tag: Tag, opts: FormatOpts) -> Result<(), OutOfMemory> {
+        if tag.has_end() {
+            self.push(Task::Close { id, opts })?;
+        }
         self.push_children(id, opts)
     }
 
     /// Writes the end of an element.
     pub(super) fn close_node(&mut self, id: NodeId, opts: FormatOpts) -> Result<(), OutOfMemory> {
-        let Some(name) = NodeRef::new(id, self.tree).node_name() else {
+        let Some(name) = local_name(&NodeRef::new(id, self.tree)) else {
             return Ok(());
         };
         let double = if opts.table_cell { "<br><br>" } else { "\n\n" };

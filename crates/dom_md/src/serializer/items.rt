@@ -3,10 +3,11 @@
 use crate::context::ListContext;
 use crate::serializer::Writer;
 use crate::serializer::names::Tag;
-use crate::serializer::nodes::{is_blank_text, is_block_wrapper, is_item_block, tag};
+use crate::serializer::nodes::{is_blank_text, is_block_wrapper, is_item_block, local_name, tag};
 use crate::serializer::tasks::{Item, Task};
 use crate::serializer::texts::{
-    cut_at, escape_closing_hashes, push_spaces, trim_end_space, trim_end_spaces, trim_start_space,
+    cut_at, ends_in_byte, escape_closing_hashes, push_spaces, trim_end_space, trim_end_spaces,
+    trim_start_space,
 };
 use dom_nodes::fault::OutOfMemory;
 use dom_nodes::node_id::NodeId;
@@ -52,7 +53,7 @@ impl<'a> Writer<'a> {
         let Some(item) = self.items.pop() else {
             return Ok(());
         };
-        if self.text.as_str().ends_with('\n') {
+        if ends_in_byte(self.text.as_str(), b'\n') {
             return Ok(());
         }
         self.end_line(item.context.opts.table_cell)
@@ -81,7 +82,7 @@ impl<'a> Writer<'a> {
     }
 
     fn is_left_out(&self, node: &NodeRef<'_>) -> bool {
-        match node.node_name() {
+        match local_name(node) {
             Some(name) => self.is_skipped(name),
             None => false,
         }
@@ -100,7 +101,10 @@ impl<'a> Writer<'a> {
         if is_item_block(node) {
             return self.begin_item_block(node.id, tag, item);
         }
-        if self.text.as_str().len() > item.start && self.text.as_str().ends_with('\n') && !blank {
+        if self.text.as_str().len() > item.start
+            && ends_in_byte(self.text.as_str(), b'\n')
+            && !blank
+        {
             push_spaces(&mut self.text, item.indent)?;
         }
         let opts = if tag.is_list() {
@@ -163,7 +167,7 @@ impl<'a> Writer<'a> {
         if was_first && (indented || self.text.as_str().len() <= item.start) {
             return Ok(());
         }
-        if !indented && !self.text.as_str().ends_with('\n') {
+        if !indented && !ends_in_byte(self.text.as_str(), b'\n') {
             self.end_line(item.context.opts.table_cell)?;
         }
         push_spaces(&mut self.text, item.indent)

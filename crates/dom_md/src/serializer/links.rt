@@ -1,13 +1,18 @@
 //! Links.
 
+ghost use Rattle.std.specs.Prelude.{◌≡◌, codes, option_copied};
+ghost use Rattle.dom_nodes.specs.Attrs.{attr_of};
+ghost use Rattle.dom_trees.specs.Views.{node_attr};
+
 use crate::context::FormatOpts;
 use crate::serializer::Writer;
-use crate::serializer::nodes::contents;
+use crate::serializer::names::{Tag, is_href, is_title};
+use crate::serializer::nodes::{contents, tag};
 use crate::serializer::tasks::Task;
 use crate::serializer::texts::{escape_trailing_bang, push_text};
 use crate::serializer::urls::push_target;
 use dom_nodes::fault::OutOfMemory;
-use dom_nodes::node_data::NodeData;
+use dom_nodes::node_data::{Element, NodeData};
 use dom_nodes::node_id::NodeId;
 use dom_trees::node_ref::NodeRef;
 
@@ -16,11 +21,12 @@ impl<'a> Writer<'a> {
     pub(super) fn begin_link(&mut self, id: NodeId) -> Result<(), OutOfMemory> {
         let node = NodeRef::new(id, self.tree);
         let opts = FormatOpts::new();
-        if node.attr("href").is_none() {
+        let target = target_of(&node);
+        if target.address.is_none() {
             return self.push_below(id, opts);
         }
         if let Some(words) = only_text(&node) {
-            return self.write_text_link(id, words);
+            return self.write_text_link(target, words);
         }
         if has_image(&node) {
             return self.begin_body(id, opts.link_body());
@@ -30,11 +36,11 @@ impl<'a> Writer<'a> {
         if body.as_str().is_empty() {
             return self.begin_body(id, opts);
         }
-        self.write_text_link(id, body.as_str())
+        self.write_text_link(target, body.as_str())
     }
 
     /// Writes a link of which the text is not empty.
-    fn write_text_link(&mut self, id: NodeId, text: &str) -> Result<(), OutOfMemory> {
+    fn write_text_link(&mut self, target: Target<'_>, text: &str) -> Result<(), OutOfMemory> {
         // A link with only whitespace to show still parts the words round it.
         if text.trim_ascii().is_empty() {
             return push_text(&mut self.text, text, FormatOpts::new());
@@ -42,7 +48,7 @@ impl<'a> Writer<'a> {
         escape_trailing_bang(&mut self.text)?;
         self.text.push('[')?;
         push_text(&mut self.text, text, FormatOpts::new())?;
-        self.push_link_target(id)
+        self.push_link_target(target)
     }
 
     fn begin_body(&mut self, id: NodeId, opts: FormatOpts) -> Result<(), OutOfMemory> {
@@ -59,23 +65,73 @@ impl<'a> Writer<'a> {
         escape_trailing_bang(&mut self.text)?;
         self.text.push('[')?;
         self.text.push_str(body.as_str())?;
-        self.push_link_target(id)
+        let target = target_of(&NodeRef::new(id, self.tree));
+        self.push_link_target(target)
     }
 
-    fn push_link_target(&mut self, id: NodeId) -> Result<(), OutOfMemory> {
-        let node = NodeRef::new(id, self.tree);
+    fn push_link_target(&mut self, target: Target<'_>) -> Result<(), OutOfMemory> {
         self.text.push(']')?;
-        let address = node.attr_or("href", "");
-        let title = node.attr("title");
-        push_target(&mut self.text, address, title)
+        let address = match target.address {
+            Some(address) => address,
+            None => "",
+        };
+        push_target(&mut self.text, address, target.title)
     }
+}
+
+/// The address and the title of a link.
+#[derive(Clone, Copy)]
+struct Target<'a> {
+    address: Option<&'a str>,
+    title: Option<&'a str>,
+}
+
+/// The first attributes `href` and `title` of the node.
+fn target_of<'a>(node: &NodeRef<'a>) -> Target<'a>
+    ensures address { option_copied result.address
+        ≡ node_attr node.now.tree.now node.now.id (codes "href") }
+    ensures title { option_copied result.title
+        ≡ node_attr node.now.tree.now node.now.id (codes "title") }
+{
+    match node.element_ref() {
+        Some(element) => Target {
+            address: address_in(element),
+            title: title_in(element),
+        },
+        None => Target {
+            address: None,
+            title: None,
+        },
+    }
+}
+
+fn address_in(element: &Element) -> Option<&str>
+    ensures { option_copied result ≡ attr_of element.now.attrs (codes "href") }
+{
+    element
+        .attrs
+        .as_slice()
+        .iter()
+        .find(|attr| is_href(&attr.name.local))
+        .map(|attr| attr.value.as_str())
+}
+
+fn title_in(element: &Element) -> Option<&str>
+    ensures { option_copied result ≡ attr_of element.now.attrs (codes "title") }
+{
+    element
+        .attrs
+        .as_slice()
+        .iter()
+        .find(|attr| is_title(&attr.name.local))
+        .map(|attr| attr.value.as_str())
 }
 
 /// The words of the node's text, where it has one text alone that isn't empty; a space where that
 /// has none.
 fn only_text<'a>(node: &NodeRef<'a>) -> Option<&'a str> {
-    let first = node.tree.get(&node.id)?.first_child.get()?;
-    let child = node.tree.get(&first)?;
+    let first = node.tree.tree_node(&node.id)?.first_child.get()?;
+    let child = node.tree.tree_node(&first)?;
     if child.next_sibling.get().is_some() {
         return None;
     }
@@ -90,7 +146,7 @@ fn only_text<'a>(node: &NodeRef<'a>) -> Option<&'a str> {
 
 fn has_image(node: &NodeRef<'_>) -> bool {
     for below in node.descendants_it() {
-        if below.has_name("img") {
+        if tag(&below) == Tag::Image {
             return true;
         }
     }

@@ -3,7 +3,7 @@
 use crate::context::{FormatOpts, ListContext, ListKind};
 use crate::serializer::Writer;
 use crate::serializer::names::Tag;
-use crate::serializer::nodes::{has_item_blocks, number_at};
+use crate::serializer::nodes::{has_item_blocks, number_at, tag};
 use crate::serializer::tasks::Task;
 use crate::serializer::texts::{add_linebreaks, push_spaces, trim_end_spaces};
 use dom_nodes::fault::OutOfMemory;
@@ -45,7 +45,7 @@ impl<'a> Writer<'a> {
         context: ListContext,
     ) -> Result<(), OutOfMemory> {
         let node = NodeRef::new(id, self.tree);
-        let is_item = node.has_name("li");
+        let is_item = tag(&node) == Tag::Item;
         let context = if is_item {
             renumbered(context, &node)
         } else {
@@ -67,17 +67,30 @@ impl<'a> Writer<'a> {
                 opts: FormatOpts::new().include_node(),
             });
         }
+        if let Some(mark) = context.mark() {
+            return self.write_item(id, after, mark);
+        }
         let prefix = context.prefix(self.tree.allocator())?;
-        if has_item_blocks(&node) {
-            return self.begin_item(id, after, prefix.as_str());
+        self.write_item(id, after, prefix.as_str())
+    }
+
+    /// Writes the beginning of an item; `context` is the list behind it.
+    fn write_item(
+        &mut self,
+        id: NodeId,
+        context: ListContext,
+        prefix: &str,
+    ) -> Result<(), OutOfMemory> {
+        if has_item_blocks(&NodeRef::new(id, self.tree)) {
+            return self.begin_item(id, context, prefix);
         }
         trim_end_spaces(&mut self.text);
         push_spaces(&mut self.text, context.list_indent_len())?;
-        self.text.push_str(prefix.as_str())?;
+        self.text.push_str(prefix)?;
         self.push(Task::EndLine {
-            table_cell: after.opts.table_cell,
+            table_cell: context.opts.table_cell,
         })?;
-        self.push_below(id, after.opts.list_item())
+        self.push_below(id, context.opts.list_item())
     }
 }
 

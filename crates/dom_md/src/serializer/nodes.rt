@@ -5,20 +5,29 @@ ghost use Rattle.dom_md.specs.Words.{holds_texts};
 
 use crate::serializer::lists::parse_list_number;
 use crate::serializer::names::{Tag, tag_of};
+use dom_nodes::name::LocalName;
 use dom_nodes::node_data::NodeData;
 use dom_trees::node_ref::NodeRef;
 
 /// What the node is to Markdown.
 pub(super) fn tag(node: &NodeRef<'_>) -> Tag {
-    match node.node_name() {
+    match local_name(node) {
         Some(name) => tag_of(name),
         None => Tag::Other,
     }
 }
 
+/// The local name of an element.
+pub(super) fn local_name<'a>(node: &NodeRef<'a>) -> Option<&'a LocalName> {
+    match &node.tree.tree_node(&node.id)?.content {
+        NodeData::Element(element) => Some(&element.name.local),
+        _ => None,
+    }
+}
+
 /// The contents of a text.
 pub(super) fn contents<'a>(node: &NodeRef<'a>) -> Option<&'a str> {
-    match &node.tree.get(&node.id)?.content {
+    match &node.tree.tree_node(&node.id)?.content {
         NodeData::Text { contents } => Some(contents.as_str()),
         _ => None,
     }
@@ -68,6 +77,10 @@ pub(super) fn has_item_blocks(node: &NodeRef<'_>) -> bool {
 
 /// Whether the node only holds blocks together.
 pub(super) fn is_block_wrapper(node: &NodeRef<'_>) -> bool {
+    // Those names are of blocks, and most nodes are none.
+    if tag(node) != Tag::Block {
+        return false;
+    }
     if !node.has_name("div") && !node.has_name("section") && !node.has_name("article") {
         return false;
     }

@@ -14,8 +14,10 @@ pub(super) fn cut_at(text: &mut String, end: usize) {
 
 /// Takes the spaces at the end away.
 pub(super) fn trim_end_spaces(text: &mut String) {
-    let end = text.as_str().trim_end_matches(' ').len();
-    cut_at(text, end);
+    if ends_in_byte(text.as_str(), b' ') {
+        let end = text.as_str().trim_end_matches(' ').len();
+        cut_at(text, end);
+    }
 }
 
 /// Takes the whitespace at the end away.
@@ -75,10 +77,10 @@ pub(super) fn push_block_space(text: &mut String) -> Result<(), OutOfMemory> {
 
 /// Puts a backslash before a `!` at the end.
 pub(super) fn escape_trailing_bang(text: &mut String) -> Result<(), OutOfMemory> {
-    let Some(front) = text.as_str().strip_suffix('!') else {
+    if !ends_in_byte(text.as_str(), b'!') {
         return Ok(());
-    };
-    let end = front.len();
+    }
+    let end = text.as_str().len().saturating_sub(1);
     cut_at(text, end);
     Ok(text.push_str("\\!")?)
 }
@@ -104,15 +106,15 @@ pub(super) fn push_text(
     opts: FormatOpts,
 ) -> Result<(), OutOfMemory> {
     let fresh = ends_in_gap(text.as_str());
-    if added.trim_ascii().is_empty() {
+    let row = added.trim_ascii_start();
+    if row.is_empty() {
         if !fresh && !added.is_empty() {
             text.push(' ')?;
         }
         return Ok(());
     }
-    let parted = (opts.inline || !(fresh || text.as_str().is_empty()))
-        && added.trim_ascii_start().len() < added.len();
-    push_words(text, added, opts, parted)?;
+    let parted = (opts.inline || !(fresh || text.as_str().is_empty())) && row.len() < added.len();
+    push_words(text, row, opts, parted)?;
     if ends_in_whitespace(added) && !ends_in_whitespace(text.as_str()) {
         text.push(' ')?;
     }
@@ -146,14 +148,26 @@ fn before_item_mark(text: &str) -> &str {
 
 /// Whether the text is empty or ends in a line feed.
 pub(super) fn begins_line(text: &str) -> bool {
-    text.is_empty() || text.ends_with('\n')
+    text.is_empty() || ends_in_byte(text, b'\n')
 }
 
 /// Whether the text ends in a line feed or a space.
 fn ends_in_gap(text: &str) -> bool {
-    text.ends_with('\n') || text.ends_with(' ')
+    ends_in_byte(text, b'\n') || ends_in_byte(text, b' ')
+}
+
+/// Whether the last byte of the text is this one. For ASCII that is quicker than to look for the
+/// last character.
+pub(super) fn ends_in_byte(text: &str, byte: u8) -> bool {
+    match text.as_bytes().last() {
+        Some(last) => *last == byte,
+        None => false,
+    }
 }
 
 fn ends_in_whitespace(text: &str) -> bool {
-    text.trim_ascii_end().len() < text.len()
+    match text.as_bytes().last() {
+        Some(last) => last.is_ascii_whitespace(),
+        None => false,
+    }
 }

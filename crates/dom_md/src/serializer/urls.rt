@@ -1,9 +1,13 @@
 //! Addresses and titles of links and images.
 
+ghost use Rattle.std.specs.Prelude.{◌≡◌, ◌++◌, OnOk, MatchOption, string_bytes};
+ghost use Rattle.dom_md.specs.Addresses.{CutsAmpersand, IsFirstAmpersand, with_ampersands};
+
 use crate::context::FormatOpts;
 use crate::serializer::texts::push_text;
 use dom_nodes::escaping::html_escape;
 use dom_nodes::fault::OutOfMemory;
+use std::alloc::AllocError;
 
 /// Adds an address and, where there is one, a title, in parentheses.
 pub(super) fn push_target(
@@ -20,8 +24,12 @@ pub(super) fn push_target(
 }
 
 fn push_address(text: &mut String, address: &str) -> Result<(), OutOfMemory> {
-    if are_plain(address) {
-        return push_ampersands(text, address);
+    let kinds = kinds_of(address.as_bytes());
+    if kinds == 0 {
+        return Ok(text.push_str(address)?);
+    }
+    if kinds == AMPERSAND {
+        return Ok(push_ampersands(text, address)?);
     }
     let address = html_escape(*text.allocator(), address)?;
     if is_plain(address.as_str()) {
@@ -34,38 +42,76 @@ fn push_address(text: &mut String, address: &str) -> Result<(), OutOfMemory> {
     Ok(text.push('>')?)
 }
 
-/// Whether the address has letters, digits and marks alone that are written as they are, and `&`.
-fn are_plain(address: &str) -> bool {
-    for byte in address.as_bytes() {
-        if !is_plain_byte(*byte) {
-            return false;
-        }
+/// The bit for `&` in `KINDS`.
+const AMPERSAND: u8 = 1;
+
+/// For each byte of an address 0 where it is written as it is: letters, digits and `#`, `%`, `+`,
+/// `,`, `-`, `.`, `/`, `:`, `=`, `?`, `@`, `_`, `~`; `AMPERSAND` for `&`; else 2.
+#[rattlefmt::skip]
+static KINDS: [u8; 256] = [
+    2, 2, 2, 2, 2, 2, 2, 2, 2, 2, 2, 2, 2, 2, 2, 2, 2, 2, 2, 2, 2, 2, 2, 2, 2, 2, 2, 2, 2, 2, 2, 2,
+    2, 2, 2, 0, 2, 0, 1, 2, 2, 2, 2, 0, 0, 0, 0, 0, 0, 0, 0, 0, 0, 0, 0, 0, 0, 0, 0, 2, 2, 0, 2, 0,
+    0, 0, 0, 0, 0, 0, 0, 0, 0, 0, 0, 0, 0, 0, 0, 0, 0, 0, 0, 0, 0, 0, 0, 0, 0, 0, 0, 2, 2, 2, 2, 0,
+    2, 0, 0, 0, 0, 0, 0, 0, 0, 0, 0, 0, 0, 0, 0, 0, 0, 0, 0, 0, 0, 0, 0, 0, 0, 0, 0, 2, 2, 2, 0, 2,
+    2, 2, 2, 2, 2, 2, 2, 2, 2, 2, 2, 2, 2, 2, 2, 2, 2, 2, 2, 2, 2, 2, 2, 2, 2, 2, 2, 2, 2, 2, 2, 2,
+    2, 2, 2, 2, 2, 2, 2, 2, 2, 2, 2, 2, 2, 2, 2, 2, 2, 2, 2, 2, 2, 2, 2, 2, 2, 2, 2, 2, 2, 2, 2, 2,
+    2, 2, 2, 2, 2, 2, 2, 2, 2, 2, 2, 2, 2, 2, 2, 2, 2, 2, 2, 2, 2, 2, 2, 2, 2, 2, 2, 2, 2, 2, 2, 2,
+    2, 2, 2, 2, 2, 2, 2, 2, 2, 2, 2, 2, 2, 2, 2, 2, 2, 2, 2, 2, 2, 2, 2, 2, 2, 2, 2, 2, 2, 2, 2, 2,
+];
+
+/// The bits of all bytes of an address.
+fn kinds_of(address: &[u8]) -> u8 {
+    let mut kinds = 0;
+    for byte in address {
+        kinds |= KINDS[*byte as usize];
     }
-    true
-}
-
-/// A bit for each of the bytes 0 to 63 that stand for themselves in an address, and for `&`: digits
-/// and `#`, `%`, `&`, `+`, `,`, `-`, `.`, `/`, `:`, `=`, `?`.
-const PLAIN_LOW: u64 = 0xa7ff_f868_0000_0000;
-/// The same for the bytes 64 to 127: letters and `@`, `_`, `~`.
-const PLAIN_HIGH: u64 = 0x47ff_fffe_87ff_ffff;
-
-fn is_plain_byte(byte: u8) -> bool {
-    let plain = if byte < 64 { PLAIN_LOW } else { PLAIN_HIGH };
-    byte < 128 && (plain >> (byte % 64)) & 1 == 1
+    kinds
 }
 
 /// Adds the address with `&amp;` for each `&`.
-fn push_ampersands(text: &mut String, address: &str) -> Result<(), OutOfMemory> {
-    let mut is_first = true;
-    for part in address.split('&') {
-        if !is_first {
-            text.push_str("&amp;")?;
-        }
-        text.push_str(part)?;
-        is_first = false;
+fn push_ampersands(text: &mut String, address: &str) -> Result<(), AllocError>
+    ensures { OnOk result (string_bytes text.new
+        ≡ string_bytes text.old ++ with_ampersands address.now) }
+{
+    let mut rest = address;
+    while let Some(cut) = cut_ampersand(rest) {
+        text.push_str(cut.before)?;
+        text.push_str("&amp;")?;
+        rest = cut.after;
     }
-    Ok(())
+    text.push_str(rest)
+}
+
+/// The text before an `&`, and the text after it.
+#[derive(Clone, Copy)]
+struct Parts<'a> {
+    before: &'a str,
+    after: &'a str,
+}
+
+/// What stands before and after the first `&`.
+fn cut_ampersand(text: &str) -> Option<Parts<'_>>
+    ensures { MatchOption result (with_ampersands text.now ≡ text.now) (λ cut.
+        CutsAmpersand text.now cut.before.now cut.after.now) }
+{
+    let at = find_ampersand(text.as_bytes())?;
+    Some(Parts {
+        before: &text[..at],
+        after: &text[at + 1..],
+    })
+}
+
+/// The place of the first `&`.
+fn find_ampersand(bytes: &[u8]) -> Option<usize>
+    ensures { MatchOption result (with_ampersands bytes.now ≡ bytes.now) (λ at.
+        IsFirstAmpersand bytes.now at) }
+{
+    for at in 0..bytes.len() {
+        if bytes[at] == b'&' {
+            return Some(at);
+        }
+    }
+    None
 }
 
 /// Whether the address can stand without brackets round it.

@@ -76,7 +76,7 @@ fn word_len(bytes: &[u8]) -> usize
 fn push_first_word(text: &mut String, word: &str, line_start: bool) -> Result<(), OutOfMemory>
     ensures { OnOk result (Reads (string_bytes text.old) (string_bytes text.new) word.now) }
 {
-    if is_stop_word(word) && ends_in_marker_digits(text.as_str()) {
+    if word.len() == 1 && is_stop_word(word) && ends_in_marker_digits(text.as_str()) {
         text.push('\\')?;
         return Ok(text.push_str(word)?);
     }
@@ -138,6 +138,19 @@ fn find_change(bytes: &[u8], escape: bool) -> Option<usize>
     None
 }
 
+/// 1 for each byte that is written as it is, whatever follows it: no whitespace, no mark and no `!`.
+#[rattlefmt::skip]
+static PLAIN: [u8; 256] = [
+    1, 1, 1, 1, 1, 1, 1, 1, 1, 0, 0, 1, 0, 0, 1, 1, 1, 1, 1, 1, 1, 1, 1, 1, 1, 1, 1, 1, 1, 1, 1, 1,
+    0, 0, 1, 1, 1, 1, 1, 1, 1, 1, 0, 1, 1, 1, 1, 1, 1, 1, 1, 1, 1, 1, 1, 1, 1, 1, 1, 1, 0, 1, 1, 1,
+    1, 1, 1, 1, 1, 1, 1, 1, 1, 1, 1, 1, 1, 1, 1, 1, 1, 1, 1, 1, 1, 1, 1, 1, 1, 1, 1, 0, 0, 0, 1, 0,
+    0, 1, 1, 1, 1, 1, 1, 1, 1, 1, 1, 1, 1, 1, 1, 1, 1, 1, 1, 1, 1, 1, 1, 1, 1, 1, 1, 1, 0, 1, 0, 1,
+    1, 1, 1, 1, 1, 1, 1, 1, 1, 1, 1, 1, 1, 1, 1, 1, 1, 1, 1, 1, 1, 1, 1, 1, 1, 1, 1, 1, 1, 1, 1, 1,
+    1, 1, 1, 1, 1, 1, 1, 1, 1, 1, 1, 1, 1, 1, 1, 1, 1, 1, 1, 1, 1, 1, 1, 1, 1, 1, 1, 1, 1, 1, 1, 1,
+    1, 1, 1, 1, 1, 1, 1, 1, 1, 1, 1, 1, 1, 1, 1, 1, 1, 1, 1, 1, 1, 1, 1, 1, 1, 1, 1, 1, 1, 1, 1, 1,
+    1, 1, 1, 1, 1, 1, 1, 1, 1, 1, 1, 1, 1, 1, 1, 1, 1, 1, 1, 1, 1, 1, 1, 1, 1, 1, 1, 1, 1, 1, 1, 1,
+];
+
 /// Whether the byte at this place isn't written as it is.
 fn is_changed(bytes: &[u8], at: usize, escape: bool) -> bool
     requires { at < length bytes.now }
@@ -145,7 +158,7 @@ fn is_changed(bytes: &[u8], at: usize, escape: bool) -> bool
         ≡ is_changed escape (slice_index_or bytes.now at 0) (drop (at + 1) bytes.now) }
 {
     // Most bytes of most texts.
-    if bytes[at].is_ascii_lowercase() {
+    if PLAIN[bytes[at] as usize] == 1 {
         return false;
     }
     if bytes[at].is_ascii_whitespace() {

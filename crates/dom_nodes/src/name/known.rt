@@ -106,7 +106,7 @@ pub(crate) fn number_of(name: &str) -> Option<u8>
     if length == 0 {
         return Some(EMPTY);
     }
-    let number = PLACES[place_of(
+    let number = PLACES[slot_of(
         length % 64,
         bytes[0] as usize,
         bytes[length / 2] as usize,
@@ -120,7 +120,7 @@ pub(crate) fn number_of(name: &str) -> Option<u8>
 
 /// The place of a name, by its length and three of its letters.
 #[inline(always)]
-fn place_of(length: usize, first: usize, middle: usize, last: usize) -> usize
+fn slot_of(length: usize, first: usize, middle: usize, last: usize) -> usize
     requires length { length < 64 }
     requires first { first < 256 }
     requires middle { middle < 256 }

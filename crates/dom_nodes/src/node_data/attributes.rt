@@ -1,7 +1,7 @@
 //! An element's attributes by local name: reading, setting and removing.
 
 ghost use Rattle.std.specs.Prelude.{◌≡◌, map, is_some, position, OnErr, OnOk, IfOk};
-ghost use Rattle.dom_nodes.specs.Changes.{is_named, is_link_name, plain_attr};
+ghost use Rattle.dom_nodes.specs.Changes.{is_attr_named, is_link_name, plain_attr};
 
 use super::{Attrs, Element};
 use crate::fault::OutOfMemory;
@@ -25,7 +25,7 @@ impl Attrs {
         ensures ok { OnOk result (self.new ≡ with_attr name.now value self.old) }
         ensures err { OnErr result (self.new ≡ self.old) }
     {
-        match place_of(self.items.as_slice(), name) {
+        match attr_position(self.items.as_slice(), name) {
             Some(place) => {
                 self.items[place].value = value;
                 Ok(())
@@ -60,6 +60,7 @@ impl Attrs {
             .retain(|attr| is_one_of(attr.name.local.as_str(), names));
     }
 
+    /// Removes every attribute.
     pub fn clear(&mut self)
         ensures { self.new ≡ [] }
     {
@@ -81,6 +82,7 @@ impl Element {
         self.attr(name)
     }
 
+    /// Whether an attribute has that local name.
     pub fn has_attr(&self, name: &str) -> bool
         ensures { result ≡ is_some (attr_of self.now.attrs name.now) }
     {
@@ -131,6 +133,7 @@ impl Element {
         self.attrs.retain_all_of(names);
     }
 
+    /// Removes every attribute.
     pub fn remove_all_attrs(&mut self)
         ensures { self.new ≡ record self.old { attrs = [] } }
     {
@@ -149,8 +152,8 @@ impl Element {
 }
 
 /// The place of the first attribute of that local name.
-fn place_of(attrs: &[Attr], name: &str) -> Option<usize>
-    ensures { result ≡ position (is_named name.now) attrs.now }
+fn attr_position(attrs: &[Attr], name: &str) -> Option<usize>
+    ensures { result ≡ position (is_attr_named name.now) attrs.now }
 {
     attrs
         .iter()

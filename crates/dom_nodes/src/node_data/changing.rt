@@ -1,4 +1,4 @@
-//! One change of an element, told as a value, and the calls that make it.
+//! One change of an element as a value, and the calls that make it.
 
 ghost use Rattle.std.specs.Prelude.{◌≡◌, ◌&&◌, false, true, IsOk, OnErr, OnOk, map, []};
 
@@ -19,13 +19,13 @@ pub enum Change<'a> {
 }
 
 impl Element {
-    ghost use Rattle.dom_nodes.specs.Change.{Tried, asks_of, changed};
+    ghost use Rattle.dom_nodes.specs.Change.{Tried, may_allocate_of, changed};
 
-    /// Makes the change. Removals of attributes ask for no memory.
+    /// Makes the change. Removals of attributes allocate no memory.
     pub fn change(&mut self, change: Change) -> Result<(), OutOfMemory>
         ensures { Tried result (NodeData.Element self.old) (NodeData.Element self.new)
             (changed change.entry (NodeData.Element self.old))
-            (asks_of change.entry (NodeData.Element self.old)) }
+            (may_allocate_of change.entry (NodeData.Element self.old)) }
     {
         match change {
             Change::SetAttr { name, value } => return self.set_attr(name, value),
@@ -42,12 +42,12 @@ impl Element {
 }
 
 impl NodeData {
-    ghost use Rattle.dom_nodes.specs.Change.{Tried, asks_of, changed};
+    ghost use Rattle.dom_nodes.specs.Change.{Tried, may_allocate_of, changed};
 
-    /// Makes the change; a node that is no element stays, and no memory is asked for.
+    /// Makes the change; a node that is no element stays, and no memory is allocated.
     pub fn change(&mut self, change: Change) -> Result<(), OutOfMemory>
         ensures { Tried result self.old self.new (changed change.entry self.old)
-            (asks_of change.entry self.old) }
+            (may_allocate_of change.entry self.old) }
     {
         match self {
             NodeData::Element(element) => element.change(change),
@@ -60,7 +60,7 @@ impl TreeNode {
     ghost use Rattle.std.specs.Prelude.{None, codes};
     ghost use Rattle.dom_nodes.specs.Attrs.{attr_of, attrs_in};
     ghost use Rattle.dom_nodes.specs.Kinds.{is_element};
-    ghost use Rattle.dom_nodes.specs.Change.{Tried, asks_of, changed};
+    ghost use Rattle.dom_nodes.specs.Change.{Tried, may_allocate_of, changed};
     ghost use Rattle.dom_nodes.specs.Changes.{on_element, only_names, renamed, with_attr};
     ghost use Rattle.dom_nodes.specs.Changes.{with_attrs, without_name, without_names};
     ghost use Rattle.dom_nodes.specs.Classes.{is_blank, with_classes, without_classes};
@@ -69,7 +69,7 @@ impl TreeNode {
     pub fn change(&mut self, change: Change) -> Result<(), OutOfMemory>
         ensures { Tried result self.old self.new
             (record self.old { content = changed change.entry self.old.content })
-            (asks_of change.entry self.old.content) }
+            (may_allocate_of change.entry self.old.content) }
     {
         self.content.change(change)
     }
@@ -117,6 +117,7 @@ impl TreeNode {
         let _ = self.change(Change::RetainAttrs(names));
     }
 
+    /// As `Element::remove_all_attrs`.
     pub fn remove_all_attrs(&mut self)
         ensures { self.new ≡ record self.old { content = with_attrs (λ _. []) self.old.content } }
     {

@@ -1,7 +1,7 @@
 //! Attributes that are added where they are missing.
 
 ghost use Rattle.std.specs.Prelude.{◌≡◌, OnErr, OnOk, false, IsOk};
-ghost use Rattle.dom_nodes.specs.Changes.{has_name, with_attrs, with_missing};
+ghost use Rattle.dom_nodes.specs.Changes.{has_attr_named, with_attrs, with_missing};
 ghost use Rattle.dom_nodes.specs.Kinds.{is_element};
 
 use super::{Attrs, Element, NodeData, TreeNode};
@@ -16,15 +16,15 @@ impl Attrs {
         ensures err { OnErr result (self.new ≡ self.old) }
     {
         let here = self.items.as_slice();
-        added.items.retain(|attr| !has_name(here, &attr.name));
+        added.items.retain(|attr| !has_attr_named(here, &attr.name));
         self.items.append(&mut added.items)?;
         Ok(())
     }
 }
 
 /// Whether one of the attributes has the name.
-fn has_name(attrs: &[Attr], name: &QualName) -> bool
-    ensures { result ≡ has_name attrs.now name.now }
+fn has_attr_named(attrs: &[Attr], name: &QualName) -> bool
+    ensures { result ≡ has_attr_named attrs.now name.now }
 {
     attrs.iter().any(|attr| attr.name.is_same(name))
 }

@@ -22,7 +22,7 @@ pub struct NodeEdit {
 impl NodeEdit {
     ghost use Rattle.dom_nodes.specs.Updates.{empty_edit};
 
-    /// Nothing of a node. Asks for no memory.
+    /// Nothing of a node. Allocates no memory.
     pub fn new(alloc: Global) -> NodeEdit
         ensures { result ≡ empty_edit }
     {
@@ -38,7 +38,7 @@ impl NodeData {
     ghost use Rattle.dom_nodes.specs.Updates.{IsUpdated, edit_of, empty_edit, with_edit};
 
     /// Lets the closure change the name and the attributes of an element, or the contents of a
-    /// text or a comment. The kind, the template contents and the flag stay. Asks for no memory.
+    /// text or a comment. The kind, the template contents and the flag stay. Allocates no memory.
     pub fn update<F: FnOnce(&mut NodeEdit)>(&mut self, alloc: Global, change: F)
         requires { F.IsAlwaysCallable change }
         ensures { IsUpdated (λ edit left. FnOnceReturnsAtMut F.FnOnce change edit tt left)

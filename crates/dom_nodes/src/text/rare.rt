@@ -29,6 +29,7 @@ impl Model for RareText {
 }
 
 impl RareText {
+    /// A copy of the text.
     pub fn new(alloc: Global, text: &str) -> Result<RareText, OutOfMemory>
         ensures { IfOk result (λ made. made ≡ text.now) }
     {
@@ -37,6 +38,7 @@ impl RareText {
         Ok(RareText { text })
     }
 
+    /// The text.
     pub fn as_str(&self) -> &str
         ensures { result.now ≡ self.now }
     {

@@ -25,32 +25,20 @@ fn strip_each(tree: &mut Tree, nodes: &[NodeId], names: &str) -> Result<(), Edit
     ensures { EditsOrFails result tree.old tree.new nodes.now
         (line_edit (EditLine.Strip names.now)) }
 {
-    match names_of(tree.allocator(), names) {
-        Ok(names) => do_each(tree, nodes, Edit::Strip(&names)),
-        Err(_) => Err(EditFault::Memory),
-    }
+    let names = names_of(tree.allocator(), names)?;
+    do_each(tree, nodes, Edit::Strip(&names))
 }
 
-/// Sets an attribute of each of the nodes.
-fn set_attr_each(
-    tree: &mut Tree,
-    nodes: &[NodeId],
-    name: &str,
-    value: &str,
-) -> Result<(), EditFault>
-    ensures { EditsOrFails result tree.old tree.new nodes.now
-        (line_edit (EditLine.SetAttr name.now value.now)) }
-{
-    do_each(tree, nodes, Edit::Change(Change::SetAttr { name, value }))
-}
-
-/// Does what the line does at each of the nodes.
-fn do_edit(tree: &mut Tree, nodes: &[NodeId], edit: &EditLine) -> Result<(), EditFault>
-    ensures { EditsOrFails result tree.old tree.new nodes.now (line_edit edit.now) }
+/// Does what the line does at each selected node, or at the root.
+pub fn edit_selected(tree: &mut Tree, nodes: &[NodeId], edit: &EditLine) -> Result<(), EditFault>
+    ensures { EditsOrFails result tree.old tree.new (targets edit.now nodes.now)
+        (line_edit edit.now) }
 {
     match edit {
         EditLine::SetAttr { name, value } => {
-            set_attr_each(tree, nodes, name.as_str(), value.as_str())
+            let name = name.as_str();
+            let value = value.as_str();
+            do_each(tree, nodes, Edit::Change(Change::SetAttr { name, value }))
         }
         EditLine::RemoveAttr(name) => {
             do_each(tree, nodes, Edit::Change(Change::RemoveAttr(name.as_str())))
@@ -58,40 +46,19 @@ fn do_edit(tree: &mut Tree, nodes: &[NodeId], edit: &EditLine) -> Result<(), Edi
         EditLine::Rename(name) => {
             do_each(tree, nodes, Edit::Change(Change::Rename(name.as_str())))
         }
-        EditLine::AddClass(classes) => {
-            do_each(
-                tree,
-                nodes,
-                Edit::Change(Change::AddClass(classes.as_str())),
-            )
+        EditLine::AddClass(words) => {
+            let change = Change::AddClass(words.as_str());
+            do_each(tree, nodes, Edit::Change(change))
         }
-        EditLine::RemoveClass(classes) => {
-            do_each(
-                tree,
-                nodes,
-                Edit::Change(Change::RemoveClass(classes.as_str())),
-            )
+        EditLine::RemoveClass(words) => {
+            let change = Change::RemoveClass(words.as_str());
+            do_each(tree, nodes, Edit::Change(change))
         }
         EditLine::SetText(text) => do_each(tree, nodes, Edit::SetText(text.as_str())),
         EditLine::Strip(names) => strip_each(tree, nodes, names.as_str()),
         EditLine::Put(place, snippet) => do_each(tree, nodes, Edit::Put(*place, snippet)),
         EditLine::Remove => do_each(tree, nodes, Edit::Remove),
         EditLine::Unwrap => do_each(tree, nodes, Edit::Unwrap),
-        EditLine::Normalize => do_each(tree, nodes, Edit::Normalize),
-    }
-}
-
-/// Does what the line does at each selected node, or at the root.
-pub fn edit_selected(
-    tree: &mut Tree,
-    selection: &[NodeId],
-    edit: &EditLine,
-) -> Result<(), EditFault>
-    ensures { EditsOrFails result tree.old tree.new (targets edit.now selection.now)
-        (line_edit edit.now) }
-{
-    match edit {
-        EditLine::Normalize => do_edit(tree, &[NodeId::root()], edit),
-        _ => do_edit(tree, selection, edit),
+        EditLine::Normalize => do_each(tree, &[NodeId::root()], Edit::Normalize),
     }
 }

@@ -37,7 +37,7 @@ pub enum EditLine {
     /// The elements below of these local names, which a space parts, are replaced by their
     /// children.
     Strip(Text),
-    /// Copies of the nodes that markup spells go to a place that the node tells.
+    /// Copies of the nodes that markup spells are put at the place at the node.
     Put(Place, Snippet),
     /// The node is cut out.
     Remove,
@@ -76,7 +76,7 @@ fn pair_of(text: &str) -> Option<(&str, &str)>
 }
 
 /// Whether the text is names that a space parts.
-fn are_names(text: &str) -> bool
+pub fn are_names(text: &str) -> bool
     ensures { result ≡ list_all is_name (names_in text.now) }
 {
     for name in text.split(' ') {

@@ -1,61 +1,61 @@
 //! The words of lines that stand alone.
 
 ghost use Rattle.std.specs.Prelude.{◌≡◌, ◌≢◌, MatchOption};
-ghost use Rattle.dom_query.specs.Script.{going_word, showing_word};
+ghost use Rattle.dom_query.specs.Script.{navigation_word, rendering_word};
 
-use crate::script::{Going, Showing};
+use crate::script::{Navigation, Rendering};
 
-/// Where the line goes, if it goes somewhere.
-pub fn going_of(line: &str) -> Option<Going>
-    ensures { MatchOption result ((going : Going) → line.now ≢ going_word going)
-        (λ going. line.now ≡ going_word going) }
+/// The direction of the line, if it is one.
+pub fn navigation_of(line: &str) -> Option<Navigation>
+    ensures { MatchOption result ((navigation : Navigation) → line.now ≢ navigation_word navigation)
+        (λ navigation. line.now ≡ navigation_word navigation) }
 {
     if line == "parent" {
-        return Some(Going::Parent);
+        return Some(Navigation::Parent);
     }
     if line == "children" {
-        return Some(Going::Children);
+        return Some(Navigation::Children);
     }
     if line == "ancestors" {
-        return Some(Going::Ancestors);
+        return Some(Navigation::Ancestors);
     }
     if line == "next" {
-        return Some(Going::Next);
+        return Some(Navigation::Next);
     }
     if line == "prev" {
-        return Some(Going::Prev);
+        return Some(Navigation::Prev);
     }
     if line == "first" {
-        return Some(Going::First);
+        return Some(Navigation::First);
     }
     if line == "last" {
-        return Some(Going::Last);
+        return Some(Navigation::Last);
     }
     None
 }
 
-/// What the line shows, if it shows something.
-pub fn showing_of(line: &str) -> Option<Showing>
-    ensures { MatchOption result ((showing : Showing) → line.now ≢ showing_word showing)
-        (λ showing. line.now ≡ showing_word showing) }
+/// What the line renders, if it renders something.
+pub fn rendering_of(line: &str) -> Option<Rendering>
+    ensures { MatchOption result ((rendering : Rendering) → line.now ≢ rendering_word rendering)
+        (λ rendering. line.now ≡ rendering_word rendering) }
 {
     if line == "count" {
-        return Some(Showing::Count);
+        return Some(Rendering::Count);
     }
     if line == "text" {
-        return Some(Showing::Text);
+        return Some(Rendering::Text);
     }
     if line == "formatted" {
-        return Some(Showing::Formatted);
+        return Some(Rendering::Formatted);
     }
     if line == "html" {
-        return Some(Showing::Html);
+        return Some(Rendering::Html);
     }
     if line == "inner-html" {
-        return Some(Showing::InnerHtml);
+        return Some(Rendering::InnerHtml);
     }
     if line == "document" {
-        return Some(Showing::Document);
+        return Some(Rendering::Document);
     }
     None
 }

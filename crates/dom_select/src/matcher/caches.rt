@@ -14,7 +14,7 @@ use std::marker::Model;
 #[derive(Drop)]
 pub struct SelectorCaches<'t> {
     tree: &'t Tree,
-    waits: Option<u32>,
+    waits: Option<u64>,
     child: Vec<u32>,
     last_child: Vec<u32>,
     of_type: Vec<u32>,
@@ -47,12 +47,13 @@ impl<'t> SelectorCaches<'t> {
         SelectorCaches::made(tree, Some(0))
     }
 
-    /// Caches of one selection. They keep nothing, and take no memory, before many indexes were
-    /// asked for: room for all of the tree's is too much for a selection that asks a few nodes.
+    /// Caches of one selection. They keep nothing, and take no memory, before many siblings were
+    /// counted: room for all of the tree's indexes is too much for a selection that asks a few
+    /// nodes with few siblings.
     pub(crate) fn late(tree: &'t Tree) -> SelectorCaches<'t>
         ensures { result ≡ tree.entry.now }
     {
-        SelectorCaches::made(tree, Some(64))
+        SelectorCaches::made(tree, Some(256))
     }
 
     /// Caches that never keep anything, and take no memory.
@@ -62,8 +63,8 @@ impl<'t> SelectorCaches<'t> {
         SelectorCaches::made(tree, None)
     }
 
-    /// Caches that keep nothing of so many indexes that are asked for, or never anything.
-    fn made(tree: &'t Tree, waits: Option<u32>) -> SelectorCaches<'t>
+    /// Caches that keep nothing before so many siblings were counted, or never anything.
+    fn made(tree: &'t Tree, waits: Option<u64>) -> SelectorCaches<'t>
         ensures { result ≡ tree.entry.now }
     {
         SelectorCaches {
@@ -103,17 +104,17 @@ impl<'t> SelectorCaches<'t> {
     }
 
     /// Whether the next index is kept.
-    fn keeps(&mut self) -> bool
+    fn keeps(&self) -> bool {
+        matches!(self.waits, Some(0))
+    }
+
+    /// Notes how many siblings were counted for an index that isn't kept.
+    fn note_counted(&mut self, count: u64)
         ensures { self.new ≡ self.old }
     {
-        let Some(more) = self.waits else {
-            return false;
-        };
-        if more == 0 {
-            return true;
+        if let Some(more) = self.waits {
+            self.waits = Some(more.saturating_sub(count));
         }
-        self.waits = Some(more - 1);
-        false
     }
 
     /// An index of a node among its siblings; 1 for an unknown number. Where it is kept, so is that
@@ -124,7 +125,9 @@ impl<'t> SelectorCaches<'t> {
         ensures same { self.new ≡ self.old }
     {
         if !self.keeps() {
-            return index_at(self.tree.nodes(), id, kind);
+            let index = index_at(self.tree.nodes(), id, kind);
+            self.note_counted(index);
+            return index;
         }
         match kind {
             IndexKind::Child => index_in(self.tree, &mut self.child, &mut self.hits, id, kind),

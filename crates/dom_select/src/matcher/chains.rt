@@ -3,10 +3,10 @@
 ghost use Rattle.std.specs.Prelude.{◌≡◌, ◌↔◌, Some, IsTrue};
 ghost use Rattle.dom_links.specs.Laws.{AreLines};
 ghost use Rattle.dom_select.specs.Leftward.{ends_at, left_of};
-ghost use Rattle.dom_select.specs.Meaning.{MayBeside, Stands};
-ghost use Rattle.dom_select.specs.Chains.{looseness};
+ghost use Rattle.dom_select.specs.Meaning.{MayBeOperand, CombinatorHolds};
+ghost use Rattle.dom_select.specs.Chains.{binding_level};
 
-use crate::matcher::parts::is_element;
+use crate::matcher::parts::element_at;
 use dom_links::iters::{next_sibling_id, parent_id, prev_sibling_id};
 use dom_links::laws::lines_of_a_forest;
 use dom_nodes::node_id::NodeId;
@@ -15,19 +15,24 @@ use dom_trees::tree::Tree;
 
 /// Whether the node may stand beside `+` or `~`.
 #[inline(always)]
-pub(crate) fn may_beside(tree: &Tree, spared: NodeId, combinator: Combinator, id: NodeId) -> bool
-    ensures { IsTrue result ↔ MayBeside tree.now spared combinator id }
+pub(crate) fn may_be_operand(
+    tree: &Tree,
+    exempt: NodeId,
+    combinator: Combinator,
+    id: NodeId,
+) -> bool
+    ensures { IsTrue result ↔ MayBeOperand tree.now exempt combinator id }
 {
     match combinator {
         Combinator::Descendant | Combinator::Child => true,
         Combinator::Adjacent | Combinator::Sibling => {
-            id.value() == spared.value() || is_element(tree, &id)
+            id.value() == exempt.value() || element_at(tree, &id)
         }
     }
 }
 
-/// Tells how the nodes of the tree follow each other. It does nothing.
-pub(crate) fn know_lines(tree: &Tree)
+/// States how parents and siblings are linked in the tree. It does nothing.
+pub(crate) fn line_laws(tree: &Tree)
     ensures { AreLines tree.now }
 {
     let _nodes = tree.nodes();
@@ -36,7 +41,7 @@ pub(crate) fn know_lines(tree: &Tree)
 
 /// The next node on the way to the left: the parent, or the sibling before.
 #[inline(always)]
-pub(crate) fn on_the_left(tree: &Tree, combinator: Combinator, id: NodeId) -> Option<NodeId>
+pub(crate) fn left_of(tree: &Tree, combinator: Combinator, id: NodeId) -> Option<NodeId>
     ensures link { result ≡ left_of tree.now combinator id }
     ensures lines { AreLines tree.now }
 {
@@ -56,13 +61,13 @@ pub(crate) fn ends_at(tree: &Tree, combinator: Combinator, id: NodeId) -> bool
     match combinator {
         Combinator::Descendant | Combinator::Sibling => false,
         Combinator::Child => true,
-        Combinator::Adjacent => is_element(tree, &id),
+        Combinator::Adjacent => element_at(tree, &id),
     }
 }
 
 /// How loosely a combinator binds.
-pub(crate) fn looseness(combinator: Combinator) -> usize
-    ensures { result ≡ looseness combinator }
+pub(crate) fn binding_level(combinator: Combinator) -> usize
+    ensures { result ≡ binding_level combinator }
 {
     match combinator {
         Combinator::Adjacent => 1,
@@ -72,12 +77,17 @@ pub(crate) fn looseness(combinator: Combinator) -> usize
     }
 }
 
-/// Whether the first node stands to the other one as the combinator between them says.
-pub(crate) fn stands(tree: &Tree, combinator: Combinator, first: NodeId, id: NodeId) -> bool
-    ensures { IsTrue result ↔ Stands tree.now combinator first id }
+/// Whether the combinator holds between the first node, on its left, and the other one.
+pub(crate) fn combinator_holds(
+    tree: &Tree,
+    combinator: Combinator,
+    first: NodeId,
+    id: NodeId,
+) -> bool
+    ensures { IsTrue result ↔ CombinatorHolds tree.now combinator first id }
 {
     let mut at = id;
-    while let Some(left) = on_the_left(tree, combinator, at) {
+    while let Some(left) = left_of(tree, combinator, at) {
         if left == first {
             return true;
         }

@@ -9,12 +9,12 @@ ghost use Rattle.dom_select.specs.Answers.{AreAnswers};
 ghost use Rattle.dom_select.specs.Meaning.{Holds};
 
 use crate::matcher::caches::SelectorCaches;
-use crate::matcher::matches::{bare_type, bears_name};
+use crate::matcher::matches::{has_type, sole_type_selector};
 use crate::matcher::parts::parts_hold;
 use dom_selectors::syntax::Compound;
 use dom_trees::node_ref::NodeRef;
 
-/// Whether the compound holds of the node, where `nested` tells of each of its lists, in their
+/// Whether the compound holds of the node, where `nested` states of each of its lists, in their
 /// order, whether it holds of the node. The caches are the tree's. It adds one to `tests`.
 pub fn test_compound(
     compound: &Compound,
@@ -32,14 +32,14 @@ pub fn test_compound(
     ensures counted { tests.new ≡ tests.old + 1 }
 {
     *tests += 1;
-    if let Some(name) = bare_type(compound) {
-        return bears_name(x.tree, &x.id, name);
+    if let Some(name) = sole_type_selector(compound) {
+        return has_type(x.tree, &x.id, name);
     }
     let all = are_true(nested);
     if !all {
         return false;
     }
-    parts_hold(&compound.parts, x.tree, caches, &x.id)
+    parts_hold(&compound.parts, caches, &x.id)
 }
 
 /// Whether each of the answers is true.

@@ -4,15 +4,15 @@ ghost use Rattle.std.specs.Prelude.{◌≡◌, ◌∷◌, ◌-◌, ◌^◌, [], 
 ghost use Rattle.std.specs.Iterator.{Drains, IsFinite, at_most};
 ghost use Rattle.dom_links.specs.Trees.{walk_below};
 ghost use Rattle.dom_select.specs.Descendants.{GivesMatch, IsMatch, ToCome};
-ghost use Rattle.dom_select.specs.Ends.{EndsAmong};
+ghost use Rattle.dom_select.specs.Ends.{SubjectIsAmong};
 ghost use Rattle.dom_select.specs.Meaning.{MeansType};
-ghost use Rattle.dom_select.specs.Selected.{Picks, Selected, walks_below};
+ghost use Rattle.dom_select.specs.Selected.{FiltersTo, Selected, walks_below};
 ghost use Rattle.dom_selectors.specs.Spelling.{Decides};
 
 use crate::matcher::Matcher;
 use crate::matcher::caches::SelectorCaches;
-use crate::matcher::matches::{bears_name, bears_neither};
-use crate::matcher::parts::is_element;
+use crate::matcher::matches::{has_neither_type, has_type};
+use crate::matcher::parts::element_at;
 use dom_links::iters::DescendantNodes;
 use dom_nodes::fault::OutOfMemory;
 use dom_nodes::node_id::NodeId;
@@ -67,7 +67,7 @@ impl<'a, 'b> DescendantMatches<'a, 'b> {
             tree,
             caches: SelectorCaches::late(tree),
             matcher,
-            name: matcher.type_alone(),
+            name: matcher.sole_type(),
         }
     }
 }
@@ -82,7 +82,7 @@ impl<'a, 'b> Iterator for DescendantMatches<'a, 'b> {
     fn next(&mut self) -> Option<NodeRef<'a>> {
         loop {
             let id = self.ids.next()?;
-            if is_wanted(self.matcher, self.name, &mut self.caches, id) {
+            if is_match_by_type(self.matcher, self.name, &mut self.caches, id) {
                 return Some(NodeRef::new(id, self.tree));
             }
         }
@@ -98,11 +98,11 @@ pub fn select_below(
 ) -> Result<Vec<NodeId>, OutOfMemory>
     ensures { IfOk result (λ ids. Selected tree.now (root.now ∷ []) matcher.now ids.items) }
 {
-    if let Some(name) = matcher.type_alone() {
+    if let Some(name) = matcher.sole_type() {
         return named_below(tree, root, matcher, name);
     }
     match select_below_within(tree, root, matcher, u64::MAX)? {
-        Some(picked) => Ok(picked),
+        Some(matched) => Ok(matched),
         None => unreachable!(),
     }
 }
@@ -119,7 +119,7 @@ fn named_below(
 {
     let mut named = Vec::new(tree.allocator());
     for id in tree.descendant_ids_of_it(root) {
-        if !bears_name(tree, &id, name) {
+        if !has_type(tree, &id, name) {
             continue;
         }
         named.push(id)?;
@@ -140,7 +140,7 @@ pub(crate) fn select_below_within(
         (λ ids. Selected tree.now (root.now ∷ []) matcher.now ids.items)) }
     ensures no_limit { steps ≡ 2 ^ 64 - 1 → IfOk result (λ found. IsSome found) }
 {
-    pick_within(tree, tree.descendant_ids_of_it(root), matcher, steps)
+    collect_within(tree, tree.descendant_ids_of_it(root), matcher, steps)
 }
 
 /// The elements among those nodes that the selector means, or None where more than so many steps
@@ -148,35 +148,35 @@ pub(crate) fn select_below_within(
 /// node, so that what takes many is given up early. Inlined, so that nothing is asked where any
 /// number of steps may be taken.
 #[inline(always)]
-pub(crate) fn pick_within<I: Iterator<Item = NodeId> + Drop>(
+pub(crate) fn collect_within<I: Iterator<Item = NodeId> + Drop>(
     tree: &Tree,
     ids: I,
     matcher: &Matcher,
     steps: u64,
 ) -> Result<Option<Vec<NodeId>>, OutOfMemory>
     requires { I.can_next ids × IsFinite (I.remaining ids) }
-    ensures picked { IfOk result (λ found. IfSome found (λ picked. (ns : List ℕ)
-        × Drains I.next_gives ids ns × Picks (IsMatch matcher.now tree.now) ns picked.items)) }
+    ensures matched { IfOk result (λ found. IfSome found (λ matched. (ns : List ℕ)
+        × Drains I.next_gives ids ns × FiltersTo (IsMatch matcher.now tree.now) ns matched.items)) }
     ensures no_limit { steps ≡ 2 ^ 64 - 1 → IfOk result (λ found. IsSome found) }
 {
-    let names = matcher.last_names();
+    let names = matcher.subject_types();
     let mut caches = SelectorCaches::late(tree);
-    let mut picked = Vec::new(tree.allocator());
+    let mut matched = Vec::new(tree.allocator());
     for id in ids {
         if caches.steps() > steps {
             return Ok(None);
         }
-        if !is_found(matcher, &names, &mut caches, id) {
+        if !is_match_of_types(matcher, &names, &mut caches, id) {
             continue;
         }
-        picked.push(id)?;
+        matched.push(id)?;
     }
-    Ok(Some(picked))
+    Ok(Some(matched))
 }
 
 /// Whether the node is an element that the selector means; where the selector is a type alone, that
 /// is its name.
-fn is_wanted(
+fn is_match_by_type(
     matcher: &Matcher,
     name: Option<&SelectorName>,
     caches: &mut SelectorCaches<'_>,
@@ -187,7 +187,7 @@ fn is_wanted(
     ensures same { caches.new ≡ caches.old }
 {
     match name {
-        Some(name) => bears_name(caches.tree(), &id, name),
+        Some(name) => has_type(caches.tree(), &id, name),
         None => is_selected_with(matcher, caches, id),
     }
 }
@@ -195,18 +195,18 @@ fn is_wanted(
 /// Whether the node is an element that the selector means, which bears one of the names if there
 /// are some.
 #[inline(always)]
-fn is_found(
+fn is_match_of_types(
     matcher: &Matcher,
     names: &Option<(&SelectorName, &SelectorName)>,
     caches: &mut SelectorCaches<'_>,
     id: NodeId,
 ) -> bool
-    requires { IfSome names.now (λ names. EndsAmong names.0.now names.1.now matcher.now) }
+    requires { IfSome names.now (λ names. SubjectIsAmong names.0.now names.1.now matcher.now) }
     ensures is { Decides result (IsMatch matcher.now caches.old id) }
     ensures same { caches.new ≡ caches.old }
 {
     if let Some((one, other)) = names {
-        if bears_neither(caches.tree(), &id, one, other) {
+        if has_neither_type(caches.tree(), &id, one, other) {
             return false;
         }
     }
@@ -217,7 +217,7 @@ fn is_found(
 pub(crate) fn is_selected(tree: &Tree, id: NodeId, matcher: &Matcher) -> bool
     ensures { Decides result (IsMatch matcher.now tree.now id) }
 {
-    if !is_element(tree, &id) {
+    if !element_at(tree, &id) {
         return false;
     }
     matcher.match_element(&NodeRef::new(id, tree))
@@ -233,7 +233,7 @@ pub(crate) fn is_selected_with(
     ensures same { caches.new ≡ caches.old }
 {
     let tree = caches.tree();
-    if !is_element(tree, &id) {
+    if !element_at(tree, &id) {
         return false;
     }
     matcher.match_element_with_caches(&NodeRef::new(id, tree), caches)

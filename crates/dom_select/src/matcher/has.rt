@@ -2,10 +2,11 @@
 
 ghost use Rattle.std.specs.Prelude.{◌≡◌, ◌↔◌, ◌∷◌, Some, IsTrue};
 ghost use Rattle.dom_select.specs.Meaning.{IsJoined};
-ghost use Rattle.dom_select.specs.Has.{is_sideways, may_end, tops, tops_on};
+ghost use Rattle.dom_select.specs.Has.{is_sideways, may_be_subject, search_roots};
+ghost use Rattle.dom_select.specs.Has.{search_roots_from};
 
-use crate::matcher::chains::{know_lines, may_beside, stands};
-use crate::matcher::parts::is_element;
+use crate::matcher::chains::{combinator_holds, line_laws, may_be_operand};
+use crate::matcher::parts::element_at;
 use dom_links::iters::next_sibling_id;
 use dom_nodes::node_id::NodeId;
 use dom_selectors::syntax::Combinator;
@@ -15,27 +16,27 @@ use dom_trees::tree::Tree;
 /// a combinator says.
 #[derive(Clone, Copy)]
 pub(crate) enum Start {
-    Anywhere,
-    From(Combinator, NodeId),
+    Absolute,
+    Relative(Combinator, NodeId),
 }
 
-/// Whether the node stands to the right of another as the combinator says, which may stand there.
-pub(crate) fn is_led(tree: &Tree, lead: Combinator, from: NodeId, id: NodeId) -> bool
+/// Whether the combinator holds between the anchor and the node, which may be its operands.
+pub(crate) fn is_joined(tree: &Tree, lead: Combinator, from: NodeId, id: NodeId) -> bool
     ensures { IsTrue result ↔ IsJoined tree.now from lead from id }
 {
-    if !may_beside(tree, from, lead, id) {
+    if !may_be_operand(tree, from, lead, id) {
         return false;
     }
-    stands(tree, lead, from, id)
+    combinator_holds(tree, lead, from, id)
 }
 
 /// Whether the node may be what is reached: from a start, an element.
-pub(crate) fn may_end(start: &Start, tree: &Tree, id: NodeId) -> bool
-    ensures { result ≡ may_end start.now tree.now id }
+pub(crate) fn may_be_subject(start: &Start, tree: &Tree, id: NodeId) -> bool
+    ensures { result ≡ may_be_subject start.now tree.now id }
 {
     match start {
-        Start::Anywhere => true,
-        Start::From(_, _) => is_element(tree, &id),
+        Start::Absolute => true,
+        Start::Relative(_, _) => element_at(tree, &id),
     }
 }
 
@@ -50,10 +51,10 @@ pub(crate) fn is_sideways(combinator: Combinator) -> bool
 }
 
 /// The first node at or below which a selector with that lead can lead.
-pub(crate) fn first_top(tree: &Tree, lead: Combinator, id: NodeId) -> Option<NodeId>
-    ensures { tops_on tree.now lead result ≡ tops tree.now lead id }
+pub(crate) fn first_search_root(tree: &Tree, lead: Combinator, id: NodeId) -> Option<NodeId>
+    ensures { search_roots_from tree.now lead result ≡ search_roots tree.now lead id }
 {
-    know_lines(tree);
+    line_laws(tree);
     if is_sideways(lead) {
         return next_sibling_id(tree.nodes(), &id);
     }
@@ -61,10 +62,11 @@ pub(crate) fn first_top(tree: &Tree, lead: Combinator, id: NodeId) -> Option<Nod
 }
 
 /// The next one.
-pub(crate) fn next_top(tree: &Tree, lead: Combinator, at: NodeId) -> Option<NodeId>
-    ensures { tops_on tree.now lead (Some at) ≡ at ∷ tops_on tree.now lead result }
+pub(crate) fn next_search_root(tree: &Tree, lead: Combinator, at: NodeId) -> Option<NodeId>
+    ensures { search_roots_from tree.now lead (Some at)
+        ≡ at ∷ search_roots_from tree.now lead result }
 {
-    know_lines(tree);
+    line_laws(tree);
     if is_sideways(lead) {
         return next_sibling_id(tree.nodes(), &at);
     }

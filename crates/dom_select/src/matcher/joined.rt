@@ -19,7 +19,7 @@ use dom_trees::tree::Tree;
 fn text_at<'a>(tree: &'a Tree, id: &NodeId) -> &'a [u8]
     ensures { result.now ≡ text_at tree.now id.now }
 {
-    match tree.get(id) {
+    match tree.tree_node(id) {
         Some(found) => text_in(&found.content),
         None => &[],
     }

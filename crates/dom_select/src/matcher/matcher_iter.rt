@@ -1,6 +1,6 @@
 //! What a selector means below any number of nodes.
 
-ghost use Rattle.std.specs.Prelude.{◌≡◌, ℕ, List, length, IfOk};
+ghost use Rattle.std.specs.Prelude.{◌≡◌, ℕ, List, length, map, IfOk};
 ghost use Rattle.std.specs.Iterator.{at_most};
 ghost use Rattle.dom_select.specs.Descendants.{ToCome};
 ghost use Rattle.dom_select.specs.Selected.{Selected, walks_below};
@@ -48,6 +48,30 @@ impl<'a, 'b, 'r> MatcherIter<'a, 'b, 'r> {
                 matcher,
             ))),
             _ => Ok(MatcherIter::Several(Matches::new(tree, roots, matcher)?)),
+        }
+    }
+
+    /// The same below these nodes, each taken for the node of its number in the tree.
+    pub fn below_nodes(
+        tree: &'a Tree,
+        nodes: &'r [NodeRef<'a>],
+        matcher: &'b Matcher,
+    ) -> Result<MatcherIter<'a, 'b, 'r>, OutOfMemory>
+        ensures all { IfOk result (λ it. (matches_of it).left
+            ≡ walks_below tree.entry.now (map (λ node. node.id) nodes.entry.now)) }
+        ensures tree { IfOk result (λ it. (matches_of it).tree ≡ tree.entry) }
+        ensures selector { IfOk result (λ it. (matches_of it).selector ≡ matcher.now) }
+        ensures selected { IfOk result
+            (λ it. (ids : List ℕ) → ToCome (matches_of it) ids
+            → Selected tree.entry.now (map (λ node. node.id) nodes.entry.now) matcher.now ids) }
+    {
+        match nodes {
+            [] => Ok(MatcherIter::Empty(tree, matcher)),
+            [node] => Ok(MatcherIter::One(DescendantMatches::new(
+                NodeRef::new(node.id, tree),
+                matcher,
+            ))),
+            _ => Ok(MatcherIter::Several(Matches::below_nodes(tree, nodes, matcher)?)),
         }
     }
 }

@@ -4,23 +4,24 @@
 //! left of a farther one stands on the left of that one too.
 
 ghost use Rattle.std.specs.Prelude.{◌≡◌, ◌↔◌, ◌∷◌, [], map, IfSome, Some, IsTrue, MatchBool};
-ghost use Rattle.std.specs.Prelude.{◌<◌, false, MatchOption};
+ghost use Rattle.std.specs.Prelude.{◌<◌, MatchOption};
 ghost use Rattle.dom_selectors.specs.ListsAsTrees.{lists_of, steps_of};
+ghost use Rattle.dom_selectors.specs.Spelling.{Decides};
 ghost use Rattle.dom_select.specs.Leftward.{ends_at};
-ghost use Rattle.dom_select.specs.Meaning.{Holds, LeadsOn, LeadsToSome, ListsHold, ListHolds, MayBeside};
-ghost use Rattle.dom_select.specs.Meaning.{Means, MeansType, PartsHold, Reaches};
-ghost use Rattle.dom_select.specs.Ends.{BeginsAs, EndsAmong, EndsAs};
-ghost use Rattle.dom_select.specs.declared.matcher.has.Start.{Start};
+ghost use Rattle.dom_select.specs.Meaning.{HasHolds, Holds, ListHolds, ListsHold, MayBeOperand};
+ghost use Rattle.dom_select.specs.Meaning.{RelativeMatches};
+ghost use Rattle.dom_select.specs.Meaning.{Means, MeansType, PartsHold, ChainMatches};
+ghost use Rattle.dom_select.specs.Ends.{ImpliesType, SubjectIsAmong, SubjectImpliesType};
 ghost use Rattle.dom_selectors.specs.ValuesAsTrees.{read_compound, read_list, read_nested};
 ghost use Rattle.dom_selectors.specs.ValuesAsTrees.{read_step};
 ghost use Rattle.dom_selectors.specs.Syntax.{no_lists, compound as the_compound};
-ghost use Rattle.dom_select.specs.Chains.{EndHolds, Followed, FollowedFrom};
-ghost use Rattle.dom_select.specs.Chains.{IsOrPrecedes, ReachesSome, looseness};
-ghost use Rattle.dom_select.specs.Has.{Begins, IsReached, ReachesWithin, may_end};
+ghost use Rattle.dom_select.specs.Chains.{BeginsChain, LastHolds, SuffixMatches, SuffixMatchesFrom};
+ghost use Rattle.dom_select.specs.Chains.{IsOrPrecedes, SomeCandidateMatches, binding_level};
+ghost use Rattle.dom_select.specs.Has.{SelectorMatches, MatchesWithin, may_be_subject};
 
 use crate::matcher::caches::SelectorCaches;
-use crate::matcher::chains::{ends_at, know_lines, looseness, may_beside, on_the_left};
-use crate::matcher::has::{Start, first_top, is_led, may_end, next_top};
+use crate::matcher::chains::{binding_level, ends_at, left_of, line_laws, may_be_operand};
+use crate::matcher::has::{Start, first_search_root, is_joined, may_be_subject, next_search_root};
 use crate::matcher::parts::{is_named_node, parts_hold};
 use dom_nodes::node_id::NodeId;
 use dom_selectors::selector_name::SelectorName;
@@ -31,7 +32,7 @@ use dom_trees::tree::Tree;
 const ALL: usize = 5;
 
 /// The name, where the compound is a type and nothing else.
-pub(crate) fn bare_type(compound: &Compound) -> Option<&SelectorName>
+pub(crate) fn sole_type_selector(compound: &Compound) -> Option<&SelectorName>
     ensures { IfSome result
         (λ name. read_compound compound.now ≡ the_compound (Part.«Type» name.now ∷ []) no_lists) }
 {
@@ -45,7 +46,7 @@ pub(crate) fn bare_type(compound: &Compound) -> Option<&SelectorName>
 }
 
 /// The name, where the list is one selector that is a type and nothing else.
-pub(crate) fn type_alone(selectors: &[Selector]) -> Option<&SelectorName>
+pub(crate) fn sole_type(selectors: &[Selector]) -> Option<&SelectorName>
     ensures { IfSome result (λ name. MeansType name.now (read_list selectors.now)) }
 {
     let [selector] = selectors else {
@@ -54,12 +55,12 @@ pub(crate) fn type_alone(selectors: &[Selector]) -> Option<&SelectorName>
     if !selector.rest.as_slice().is_empty() {
         return None;
     }
-    bare_type(&selector.first)
+    sole_type_selector(&selector.first)
 }
 
 /// The name that the compound begins with, where that is a type.
-fn first_name(compound: &Compound) -> Option<&SelectorName>
-    ensures { IfSome result (λ name. BeginsAs name.now (read_compound compound.now)) }
+fn type_selector(compound: &Compound) -> Option<&SelectorName>
+    ensures { IfSome result (λ name. ImpliesType name.now (read_compound compound.now)) }
 {
     let Some(part) = compound.parts.first() else {
         return None;
@@ -71,41 +72,41 @@ fn first_name(compound: &Compound) -> Option<&SelectorName>
 }
 
 /// The name that the last of the compounds begins with, where that is a type.
-fn last_name<'a>(first: &'a Compound, steps: &'a [Step]) -> Option<&'a SelectorName>
+fn subject_type<'a>(first: &'a Compound, steps: &'a [Step]) -> Option<&'a SelectorName>
     ensures { IfSome result
-        (λ name. EndsAs name.now (read_compound first.now) (map read_step steps.now)) }
+        (λ name. SubjectImpliesType name.now (read_compound first.now) (map read_step steps.now)) }
 {
     match steps.split_last() {
-        None => first_name(first),
-        Some((last, _)) => first_name(&last.compound),
+        None => type_selector(first),
+        Some((last, _)) => type_selector(&last.compound),
     }
 }
 
-/// Two names, which may be one, of which each node that the selectors mean bears one, where that is
-/// told by one or two selectors that end in a type.
-pub(crate) fn last_names(selectors: &[Selector]) -> Option<(&SelectorName, &SelectorName)>
+/// The type selectors of the subjects of one or two selectors, twice the same of one: each node
+/// that the selectors mean has one of the types. None where a subject has no type selector.
+pub(crate) fn subject_types(selectors: &[Selector]) -> Option<(&SelectorName, &SelectorName)>
     ensures { IfSome result
-        (λ names. EndsAmong names.0.now names.1.now (read_list selectors.now)) }
+        (λ names. SubjectIsAmong names.0.now names.1.now (read_list selectors.now)) }
 {
     let (selector, more) = selectors.split_first()?;
-    let name = last_name(&selector.first, &selector.rest)?;
+    let name = subject_type(&selector.first, &selector.rest)?;
     let Some((another, rest)) = more.split_first() else {
         return Some((name, name));
     };
     if !rest.is_empty() {
         return None;
     }
-    let other = last_name(&another.first, &another.rest)?;
+    let other = subject_type(&another.first, &another.rest)?;
     Some((name, other))
 }
 
 /// Whether the number is an element's that bears the name as a type.
 #[inline(always)]
-pub(crate) fn bears_name(tree: &Tree, id: &NodeId, name: &SelectorName) -> bool
+pub(crate) fn has_type(tree: &Tree, id: &NodeId, name: &SelectorName) -> bool
     ensures { MatchBool result (PartsHold (Part.«Type» name.now ∷ []) tree.now id.now)
         (PartsHold (Part.«Type» name.now ∷ []) tree.now id.now → ⊥) }
 {
-    match tree.get(id) {
+    match tree.tree_node(id) {
         Some(found) => is_named_node(&found.content, name),
         None => false,
     }
@@ -113,7 +114,7 @@ pub(crate) fn bears_name(tree: &Tree, id: &NodeId, name: &SelectorName) -> bool
 
 /// Whether the node bears none of the names as a type.
 #[inline(always)]
-pub(crate) fn bears_neither(
+pub(crate) fn has_neither_type(
     tree: &Tree,
     id: &NodeId,
     one: &SelectorName,
@@ -122,21 +123,21 @@ pub(crate) fn bears_neither(
     ensures one { IsTrue result → PartsHold (Part.«Type» one.now ∷ []) tree.now id.now → ⊥ }
     ensures other { IsTrue result → PartsHold (Part.«Type» other.now ∷ []) tree.now id.now → ⊥ }
 {
-    if bears_name(tree, id, one) {
+    if has_type(tree, id, one) {
         return false;
     }
-    !bears_name(tree, id, other)
+    !has_type(tree, id, other)
 }
 
 /// Whether the compound begins with a type whose name the node doesn't bear.
-fn lacks_name(compound: &Compound, tree: &Tree, id: &NodeId) -> bool
+fn fails_type(compound: &Compound, tree: &Tree, id: &NodeId) -> bool
     ensures { IsTrue result → Holds (read_compound compound.now) tree.now id.now → ⊥ }
 {
     let Some(part) = compound.parts.first() else {
         return false;
     };
     match part {
-        Part::Type(name) => !bears_name(tree, id, name),
+        Part::Type(name) => !has_type(tree, id, name),
         _ => false,
     }
 }
@@ -144,32 +145,31 @@ fn lacks_name(compound: &Compound, tree: &Tree, id: &NodeId) -> bool
 /// Whether the compound holds of the node. Names come first, since most nodes bear another one; of
 /// a type alone nothing else is looked at.
 #[cycle(matching)]
-fn holds(compound: &Compound, tree: &Tree, caches: &mut SelectorCaches<'_>, id: NodeId) -> bool
-    requires { caches.old ≡ tree.now }
-    ensures is { IsTrue result ↔ Holds (read_compound compound.now) tree.now id }
-    ensures kept { caches.new ≡ tree.now }
+fn holds(compound: &Compound, caches: &mut SelectorCaches<'_>, id: NodeId) -> bool
+    ensures is { IsTrue result ↔ Holds (read_compound compound.now) caches.old id }
+    ensures kept { caches.new ≡ caches.old }
 {
-    if let Some(name) = bare_type(compound) {
-        return bears_name(tree, &id, name);
+    let tree = caches.tree();
+    if let Some(name) = sole_type_selector(compound) {
+        return has_type(tree, &id, name);
     }
-    if lacks_name(compound, tree, &id) {
+    if fails_type(compound, tree, &id) {
         return false;
     }
-    if !parts_hold(&compound.parts, tree, caches, &id) {
+    if !parts_hold(&compound.parts, caches, &id) {
         return false;
     }
-    lists_hold(&compound.nested, tree, caches, id)
+    lists_hold(&compound.nested, caches, id)
 }
 
 /// Whether each of the lists in a compound holds of the node.
 #[cycle(matching)]
-fn lists_hold(lists: &[Nested], tree: &Tree, caches: &mut SelectorCaches<'_>, id: NodeId) -> bool
-    requires { caches.old ≡ tree.now }
-    ensures is { IsTrue result ↔ ListsHold (lists_of (map read_nested lists.now)) tree.now id }
-    ensures kept { caches.new ≡ tree.now }
+fn lists_hold(lists: &[Nested], caches: &mut SelectorCaches<'_>, id: NodeId) -> bool
+    ensures is { IsTrue result ↔ ListsHold (lists_of (map read_nested lists.now)) caches.old id }
+    ensures kept { caches.new ≡ caches.old }
 {
     for list in lists {
-        if !list_holds(list, tree, caches, id) {
+        if !list_holds(list, caches, id) {
             return false;
         }
     }
@@ -177,33 +177,26 @@ fn lists_hold(lists: &[Nested], tree: &Tree, caches: &mut SelectorCaches<'_>, id
 }
 
 #[cycle(matching)]
-fn list_holds(list: &Nested, tree: &Tree, caches: &mut SelectorCaches<'_>, id: NodeId) -> bool
-    requires { caches.old ≡ tree.now }
-    ensures is { IsTrue result ↔ ListHolds (read_nested list.now) tree.now id }
-    ensures kept { caches.new ≡ tree.now }
+fn list_holds(list: &Nested, caches: &mut SelectorCaches<'_>, id: NodeId) -> bool
+    ensures is { IsTrue result ↔ ListHolds (read_nested list.now) caches.old id }
+    ensures kept { caches.new ≡ caches.old }
 {
     match list {
-        Nested::Is(selectors) => means(selectors, tree, caches, id),
-        Nested::Not(selectors) => !means(selectors, tree, caches, id),
-        Nested::Has(selectors) => leads_on(selectors, tree, caches, id),
+        Nested::Is(selectors) => means(selectors, caches, id),
+        Nested::Not(selectors) => !means(selectors, caches, id),
+        Nested::Has(selectors) => has_holds(selectors, caches, id),
     }
 }
 
 /// Whether one of the selectors means the node.
 #[cycle(matching)]
-pub(crate) fn means(
-    selectors: &[Selector],
-    tree: &Tree,
-    caches: &mut SelectorCaches<'_>,
-    id: NodeId,
-) -> bool
-    requires { caches.old ≡ tree.now }
-    ensures is { IsTrue result ↔ Means (read_list selectors.now) tree.now id }
-    ensures kept { caches.new ≡ tree.now }
+pub(crate) fn means(selectors: &[Selector], caches: &mut SelectorCaches<'_>, id: NodeId) -> bool
+    ensures is { IsTrue result ↔ Means (read_list selectors.now) caches.old id }
+    ensures kept { caches.new ≡ caches.old }
 {
-    let start = Start::Anywhere;
+    let start = Start::Absolute;
     for selector in selectors {
-        if reaches(&start, &selector.first, &selector.rest, tree, caches, id) {
+        if chain_matches(&start, &selector.first, &selector.rest, caches, id) {
             return true;
         }
     }
@@ -212,25 +205,12 @@ pub(crate) fn means(
 
 /// Whether one of the selectors leads from the node to an element.
 #[cycle(matching)]
-fn leads_on(
-    selectors: &[Selector],
-    tree: &Tree,
-    caches: &mut SelectorCaches<'_>,
-    id: NodeId,
-) -> bool
-    requires { caches.old ≡ tree.now }
-    ensures is { IsTrue result ↔ LeadsOn (read_list selectors.now) tree.now id }
-    ensures kept { caches.new ≡ tree.now }
+fn has_holds(selectors: &[Selector], caches: &mut SelectorCaches<'_>, id: NodeId) -> bool
+    ensures is { IsTrue result ↔ HasHolds (read_list selectors.now) caches.old id }
+    ensures kept { caches.new ≡ caches.old }
 {
     for selector in selectors {
-        if leads_to_some(
-            selector.lead,
-            &selector.first,
-            &selector.rest,
-            tree,
-            caches,
-            id,
-        ) {
+        if relative_matches(selector.lead, &selector.first, &selector.rest, caches, id) {
             return true;
         }
     }
@@ -240,257 +220,231 @@ fn leads_on(
 /// Whether a selector leads from the node to an element: it is followed from each node that it
 /// could lead to.
 #[cycle(matching)]
-fn leads_to_some(
+fn relative_matches(
     lead: Combinator,
     first: &Compound,
     steps: &[Step],
-    tree: &Tree,
     caches: &mut SelectorCaches<'_>,
     id: NodeId,
 ) -> bool
-    requires { caches.old ≡ tree.now }
     ensures is { IsTrue result
-        ↔ LeadsToSome lead (read_compound first.now) (steps_of (map read_step steps.now)) tree.now
-        id }
-    ensures kept { caches.new ≡ tree.now }
+        ↔ RelativeMatches lead (read_compound first.now) (steps_of (map read_step steps.now))
+        caches.old id }
+    ensures kept { caches.new ≡ caches.old }
 {
-    know_lines(tree);
-    let start = Start::From(lead, id);
-    let mut top = first_top(tree, lead, id);
+    let tree = caches.tree();
+    line_laws(tree);
+    let start = Start::Relative(lead, id);
+    let mut top = first_search_root(tree, lead, id);
     while let Some(at) = top {
-        if leads_within(&start, first, steps, tree, caches, at) {
+        if matches_within(&start, first, steps, caches, at) {
             return true;
         }
-        top = next_top(tree, lead, at);
+        top = next_search_root(tree, lead, at);
     }
     false
 }
 
 /// Whether the compounds lead from the start to this node or to one below it.
 #[cycle(matching)]
-fn leads_within(
+fn matches_within(
     start: &Start,
     first: &Compound,
     steps: &[Step],
-    tree: &Tree,
     caches: &mut SelectorCaches<'_>,
     top: NodeId,
 ) -> bool
-    requires { caches.old ≡ tree.now }
-    ensures is { MatchBool result
-        (ReachesWithin start.now (read_compound first.now) (steps_of (map read_step steps.now))
-        tree.now top)
-        (ReachesWithin start.now (read_compound first.now) (steps_of (map read_step steps.now))
-        tree.now top → ⊥) }
-    ensures kept { caches.new ≡ tree.now }
+    ensures is { Decides result
+        (MatchesWithin start.now (read_compound first.now) (steps_of (map read_step steps.now))
+        caches.old top) }
+    ensures kept { caches.new ≡ caches.old }
 {
-    if reaches(start, first, steps, tree, caches, top) {
+    if chain_matches(start, first, steps, caches, top) {
         return true;
     }
-    for y in tree.descendant_ids_of_it(&top) {
+    for y in caches.tree().descendant_ids_of_it(&top) {
         caches.note_step();
-        if reaches(start, first, steps, tree, caches, y) {
+        if chain_matches(start, first, steps, caches, y) {
             return true;
         }
     }
     false
 }
 
+/// What stays the same while the compounds of one selector are followed: where they start, the
+/// first of them, and the node that may stand beside `+` and `~` even where it is no element.
+#[derive(Clone, Copy)]
+struct Chain<'c> {
+    start: &'c Start,
+    first: &'c Compound,
+    exempt: NodeId,
+}
+
 /// Whether there are nodes for the first compound and for those of the steps, the last of them this
 /// one.
 #[cycle(matching)]
-fn reaches(
+fn chain_matches(
     start: &Start,
     first: &Compound,
     steps: &[Step],
-    tree: &Tree,
     caches: &mut SelectorCaches<'_>,
     id: NodeId,
 ) -> bool
-    requires { caches.old ≡ tree.now }
     ensures is { IsTrue result
-        ↔ IsReached start.now (read_compound first.now) (steps_of (map read_step steps.now))
-        tree.now id }
-    ensures kept { caches.new ≡ tree.now }
+        ↔ SelectorMatches start.now (read_compound first.now) (steps_of (map read_step steps.now))
+        caches.old id }
+    ensures kept { caches.new ≡ caches.old }
 {
-    if !may_end(start, tree, id) {
+    if !may_be_subject(start, caches.tree(), id) {
         return false;
     }
+    let chain = Chain {
+        start,
+        first,
+        exempt: id,
+    };
     if steps.is_empty() {
-        return begins(start, first, tree, caches, id);
+        return begins(&chain, caches, id);
     }
-    follow(ALL, start, first, steps, tree, caches, id, id).is_some()
+    match_suffix(&chain, steps, ALL, caches, id).is_some()
 }
 
 /// Whether the node may be the first.
 #[cycle(matching)]
-fn begins(
-    start: &Start,
-    first: &Compound,
-    tree: &Tree,
-    caches: &mut SelectorCaches<'_>,
-    id: NodeId,
-) -> bool
-    requires { caches.old ≡ tree.now }
-    ensures is { IsTrue result ↔ Begins start.now (read_compound first.now) tree.now id }
-    ensures kept { caches.new ≡ tree.now }
+fn begins(chain: &Chain<'_>, caches: &mut SelectorCaches<'_>, id: NodeId) -> bool
+    ensures is { IsTrue result ↔ BeginsChain chain.now caches.old id }
+    ensures kept { caches.new ≡ caches.old }
 {
-    match start {
-        Start::Anywhere => holds(first, tree, caches, id),
-        Start::From(lead, from) => {
-            if !is_led(tree, *lead, *from, id) {
+    match chain.start {
+        Start::Absolute => holds(chain.first, caches, id),
+        Start::Relative(lead, from) => {
+            if !is_joined(caches.tree(), *lead, *from, id) {
                 return false;
             }
-            holds(first, tree, caches, id)
+            holds(chain.first, caches, id)
         }
     }
 }
 
 /// Whether the last compound holds of the node, which may stand as the combinator on its left asks.
 #[cycle(matching)]
-fn end_holds(
-    start: &Start,
-    first: &Compound,
+fn last_holds(
+    chain: &Chain<'_>,
     steps: &[Step],
-    tree: &Tree,
     caches: &mut SelectorCaches<'_>,
-    spared: NodeId,
     id: NodeId,
 ) -> bool
-    requires { caches.old ≡ tree.now }
-    ensures is { MatchBool result
-        (EndHolds tree.now spared (Begins start.now (read_compound first.now) tree.now)
-        (map read_step steps.now) id)
-        (EndHolds tree.now spared (Begins start.now (read_compound first.now) tree.now)
-        (map read_step steps.now) id → ⊥) }
-    ensures kept { caches.new ≡ tree.now }
+    ensures is { Decides result
+        (LastHolds caches.old chain.now.exempt (BeginsChain chain.now caches.old)
+        (map read_step steps.now) id) }
+    ensures kept { caches.new ≡ caches.old }
 {
     match steps.split_last() {
-        None => begins(start, first, tree, caches, id),
+        None => begins(chain, caches, id),
         Some((last, _)) => {
-            if !may_beside(tree, spared, last.combinator, id) {
+            if !may_be_operand(caches.tree(), chain.exempt, last.combinator, id) {
                 return false;
             }
-            holds(&last.compound, tree, caches, id)
+            holds(&last.compound, caches, id)
         }
     }
 }
 
 /// Whether the compounds may be followed from the node to the left: it may stand beside the
-/// combinator, and it bears the name that the last of them begins with.
+/// combinator, and it bears the name, if there is one.
 #[inline(always)]
-fn may_follow(
+fn is_candidate(
     name: Option<&SelectorName>,
-    first: &Compound,
-    steps: &[Step],
     combinator: Combinator,
     tree: &Tree,
-    spared: NodeId,
+    exempt: NodeId,
     id: NodeId,
 ) -> bool
-    requires { IfSome name
-        (λ name. EndsAs name.now (read_compound first.now) (map read_step steps.now)) }
-    ensures beside { IsTrue result → MayBeside tree.now spared combinator id }
-    ensures others { (start : Start) → result ≡ false → MayBeside tree.now spared combinator id
-        × Reaches (Begins start (read_compound first.now) tree.now)
-        (steps_of (map read_step steps.now)) tree.now spared id → ⊥ }
+    ensures { Decides result (MayBeOperand tree.now exempt combinator id
+        × IfSome name.entry (λ name. PartsHold (Part.«Type» name.now ∷ []) tree.now id)) }
 {
-    if !may_beside(tree, spared, combinator, id) {
+    if !may_be_operand(tree, exempt, combinator, id) {
         return false;
     }
     match name {
-        Some(name) => bears_name(tree, &id, name),
+        Some(name) => has_type(tree, &id, name),
         None => true,
     }
 }
 
 /// Where a chain was followed to: the steps that are left, and the node that they must reach.
 #[derive(Clone, Copy)]
-struct Place<'a> {
+struct Remainder<'a> {
     left: &'a [Step],
     at: NodeId,
 }
 
 /// Follows the steps from the node to the left, over all that bind more tightly than `level`.
 #[cycle(matching)]
-fn follow<'a>(
-    level: usize,
-    start: &Start,
-    first: &Compound,
+fn match_suffix<'a>(
+    chain: &Chain<'_>,
     steps: &'a [Step],
-    tree: &Tree,
+    level: usize,
     caches: &mut SelectorCaches<'_>,
-    spared: NodeId,
     id: NodeId,
-) -> Option<Place<'a>>
-    requires before { IsOrPrecedes tree.now id spared }
-    requires kept { caches.old ≡ tree.now }
+) -> Option<Remainder<'a>>
+    requires { IsOrPrecedes caches.old id chain.now.exempt }
     ensures is { MatchOption result
-        (Reaches (Begins start.now (read_compound first.now) tree.now)
-        (steps_of (map read_step steps.now)) tree.now spared id → ⊥)
-        (λ place. Followed tree.now spared (Begins start.now (read_compound first.now) tree.now)
-        level (map read_step steps.now) (map read_step place.left.now) id place.at) }
-    ensures kept { caches.new ≡ tree.now }
+        (ChainMatches (BeginsChain chain.now caches.old) (steps_of (map read_step steps.now))
+        caches.old chain.now.exempt id → ⊥)
+        (λ remainder. SuffixMatches caches.old chain.now.exempt (BeginsChain chain.now caches.old)
+        level (map read_step steps.now) (map read_step remainder.left.now) id remainder.at) }
+    ensures kept { caches.new ≡ caches.old }
 {
-    if !end_holds(start, first, steps, tree, caches, spared, id) {
+    if !last_holds(chain, steps, caches, id) {
         return None;
     }
-    know_lines(tree);
-    let mut place = Place {
+    line_laws(caches.tree());
+    let mut remainder = Remainder {
         left: steps,
         at: id,
     };
-    while let Some((last, front)) = place.left.split_last() {
-        if looseness(last.combinator) >= level {
-            return Some(place);
+    while let Some((last, front)) = remainder.left.split_last() {
+        if binding_level(last.combinator) >= level {
+            return Some(remainder);
         }
-        let Some(next) = follow_from(
-            start,
-            first,
-            front,
-            last.combinator,
-            tree,
-            caches,
-            spared,
-            place.at,
-        ) else {
+        let Some(next) = match_from_candidates(chain, front, last.combinator, caches, remainder.at)
+        else {
             return None;
         };
-        place = next;
+        remainder = next;
     }
-    Some(place)
+    Some(remainder)
 }
 
 /// Follows the steps from the nearest node that they can be followed from, of those that stand to
 /// this one as the combinator says.
 #[cycle(matching)]
-fn follow_from<'a>(
-    start: &Start,
-    first: &Compound,
+fn match_from_candidates<'a>(
+    chain: &Chain<'_>,
     steps: &'a [Step],
     combinator: Combinator,
-    tree: &Tree,
     caches: &mut SelectorCaches<'_>,
-    spared: NodeId,
     id: NodeId,
-) -> Option<Place<'a>>
-    requires before { IsOrPrecedes tree.now id spared }
-    requires kept { caches.old ≡ tree.now }
+) -> Option<Remainder<'a>>
+    requires { IsOrPrecedes caches.old id chain.now.exempt }
     ensures is { MatchOption result
-        (ReachesSome tree.now spared (Begins start.now (read_compound first.now) tree.now)
+        (SomeCandidateMatches caches.old chain.now.exempt (BeginsChain chain.now caches.old)
         (map read_step steps.now) combinator id → ⊥)
-        (λ place. FollowedFrom tree.now spared (Begins start.now (read_compound first.now) tree.now)
-        combinator (map read_step steps.now) (map read_step place.left.now) id place.at) }
-    ensures kept { caches.new ≡ tree.now }
+        (λ remainder. SuffixMatchesFrom caches.old chain.now.exempt
+        (BeginsChain chain.now caches.old) combinator (map read_step steps.now)
+        (map read_step remainder.left.now) id remainder.at) }
+    ensures kept { caches.new ≡ caches.old }
 {
-    let name = last_name(first, steps);
+    let name = subject_type(chain.first, steps);
+    let tree = caches.tree();
     let mut at = id;
-    while let Some(v) = on_the_left(tree, combinator, at) {
+    while let Some(v) = left_of(tree, combinator, at) {
         caches.note_step();
-        if may_follow(name, first, steps, combinator, tree, spared, v) {
-            let level = looseness(combinator);
-            if let Some(place) = follow(level, start, first, steps, tree, caches, spared, v) {
-                return Some(place);
+        if is_candidate(name, combinator, tree, chain.exempt, v) {
+            let level = binding_level(combinator);
+            if let Some(remainder) = match_suffix(chain, steps, level, caches, v) {
+                return Some(remainder);
             }
         }
         if ends_at(tree, combinator, v) {
@@ -502,15 +456,9 @@ fn follow_from<'a>(
 }
 
 /// Whether the selector means the node.
-pub(crate) fn is_meant(
-    selector: &Selector,
-    tree: &Tree,
-    caches: &mut SelectorCaches<'_>,
-    id: NodeId,
-) -> bool
-    requires { caches.old ≡ tree.now }
-    ensures { IsTrue result ↔ Means (read_list (selector.now ∷ [])) tree.now id }
+pub(crate) fn is_meant(selector: &Selector, caches: &mut SelectorCaches<'_>, id: NodeId) -> bool
+    ensures { IsTrue result ↔ Means (read_list (selector.now ∷ [])) caches.old id }
 {
-    let start = Start::Anywhere;
-    reaches(&start, &selector.first, &selector.rest, tree, caches, id)
+    let start = Start::Absolute;
+    chain_matches(&start, &selector.first, &selector.rest, caches, id)
 }

@@ -7,7 +7,7 @@ ghost use Rattle.dom_links.specs.ListMoves.{element_at};
 ghost use Rattle.dom_select.specs.Meaning.{PartsHold};
 ghost use Rattle.dom_select.specs.Parts.{EachHolds, PartHolds, attr_passes, element_passes};
 ghost use Rattle.dom_select.specs.Parts.{is_attr, is_without, name_within, node_passes};
-ghost use Rattle.dom_select.specs.Parts.{asked_passes, data_passes};
+ghost use Rattle.dom_select.specs.Parts.{comparison_passes, data_passes};
 ghost use Rattle.dom_selectors.specs.Spelling.{Decides};
 
 use crate::matcher::caches::SelectorCaches;
@@ -20,21 +20,16 @@ use dom_nodes::node_id::NodeId;
 use dom_selectors::comparisons::passes;
 use dom_selectors::selector_name::SelectorName;
 use dom_selectors::syntax::{Attribute, Comparison, Part};
+use dom_trees::node_ref::NodeRef;
 use dom_trees::tree::Tree;
 
 /// Whether the number is a node's of which each part holds.
-pub(crate) fn parts_hold(
-    parts: &[Part],
-    tree: &Tree,
-    caches: &mut SelectorCaches<'_>,
-    id: &NodeId,
-) -> bool
-    requires { caches.old ≡ tree.now }
-    ensures is { Decides result (PartsHold parts.now tree.now id.now) }
-    ensures kept { caches.new ≡ tree.now }
+pub(crate) fn parts_hold(parts: &[Part], caches: &mut SelectorCaches<'_>, id: &NodeId) -> bool
+    ensures is { Decides result (PartsHold parts.now caches.old id.now) }
+    ensures kept { caches.new ≡ caches.old }
 {
-    match tree.get(id) {
-        Some(found) => each_holds(parts, tree, caches, id, &found.content),
+    match caches.tree().tree_node(id) {
+        Some(found) => each_holds(parts, caches, id, &found.content),
         None => false,
     }
 }
@@ -50,29 +45,23 @@ pub(crate) fn is_named_node(node: &NodeData, name: &SelectorName) -> bool
     }
 }
 
-pub(crate) fn is_element(tree: &Tree, id: &NodeId) -> bool
+pub(crate) fn element_at(tree: &Tree, id: &NodeId) -> bool
     ensures { result ≡ element_at tree.now id.now }
 {
-    let Some(node) = tree.get(id) else {
+    let Some(node) = tree.tree_node(id) else {
         return false;
     };
     node.content.as_element().is_some()
 }
 
-fn each_holds(
-    parts: &[Part],
-    tree: &Tree,
-    caches: &mut SelectorCaches<'_>,
-    id: &NodeId,
-    node: &NodeData,
-) -> bool
-    requires node { slice_get tree.now.content id.now ≡ Some node.now }
-    requires kept { caches.old ≡ tree.now }
-    ensures is { IsTrue result ↔ EachHolds parts.now tree.now id.now }
-    ensures kept { caches.new ≡ tree.now }
+/// Whether each part holds of the node, which is the tree's of that number.
+fn each_holds(parts: &[Part], caches: &mut SelectorCaches<'_>, id: &NodeId, node: &NodeData) -> bool
+    requires { slice_get caches.old.content id.now ≡ Some node.now }
+    ensures is { IsTrue result ↔ EachHolds parts.now caches.old id.now }
+    ensures kept { caches.new ≡ caches.old }
 {
     for part in parts {
-        if !part_holds(part, tree, caches, id, node) {
+        if !part_holds(part, caches, id, node) {
             return false;
         }
     }
@@ -80,24 +69,19 @@ fn each_holds(
 }
 
 /// Whether the part holds of the node, which is the tree's of that number.
-fn part_holds(
-    part: &Part,
-    tree: &Tree,
-    caches: &mut SelectorCaches<'_>,
-    id: &NodeId,
-    node: &NodeData,
-) -> bool
-    requires node { slice_get tree.now.content id.now ≡ Some node.now }
-    requires kept { caches.old ≡ tree.now }
-    ensures is { IsTrue result ↔ PartHolds part.now tree.now id.now }
-    ensures kept { caches.new ≡ tree.now }
+fn part_holds(part: &Part, caches: &mut SelectorCaches<'_>, id: &NodeId, node: &NodeData) -> bool
+    requires { slice_get caches.old.content id.now ≡ Some node.now }
+    ensures is { IsTrue result ↔ PartHolds part.now caches.old id.now }
+    ensures kept { caches.new ≡ caches.old }
 {
+    let tree = caches.tree();
     match part {
         Part::Position(position) => has_position(*position, caches, id),
         Part::Empty => is_empty(tree, id),
         Part::OnlyText => is_only_text(tree, id),
         Part::HasText(text) => has_text(tree, id, text.as_str()),
         Part::Contains(text) => contains_joined(tree, id, text.as_str()),
+        Part::Root => NodeRef::new(*id, tree).is_root(),
         _ => node_passes(part, node),
     }
 }
@@ -106,7 +90,7 @@ fn part_holds(
 pub(crate) fn data_passes(part: &Part, tree: &Tree, id: &NodeId) -> bool
     ensures { result ≡ data_passes part.now tree.now id.now }
 {
-    let Some(found) = tree.get(id) else {
+    let Some(found) = tree.tree_node(id) else {
         return false;
     };
     node_passes(part, &found.content)
@@ -117,7 +101,6 @@ fn node_passes(part: &Part, node: &NodeData) -> bool
 {
     match part {
         Part::Universal => true,
-        Part::Root => matches!(node, NodeData::Document),
         _ => match node {
             NodeData::Element(element) => element_passes(part, element),
             _ => false,
@@ -156,7 +139,7 @@ fn is_named(ns: &Namespace, local: &LocalName, name: &SelectorName) -> bool
     }
 }
 
-/// Whether the names are the same. Known ones, which most are, are told at once.
+/// Whether the names are the same. Known ones, which most are, are compared by number.
 #[inline(always)]
 fn is_folded(local: &LocalName, folded: &LocalName) -> bool
     ensures { result ≡ bytes_eq local.now folded.now }
@@ -219,7 +202,7 @@ fn attr_passes(ns: &Namespace, asked: &Attribute, attr: &Attr) -> bool
     if !is_named(ns, &attr.name.local, &asked.name) {
         return false;
     }
-    asked_passes(&asked.comparison, attr.value.as_str())
+    comparison_passes(&asked.comparison, attr.value.as_str())
 }
 
 fn is_without(ns: &Namespace) -> bool
@@ -228,8 +211,8 @@ fn is_without(ns: &Namespace) -> bool
     matches!(ns, Namespace::None)
 }
 
-fn asked_passes(comparison: &Option<Comparison>, value: &str) -> bool
-    ensures { result ≡ asked_passes comparison.now value.now }
+fn comparison_passes(comparison: &Option<Comparison>, value: &str) -> bool
+    ensures { result ≡ comparison_passes comparison.now value.now }
 {
     match comparison {
         Some(comparison) => passes(comparison, value),

@@ -1,17 +1,19 @@
 //! What a selector means below several nodes, each node once.
 
-ghost use Rattle.std.specs.Prelude.{◌≡◌, ◌∷◌, [], ℕ, Bool, List, length, false, true, slice_set};
-ghost use Rattle.std.specs.Prelude.{◌-◌, ◌^◌, slice_index_or, IfOk, IfSome, IsSome};
+ghost use Rattle.std.specs.Prelude.{◌≡◌, ◌∷◌, [], ℕ, Bool, List, length, map, false, true};
+ghost use Rattle.std.specs.Prelude.{◌-◌, ◌^◌, slice_index_or, slice_set, IfOk, IfSome, IsSome};
 ghost use Rattle.std.specs.Prelude.{MatchBool, MatchOption};
 ghost use Rattle.std.specs.Iterator.{YieldsFirst, at_most, item_count};
 ghost use Rattle.dom_links.specs.Laws.{AreTrees};
 ghost use Rattle.dom_select.specs.Descendants.{GivesMatch, ToCome};
 ghost use Rattle.dom_select.specs.Marks.{has_mark, left_in};
+ghost use Rattle.dom_select.specs.Roots.{root_ids};
 ghost use Rattle.dom_select.specs.Selected.{Selected, walks_below};
 
 use crate::matcher::Matcher;
 use crate::matcher::caches::SelectorCaches;
-use crate::matcher::descendants::{is_selected_with, pick_within, select_below_within};
+use crate::matcher::descendants::{collect_within, is_selected_with, select_below_within};
+use crate::matcher::roots::{Roots, take_first};
 use dom_links::iters::DescendantNodes;
 use dom_links::laws::trees_of_a_forest;
 use dom_nodes::fault::OutOfMemory;
@@ -25,7 +27,7 @@ use std::marker::Model;
 struct Walks<'a, 'r> {
     tree: &'a Tree,
     walk: Option<DescendantNodes<'a>>,
-    roots: &'r [NodeId],
+    roots: Roots<'a, 'r>,
 }
 
 impl<'a, 'r> Model for Walks<'a, 'r> {
@@ -33,10 +35,12 @@ impl<'a, 'r> Model for Walks<'a, 'r> {
     ghost use Rattle.std.specs.List.{flat_map};
     ghost use Rattle.dom_links.specs.Trees.{walk_below};
     ghost use Rattle.dom_select.specs.Marks.{left_in};
+    ghost use Rattle.dom_select.specs.Roots.{root_ids};
 
     ghost Value = { List ℕ };
 
-    ghost view = { λ it. left_in it.walk ++ flat_map (walk_below it.tree.now) it.roots.now };
+    ghost view = { λ it. left_in it.walk
+        ++ flat_map (walk_below it.tree.now) (root_ids it.roots) };
 }
 
 impl<'a, 'r> Iterator for Walks<'a, 'r> {
@@ -51,9 +55,8 @@ impl<'a, 'r> Iterator for Walks<'a, 'r> {
             if let Some(id) = next_in(&mut self.walk) {
                 return Some(id);
             }
-            let (root, roots) = self.roots.split_first()?;
-            self.walk = Some(self.tree.descendant_ids_of_it(root));
-            self.roots = roots;
+            let root = take_first(&mut self.roots)?;
+            self.walk = Some(self.tree.descendant_ids_of_it(&root));
         }
     }
 }
@@ -71,12 +74,12 @@ fn next_in(walk: &mut Option<DescendantNodes<'_>>) -> Option<NodeId>
 
 /// The nodes below some nodes, each once, where it is met first.
 #[derive(Drop)]
-struct FirstMet<'a, 'r> {
+struct FirstOccurrences<'a, 'r> {
     walks: Walks<'a, 'r>,
     marks: Vec<bool>,
 }
 
-impl<'a, 'r> Model for FirstMet<'a, 'r> {
+impl<'a, 'r> Model for FirstOccurrences<'a, 'r> {
     ghost use Rattle.std.specs.Prelude.{ℕ, List};
     ghost use Rattle.dom_select.specs.Marks.{first_unmarked};
 
@@ -85,7 +88,7 @@ impl<'a, 'r> Model for FirstMet<'a, 'r> {
     ghost view = { λ it. first_unmarked it.marks.items it.walks };
 }
 
-impl<'a, 'r> Iterator for FirstMet<'a, 'r> {
+impl<'a, 'r> Iterator for FirstOccurrences<'a, 'r> {
     type Item = NodeId;
 
     ghost next_gives = { YieldsFirst (λ rest. rest) };
@@ -125,7 +128,7 @@ fn mark(marks: &mut Vec<bool>, id: NodeId) -> bool
 /// isn't refused.
 #[derive(Drop)]
 pub struct Matches<'a, 'b, 'r> {
-    ids: FirstMet<'a, 'r>,
+    ids: FirstOccurrences<'a, 'r>,
     tree: &'a Tree,
     caches: SelectorCaches<'a>,
     matcher: &'b Matcher,
@@ -162,8 +165,41 @@ impl<'a, 'b, 'r> Matches<'a, 'b, 'r> {
             (λ it. (ids : List ℕ) → ToCome it ids
             → Selected tree.entry.now roots.entry.now matcher.now ids) }
     {
+        Matches::below(tree, Roots::Numbers(roots), matcher)
+    }
+
+    /// The same below these nodes, each taken for the node of its number in the tree.
+    pub fn below_nodes(
+        tree: &'a Tree,
+        nodes: &'r [NodeRef<'a>],
+        matcher: &'b Matcher,
+    ) -> Result<Matches<'a, 'b, 'r>, OutOfMemory>
+        ensures all { IfOk result (λ it.
+            it.left ≡ walks_below tree.entry.now (map (λ node. node.id) nodes.entry.now)) }
+        ensures tree { IfOk result (λ it. it.tree ≡ tree.entry) }
+        ensures selector { IfOk result (λ it. it.selector ≡ matcher.now) }
+        ensures selected { IfOk result
+            (λ it. (ids : List ℕ) → ToCome it ids
+            → Selected tree.entry.now (map (λ node. node.id) nodes.entry.now) matcher.now ids) }
+    {
+        Matches::below(tree, Roots::Nodes(nodes), matcher)
+    }
+
+    fn below(
+        tree: &'a Tree,
+        roots: Roots<'a, 'r>,
+        matcher: &'b Matcher,
+    ) -> Result<Matches<'a, 'b, 'r>, OutOfMemory>
+        ensures all { IfOk result
+            (λ it. it.left ≡ walks_below tree.entry.now (root_ids roots.entry)) }
+        ensures tree { IfOk result (λ it. it.tree ≡ tree.entry) }
+        ensures selector { IfOk result (λ it. it.selector ≡ matcher.now) }
+        ensures selected { IfOk result
+            (λ it. (ids : List ℕ) → ToCome it ids
+            → Selected tree.entry.now (root_ids roots.entry) matcher.now ids) }
+    {
         Ok(Matches {
-            ids: first_met(tree, roots)?,
+            ids: first_occurrences(tree, roots)?,
             tree,
             caches: SelectorCaches::late(tree),
             matcher,
@@ -171,8 +207,8 @@ impl<'a, 'b, 'r> Matches<'a, 'b, 'r> {
     }
 }
 
-/// Tells how the walks of the tree go. It does nothing.
-fn know_trees(tree: &Tree)
+/// States how preorder walks of the tree go. It does nothing.
+fn tree_laws(tree: &Tree)
     ensures { AreTrees tree.now }
 {
     let _nodes = tree.nodes();
@@ -205,7 +241,7 @@ pub fn select_below_all(
     ensures { IfOk result (λ ids. Selected tree.now roots.now matcher.now ids.items) }
 {
     match select_all_within(tree, roots, matcher, u64::MAX)? {
-        Some(picked) => Ok(picked),
+        Some(matched) => Ok(matched),
         None => unreachable!(),
     }
 }
@@ -239,19 +275,23 @@ fn select_all_within(
         (λ ids. Selected tree.now roots.now matcher.now ids.items)) }
     ensures no_limit { steps ≡ 2 ^ 64 - 1 → IfOk result (λ found. IsSome found) }
 {
-    pick_within(tree, first_met(tree, roots)?, matcher, steps)
+    let ids = first_occurrences(tree, Roots::Numbers(roots))?;
+    collect_within(tree, ids, matcher, steps)
 }
 
 /// The nodes below the roots, each once, in the order of the walks.
-fn first_met<'a, 'r>(tree: &'a Tree, roots: &'r [NodeId]) -> Result<FirstMet<'a, 'r>, OutOfMemory>
-    ensures { IfOk result (λ ids. ids ≡ walks_below tree.entry.now roots.entry.now) }
+fn first_occurrences<'a, 'r>(
+    tree: &'a Tree,
+    roots: Roots<'a, 'r>,
+) -> Result<FirstOccurrences<'a, 'r>, OutOfMemory>
+    ensures { IfOk result (λ ids. ids ≡ walks_below tree.entry.now (root_ids roots.entry)) }
 {
-    know_trees(tree);
+    tree_laws(tree);
     let marks = vec![in tree.allocator(); false; tree.len()]?;
     let walks = Walks {
         tree,
         walk: None,
         roots,
     };
-    Ok(FirstMet { walks, marks })
+    Ok(FirstOccurrences { walks, marks })
 }

@@ -5,7 +5,7 @@ ghost use Rattle.dom_links.specs.ListMoves.{element_at};
 ghost use Rattle.dom_select.specs.Texts.{contains_at, empty_at, filled_at, has_text_at};
 ghost use Rattle.dom_select.specs.Texts.{only_text_at, text_contains};
 
-use crate::matcher::parts::is_element;
+use crate::matcher::parts::element_at;
 use dom_nodes::case_sensitivity::CaseSensitivity;
 use dom_nodes::node_data::NodeData;
 use dom_nodes::node_id::NodeId;
@@ -19,10 +19,10 @@ fn is_filled(tree: &Tree, id: &NodeId) -> bool
     NodeRef::new(*id, tree).is_nonempty_text()
 }
 
-fn is_passed_over(tree: &Tree, id: &NodeId) -> bool
+fn is_ignorable(tree: &Tree, id: &NodeId) -> bool
     ensures { result ≡ not (element_at tree.now id.now || filled_at tree.now id.now) }
 {
-    if is_element(tree, id) {
+    if element_at(tree, id) {
         return false;
     }
     !is_filled(tree, id)
@@ -33,11 +33,11 @@ fn is_passed_over(tree: &Tree, id: &NodeId) -> bool
 pub(crate) fn is_empty(tree: &Tree, id: &NodeId) -> bool
     ensures { result ≡ empty_at tree.now id.now }
 {
-    if !is_element(tree, id) {
+    if !element_at(tree, id) {
         return false;
     }
     for child in tree.child_ids_of_it(id, false) {
-        if !is_passed_over(tree, &child) {
+        if !is_ignorable(tree, &child) {
             return false;
         }
     }
@@ -62,7 +62,7 @@ pub(crate) fn is_only_text(tree: &Tree, id: &NodeId) -> bool
 fn contains(tree: &Tree, id: &NodeId, inner: &str) -> bool
     ensures { result ≡ contains_at tree.now inner.now id.now }
 {
-    match tree.get(id) {
+    match tree.tree_node(id) {
         Some(found) => text_contains(&found.content, inner),
         None => false,
     }

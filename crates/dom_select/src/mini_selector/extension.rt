@@ -3,12 +3,12 @@
 ghost use Rattle.std.specs.Prelude.{◌≡◌, ◌⊎◌, [], IfOk, MatchBool, MatchResult};
 ghost use Rattle.dom_trees.specs.Views.{refs_to};
 ghost use Rattle.dom_selectors.specs.MiniGrammar.{IsBadPath, RefusesPath};
-ghost use Rattle.dom_select.specs.MiniPaths.{AreRefsFound, IsMet, found_by_names};
+ghost use Rattle.dom_select.specs.MiniPaths.{AreRefsByNames, AreRefsFound, MiniTextHolds};
 ghost use Rattle.dom_selectors.specs.MiniSyntax.{texts_of};
 ghost use Rattle.dom_select.specs.MiniNodes.{mini_holds};
 
 use crate::matcher::MatchNode;
-use crate::mini_selector::steps::{follow_names, follow_path};
+use crate::mini_selector::search::{follow_names, follow_path};
 use dom_nodes::fault::OutOfMemory;
 use dom_nodes::node_id::NodeId;
 use dom_selectors::mini_selector::fault::MiniFault;
@@ -19,15 +19,16 @@ use dom_trees::tree::Tree;
 
 /// A node that mini selectors, and paths of them or of names, are asked of.
 pub trait MiniSelect<'a> {
-    /// The nodes that names find, each below the one before. No name finds the node itself, and
-    /// nothing where it is unknown.
+    /// The nodes that names lead to, each of a descendant of the one before: each node once, in
+    /// document order. No name leads to the node itself, and to nothing where it is unknown.
     fn find(&self, path: &[&str]) -> Result<Vec<NodeRef<'a>>, OutOfMemory>;
 
-    /// The nodes that the path finds. One of which nothing can be read finds the node itself, and
-    /// nothing where it is unknown; one with a bad value in quotes finds nothing.
+    /// The nodes that the path leads to, each once, in document order. One of which nothing can be
+    /// read leads to the node itself, and to nothing where it is unknown; one with a bad value in
+    /// quotes leads to nothing.
     fn find_descendants(&self, path: &str) -> Result<Vec<NodeRef<'a>>, OutOfMemory>;
 
-    /// The nodes that the path finds; `BadQuotedValue` where one of its values begins with a quote
+    /// The nodes that the path leads to; `BadQuotedValue` where one of its values begins with a quote
     /// and is empty, or isn't closed by that quote.
     fn try_find_descendants(&self, path: &str) -> Result<Vec<NodeRef<'a>>, MiniFault>;
 
@@ -51,7 +52,7 @@ impl MatchNode for MiniSelector<'_> {
     fn match_node(&self, node: &NodeRef<'_>) -> bool
         ensures { result ≡ mini_holds self.now node.now.tree.now node.now.id }
     {
-        match node.tree.get(&node.id) {
+        match node.tree.tree_node(&node.id) {
             Some(found) => self.match_data(&found.content),
             None => false,
         }
@@ -61,8 +62,7 @@ impl MatchNode for MiniSelector<'_> {
 impl<'a> MiniSelect<'a> for NodeRef<'a> {
     fn find(&self, path: &[&str]) -> Result<Vec<NodeRef<'a>>, OutOfMemory>
         ensures { IfOk result
-            (λ found. found.items ≡ refs_to self.now.tree
-            (found_by_names self.now.tree.now (texts_of path.now) self.now.id)) }
+            (λ found. AreRefsByNames (texts_of path.now) self.now.tree self.now.id found.items) }
     {
         let tree = self.tree;
         let ids = follow_names(tree.allocator(), tree.nodes(), self.id, path)?;
@@ -95,8 +95,8 @@ impl<'a> MiniSelect<'a> for NodeRef<'a> {
 
     fn mini_is(&self, selector: &str) -> Result<bool, OutOfMemory>
         ensures { IfOk result
-            (λ answer. MatchBool answer (IsMet selector.now self.now.tree.now self.now.id)
-            (IsMet selector.now self.now.tree.now self.now.id → ⊥)) }
+            (λ answer. MatchBool answer (MiniTextHolds selector.now self.now.tree.now self.now.id)
+            (MiniTextHolds selector.now self.now.tree.now self.now.id → ⊥)) }
     {
         match MiniSelector::new(self.tree.allocator(), selector) {
             Ok(mini) => Ok(mini.match_node(self)),

@@ -1,4 +1,4 @@
-//! Selectors that a selection's nodes are asked for.
+//! Whether a selection's nodes match a selector, and those that do.
 
 ghost use Rattle.std.specs.Prelude.{◌≡◌, ◌≢◌, [], None, Ok, Some, chars};
 ghost use Rattle.std.specs.Prelude.{IfErr, IfOk, MatchBool, MatchOption};
@@ -15,7 +15,7 @@ use dom_selectors::fault::SelectorFault;
 use dom_trees::node_ref::NodeRef;
 use std::alloc::Global;
 
-/// What the text stands for; None where it stands for nothing.
+/// The matcher of the text; None where the text is outside the grammar.
 pub(crate) fn matcher_of(alloc: Global, text: &str) -> Result<Option<Matcher>, OutOfMemory>
     ensures { IfOk result (λ found. MatchOption found (StandsForNothing (chars text.now))
         (StandsFor (chars text.now))) }
@@ -26,7 +26,7 @@ pub(crate) fn matcher_of(alloc: Global, text: &str) -> Result<Option<Matcher>, O
     }
 }
 
-/// What a text outside the grammar gives; it gives it only if memory wasn't refused.
+/// None for a text outside the grammar, unless memory was refused.
 fn no_matcher(fault: SelectorFault) -> Result<Option<Matcher>, OutOfMemory>
     ensures { IfOk result (λ found. (found ≡ None) × (fault ≡ Memory → ⊥)) }
 {
@@ -37,7 +37,7 @@ fn no_matcher(fault: SelectorFault) -> Result<Option<Matcher>, OutOfMemory>
 }
 
 impl<'a> Selection<'a> {
-    /// Whether one of the matcher's selectors means some node, of whichever kind. It takes no
+    /// Whether some node, of whichever kind, matches one of the matcher's selectors. It takes no
     /// memory.
     pub fn is_matcher(&self, matcher: &Matcher) -> bool
         ensures { Decides result (MeansSome matcher.now self.now) }
@@ -50,8 +50,8 @@ impl<'a> Selection<'a> {
         false
     }
 
-    /// Whether one of the selectors in the text means some node, of whichever kind; false where the
-    /// text is outside the grammar.
+    /// Whether some node, of whichever kind, matches one of the selectors in the text; false where
+    /// the text is outside the grammar.
     pub fn is(&self, selectors: &str) -> Result<bool, OutOfMemory>
         ensures { IfOk result (λ answer. MatchBool answer
             (ByText selectors.now (λ list. MeansSome list self.now))
@@ -63,7 +63,7 @@ impl<'a> Selection<'a> {
         }
     }
 
-    /// Those of the nodes, of whichever kind, that one of the matcher's selectors means.
+    /// The nodes, of whichever kind, that match one of the matcher's selectors.
     pub fn filter_matcher(&self, matcher: &Matcher) -> Result<Selection<'a>, OutOfMemory>
         ensures { IfOk result (Keeps matcher.now self.now) }
     {
@@ -78,8 +78,8 @@ impl<'a> Selection<'a> {
         Ok(Selection::of_one_tree(kept))
     }
 
-    /// Those of the nodes, of whichever kind, that one of the selectors in the text means. Refused
-    /// as `Matcher::new` refuses the text; that of an empty selection isn't read.
+    /// The nodes, of whichever kind, that match one of the selectors in the text. Refused as
+    /// `Matcher::new` refuses the text; that of an empty selection isn't read.
     pub fn filter(&self, selectors: &str) -> Result<Selection<'a>, SelectorFault>
         ensures none { self.now ≡ [] → result ≡ Ok [] }
         ensures ok { IfOk result (λ kept. self.now ≢ [] →

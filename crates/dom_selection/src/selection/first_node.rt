@@ -1,4 +1,5 @@
-//! What the first node of a selection tells; nothing, false or the default where there is none.
+//! The attributes and HTML of a selection's first node; nothing, false or the default where there
+//! is none.
 
 ghost use Rattle.std.specs.Prelude.{◌≡◌, [], None, codes, false, is_some, string_bytes, unwrap_or};
 ghost use Rattle.std.specs.Prelude.{IfOk, MatchOption};

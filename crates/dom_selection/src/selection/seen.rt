@@ -1,4 +1,4 @@
-//! The numbers of nodes that were seen.
+//! Sets of node numbers.
 
 ghost use Rattle.std.specs.Prelude.{◌≡◌, ◌∷◌, [], not, IfOk, OnOk};
 ghost use Rattle.dom_links.specs.Lists.{stands_in};
@@ -12,7 +12,7 @@ use std::alloc::Global;
 use std::collections::BTreeSet;
 use std::marker::Model;
 
-/// The numbers that were seen. What it costs goes by how many they are, and not by the tree.
+/// A set of node numbers. Its cost goes by their count, and not by the tree.
 #[derive(Drop)]
 pub(crate) struct Seen {
     numbers: BTreeSet<usize>,
@@ -27,7 +27,7 @@ impl Model for Seen {
 }
 
 impl Seen {
-    /// None were seen.
+    /// The empty set.
     pub(crate) fn new(alloc: Global) -> Seen
         ensures { result ≡ [] }
     {
@@ -36,14 +36,14 @@ impl Seen {
         }
     }
 
-    /// Whether the number was seen.
+    /// Whether the number is in the set.
     pub(crate) fn has(&self, id: NodeId) -> bool
         ensures { result ≡ stands_in id self.now }
     {
         self.numbers.contains(&id.value())
     }
 
-    /// Notes the number, and tells whether it wasn't seen before.
+    /// Adds the number. Whether it wasn't there before.
     pub(crate) fn note(&mut self, id: NodeId) -> Result<bool, OutOfMemory>
         ensures new { IfOk result (λ new. new ≡ not (stands_in id self.old)) }
         ensures noted { OnOk result (HaveSame (id ∷ self.old) self.new) }
@@ -51,7 +51,7 @@ impl Seen {
         Ok(self.numbers.insert(id.value())?)
     }
 
-    /// The numbers of the nodes were seen.
+    /// The numbers of the nodes.
     pub(crate) fn of(alloc: Global, nodes: &[NodeRef<'_>]) -> Result<Seen, OutOfMemory>
         ensures { IfOk result (HaveSame (ids_of nodes.now)) }
     {

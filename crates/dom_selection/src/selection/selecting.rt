@@ -1,9 +1,10 @@
-//! What selectors select below a selection's nodes.
+//! The elements that selectors select below a selection's nodes.
 
 ghost use Rattle.std.specs.Prelude.{◌≡◌, ◌≢◌, [], Ok, Some, chars, IfErr, IfOk, MatchOption};
 ghost use Rattle.dom_selectors.specs.Grammar.{Refused};
 ghost use Rattle.dom_selection.specs.Selecting.{Adds, ByText, Selects, SelectsFirst};
-ghost use Rattle.dom_selection.specs.Selecting.{SelectsNothing, StandsForNothing};
+ghost use Rattle.dom_selection.specs.Selecting.{SelectsNothing, StandsForNothing, WillSelect};
+ghost use Rattle.dom_select.specs.MatcherIters.{matches_of};
 
 use crate::selection::Selection;
 use crate::selection::asking::matcher_of;
@@ -14,9 +15,9 @@ use dom_select::matcher::matcher_iter::MatcherIter;
 use dom_selectors::fault::SelectorFault;
 
 impl<'a> Selection<'a> {
-    /// The elements below the nodes that one of the matcher's selectors means, each once, in the
-    /// order of the walks. Nodes are asked one by one, or an index of the tree is made where that
-    /// takes less.
+    /// The elements below the nodes that match one of the matcher's selectors, each once, in the
+    /// order of the traversals. Each candidate is tested, or an index of the tree is made where
+    /// that takes less.
     pub fn select_matcher(&self, matcher: &Matcher) -> Result<Selection<'a>, OutOfMemory>
         ensures { IfOk result (Selects matcher.now self.now) }
     {
@@ -28,8 +29,24 @@ impl<'a> Selection<'a> {
         Ok(Selection::of_one_tree(found))
     }
 
-    /// The elements below the nodes that one of the selectors in the text means, each once, in the
-    /// order of the walks. Refused as `Matcher::new` refuses the text.
+    /// The same, found one by one; None where there are no nodes, which have no tree. It borrows
+    /// the nodes, and takes memory for two and more.
+    pub fn select_matcher_iter<'s, 'b>(
+        &'s self,
+        matcher: &'b Matcher,
+    ) -> Result<Option<MatcherIter<'a, 'b, 's>>, OutOfMemory>
+        ensures { IfOk result (λ matches. MatchOption matches (self.now ≡ [])
+            (λ it. WillSelect matcher.now self.now (matches_of it))) }
+    {
+        let Some(tree) = self.tree() else {
+            return Ok(None);
+        };
+        let matches = MatcherIter::below_nodes(tree, self.nodes(), matcher)?;
+        Ok(Some(matches))
+    }
+
+    /// The elements below the nodes that match one of the selectors in the text, each once, in the
+    /// order of the traversals. Refused as `Matcher::new` refuses the text.
     pub fn select(&self, selectors: &str) -> Result<Selection<'a>, SelectorFault>
         ensures ok { IfOk result (λ found.
             ByText selectors.now (λ list. Selects list self.now found)) }
@@ -66,22 +83,22 @@ impl<'a> Selection<'a> {
         Ok(Some(found))
     }
 
-    /// The first of what `select_matcher` gives, alone; none of none. Nothing is asked behind it.
+    /// The first of what `select_matcher` returns, alone; none of none. No candidate after it is
+    /// tested.
     pub fn select_single_matcher(&self, matcher: &Matcher) -> Result<Selection<'a>, OutOfMemory>
         ensures { IfOk result (SelectsFirst matcher.now self.now) }
     {
         let Some(tree) = self.tree() else {
             return Ok(Selection::new(self.allocator()));
         };
-        let roots = self.ids()?;
-        let mut matches = MatcherIter::new(tree, &roots, matcher)?;
+        let mut matches = MatcherIter::below_nodes(tree, self.nodes(), matcher)?;
         match matches.next() {
             Some(node) => Ok(Selection::from(node)),
             None => Ok(Selection::new(self.allocator())),
         }
     }
 
-    /// The first of what `select` gives, alone; none of none.
+    /// The first of what `select` returns, alone; none of none.
     pub fn select_single(&self, selectors: &str) -> Result<Selection<'a>, SelectorFault>
         ensures ok { IfOk result (λ found.
             ByText selectors.now (λ list. SelectsFirst list self.now found)) }

@@ -1,23 +1,50 @@
 //! Selections as sets: what two of them share, and both together.
 
 ghost use Rattle.std.specs.Prelude.{◌≡◌, ◌++◌, ◌∷◌, [], IfOk, OnOk};
+ghost use Rattle.std.specs.List.{list_any};
 ghost use Rattle.dom_links.specs.Lists.{stands_in, without};
 ghost use Rattle.dom_trees.specs.Views.{refs_to};
 ghost use Rattle.dom_selection.specs.Selections.{HasOneTree, Lists, added, common};
-ghost use Rattle.dom_selection.specs.Selections.{have_common, ids_of};
+ghost use Rattle.dom_selection.specs.Selections.{has_number, have_common, ids_of};
 
 use crate::selection::seen::Seen;
 use crate::selection::{Selection, copies_of, push_if};
 use dom_nodes::fault::OutOfMemory;
+use dom_nodes::node_id::NodeId;
 use dom_trees::node_ref::NodeRef;
 
+/// Whether the number is that of one of the nodes.
+fn stands_in(id: NodeId, nodes: &[NodeRef<'_>]) -> bool
+    ensures { result ≡ stands_in id (ids_of nodes.now) }
+{
+    some_has(nodes, id)
+}
+
+fn some_has(nodes: &[NodeRef<'_>], id: NodeId) -> bool
+    ensures { result ≡ list_any (has_number id) nodes.now }
+{
+    nodes.iter().any(|node| has_number(node, id))
+}
+
+fn has_number(node: &NodeRef<'_>, id: NodeId) -> bool
+    ensures { result ≡ has_number id node.now }
+{
+    node.id == id
+}
+
 impl<'a> Selection<'a> {
-    /// Whether some number stands in both selections.
-    pub fn is_selection(&self, other: &Selection<'_>) -> Result<bool, OutOfMemory>
-        ensures { IfOk result (λ answer. answer ≡ have_common self.now other.now) }
+    /// Whether some number stands in both selections. Where memory is refused, the numbers are
+    /// compared one by one.
+    pub fn is_selection(&self, other: &Selection<'_>) -> bool
+        ensures { result ≡ have_common self.now other.now }
     {
-        let theirs = Seen::of(self.allocator(), other.nodes())?;
-        Ok(self.nodes().iter().any(|node| theirs.has(node.id)))
+        match Seen::of(self.allocator(), other.nodes()) {
+            Ok(theirs) => self.nodes().iter().any(|node| theirs.has(node.id)),
+            Err(_) => self
+                .nodes()
+                .iter()
+                .any(|node| stands_in(node.id, other.nodes())),
+        }
     }
 
     /// The nodes whose numbers stand in the other selection too; all of them where that is empty.

@@ -5,7 +5,7 @@ ghost use Rattle.dom_nodes.specs.Ascii.{right_bracket};
 ghost use Rattle.dom_selectors.specs.Characters.{begins};
 ghost use Rattle.dom_selectors.specs.MiniGrammar.{IsBadAttr, IsBadTest, IsPlainlyNone, Maybe};
 ghost use Rattle.dom_selectors.specs.MiniGrammar.{MeetsBad, SpellsAttr, SpellsAttrs, SpellsBare};
-ghost use Rattle.dom_selectors.specs.MiniGrammar.{SpellsQuoted, SpellsTest, TellsBad};
+ghost use Rattle.dom_selectors.specs.MiniGrammar.{SpellsQuoted, SpellsTest, ReportsBad};
 ghost use Rattle.dom_selectors.specs.MiniSyntax.{asked_of, shown_test};
 ghost use Rattle.dom_selectors.specs.Spelling.{SpellsNone};
 ghost use Rattle.dom_selectors.specs.Strings.{is_quote};
@@ -80,7 +80,7 @@ fn take_test(text: &str) -> Result<Option<(Test<'_>, &str)>, MiniFault>
     ensures { MatchResult result
         (λ found. MatchOption found (IsPlainlyNone SpellsTest IsBadTest text.now)
         (λ p. SpellsTest (shown_test p.0) text.now p.1.now))
-        (λ fault. TellsBad fault (IsBadTest text.now)) }
+        (λ fault. ReportsBad fault (IsBadTest text.now)) }
 {
     let Some((operator, after)) = take_operator(after_blanks(text)) else {
         return Ok(None);
@@ -103,7 +103,7 @@ fn take_attr(text: &str) -> Result<Option<(MiniAttr<'_>, &str)>, MiniFault>
     ensures { MatchResult result
         (λ found. MatchOption found (IsPlainlyNone SpellsAttr IsBadAttr text.now)
         (λ p. SpellsAttr (asked_of p.0) text.now p.1.now))
-        (λ fault. TellsBad fault (IsBadAttr text.now)) }
+        (λ fault. ReportsBad fault (IsBadAttr text.now)) }
 {
     let Some(inside) = strip(text, '[') else {
         return Ok(None);
@@ -127,7 +127,7 @@ fn take_attr(text: &str) -> Result<Option<(MiniAttr<'_>, &str)>, MiniFault>
 /// The attributes at the front, and what follows them.
 pub(crate) fn take_attrs(alloc: Global, text: &str) -> Result<(Vec<MiniAttr<'_>>, &str), MiniFault>
     ensures { MatchResult result (λ p. SpellsAttrs (map asked_of p.0.items) text.now p.1.now)
-        (λ fault. TellsBad fault (MeetsBad SpellsAttr IsBadAttr text.now)) }
+        (λ fault. ReportsBad fault (MeetsBad SpellsAttr IsBadAttr text.now)) }
 {
     let mut attrs = Vec::new(alloc);
     let mut rest = text;

@@ -5,7 +5,7 @@ ghost use Rattle.std.specs.Option.{option_copied};
 ghost use Rattle.dom_selectors.specs.MiniGrammar.{IsBadStep, IsPlainlyNone, Maybe, RefusesMini};
 ghost use Rattle.dom_selectors.specs.MiniGrammar.{RefusesPath, SpellsClasses, SpellsId, SpellsLead};
 ghost use Rattle.dom_selectors.specs.MiniGrammar.{SpellsMini, SpellsPath, SpellsStep, SpellsWord};
-ghost use Rattle.dom_selectors.specs.MiniGrammar.{TellsBad};
+ghost use Rattle.dom_selectors.specs.MiniGrammar.{ReportsBad};
 ghost use Rattle.dom_selectors.specs.MiniSyntax.{texts_of};
 
 use crate::mini_selector::attributes::take_attrs;
@@ -48,7 +48,7 @@ fn maybe_id(text: &str) -> (Option<&str>, &str)
 /// The classes at the front, and what follows them.
 fn take_classes(alloc: Global, text: &str) -> Result<(Vec<&str>, &str), MiniFault>
     ensures { MatchResult result (λ p. SpellsClasses (texts_of p.0.items) text.now p.1.now)
-        (λ fault. TellsBad fault ⊥) }
+        (λ fault. ReportsBad fault ⊥) }
 {
     let mut classes = Vec::new(alloc);
     let mut rest = text;
@@ -89,7 +89,7 @@ fn take_step(alloc: Global, text: &str) -> Result<Option<(MiniSelector<'_>, &str
     ensures { MatchResult result
         (λ found. MatchOption found (IsPlainlyNone SpellsStep IsBadStep text.now)
         (λ p. SpellsStep p.0 text.now p.1.now))
-        (λ fault. TellsBad fault (IsBadStep text.now)) }
+        (λ fault. ReportsBad fault (IsBadStep text.now)) }
 {
     match parse_mini_selector(alloc, after_blanks(text)) {
         Ok((rest, mini)) => Ok(Some((mini, after_blanks(rest)))),

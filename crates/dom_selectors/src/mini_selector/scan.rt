@@ -12,31 +12,31 @@ ghost use Rattle.dom_selectors.specs.Spelling.{SpellsNone};
 
 use crate::syntax::{AttrOperator, Combinator};
 
-/// What a stretch of a mini selector is made of.
+/// What a kind of a mini selector is made of.
 #[derive(Clone, Copy)]
-pub(crate) enum Stretch {
+pub(crate) enum CharKind {
     Blank,
     Word,
 }
 
-impl Stretch {
+impl CharKind {
     /// Whether a byte is of this kind.
     fn pass(self, byte: u8) -> bool
         ensures { result ≡ passes self byte }
     {
         match self {
-            Stretch::Blank => matches!(byte, b' ' | b'\t' | b'\n' | b'\r'),
-            Stretch::Word => byte.is_ascii_alphanumeric() || byte == b'-',
+            CharKind::Blank => matches!(byte, b' ' | b'\t' | b'\n' | b'\r'),
+            CharKind::Word => byte.is_ascii_alphanumeric() || byte == b'-',
         }
     }
 }
 
 /// How many bytes of this kind stand at the front.
-fn stretch_len(stretch: Stretch, bytes: &[u8]) -> usize
-    ensures { result ≡ prefix_len (passes stretch) bytes.now }
+fn run_len(kind: CharKind, bytes: &[u8]) -> usize
+    ensures { result ≡ prefix_len (passes kind) bytes.now }
 {
     for (index, byte) in bytes.iter().enumerate() {
-        if !stretch.pass(*byte) {
+        if !kind.pass(*byte) {
             return index;
         }
     }
@@ -44,11 +44,11 @@ fn stretch_len(stretch: Stretch, bytes: &[u8]) -> usize
 }
 
 /// The front that is of this kind, as far as it goes, and what follows it.
-fn split_stretch(stretch: Stretch, text: &str) -> (&str, &str)
-    ensures front { result.0.now ≡ take_while (passes stretch) text.now }
-    ensures rest { result.1.now ≡ after_while (passes stretch) text.now }
+fn split_run(kind: CharKind, text: &str) -> (&str, &str)
+    ensures front { result.0.now ≡ take_while (passes kind) text.now }
+    ensures rest { result.1.now ≡ after_while (passes kind) text.now }
 {
-    text.split_at(stretch_len(stretch, text.as_bytes()))
+    text.split_at(run_len(kind, text.as_bytes()))
 }
 
 /// How many bytes stand before this one, or all where it doesn't stand there.
@@ -77,7 +77,7 @@ pub(crate) fn split_before(text: &str, stop: u8) -> (&str, &str)
 pub(crate) fn after_blanks(text: &str) -> &str
     ensures { result.now ≡ after_blanks text.now }
 {
-    let (_, rest) = split_stretch(Stretch::Blank, text);
+    let (_, rest) = split_run(CharKind::Blank, text);
     rest
 }
 
@@ -107,7 +107,7 @@ pub(crate) fn take_word(text: &str) -> Option<(&str, &str)>
     ensures { MatchOption result (SpellsNone SpellsWord text.now)
         (λ p. SpellsWord p.0.now text.now p.1.now) }
 {
-    let (word, rest) = split_stretch(Stretch::Word, text);
+    let (word, rest) = split_run(CharKind::Word, text);
     if word.is_empty() {
         return None;
     }

@@ -7,7 +7,7 @@ use std::alloc::Global;
 use std::marker::Model;
 
 /// An attribute, and how its value is compared with which text, if it is.
-#[derive(Clone, Copy, Drop)]
+#[derive(Clone, Copy, PartialEq, Eq, Debug, Drop)]
 pub struct MiniAttr<'a> {
     pub key: &'a str,
     pub test: Option<(AttrOperator, &'a str)>,

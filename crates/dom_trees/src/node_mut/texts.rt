@@ -2,7 +2,7 @@
 
 ghost use Rattle.std.specs.Prelude.{map};
 ghost use Rattle.dom_links.specs.Stripped.{stripped};
-ghost use Rattle.dom_trees.specs.Edits.{normalizing, texting};
+ghost use Rattle.dom_trees.specs.Edits.{normalizing, setting_text};
 ghost use Rattle.dom_trees.specs.Lending.{EditsAt, LeavesAt};
 
 use crate::node_mut::NodeMut;
@@ -12,7 +12,7 @@ impl<'a> NodeMut<'a> {
     /// Puts one text in the place of an element's children, or of a text's contents; any other node
     /// stays.
     pub fn set_text(&mut self, text: &str) -> Result<(), EditFault>
-        ensures { EditsAt result self.old self.new (texting self.old.id text.now) }
+        ensures { EditsAt result self.old self.new (setting_text self.old.id text.now) }
     {
         self.tree.set_text_of(&self.id, text)
     }

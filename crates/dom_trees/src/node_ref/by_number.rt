@@ -1,7 +1,7 @@
-//! The calls of a tree that answer references: a node by its number, the nodes around it, and the
+//! The calls of a tree that return references: a node by its number, the nodes around it, and the
 //! parts of a page.
 
-ghost use Rattle.std.specs.Prelude.{◌≡◌, codes, false, find};
+ghost use Rattle.std.specs.Prelude.{◌≡◌, ◌≤◌, MatchOption, codes, false, find, length};
 ghost use Rattle.std.specs.Option.{option_copied};
 ghost use Rattle.dom_links.specs.Forest.{children_of, parent, siblings};
 ghost use Rattle.dom_links.specs.ListMoves.{element_at};
@@ -16,6 +16,17 @@ use dom_nodes::fault::OutOfMemory;
 use dom_nodes::node_id::NodeId;
 
 impl Tree {
+    /// The node of that number, if the tree has one.
+    pub fn get(&self, id: &NodeId) -> Option<NodeRef<'_>>
+        ensures { MatchOption result (length self.now.content ≤ id.now)
+            (λ node. node ≡ record { id = id.now; tree = self.entry }) }
+    {
+        if id.value() >= self.len() {
+            return None;
+        }
+        Some(self.get_unchecked(id))
+    }
+
     /// The node of that number, without a look whether it is one.
     pub fn get_unchecked(&self, id: &NodeId) -> NodeRef<'_>
         ensures { result ≡ record { id = id.now; tree = self.entry } }

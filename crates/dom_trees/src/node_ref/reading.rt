@@ -1,4 +1,4 @@
-//! What is read of a node: its kind, its attributes and its names. An unknown number answers
+//! What is read of a node: its kind, its attributes and its names. An unknown number reads as
 //! nothing, false or the default.
 
 ghost use Rattle.std.specs.Prelude.{◌≡◌, ◌<◌, ◌≤◌, IfOk, MatchOption, codes, is_some, length};
@@ -6,14 +6,15 @@ ghost use Rattle.std.specs.Prelude.{slice_get, string_bytes, unwrap_or};
 ghost use Rattle.std.specs.Fn.{FnOnceReturnsAt};
 ghost use Rattle.std.specs.Option.{option_copied};
 ghost use Rattle.dom_nodes.specs.Kinds.{is_comment, is_doctype, is_document, is_element};
-ghost use Rattle.dom_nodes.specs.Kinds.{is_fragment, is_text, may_bear};
+ghost use Rattle.dom_nodes.specs.Kinds.{is_fragment, is_text, children_allowed};
 ghost use Rattle.dom_nodes.specs.Words.{class_words, is_among};
-ghost use Rattle.dom_links.specs.Texts.{collapsed, immediate_text_of, text_of, told};
+ghost use Rattle.dom_links.specs.Texts.{collapsed, immediate_text_of, text_of, saturated};
 ghost use Rattle.dom_trees.specs.Views.{IsAnswerOf, base_uri, has_local_name, is_filled_text};
 ghost use Rattle.dom_trees.specs.Views.{is_link_at, node_attr, node_attrs, node_element, node_is};
-ghost use Rattle.dom_trees.specs.Views.{node_name, node_qual_name};
+ghost use Rattle.dom_trees.specs.Views.{node_name, node_qual_name, root_element_at};
 
 use crate::node_ref::NodeRef;
+use dom_links::iters::parent_id;
 use dom_links::ops::TreeNodeOps;
 use dom_nodes::fault::OutOfMemory;
 use dom_nodes::name::{Attr, QualName};
@@ -21,7 +22,7 @@ use dom_nodes::node_data::{Element, NodeData, TreeNode};
 use dom_nodes::words::is_blank;
 
 impl<'a> NodeRef<'a> {
-    /// What the closure answers of the node.
+    /// What the closure returns for the node.
     pub fn query<T, F: FnOnce(&TreeNode) -> T + Drop>(&self, f: F) -> Option<T>
         requires { F.IsAlwaysCallable f }
         ensures { MatchOption result (length self.now.tree.now.content ≤ self.now.id)
@@ -30,7 +31,7 @@ impl<'a> NodeRef<'a> {
         self.tree.query_node(&self.id, f)
     }
 
-    /// What the closure answers of the node, or the default.
+    /// What the closure returns for the node, or the default.
     pub fn query_or<T: Drop, F: FnOnce(&TreeNode) -> T + Drop>(&self, default: T, f: F) -> T
         requires { F.IsAlwaysCallable f }
         ensures unknown { length self.now.tree.now.content ≤ self.now.id → result ≡ default }
@@ -47,52 +48,62 @@ impl<'a> NodeRef<'a> {
         self.tree.content(&self.id)
     }
 
+    /// Whether the node is a document; false for an unknown number.
     pub fn is_document(&self) -> bool
         ensures { result ≡ node_is is_document self.now.tree.now self.now.id }
     {
         self.content().is_some_and(|content| content.is_document())
     }
 
+    /// Whether the node is a fragment; false for an unknown number.
     pub fn is_fragment(&self) -> bool
         ensures { result ≡ node_is is_fragment self.now.tree.now self.now.id }
     {
         self.content().is_some_and(|content| content.is_fragment())
     }
 
+    /// Whether the node is an element; false for an unknown number.
     pub fn is_element(&self) -> bool
         ensures { result ≡ node_is is_element self.now.tree.now self.now.id }
     {
         self.content().is_some_and(|content| content.is_element())
     }
 
+    /// Whether the node is a text; false for an unknown number.
     pub fn is_text(&self) -> bool
         ensures { result ≡ node_is is_text self.now.tree.now self.now.id }
     {
         self.content().is_some_and(|content| content.is_text())
     }
 
+    /// Whether the node is a comment; false for an unknown number.
     pub fn is_comment(&self) -> bool
         ensures { result ≡ node_is is_comment self.now.tree.now self.now.id }
     {
         self.content().is_some_and(|content| content.is_comment())
     }
 
+    /// Whether the node is a doctype; false for an unknown number.
     pub fn is_doctype(&self) -> bool
         ensures { result ≡ node_is is_doctype self.now.tree.now self.now.id }
     {
         self.content().is_some_and(|content| content.is_doctype())
     }
 
-    /// The root of a page: a document.
+    /// Whether the node is an element whose parent is node 0, as `:root` means it: the `html` of a
+    /// document; false for an unknown number.
     pub fn is_root(&self) -> bool
-        ensures { result ≡ node_is is_document self.now.tree.now self.now.id }
+        ensures { result ≡ root_element_at self.now.tree.now self.now.id }
     {
-        self.is_document()
+        let Some(parent) = parent_id(self.tree.nodes(), &self.id) else {
+            return false;
+        };
+        parent.value() == 0 && self.is_element()
     }
 
     /// A document, a fragment or an element may.
     pub fn may_have_children(&self) -> bool
-        ensures { result ≡ node_is may_bear self.now.tree.now self.now.id }
+        ensures { result ≡ node_is children_allowed self.now.tree.now self.now.id }
     {
         self.content()
             .is_some_and(|content| content.may_have_children())
@@ -221,9 +232,9 @@ impl<'a> NodeRef<'a> {
     }
 
     /// How many characters the text has, where each run of whitespace counts as one space and none
-    /// counts at its ends. Takes no memory. More than `usize::MAX` are told as that.
+    /// counts at its ends. Takes no memory. The count saturates at `usize::MAX`.
     pub fn normalized_char_count(&self) -> usize
-        ensures { result ≡ told (length (collapsed (text_of self.now.tree.now self.now.id))) }
+        ensures { result ≡ saturated (length (collapsed (text_of self.now.tree.now self.now.id))) }
     {
         TreeNodeOps::normalized_char_count(self.tree.nodes(), &self.id)
     }

@@ -2,7 +2,7 @@
 
 ghost use Rattle.std.specs.Prelude.{◌≡◌, ◌<◌, false, IfErr, OnErr, OnOk, length};
 ghost use Rattle.std.specs.Fn.{FnOnceReturnsAtMut};
-ghost use Rattle.dom_nodes.specs.Change.{asks, changed};
+ghost use Rattle.dom_nodes.specs.Change.{may_allocate, changed};
 ghost use Rattle.dom_links.specs.Contents.{IsUpdatedAt, with_content};
 ghost use Rattle.dom_trees.specs.Edits.{Edits, changing};
 ghost use Rattle.dom_trees.specs.Refusals.{KnownCause};
@@ -47,7 +47,7 @@ impl Tree {
     }
 
     /// Makes a change of a node. Refused as `UnknownNode`, and as `Memory` of an element, where the
-    /// change asks for memory.
+    /// change allocates memory.
     pub fn try_change_of(&mut self, id: &NodeId, change: Change) -> Result<(), EditFault>
         ensures { Edits result self.old self.new (changing id.now change.entry) }
     {
@@ -58,9 +58,9 @@ impl Tree {
         }
     }
 
-    /// Makes a change that asks for no memory; an unknown number changes nothing.
+    /// Makes a change that allocates no memory; an unknown number changes nothing.
     pub(crate) fn change_of(&mut self, id: &NodeId, change: Change)
-        requires { asks change ≡ false }
+        requires { may_allocate change ≡ false }
         ensures { self.new ≡ with_content id.now (changed change.entry) self.old }
     {
         let _ = changes::apply(&mut self.nodes, *id, change);

@@ -4,7 +4,7 @@ ghost use Rattle.std.specs.Prelude.{◌≡◌, [], IfErr, IfOk, MatchResult};
 ghost use Rattle.dom_nodes.specs.declared.fault.EditFault.TheVariants.{Memory};
 ghost use Rattle.dom_links.specs.Copies.{FragmentCause, fragment_of};
 ghost use Rattle.dom_trees.specs.Edits.{Copies};
-ghost use Rattle.dom_trees.specs.NewNodes.{html_element};
+ghost use Rattle.dom_trees.specs.NewNodes.{html_root_element};
 
 use crate::names::html_name;
 use crate::tree::Tree;
@@ -16,7 +16,7 @@ use dom_nodes::node_id::NodeId;
 use std::alloc::Global;
 
 impl Tree {
-    /// Makes copies of nodes of another tree with all that is below them, and answers the copies'
+    /// Makes copies of nodes of another tree with all that is below them, and returns the copies'
     /// numbers. Each is a run of its own. The copies are numbered from the old length on in walk
     /// order, contents before children; copied contents are new ones. All are made or none. Refused
     /// as `UnknownNode`; as `RootOrFragment`, where a document or a fragment is named; as
@@ -37,11 +37,11 @@ impl Tree {
     /// A fragment: a tree whose root is a fragment, with an element `html` below it, and copies of
     /// nodes of another tree as the children of that. Refused as `merge` is.
     pub fn fragment_of(other: &Tree, ids: &[NodeId]) -> Result<Tree, EditFault>
-        ensures ok { IfOk result (λ tree. tree ≡ fragment_of html_element other.now ids.now) }
+        ensures ok { IfOk result (λ tree. tree ≡ fragment_of html_root_element other.now ids.now) }
         ensures cause { IfErr result
-            (λ fault. FragmentCause html_element other.now ids.now fault) }
+            (λ fault. FragmentCause html_root_element other.now ids.now fault) }
     {
-        let html = html_element(other.allocator())?;
+        let html = html_root_element(other.allocator())?;
         Ok(Tree {
             nodes: copies::fragment_of(other.allocator(), html, &other.nodes, ids)?,
         })
@@ -77,8 +77,8 @@ fn with_room(alloc: Global, count: usize) -> Result<Vec<TreeNode>, OutOfMemory>
 }
 
 /// An element `html`. Refused as `Memory`.
-fn html_element(alloc: Global) -> Result<NodeData, EditFault>
-    ensures { MatchResult result (λ made. made ≡ html_element) (λ fault. fault ≡ Memory) }
+fn html_root_element(alloc: Global) -> Result<NodeData, EditFault>
+    ensures { MatchResult result (λ made. made ≡ html_root_element) (λ fault. fault ≡ Memory) }
 {
     match LocalName::new(alloc, "html") {
         Ok(local) => Ok(NodeData::Element(Element::new(

@@ -95,7 +95,7 @@ impl Tree {
 
     /// Puts a text at a gap. Where a text stands right before the gap, that one grows; else a new
     /// one is made there. Refused as `UnknownNode`; as `NoChildrenHere` or `RootOrFragment` by the
-    /// node that tells the gap; as `TooManyNodes`, where a new text is to be made; as `Memory`.
+    /// node that the gap names; as `TooManyNodes`, where a new text is to be made; as `Memory`.
     pub fn add_text_at(&mut self, gap: Gap, text: &str) -> Result<(), EditFault>
         ensures { Edits result self.old self.new (adding_text gap text.now) }
     {

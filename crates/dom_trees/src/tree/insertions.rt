@@ -11,7 +11,7 @@ use dom_nodes::node_id::NodeId;
 
 impl Tree {
     /// Makes copies of nodes of another tree, as `merge` does, and puts them, in their order, at a
-    /// place that a node tells. All is done or nothing, also where there is nothing to copy.
+    /// place given by a node. All is done or nothing, also where there is nothing to copy.
     /// Refused as `UnknownNode`; as `NoChildrenHere`, where the place is among the children of a
     /// node that has none; as `RootOrFragment` by the node beside the place; and as `merge` is.
     pub fn merge_at(

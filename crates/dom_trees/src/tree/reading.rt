@@ -1,4 +1,4 @@
-//! Reading calls by number. An unknown number answers nothing or the default.
+//! Reading calls by number. An unknown number reads as nothing or the default.
 
 ghost use Rattle.std.specs.Prelude.{◌≡◌, ◌<◌, ◌≤◌, ◌⊎◌, MatchOption, length, slice_get};
 ghost use Rattle.std.specs.Fn.{FnOnceReturnsAt, FnOnceReturnsAtPair};
@@ -12,17 +12,17 @@ use dom_nodes::node_data::{Element, NodeData, TreeNode};
 use dom_nodes::node_id::NodeId;
 
 impl Tree {
-    /// What the closure answers of the node.
+    /// What the closure returns for the node.
     pub fn query_node<T, F: FnOnce(&TreeNode) -> T + Drop>(&self, id: &NodeId, f: F) -> Option<T>
         requires { F.IsAlwaysCallable f }
         ensures { MatchOption result (length self.now.content ≤ id.now)
             (IsAnswerOf (FnOnceReturnsAt F.FnOnce f) self.now id.now) }
     {
-        let node = self.get(id)?;
+        let node = self.tree_node(id)?;
         Some(f(node))
     }
 
-    /// What the closure answers of the node, or the default.
+    /// What the closure returns for the node, or the default.
     pub fn query_node_or<T: Drop, F: FnOnce(&TreeNode) -> T + Drop>(
         &self,
         id: &NodeId,
@@ -34,13 +34,13 @@ impl Tree {
         ensures known { id.now < length self.now.content →
             IsAnswerOf (FnOnceReturnsAt F.FnOnce f) self.now id.now result }
     {
-        match self.get(id) {
+        match self.tree_node(id) {
             Some(node) => f(node),
             None => default,
         }
     }
 
-    /// What the closure answers of two nodes; nothing where one is unknown.
+    /// What the closure returns for two nodes; nothing where one is unknown.
     pub fn compare_node<T, F: FnOnce(&TreeNode, &TreeNode) -> T + Drop>(
         &self,
         a: &NodeId,
@@ -52,8 +52,8 @@ impl Tree {
             ((length self.now.content ≤ a.now) ⊎ (length self.now.content ≤ b.now))
             (IsAnswerOfTwo (FnOnceReturnsAtPair F.FnOnce f) self.now a.now b.now) }
     {
-        let first = self.get(a)?;
-        let second = self.get(b)?;
+        let first = self.tree_node(a)?;
+        let second = self.tree_node(b)?;
         Some(f(first, second))
     }
 
@@ -76,7 +76,7 @@ impl Tree {
     pub(crate) fn content(&self, id: &NodeId) -> Option<&NodeData>
         ensures { option_copied result ≡ slice_get self.now.content id.now }
     {
-        Some(&self.get(id)?.content)
+        Some(&self.tree_node(id)?.content)
     }
 
     /// The element that the node is.

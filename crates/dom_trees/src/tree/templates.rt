@@ -13,7 +13,7 @@ use dom_nodes::node_data::{Attrs, Element, NodeData};
 use dom_nodes::node_id::NodeId;
 
 impl Tree {
-    /// Makes an element with contents as the last child of a node, and tells the numbers of both.
+    /// Makes an element with contents as the last child of a node, and returns the numbers of both.
     /// The contents are a new fragment, whose number is the next one. Both are made or none.
     /// Refused as `UnknownNode`; as `NoChildrenHere`, where the node has no children; as
     /// `TooManyNodes`, where there are no two numbers left; as `Memory`.

@@ -2,7 +2,7 @@
 
 ghost use Rattle.std.specs.Prelude.{◌≡◌, map};
 ghost use Rattle.dom_links.specs.Stripped.{stripped};
-ghost use Rattle.dom_trees.specs.Edits.{Edits, normalizing, texting};
+ghost use Rattle.dom_trees.specs.Edits.{Edits, normalizing, setting_text};
 
 use crate::checks::check_known;
 use crate::tree::Tree;
@@ -15,7 +15,7 @@ impl Tree {
     /// stays. Refused as `UnknownNode`; as `TooManyNodes` of an element; as `Memory` of an element
     /// or a text.
     pub fn set_text_of(&mut self, id: &NodeId, text: &str) -> Result<(), EditFault>
-        ensures { Edits result self.old self.new (texting id.now text.now) }
+        ensures { Edits result self.old self.new (setting_text id.now text.now) }
     {
         check_known(&self.nodes, *id)?;
         TreeNodeOps::set_text(&mut self.nodes, *id, text)

@@ -40,9 +40,7 @@ impl Tokenizer {
 
     fn attr_name(&mut self, c: char) -> Step {
         match c {
-            '/' => self.then(State::Tag(TagState::SelfClosing)),
-            '>' => self.emit_tag(),
-            '=' => self.attr_then(AttrState::BeforeValue),
+            '/' | '>' | '=' => self.attr_name_ends(c),
             '\0' => {
                 self.error(ParseError::UnexpectedNullCharacter)?;
                 self.attr_letter(REPLACEMENT)
@@ -51,9 +49,29 @@ impl Tokenizer {
                 self.error(ParseError::UnexpectedCharacterInAttributeName)?;
                 self.attr_letter(c)
             }
-            _ if is_space(c) => self.attr_then(AttrState::AfterName),
+            _ if is_space(c) => self.attr_name_ends(c),
             _ => self.attr_letter(c),
         }
+    }
+
+    /// A character behind the name of an attribute. An earlier attribute of that name is noted here,
+    /// before the value is read.
+    fn attr_name_ends(&mut self, c: char) -> Step {
+        self.note_repeated_name()?;
+        match c {
+            '/' => self.then(State::Tag(TagState::SelfClosing)),
+            '>' => self.emit_tag(),
+            '=' => self.attr_then(AttrState::BeforeValue),
+            _ => self.attr_then(AttrState::AfterName),
+        }
+    }
+
+    /// Notes an attribute whose name an earlier one has, where errors are collected.
+    fn note_repeated_name(&mut self) -> Result<(), AllocError> {
+        if self.errors.is_some() && self.tag.repeats_name(self.alloc)? {
+            self.error(ParseError::DuplicateAttribute)?;
+        }
+        Ok(())
     }
 
     fn after_attr_name(&mut self, c: char) -> Step {
@@ -145,9 +163,6 @@ impl Tokenizer {
 
     /// The attribute that was read is the tag's, unless one of that name is.
     pub(super) fn finish_attr(&mut self) -> Result<(), AllocError> {
-        if !self.tag.finish_attr(self.alloc)? {
-            self.error(ParseError::DuplicateAttribute)?;
-        }
-        Ok(())
+        self.tag.finish_attr(self.alloc)
     }
 }

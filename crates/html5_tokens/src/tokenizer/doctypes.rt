@@ -4,6 +4,7 @@ use super::state::{DoctypeState, Id, Quote};
 use super::{REPLACEMENT, State, Step, Tokenizer, is_space};
 use crate::parse_error::ParseError;
 use crate::token::{Doctype, Token};
+use std::alloc::AllocError;
 use std::mem;
 
 impl Id {
@@ -190,6 +191,18 @@ impl Tokenizer {
             text.push(c)?;
         }
         Ok(None)
+    }
+
+    /// Puts a run of characters behind what was read of an identifier.
+    pub(super) fn push_id(&mut self, id: Id, run: &str) -> Result<(), AllocError> {
+        let text = match id {
+            Id::Public => &mut self.doctype.public_id,
+            Id::System => &mut self.doctype.system_id,
+        };
+        if let Some(text) = text {
+            text.push_str(run)?;
+        }
+        Ok(())
     }
 
     fn after_public_id(&mut self, c: char) -> Step {

@@ -38,15 +38,22 @@ impl TagDraft {
         self.kind = kind;
     }
 
-    /// Ends the attribute that is being read, and returns whether it is the tag's: it isn't where
-    /// an earlier one has its name.
-    pub fn finish_attr(&mut self, alloc: Global) -> Result<bool, AllocError> {
+    /// Whether an earlier attribute has the name of the one that is being read.
+    pub fn repeats_name(&self, alloc: Global) -> Result<bool, AllocError> {
+        let mut name = String::from_str(alloc, self.attr_name.as_str())?;
+        name.make_ascii_lowercase();
+        Ok(self.attrs.has(name.as_str()))
+    }
+
+    /// Ends the attribute that is being read, which is dropped where an earlier one has its name.
+    pub fn finish_attr(&mut self, alloc: Global) -> Result<(), AllocError> {
         if self.attr_name.is_empty() {
-            return Ok(true);
+            return Ok(());
         }
         let name = mem::replace(&mut self.attr_name, String::new(alloc));
         let value = mem::replace(&mut self.attr_value, String::new(alloc));
-        self.attrs.add(alloc, name, value)
+        self.attrs.add(alloc, name, value)?;
+        Ok(())
     }
 
     /// The tag that was begun, if one was. None is begun then.

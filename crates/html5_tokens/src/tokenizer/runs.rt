@@ -4,7 +4,10 @@ ghost use Rattle.std.specs.Prelude.{◌≡◌, ◌<◌, ◌≤◌, true, [], IfO
 ghost use Rattle.std.specs.Str.{IsCharBoundary};
 ghost use Rattle.html5_tokens.specs.Runs.{ends_text, IsRun};
 
-use super::state::{AttrState, CommentState, DoubleState, Quote, ScriptState, TagState};
+use super::state::{
+    AttrState, CdataState, CommentState, DoctypeState, DoubleState, Id, Quote, ScriptState,
+    TagState,
+};
 use super::{State, Step, Tokenizer};
 use std::alloc::AllocError;
 
@@ -23,6 +26,9 @@ enum Run {
     TagName,
     AttrName,
     AttrValue(Quote),
+    UnquotedValue,
+    DoctypeId(Id, Quote),
+    Cdata,
 }
 
 /// The characters that the state reads as they stand, if there are such.
@@ -41,6 +47,9 @@ fn run_of(state: State) -> Option<Run>
         State::Tag(TagState::Name) => Some(Run::TagName),
         State::Attribute(AttrState::Name) => Some(Run::AttrName),
         State::Attribute(AttrState::Quoted(quote)) => Some(Run::AttrValue(quote)),
+        State::Attribute(AttrState::Unquoted) => Some(Run::UnquotedValue),
+        State::Doctype(DoctypeState::Quoted(id, quote)) => Some(Run::DoctypeId(id, quote)),
+        State::Cdata(CdataState::Section) => Some(Run::Cdata),
         _ => None,
     }
 }
@@ -57,6 +66,14 @@ fn ends_text(byte: u8) -> bool
 #[inline(always)]
 fn ends_tag_name(byte: u8) -> bool {
     byte <= b'>' && matches!(byte, 0 | b'\t' | b'\n' | 0xc | b'\r' | b' ' | b'/' | b'>')
+}
+
+/// Whether a byte ends a value without quotes, or has a parse error or a reference begin in it.
+#[inline(always)]
+fn ends_unquoted_value(byte: u8) -> bool {
+    byte <= b'`'
+        && (matches!(byte, 0 | b'\t' | b'\n' | 0xc | b'\r' | b' ' | b'&' | b'>')
+            || matches!(byte, b'"' | b'\'' | b'<' | b'=' | b'`'))
 }
 
 impl Run {
@@ -79,6 +96,10 @@ impl Run {
             Run::AttrName => ends_tag_name(byte) || matches!(byte, b'"' | b'\'' | b'<' | b'='),
             Run::AttrValue(Quote::Double) => matches!(byte, 0 | b'\r' | b'&' | b'"'),
             Run::AttrValue(Quote::Single) => matches!(byte, 0 | b'\r' | b'&' | b'\''),
+            Run::UnquotedValue => ends_unquoted_value(byte),
+            Run::DoctypeId(_, Quote::Double) => matches!(byte, 0 | b'\r' | b'>' | b'"'),
+            Run::DoctypeId(_, Quote::Single) => matches!(byte, 0 | b'\r' | b'>' | b'\''),
+            Run::Cdata => matches!(byte, 0 | b'\r' | b']'),
         }
     }
 }
@@ -164,10 +185,12 @@ impl Tokenizer {
     {
         match run {
             Run::Text | Run::Raw | Run::Plaintext | Run::Escaped => self.text.push_str(front)?,
+            Run::Cdata => self.text.push_str(front)?,
+            Run::DoctypeId(id, _) => self.push_id(id, front)?,
             Run::Comment | Run::BogusComment => self.comment.push_str(front)?,
             Run::TagName => self.tag.name.push_str(front)?,
             Run::AttrName => self.tag.attr_name.push_str(front)?,
-            Run::AttrValue(_) => self.tag.attr_value.push_str(front)?,
+            Run::AttrValue(_) | Run::UnquotedValue => self.tag.attr_value.push_str(front)?,
         }
         Ok(())
     }

@@ -54,13 +54,13 @@ const COMBINATORS: [&str; 4] = [" ", " > ", " + ", " ~ "];
 
 /// Numbers that follow each other without an order.
 #[derive(Drop)]
-struct Dice {
-    state: u64,
+pub(crate) struct Dice {
+    pub(crate) state: u64,
 }
 
 impl Dice {
     /// A number below this one, which isn't 0.
-    fn roll(&mut self, below: usize) -> usize {
+    pub(crate) fn roll(&mut self, below: usize) -> usize {
         self.state = self
             .state
             .wrapping_mul(6364136223846793005)
@@ -68,7 +68,7 @@ impl Dice {
         ((self.state >> 33) as usize) % below.max(1)
     }
 
-    fn pick(&mut self, words: &[&'static str]) -> &'static str {
+    pub(crate) fn pick(&mut self, words: &[&'static str]) -> &'static str {
         let n = self.roll(words.len());
         match words.get(n) {
             Some(word) => *word,
@@ -77,7 +77,7 @@ impl Dice {
     }
 }
 
-fn add(text: &mut String, word: &str) -> Option<()> {
+pub(crate) fn add(text: &mut String, word: &str) -> Option<()> {
     text.push_str(word).ok()
 }
 
@@ -95,7 +95,7 @@ fn add_piece(text: &mut String, open: &mut Vec<usize>, dice: &mut Dice) -> Optio
 }
 
 /// A few elements, texts and comments.
-fn markup(alloc: Global, dice: &mut Dice) -> Option<String> {
+pub(crate) fn markup(alloc: Global, dice: &mut Dice) -> Option<String> {
     let mut text = String::new(alloc);
     let mut open: Vec<usize> = Vec::new(alloc);
     let pieces = dice.roll(24);
@@ -150,7 +150,7 @@ fn cut_some(tree: &mut Tree, dice: &mut Dice) -> Option<()> {
     Some(())
 }
 
-fn are_those(nodes: &[NodeRef<'_>], ids: &[NodeId]) -> bool {
+pub(crate) fn are_those(nodes: &[NodeRef<'_>], ids: &[NodeId]) -> bool {
     if nodes.len() != ids.len() {
         return false;
     }

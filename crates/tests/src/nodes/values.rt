@@ -77,7 +77,7 @@ fn shows_edit_faults(rt: &(impl Abort + Alloc<A = Global>), bad: MarkupFault) ->
         (EditFault::TooManyNodes, "too many nodes"),
         (EditFault::Memory, "out of memory"),
         (EditFault::BadContents, "bad template contents"),
-        (EditFault::Markup(bad), "bad markup"),
+        (EditFault::Markup(bad), "bad markup: bad tag at byte 12"),
     ] {
         shows_text(rt, fault.to_string(rt.alloc())?, message);
     }
@@ -93,8 +93,30 @@ fn faults_have_messages(rt: HostRuntime) -> Result<(), Fail> {
         kind: MarkupFaultKind::BadTag,
         at: 12,
     };
-    shows_text(&rt, bad.to_string(alloc)?, "bad markup at byte 12");
+    shows_text(&rt, bad.to_string(alloc)?, "bad tag at byte 12");
     shows_edit_faults(&rt, bad)
+}
+
+/// Shows on which line and in which column a byte of a text stands.
+fn shows_position(rt: &impl Abort, at: usize, wanted: (usize, usize)) {
+    let fault = MarkupFault {
+        kind: MarkupFaultKind::BadTag,
+        at,
+    };
+    let (line, column) = fault.line_and_column("a\n\u{e9}<b\n");
+    assert_eq!(rt; line, wanted.0);
+    assert_eq!(rt; column, wanted.1);
+}
+
+#[test]
+fn faults_have_lines_and_columns(rt: HostRuntime) -> Result<(), Fail> {
+    shows_position(&rt, 0, (1, 1));
+    shows_position(&rt, 1, (1, 2));
+    shows_position(&rt, 2, (2, 1));
+    shows_position(&rt, 4, (2, 2));
+    shows_position(&rt, 7, (3, 1));
+    shows_position(&rt, 99, (3, 1));
+    Ok(())
 }
 
 fn comment(alloc: Global, said: &str) -> Result<NodeData, Fail> {
@@ -233,6 +255,29 @@ fn copies_of_each_kind_are_the_same(rt: HostRuntime) -> Result<(), Fail> {
     for data in &kinds(rt.alloc())? {
         shows_same_print(&rt, data)?;
     }
+    Ok(())
+}
+
+fn element(alloc: Global, attrs: Attrs) -> Result<NodeData, Fail> {
+    let name = html_name(alloc, "b")?;
+    Ok(NodeData::Element(Element::new(name, attrs, None, false)))
+}
+
+/// Shows which data is copied without memory: a short text, and an element with its name alone.
+fn shows_small(rt: &impl Abort, data: &NodeData, is_short: bool, is_bare: bool) {
+    assert!(rt; data.short_text().is_some() == is_short);
+    assert!(rt; data.bare_element().is_some() == is_bare);
+}
+
+#[test]
+fn small_data_is_copied_without_memory(rt: HostRuntime) -> Result<(), Fail> {
+    let alloc = rt.alloc();
+    let contents = Text::new(alloc, "short")?;
+    shows_small(&rt, &NodeData::Text { contents }, true, false);
+    shows_small(&rt, &long_text(alloc)?, false, false);
+    shows_small(&rt, &element(alloc, Attrs::new(alloc))?, false, true);
+    shows_small(&rt, &element(alloc, two_classes(alloc)?)?, false, false);
+    shows_small(&rt, &NodeData::Element(template(alloc)?), false, false);
     Ok(())
 }
 

@@ -1,16 +1,17 @@
 //! Readers and writers that fail.
 
-use dom_query::{drive, run};
+use dom_query::{RunFault, drive, run};
 use std::alloc::{AllocError, Global};
 use std::io;
 use std::io::{ErrorKind, Read, Write};
 use std::process::Abort;
 use std::test::Fail;
 
-/// A writer that takes so many writes, one byte at a time, and then fails.
+/// A writer that takes so many writes, at most so many bytes in each, and then fails.
 #[derive(Drop)]
 struct Failing {
     left: usize,
+    most: usize,
     taken: Vec<u8>,
 }
 
@@ -20,13 +21,9 @@ impl Write for Failing {
             return Err(io::Error::from(ErrorKind::BrokenPipe));
         }
         self.left -= 1;
-        match buf.first() {
-            Some(byte) => {
-                self.taken.push(*byte)?;
-                Ok(1)
-            }
-            None => Ok(0),
-        }
+        let count = buf.len().min(self.most);
+        self.taken.extend_from_slice(&buf[..count])?;
+        Ok(count)
     }
 
     fn flush(&mut self) -> io::Result<()> {
@@ -78,6 +75,7 @@ fn shows_deaf(rt: &(impl Abort + Alloc<A = Global>), args: &[String], markup: &s
     let mut out: Vec<u8> = Vec::new(alloc);
     let mut deaf = Failing {
         left: 0,
+        most: 1,
         taken: Vec::new(alloc),
     };
     let ended = drive(alloc, args, &mut input, &mut out, &mut deaf);
@@ -119,6 +117,7 @@ fn status_with(
     let alloc = rt.alloc();
     let mut out = Failing {
         left,
+        most: 1,
         taken: Vec::new(alloc),
     };
     let mut err: Vec<u8> = Vec::new(alloc);
@@ -174,6 +173,67 @@ fn streams_fail(rt: HostRuntime) -> Result<(), Fail> {
         ("--md", "a\n"),
     ] {
         shows_lengths(&rt, word, whole)?;
+    }
+    Ok(())
+}
+
+/// What is run, over the markup of `SOURCE`: each line that writes.
+const SCRIPTS: [&[u8]; 4] = [
+    b"document\nselect p\ncount\nhtml\ninner-html\nattr id",
+    b"text\nformatted\nselect b\ntext\nset-text <&>\nhtml",
+    b"select b\nafter-html <i title='\"'>&amp;</i>\ndocument",
+    b"normalize\nselect p, b\nformatted",
+];
+
+const SOURCE: &[u8] = b"<p id=\"k\">a<b>b &lt; c</b></p><script>x < y</script><!-- d -->";
+
+/// How a run ends whose writer takes so many writes of so many bytes, and what that got.
+fn run_into(
+    alloc: Global,
+    script: &[u8],
+    (left, most): (usize, usize),
+) -> (Result<(), RunFault>, Failing) {
+    let mut out = Failing {
+        left,
+        most,
+        taken: Vec::new(alloc),
+    };
+    let ended = run(alloc, SOURCE, script, &mut out);
+    (ended, out)
+}
+
+/// Shows that a run whose writer fails at each of its writes in turn ends so, and has written a
+/// beginning of the whole.
+fn shows_stops(
+    rt: &(impl Abort + Alloc<A = Global>),
+    script: &[u8],
+    whole: &[u8],
+    most: usize,
+) -> Result<(), Fail> {
+    for left in 0..=whole.len() {
+        let (ended, out) = run_into(rt.alloc(), script, (left, most));
+        assert!(rt; whole.starts_with(out.taken.as_slice()));
+        if ended.is_ok() {
+            assert!(rt; out.taken.len() == whole.len());
+            return Ok(());
+        }
+        assert!(rt; ended == Err(RunFault::Write));
+        assert!(rt; out.left == 0);
+    }
+    return Err("a run that never ends well")?;
+}
+
+#[test]
+fn runs_stop_where_the_writer_fails(rt: HostRuntime) -> Result<(), Fail> {
+    for script in SCRIPTS {
+        let mut whole: Vec<u8> = Vec::new(rt.alloc());
+        assert!(rt; run(rt.alloc(), SOURCE, script, &mut whole) == Ok(()));
+        for most in [1, 2, 7, usize::MAX] {
+            shows_stops(&rt, script, whole.as_slice(), most)?;
+        }
+        let (ended, out) = run_into(rt.alloc(), script, (9, 0));
+        assert!(rt; ended == Err(RunFault::Write));
+        assert!(rt; out.left == 8);
     }
     Ok(())
 }

@@ -1,6 +1,9 @@
 //! The texts of faults.
 
-use dom_query::{EditFault, OutOfMemory, RunFault, SelectorFault, ValidateFault, WriteFault};
+use dom_query::{
+    EditFault, MarkupFault, MarkupFaultKind, MiniFault, OutOfMemory, PageFault, RunFault,
+    SelectionFault, SelectorFault, ValidateFault, WriteFault,
+};
 use std::alloc::Global;
 use std::fmt::Display;
 use std::process::Abort;
@@ -40,6 +43,55 @@ fn texts_of_other_faults(rt: HostRuntime) -> Result<(), Fail> {
         (SelectorFault::NestedHas, "nested :has"),
         (SelectorFault::TooDeep, "nested too deep"),
         (SelectorFault::Memory, "out of memory"),
+    ] {
+        shows(&rt, fault, want)?;
+    }
+    Ok(())
+}
+
+const MARKUP_FAULTS: [(MarkupFaultKind, &str); 11] = [
+    (MarkupFaultKind::BadTag, "bad tag"),
+    (MarkupFaultKind::Unclosed, "unclosed element"),
+    (MarkupFaultKind::MismatchedEnd, "mismatched end tag"),
+    (MarkupFaultKind::StrayEnd, "stray end tag"),
+    (
+        MarkupFaultKind::SlashOnOpen,
+        "slash in the tag of an element that isn't void",
+    ),
+    (MarkupFaultKind::BadComment, "bad comment"),
+    (MarkupFaultKind::BadDeclaration, "bad declaration"),
+    (MarkupFaultKind::MisplacedDoctype, "misplaced doctype"),
+    (MarkupFaultKind::Instruction, "processing instruction"),
+    (MarkupFaultKind::TooManyNodes, "too many nodes"),
+    (MarkupFaultKind::Memory, "out of memory"),
+];
+
+#[test]
+fn texts_of_markup_faults(rt: HostRuntime) -> Result<(), Fail> {
+    for (kind, want) in MARKUP_FAULTS {
+        shows(&rt, kind, want)?;
+    }
+    let kind = MarkupFaultKind::Unclosed;
+    shows(
+        &rt,
+        MarkupFault { kind, at: 7 },
+        "unclosed element at byte 7",
+    )
+}
+
+#[test]
+fn texts_of_selected_and_minis(rt: HostRuntime) -> Result<(), Fail> {
+    let stop = SelectionFault {
+        done: 3,
+        fault: EditFault::Cycle,
+    };
+    shows(&rt, stop, "edit refused after 3 nodes: cycle")?;
+    shows(&rt, PageFault::Memory, "out of memory")?;
+    shows(&rt, PageFault::TooManyNodes, "too many nodes")?;
+    for (fault, want) in [
+        (MiniFault::NoSelector, "no mini selector"),
+        (MiniFault::BadQuotedValue, "bad quoted value"),
+        (MiniFault::Memory, "out of memory"),
     ] {
         shows(&rt, fault, want)?;
     }

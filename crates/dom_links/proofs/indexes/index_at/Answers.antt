@@ -1,7 +1,7 @@
 use Rattle.std.proofs.Common.{Bool, ◌≡◌, ◌+◌, ℕ, cond, sym, ap, arith}
 use Rattle.dom_links.specs.Forest.{forest_of}
-use Rattle.dom_links.proofs.Cuts.{length-contents}
-use Rattle.dom_links.proofs.IndexLemmas.{Counted, counts_on, index_past, starts}
+use Rattle.dom_links.proofs.moves.Cuts.{length-contents}
+use Rattle.dom_links.proofs.walks.IndexLemmas.{Counted, counts_on, index_past, starts}
 use Rattle.dom_links.proofs.indexes.index_at.Goals as goal
 use Rattle.dom_links.proofs.indexes.index_at.Goals.{then-counts, else-counts}
 

@@ -1,9 +1,9 @@
 use Rattle.std.proofs.Common.{Bool, true, ◌≡◌, ◌<◌, ◌+◌, ℕ, cond, sym, ap, ◌∙◌, subst, arith}
 use Rattle.dom_links.specs.Forest.{forest_of}
 use Rattle.dom_links.specs.Indexes.{counts, index_at}
-use Rattle.dom_links.proofs.Cuts.{length-contents}
-use Rattle.dom_links.proofs.IndexLemmas.{Counted, counts_is, counts_on, index_past, starts}
-use Rattle.dom_links.proofs.KnownLemmas.{as_far, never_many}
+use Rattle.dom_links.proofs.moves.Cuts.{length-contents}
+use Rattle.dom_links.proofs.walks.IndexLemmas.{Counted, counts_is, counts_on, index_past, starts}
+use Rattle.dom_links.proofs.walks.KnownLemmas.{as_far, never_many}
 use Rattle.dom_links.proofs.indexes.index_with.Goals as goal
 use Rattle.dom_links.proofs.indexes.index_with.Goals.{then-counts+else-there-gt0, else-counts}
 
@@ -18,11 +18,11 @@ loop-next-init c =
 pub returns-then-there-gt0-clause-is : goal.returns-then-there-gt0-clause-is
 returns-then-there-gt0-clause-is c =
     let forest = forest_of c.args.nodes.now in
-    let tells : counts c.args.kind forest c.args.id.now c.in-Some-next.at ≡ true =
+    let counts_so : counts c.args.kind forest c.args.id.now c.in-Some-next.at ≡ true =
     counts_is forest c.args.kind c.args.id.now c.in-Some-next.at c.in-Some.node.now.content c.node_at-other.result.now.content c.in-Some.ensures.content_is c.node_at-other.ensures.content_is ∙ sym c.counts.ensures ∙ c.if-counts.true in
     let right : c.known_at-there.result ≡ index_at c.args.kind forest c.in-Some-next.at =
     c.known_at-there.ensures.is ∙ c.requires.known c.in-Some-next.at (subst (λ (k : ℕ). 0 < k) c.known_at-there.ensures.is c.if-there-gt0.true) in
-    ap (λ k. c.loop-next.index + k) right ∙ as_far forest c.args.kind c.args.id.now c.in-Some-next.at c.loop-next.index c.loop-next.next c.loop-next.invariant c.in-Some-next.is tells
+    ap (λ k. c.loop-next.index + k) right ∙ as_far forest c.args.kind c.args.id.now c.in-Some-next.at c.loop-next.index c.loop-next.next c.loop-next.invariant c.in-Some-next.is counts_so
 
 pub returns-then-there-gt0-clause-few : goal.returns-then-there-gt0-clause-few
 returns-then-there-gt0-clause-few c =

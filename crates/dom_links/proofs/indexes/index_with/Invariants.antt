@@ -2,7 +2,7 @@ use Rattle.std.proofs.Common.{length}
 use Rattle.dom_links.specs.Forest.{forest_of}
 use Rattle.dom_links.specs.Indexes.{is_from_first}
 use Rattle.dom_links.specs.Walk.{row_on}
-use Rattle.dom_links.proofs.IndexLemmas.{Counting}
+use Rattle.dom_links.proofs.walks.IndexLemmas.{Counting}
 use Rattle.dom_links.proofs.indexes.index_with.Given as goal
 
 -- the siblings so far were counted

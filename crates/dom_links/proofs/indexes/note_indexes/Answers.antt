@@ -1,9 +1,9 @@
 use Rattle.std.proofs.Common.{Bool, true, ◌≡◌, ◌+◌, ◌-◌, ℕ, cond, sym, ap, ◌∙◌, subst, arith}
 use Rattle.dom_links.specs.Forest.{forest_of}
 use Rattle.dom_links.specs.Indexes.{AreIndexes, counts, index_at}
-use Rattle.dom_links.proofs.Cuts.{length-contents}
-use Rattle.dom_links.proofs.IndexLemmas.{Counted, counts_is, counts_on, starts}
-use Rattle.dom_links.proofs.KnownLemmas.{as_far, noted}
+use Rattle.dom_links.proofs.moves.Cuts.{length-contents}
+use Rattle.dom_links.proofs.walks.IndexLemmas.{Counted, counts_is, counts_on, starts}
+use Rattle.dom_links.proofs.walks.KnownLemmas.{as_far, noted}
 use Rattle.dom_links.proofs.indexes.note_indexes.Goals as goal
 use Rattle.dom_links.proofs.indexes.note_indexes.Goals.{then-counts+else-known_at-gt0, else-counts}
 
@@ -30,9 +30,9 @@ right c =
     let forest = forest_of c.args.nodes.now in
     elim c.if-counts.branch [
       | then-counts+else-known_at-gt0 w ↦
-          let tells : counts c.args.kind forest c.args.id.now c.in-Some-next.at ≡ true =
+          let counts_so : counts c.args.kind forest c.args.id.now c.in-Some-next.at ≡ true =
           counts_is forest c.args.kind c.args.id.now c.in-Some-next.at c.in-Some.node.now.content c.node_at-other.result.now.content c.in-Some.ensures.content_is c.node_at-other.ensures.content_is ∙ sym c.counts.ensures ∙ w.if-counts.true in
-          let far = as_far forest c.args.kind c.args.id.now c.in-Some-next.at c.loop-next.passed c.loop-next.next c.loop-next.invariant.counting c.in-Some-next.is tells in
+          let far = as_far forest c.args.kind c.args.id.now c.in-Some-next.at c.loop-next.passed c.loop-next.next c.loop-next.invariant.counting c.in-Some-next.is counts_so in
           let whole = c.requires.is in
           let here : c.args.index - c.loop-next.passed ≡ index_at c.args.kind forest c.in-Some-next.at = omega arith in
           subst (AreIndexes c.args.kind forest) (sym (w.known-is ∙ w.note-then-counts.ensures)) (noted forest c.args.kind c.loop-next.known c.in-Some-next.at (c.args.index - c.loop-next.passed) c.loop-next.invariant.right here)

@@ -1,7 +1,7 @@
 use Rattle.std.proofs.Common.{arith}
 use Rattle.dom_links.specs.Forest.{forest_of}
-use Rattle.dom_links.proofs.Cuts.{length-contents}
-use Rattle.dom_links.proofs.Suffixes.{looks_few}
+use Rattle.dom_links.proofs.moves.Cuts.{length-contents}
+use Rattle.dom_links.proofs.walks.Suffixes.{looks_few}
 use Rattle.dom_links.proofs.iters.next_after.Goals as goal
 
 pub next_below-requires-clause-room : goal.next_below-requires-clause-room

@@ -1,5 +1,5 @@
-use Rattle.dom_links.proofs.CopiedForests.{all_may}
-use Rattle.dom_links.proofs.CopiedTrees.{are_copies}
+use Rattle.dom_links.proofs.copies.CopiedForests.{all_may}
+use Rattle.dom_links.proofs.copies.CopiedTrees.{are_copies}
 use Rattle.dom_links.proofs.laws.copies_of_a_forest.Goals as goal
 
 pub returns : goal.returns

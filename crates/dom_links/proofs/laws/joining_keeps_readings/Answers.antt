@@ -1,4 +1,4 @@
-use Rattle.dom_links.proofs.JoinedTwice.{read_alike_then}
+use Rattle.dom_links.proofs.texts.JoinedTwice.{read_alike_then}
 use Rattle.dom_links.proofs.laws.joining_keeps_readings.Goals as goal
 
 pub returns : goal.returns

@@ -1,4 +1,4 @@
-use Rattle.dom_links.proofs.JoinedTwice.{text_stays}
+use Rattle.dom_links.proofs.texts.JoinedTwice.{text_stays}
 use Rattle.dom_links.proofs.laws.joining_keeps_the_text.Goals as goal
 
 pub returns : goal.returns

@@ -1,4 +1,4 @@
-use Rattle.dom_links.proofs.JoinedTwice.{joined_again}
+use Rattle.dom_links.proofs.texts.JoinedTwice.{joined_again}
 use Rattle.dom_links.proofs.laws.joining_twice_is_once.Goals as goal
 
 pub returns : goal.returns

@@ -1,9 +1,9 @@
 use Rattle.std.proofs.Common.{refl, ◌∙◌, ap}
 use Rattle.dom_links.specs.Trees.{upward}
-use Rattle.dom_links.proofs.Depth.{parent_inside, upward-none}
-use Rattle.dom_links.proofs.DownUp.{after_or_before, below_or_above}
-use Rattle.dom_links.proofs.Later.{Begins, begins, Follows, follows, ancestors-parent, tree_at}
-use Rattle.dom_links.proofs.Nodes.{children_past, parent_past, siblings_past}
+use Rattle.dom_links.proofs.forest.Depth.{parent_inside, upward-none}
+use Rattle.dom_links.proofs.walks.DownUp.{after_or_before, below_or_above}
+use Rattle.dom_links.proofs.walks.Later.{Begins, begins, Follows, follows, ancestors-parent, tree_at}
+use Rattle.dom_links.proofs.forest.Nodes.{children_past, parent_past, siblings_past}
 use Rattle.dom_links.proofs.laws.lines_of_a_forest.Goals as goal
 
 pub returns : goal.returns

@@ -1,4 +1,4 @@
-use Rattle.dom_links.proofs.Stripping.{is_stripped}
+use Rattle.dom_links.proofs.moves.Stripping.{is_stripped}
 use Rattle.dom_links.proofs.laws.stripping_twice_is_once.Goals as goal
 
 pub returns : goal.returns

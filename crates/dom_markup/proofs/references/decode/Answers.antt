@@ -1,4 +1,4 @@
-use Rattle.dom_markup.proofs.ReferenceLemmas.{decoded-none}
+use Rattle.dom_markup.proofs.grammar.ReferenceLemmas.{decoded-none}
 use Rattle.dom_markup.proofs.references.decode.Goals as goal
 
 pub returns-in_default : goal.returns-in_default

@@ -1,7 +1,7 @@
 use Rattle.std.proofs.Common.{sym, subst}
 use Rattle.std.proofs.lemmas.Result.{err_from_is_err_and}
 use Rattle.dom_markup.specs.Writing.{AppendsBeginning}
-use Rattle.dom_markup.proofs.WritingLemmas.{beginning-more, beginning-then, parts-split}
+use Rattle.dom_markup.proofs.html.WritingLemmas.{beginning-more, beginning-then, parts-split}
 use Rattle.dom_markup.proofs.writing.put_parts.Goals as goal
 
 pub returns-in_err-put : goal.returns-in_err-put

@@ -3,7 +3,7 @@ use Rattle.std.proofs.lemmas.Result.{err_from_is_err_and}
 use Rattle.dom_query.specs.declared.driver.Job.TheVariants.{Script, Markdown}
 use Rattle.dom_query.specs.Drive.{AsksFor, Stopped, words_of}
 use Rattle.dom_query.specs.Out.Ending.{done}
-use Rattle.dom_query.specs.Runs.{Began, Tells}
+use Rattle.dom_query.specs.Runs.{Began, RunCause}
 use Rattle.dom_query.proofs.Driving.{began-ended, began-over, fault-begun, read-as, stopped-reading, wrote-begun}
 use Rattle.dom_query.proofs.driver.run_words.Goals as goal
 
@@ -18,9 +18,9 @@ returns-in_err-run-in-Script-clause-cause g c =
     let p = err_from_is_err_and c.from_residual-in_err-run-in-Script.result c.from_residual-in_err-run-in-Script.ensures.1 in
     let asked = subst (AsksFor (words_of c.args.args.now)) c.in-Script.is c.in-Some.ensures in
     let read = read-as _ c.deref.result.now _ c.deref.ensures.value c.in_ok-markup.ensures.ok in
-    let tells = subst (λ script. Tells c.deref.result.now script (g.W.Write.contents c.args.out.now) (g.W.Write.contents c.run.new.out) c.in_err-run-in-Script.field-0.0) c.as_bytes.ensures.value c.in_err-run-in-Script.ensures.cause in
+    let reports = subst (λ script. RunCause c.deref.result.now script (g.W.Write.contents c.args.out.now) (g.W.Write.contents c.run.new.out) c.in_err-run-in-Script.field-0.0) c.as_bytes.ensures.value c.in_err-run-in-Script.ensures.cause in
     rw p.1 (subst (λ f. Stopped (words_of c.args.args.now) (g.R.Read.remaining c.args.input.now) (g.W.Write.contents c.args.out.now) (g.W.Write.contents c.run.new.out) (Some f)) (sym p.2)
-    (Script c.in-Script.script, c.deref.result.now, asked, read, tells))
+    (Script c.in-Script.script, c.deref.result.now, asked, read, reports))
 
 pub returns-in_err-run-in-Script-clause-begun : goal.returns-in_err-run-in-Script-clause-begun
 returns-in_err-run-in-Script-clause-begun g c =

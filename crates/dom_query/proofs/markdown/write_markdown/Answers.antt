@@ -1,5 +1,5 @@
 use Rattle.std.proofs.lemmas.Result.{err_from_is_err_and}
-use Rattle.dom_markup.proofs.WritingLemmas.{beginning-then, written-then}
+use Rattle.dom_markup.proofs.html.WritingLemmas.{beginning-then, written-then}
 use Rattle.dom_query.proofs.Failing.{not-written}
 use Rattle.dom_query.proofs.markdown.write_markdown.Goals as goal
 

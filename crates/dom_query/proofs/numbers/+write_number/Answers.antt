@@ -1,7 +1,7 @@
 use Rattle.std.proofs.Common.{arith, sym}
 use Rattle.std.proofs.lemmas.Fmt.{decimal_digit, decimal_step}
 use Rattle.std.proofs.lemmas.Result.{err_from_is_err_and}
-use Rattle.dom_markup.proofs.WritingLemmas.{fault-first, then-writes}
+use Rattle.dom_markup.proofs.html.WritingLemmas.{fault-first, then-writes}
 use Rattle.dom_query.proofs.numbers.+write_number.Goals as goal
 
 pub returns-then-number-lt10 : goal.returns-then-number-lt10

@@ -32,7 +32,7 @@ loop-line-preserved c = record {
   finite = tt;
   counted = omega (arith, length_push c.loop-line.yielded c.in-Some.line);
   read = read-more c.loop-line.yielded c.in-Some.line c.loop-line.commands.items c.push_command.new.commands.items c.in-Some-2.command
-      c.loop-line.invariant.read (rw c.in-Some-2.is at c.in_ok-command.ensures.ok) c.in_ok-push_command.ensures.ok;
+      c.loop-line.invariant.read (rw c.in-Some-2.is at c.in_ok-command.ensures.ok) c.in_ok-push_command.ensures;
 }
 
 pub returns-clause-ok : goal.returns-clause-ok

@@ -14,5 +14,5 @@ returns c =
     let odd = sym c.begins_odd.ensures ∙ c.if-begins_odd.false in
     MatchResult-weaker c.take_unsigned.result c.take_unsigned.ensures
     (λ p h. nth_from_unsigned text even odd p.0 p.1.now (subst (λ n. SpellsUnsigned n p.0 (after_sign text) p.1.now) c.begins_minus.ensures (subst (λ t. SpellsUnsigned c.begins_minus.result p.0 t p.1.now) c.after_sign.ensures h)))
-    (λ e told. refuses_more e _ _ _ _ (large_within c.after_sign.result.now text (sign_within c.after_sign.result.now text c.after_sign.ensures))
-    (λ none v rest h. none v rest (subst (λ n. SpellsUnsigned n v c.after_sign.result.now rest) (sym c.begins_minus.ensures) (subst (λ t. SpellsUnsigned (begins is_minus text) v t rest) (sym c.after_sign.ensures) (unsigned_from_nth text even odd v rest h)))) told)
+    (λ e why. refuses_more e _ _ _ _ (large_within c.after_sign.result.now text (sign_within c.after_sign.result.now text c.after_sign.ensures))
+    (λ none v rest h. none v rest (subst (λ n. SpellsUnsigned n v c.after_sign.result.now rest) (sym c.begins_minus.ensures) (subst (λ t. SpellsUnsigned (begins is_minus text) v t rest) (sym c.after_sign.ensures) (unsigned_from_nth text even odd v rest h)))) why)

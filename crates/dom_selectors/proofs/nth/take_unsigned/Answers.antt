@@ -15,5 +15,5 @@ returns c =
     let no_n = sym c.begins_n.ensures ∙ c.if-begins_n.false in
     MatchResult-weaker c.take_after_number-2.result c.take_after_number-2.ensures
     (λ p h. unsigned_from c.args.is_negative text mid number no_n c.in_ok-number.ensures p.0 p.1.now (subst (λ s. SpellsAfterNumber s p.0 mid p.1.now) c.signed-2.ensures h))
-    (λ e told. refuses_more e _ _ _ _ (large_within mid text (number_within text mid number c.in_ok-number.ensures))
-    (λ refused. unsigned_no_after c.args.is_negative text mid number no_n c.in_ok-number.ensures (subst (λ s. SpellsNone (SpellsAfterNumber s) mid) c.signed-2.ensures refused)) told)
+    (λ e why. refuses_more e _ _ _ _ (large_within mid text (number_within text mid number c.in_ok-number.ensures))
+    (λ refused. unsigned_no_after c.args.is_negative text mid number no_n c.in_ok-number.ensures (subst (λ s. SpellsNone (SpellsAfterNumber s) mid) c.signed-2.ensures refused)) why)

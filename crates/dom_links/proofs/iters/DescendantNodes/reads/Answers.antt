@@ -1,7 +1,7 @@
 use Rattle.std.proofs.Common.{◌≡◌, ◌+◌, ◌*◌, length, ap, subst, ◌∙◌}
 use Rattle.dom_links.specs.Forest.{forest_of}
 use Rattle.dom_links.specs.Walk.{Walk}
-use Rattle.dom_links.proofs.Steps.{walk_cost}
+use Rattle.dom_links.proofs.walks.Steps.{walk_cost}
 use Rattle.dom_links.proofs.iters.DescendantNodes.reads.Goals as goal
 
 pub returns-clause-in_all : goal.returns-clause-in_all

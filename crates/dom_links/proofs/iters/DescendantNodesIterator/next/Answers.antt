@@ -1,9 +1,9 @@
 use Rattle.std.proofs.Common.{◌≤◌, length, arith}
 use Rattle.dom_links.specs.Forest.{forest_of}
 use Rattle.dom_links.specs.Trees.{walk_below}
-use Rattle.dom_links.proofs.Apart.{walk-few}
-use Rattle.dom_links.proofs.Cuts.{length-contents}
-use Rattle.dom_links.proofs.Steps.{looks_fit}
+use Rattle.dom_links.proofs.walks.Apart.{walk-few}
+use Rattle.dom_links.proofs.moves.Cuts.{length-contents}
+use Rattle.dom_links.proofs.walks.Steps.{looks_fit}
 use Rattle.dom_links.proofs.iters.DescendantNodesIterator.next.Goals as goal
 
 pub next_below-next-requires-clause-room : goal.next_below-next-requires-clause-room

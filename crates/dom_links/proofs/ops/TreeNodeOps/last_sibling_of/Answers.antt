@@ -1,6 +1,6 @@
 use Rattle.std.proofs.Common.{◌∙◌}
 use Rattle.dom_links.specs.Forest.{forest_of}
-use Rattle.dom_links.proofs.RowWalks.{WentOn, goes, goes_on}
+use Rattle.dom_links.proofs.walks.RowWalks.{WentOn, goes, goes_on}
 use Rattle.dom_links.proofs.ops.TreeNodeOps.last_sibling_of.Goals as goal
 
 pub loop-next-init : goal.loop-next-init

@@ -1,7 +1,7 @@
 use Rattle.std.proofs.Common.{length, false}
 use Rattle.dom_links.specs.Forest.{forest_of}
 use Rattle.dom_links.specs.Walk.{row_on}
-use Rattle.dom_links.proofs.RowWalks.{Going}
+use Rattle.dom_links.proofs.walks.RowWalks.{Going}
 use Rattle.dom_links.proofs.ops.TreeNodeOps.last_sibling_of.Given as goal
 
 -- the last node so far

@@ -1,8 +1,8 @@
 use Rattle.std.proofs.Common.{◌∙◌, sym, ◌≤◌, arith, length}
 use Rattle.dom_links.specs.Forest.{forest_of}
-use Rattle.dom_links.proofs.Cuts.{length-contents}
-use Rattle.dom_links.proofs.BlockMoves.{known_inside}
-use Rattle.dom_links.proofs.SiblingWalks.{beside_told, climb_known, climbs_on, climbs_past_ends, passes_by, past_the_top}
+use Rattle.dom_links.proofs.moves.Cuts.{length-contents}
+use Rattle.dom_links.proofs.moves.BlockMoves.{known_inside}
+use Rattle.dom_links.proofs.walks.SiblingWalks.{beside_given, climb_known, climbs_on, climbs_past_ends, passes_by, past_the_top}
 use Rattle.dom_links.proofs.ops.TreeNodeOps.may_place_run.Goals as goal
 
 pub shares_parent-requires-clause-other_known : goal.shares_parent-requires-clause-other_known
@@ -13,12 +13,12 @@ shares_parent-requires-clause-other_known c =
 
 pub returns-then-shares_parent : goal.returns-then-shares_parent
 returns-then-shares_parent c =
-    beside_told (forest_of c.args.nodes.now) c.args.t c.args.x c.loop-step.at c.loop-step._step c.is_at_or_after.result c.requires.forest
+    beside_given (forest_of c.args.nodes.now) c.args.t c.args.x c.loop-step.at c.loop-step._step c.is_at_or_after.result c.requires.forest
     (known_inside (forest_of c.args.nodes.now) c.args.nodes.now c.args.x c.requires.linked c.requires.known) (sym c.stays_put.ensures ∙ c.if-stays_put.false)
     c.loop-step.invariant c.if-shares_parent.ensures c.is_at_or_after.ensures
 
-pub step_up-requires-clause-known : goal.step_up-requires-clause-known
-step_up-requires-clause-known c =
+pub parent_or_host-requires-clause-known : goal.parent_or_host-requires-clause-known
+parent_or_host-requires-clause-known c =
     let long = length-contents (forest_of c.args.nodes.now) c.args.nodes.now c.requires.linked.links in
     let known = climb_known (forest_of c.args.nodes.now) c.args.t c.args.x c.loop-step.at c.loop-step._step c.loop-step.invariant in
     omega arith

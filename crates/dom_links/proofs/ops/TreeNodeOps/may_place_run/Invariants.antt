@@ -1,5 +1,5 @@
 use Rattle.dom_links.specs.Forest.{forest_of}
-use Rattle.dom_links.proofs.SiblingWalks.{ClimbsPast}
+use Rattle.dom_links.proofs.walks.SiblingWalks.{ClimbsPast}
 use Rattle.dom_links.proofs.ops.TreeNodeOps.may_place_run.Given as goal
 
 -- the climb has come this far

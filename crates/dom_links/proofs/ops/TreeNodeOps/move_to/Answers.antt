@@ -1,7 +1,7 @@
 use Rattle.std.proofs.Common.{ap, ◌∙◌}
 use Rattle.dom_links.specs.Lists.{stands_in}
 use Rattle.dom_links.specs.Sound.{target}
-use Rattle.dom_links.proofs.BlockMoves.{CutOut, is_cut_out, moves}
+use Rattle.dom_links.proofs.moves.BlockMoves.{CutOut, is_cut_out, moves}
 use Rattle.dom_links.proofs.ops.TreeNodeOps.move_to.Goals as goal
 
 pub put_at-requires-clause-linked : goal.put_at-requires-clause-linked

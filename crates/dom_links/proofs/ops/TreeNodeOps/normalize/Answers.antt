@@ -1,5 +1,5 @@
 use Rattle.std.proofs.Common.{arith, sym}
-use Rattle.dom_links.proofs.Rewriting.{rewriting_ends, rewriting_known, rewriting_on, rewriting_starts}
+use Rattle.dom_links.proofs.texts.Rewriting.{rewriting_ends, rewriting_known, rewriting_on, rewriting_starts}
 use Rattle.dom_links.proofs.ops.TreeNodeOps.normalize.Goals as goal
 
 pub loop-rewrite-init : goal.loop-rewrite-init

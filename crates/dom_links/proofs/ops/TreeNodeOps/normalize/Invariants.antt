@@ -1,5 +1,5 @@
 use Rattle.std.proofs.Common.{length}
-use Rattle.dom_links.proofs.Rewriting.{Rewriting}
+use Rattle.dom_links.proofs.texts.Rewriting.{Rewriting}
 use Rattle.dom_links.proofs.ops.TreeNodeOps.normalize.Given as goal
 
 -- the texts from the end are done, and what was found for the others is left

@@ -1,6 +1,6 @@
 use Rattle.dom_links.specs.Forest.{forest_of}
 use Rattle.dom_links.specs.Texts.{text_at}
-use Rattle.dom_links.proofs.Counting.{all_counted}
+use Rattle.dom_links.proofs.texts.Counting.{all_counted}
 use Rattle.dom_links.proofs.ops.TreeNodeOps.normalized_char_count.Goals as goal
 
 pub returns : goal.returns

@@ -1,7 +1,7 @@
 use Rattle.std.proofs.Common.{true, sym, ap, ◌∙◌, find}
 use Rattle.dom_links.specs.Forest.{forest_of}
 use Rattle.dom_links.specs.ListMoves.{element_at}
-use Rattle.dom_links.proofs.Later.{Follows, follows}
+use Rattle.dom_links.proofs.walks.Later.{Follows, follows}
 use Rattle.dom_links.proofs.ops.TreeNodeOps.prev_element_sibling_of.Goals as goal
 
 pub first_element_on-requires-clause-within : goal.first_element_on-requires-clause-within

@@ -2,9 +2,9 @@ use Rattle.std.proofs.Common.{◌≡◌, ◌<◌, length, ℕ, ◌∙◌, get_or
 use Rattle.dom_nodes.specs.declared.node_data.TreeNode.{TreeNode}
 use Rattle.dom_links.specs.Lists.{before, after}
 use Rattle.dom_links.specs.Forest.{IsArenaOf, forest_of, parent, siblings}
-use Rattle.dom_links.proofs.Kept.{removed}
-use Rattle.dom_links.proofs.Written.{link-read}
-use Rattle.dom_links.proofs.Cuts.{arena-cut, parent_known, prev_known, next_known}
+use Rattle.dom_links.proofs.moves.Kept.{removed}
+use Rattle.dom_links.proofs.forest.Written.{link-read}
+use Rattle.dom_links.proofs.moves.Cuts.{arena-cut, parent_known, prev_known, next_known}
 use Rattle.dom_links.proofs.ops.TreeNodeOps.remove_from_parent.Goals as goal
 
 -- what is read at x is the forest's
@@ -34,11 +34,11 @@ join-requires-clause-right_known c =
 
 pub returns-clause-arena : goal.returns-clause-arena
 returns-clause-arena c =
-    arena-cut (forest_of c.args.nodes.now) c.args.nodes.now c.join.new.nodes c.place.new.nodes c.args.x _ _ _ c.requires.linked c.requires.known
+    arena-cut (forest_of c.args.nodes.now) c.args.nodes.now c.join.new.nodes c.set_links.new.nodes c.args.x _ _ _ c.requires.linked c.requires.known
     (c.get-parent.ensures ∙ read_parent c.args.nodes.now c.value.result c.args.x c.index-nodes-value.result c.requires.linked c.requires.known c.value.ensures.number)
     (c.get-prev.ensures ∙ read_prev c.args.nodes.now c.value.result c.args.x c.index-nodes-value.result c.requires.linked c.requires.known c.value.ensures.number)
     (c.get-next.ensures ∙ read_next c.args.nodes.now c.value.result c.args.x c.index-nodes-value.result c.requires.linked c.requires.known c.value.ensures.number)
-    c.join.ensures c.place.ensures
+    c.join.ensures c.set_links.ensures
 
 pub returns-clause-removed : goal.returns-clause-removed
-returns-clause-removed c = removed c.args.nodes.now c.place.new.nodes c.args.x c.requires.linked c.requires.known (returns-clause-arena c)
+returns-clause-removed c = removed c.args.nodes.now c.set_links.new.nodes c.args.x c.requires.linked c.requires.known (returns-clause-arena c)

@@ -4,7 +4,7 @@ use Rattle.dom_links.specs.Lists.{stands_in}
 use Rattle.dom_links.specs.Forest.{forest_of, children_of}
 use Rattle.dom_links.specs.Moves.{end_of}
 use Rattle.dom_links.specs.ListMoves.{MovedList}
-use Rattle.dom_links.proofs.TwoSteps.{no_children_moved, reparents_to}
+use Rattle.dom_links.proofs.moves.TwoSteps.{no_children_moved, reparents_to}
 use Rattle.dom_links.proofs.ops.TreeNodeOps.reparent_children_of.Goals as goal
 
 pub returns-in_default-first_child_of : goal.returns-in_default-first_child_of

@@ -2,7 +2,7 @@ use Rattle.std.proofs.Common.{◌∙◌, ap, sym}
 use Rattle.dom_links.specs.Forest.{forest_of}
 use Rattle.dom_links.specs.ListMoves.{element_at}
 use Rattle.dom_links.specs.SetTexts.{is_text_at}
-use Rattle.dom_links.proofs.SettingTexts.{nothing_set}
+use Rattle.dom_links.proofs.texts.SettingTexts.{nothing_set}
 use Rattle.dom_links.proofs.ops.TreeNodeOps.set_text.Goals as goal
 
 pub returns-else-is_text_at-clause-made : goal.returns-else-is_text_at-clause-made

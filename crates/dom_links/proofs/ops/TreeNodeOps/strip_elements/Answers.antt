@@ -1,7 +1,7 @@
 use Rattle.std.proofs.Common.{◌∙◌, sym, subst}
 use Rattle.dom_links.specs.Forest.{forest_of}
 use Rattle.dom_links.specs.Walk.{IsBelow}
-use Rattle.dom_links.proofs.Stripping.{has_parent, strip_starts, strip_ends, strip_passes, strip_dissolves, strip_shorter}
+use Rattle.dom_links.proofs.moves.Stripping.{has_parent, strip_starts, strip_ends, strip_passes, strip_dissolves, strip_shorter}
 use Rattle.dom_links.proofs.ops.TreeNodeOps.strip_elements.Goals as goal
 
 pub loop-next-init : goal.loop-next-init

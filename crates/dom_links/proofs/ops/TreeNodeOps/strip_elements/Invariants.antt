@@ -1,7 +1,7 @@
 use Rattle.std.proofs.Common.{length, map}
 use Rattle.dom_links.specs.Forest.{forest_of}
 use Rattle.dom_links.specs.Walk.{walk_on}
-use Rattle.dom_links.proofs.Stripping.{Stripping}
+use Rattle.dom_links.proofs.moves.Stripping.{Stripping}
 use Rattle.dom_links.proofs.ops.TreeNodeOps.strip_elements.Given as goal
 
 -- what was passed is stripped, and the rest is as it was

@@ -5,7 +5,7 @@ use Rattle.std.specs.Prelude.{Some}
 use Rattle.dom_links.specs.AddedTexts.{text_before, lengthened}
 use Rattle.dom_links.specs.Contents.{Changed, with_content}
 use Rattle.dom_links.specs.Forest.{forest_of}
-use Rattle.dom_links.proofs.AddingTexts.{some_before}
+use Rattle.dom_links.proofs.texts.AddingTexts.{some_before}
 use Rattle.dom_links.proofs.ops.add_text.add_text.Goals as goal
 
 pub returns-clause-made : goal.returns-clause-made

@@ -1,7 +1,7 @@
 use Rattle.std.proofs.Common.{rules}
 use Rattle.dom_links.specs.AddedTexts.{lengthened}
-use Rattle.dom_links.proofs.AddingTexts.{keeps_longer}
-use Rattle.dom_links.proofs.Changing.{written, unknown}
+use Rattle.dom_links.proofs.texts.AddingTexts.{keeps_longer}
+use Rattle.dom_links.proofs.forest.Changing.{written, unknown}
 use Rattle.dom_links.proofs.ops.add_text.lengthen.Goals as goal
 
 pub returns-then-at-nodes-clause-ok : goal.returns-then-at-nodes-clause-ok

@@ -4,8 +4,8 @@ use Rattle.dom_nodes.specs.declared.node_data.NodeData.TheVariants.{Text}
 use Rattle.dom_links.specs.Forest.{forest_of}
 use Rattle.dom_links.specs.Growth.{with_node}
 use Rattle.dom_links.specs.Moves.{moved_to}
-use Rattle.dom_links.proofs.AddingTexts.{allowed_at, none_before}
-use Rattle.dom_links.proofs.Cuts.{length-contents}
+use Rattle.dom_links.proofs.texts.AddingTexts.{allowed_at, none_before}
+use Rattle.dom_links.proofs.moves.Cuts.{length-contents}
 use Rattle.dom_links.proofs.ops.add_text.put_new_text.Goals as goal
 
 pub put_alone-requires-clause-allowed : goal.put_alone-requires-clause-allowed

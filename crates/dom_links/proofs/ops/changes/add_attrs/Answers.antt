@@ -1,7 +1,7 @@
 use Rattle.std.proofs.Common.{rules, sym, ◌∙◌}
 use Rattle.std.proofs.lemmas.Result.{on_ok_weaker}
 use Rattle.dom_nodes.specs.Changes.{with_attrs, with_missing}
-use Rattle.dom_links.proofs.Changing.{written, unknown, element_here, keeps_attrs}
+use Rattle.dom_links.proofs.forest.Changing.{written, unknown, element_here, keeps_attrs}
 use Rattle.dom_links.proofs.ops.changes.add_attrs.Goals as goal
 
 pub returns-then-at-nodes-clause-ok : goal.returns-then-at-nodes-clause-ok

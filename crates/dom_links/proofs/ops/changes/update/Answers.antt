@@ -1,6 +1,6 @@
 use Rattle.std.proofs.Common.{rules}
 use Rattle.std.specs.Fn.{FnOnceReturnsAtMut}
-use Rattle.dom_links.proofs.Changing.{updated, updated_none}
+use Rattle.dom_links.proofs.forest.Changing.{updated, updated_none}
 use Rattle.dom_links.proofs.ops.changes.update.Goals as goal
 
 pub returns-then-at-nodes-clause-updated : goal.returns-then-at-nodes-clause-updated

@@ -4,7 +4,7 @@ use Rattle.dom_nodes.specs.declared.node_data.NodeData.{NodeData}
 use Rattle.dom_links.specs.Copies.{copied_data, data_at, with_node_below}
 use Rattle.dom_links.specs.Copying.{LacksRoom}
 use Rattle.dom_links.specs.Forest.{forest_of}
-use Rattle.dom_links.proofs.Copied.{data_read, fault_passed, lent_node, way_on}
+use Rattle.dom_links.proofs.copies.Copied.{data_read, fault_passed, lent_node, way_on}
 use Rattle.dom_links.proofs.ops.copies.add_copy.Goals as goal
 
 pub returns-in_err-content-clause-cause : goal.returns-in_err-content-clause-cause

@@ -2,8 +2,8 @@ use Rattle.std.proofs.Common.{◌<◌, arith, length}
 use Rattle.std.proofs.lemmas.Result.{err_from_is_err_and}
 use Rattle.dom_links.specs.Copies.{CheckCause, MayCopy}
 use Rattle.dom_links.specs.Forest.{forest_of}
-use Rattle.dom_links.proofs.Copied.{passed_on}
-use Rattle.dom_links.proofs.CopiedForests.{stands_here}
+use Rattle.dom_links.proofs.copies.Copied.{passed_on}
+use Rattle.dom_links.proofs.copies.CopiedForests.{stands_here}
 use Rattle.dom_links.proofs.ops.copies.check_copies.Goals as goal
 
 pub returns-in_err-check_copy : goal.returns-in_err-check_copy

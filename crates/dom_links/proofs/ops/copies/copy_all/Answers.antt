@@ -1,8 +1,8 @@
 use Rattle.std.proofs.Common.{arith, subst, sym}
 use Rattle.dom_links.specs.Sound.{IsForest}
 use Rattle.dom_links.specs.Forest.{forest_of}
-use Rattle.dom_links.proofs.Chains.{forest_of-arena}
-use Rattle.dom_links.proofs.CopiedForests.{copied_kept, inside_all, sound_again, taken_back}
+use Rattle.dom_links.proofs.forest.Chains.{forest_of-arena}
+use Rattle.dom_links.proofs.copies.CopiedForests.{copied_kept, inside_all, sound_again, taken_back}
 use Rattle.dom_links.proofs.ops.copies.copy_all.Goals as goal
 
 pub returns-in-Ok-clause-sound : goal.returns-in-Ok-clause-sound

@@ -4,7 +4,7 @@ use Rattle.std.proofs.lemmas.Result.{err_from_is_err_and}
 use Rattle.dom_links.specs.Copies.{copied_below, copy_numbers}
 use Rattle.dom_links.specs.Copying.{IsTooLarge}
 use Rattle.dom_links.specs.Forest.{forest_of}
-use Rattle.dom_links.proofs.Copied.{count_is, fault_passed, more_copied, place_more, next_copied, next_numbered, next_refused, no_numbers, none_copied}
+use Rattle.dom_links.proofs.copies.Copied.{count_is, fault_passed, more_copied, place_more, next_copied, next_numbered, next_refused, no_numbers, none_copied}
 use Rattle.dom_links.proofs.ops.copies.copy_each.Goals as goal
 
 pub returns-in_err-number-clause-cause : goal.returns-in_err-number-clause-cause
@@ -24,8 +24,8 @@ loop-id-preserved g c =
       below = place_more g.at (vec_len c.loop-id.nodes) (vec_len c.copy_tree.new.nodes) c.args.parent.now c.loop-id.invariant.below (omega arith);
       under_way = c.copy_tree.ensures.under_way;
       left = next_copied g.at.source c.args.parent.now c.args.ids.now c.loop-id.id-index c.id-item.result (forest_of c.loop-id.nodes.items) (forest_of c.copy_tree.new.nodes.items) (copied_below g.at.source c.args.parent.now c.args.ids.now (forest_of c.args.nodes.now.items)) good c.requires.1.0 here c.id-item.is c.in_ok-number.ensures.made c.loop-id.invariant.left;
-      told = ap (λ ks. ks ++ copy_numbers g.at.source (drop (c.loop-id.id-index + 1) c.args.ids.now) (forest_of c.copy_tree.new.nodes.items)) c.in_ok-push_number.ensures.ok
-          ∙ next_numbered g.at.source c.args.parent.now c.args.ids.now c.loop-id.id-index c.id-item.result c.in_ok-number.number c.loop-id.numbers.items (forest_of c.loop-id.nodes.items) (forest_of c.copy_tree.new.nodes.items) (copy_numbers g.at.source c.args.ids.now (forest_of c.args.nodes.now.items)) good c.requires.1.0 here c.id-item.is (c.in_ok-number.ensures.number ∙ count) c.in_ok-number.ensures.made c.loop-id.invariant.told;
+      numbers_so_far = ap (λ ks. ks ++ copy_numbers g.at.source (drop (c.loop-id.id-index + 1) c.args.ids.now) (forest_of c.copy_tree.new.nodes.items)) c.in_ok-push_number.ensures.ok
+          ∙ next_numbered g.at.source c.args.parent.now c.args.ids.now c.loop-id.id-index c.id-item.result c.in_ok-number.number c.loop-id.numbers.items (forest_of c.loop-id.nodes.items) (forest_of c.copy_tree.new.nodes.items) (copy_numbers g.at.source c.args.ids.now (forest_of c.args.nodes.now.items)) good c.requires.1.0 here c.id-item.is (c.in_ok-number.ensures.number ∙ count) c.in_ok-number.ensures.made c.loop-id.invariant.numbers_so_far;
     }
 
 pub returns-clause-made : goal.returns-clause-made
@@ -35,4 +35,4 @@ returns-clause-made g c =
 pub returns-clause-numbers : goal.returns-clause-numbers
 returns-clause-numbers g c =
     let none = ap (λ ks. copy_numbers g.at.source ks (forest_of c.loop-id.nodes.items)) (drop_all c.loop-id.id-index c.args.ids.now c.loop-id-test.false) ∙ no_numbers g.at.source (forest_of c.loop-id.nodes.items) in
-    sym (append-nil c.loop-id.numbers.items) ∙ ap (λ ks. c.loop-id.numbers.items ++ ks) (sym none) ∙ c.loop-id.invariant.told
+    sym (append-nil c.loop-id.numbers.items) ∙ ap (λ ks. c.loop-id.numbers.items ++ ks) (sym none) ∙ c.loop-id.invariant.numbers_so_far

@@ -13,5 +13,5 @@ invariant-loop-id g l = record {
   below : IsPlaceFor g.at (vec_len l.nodes) l.parent;
   under_way : IsUnderWay g.at l.other l.nodes.items;
   left : copied_below g.at.source l.parent (drop l.id-index l.ids) (forest_of l.nodes.items) ≡ copied_below g.at.source l.parent l.ids (forest_of l.fn.nodes.items);
-  told : l.numbers.items ++ copy_numbers g.at.source (drop l.id-index l.ids) (forest_of l.nodes.items) ≡ copy_numbers g.at.source l.ids (forest_of l.fn.nodes.items);
+  numbers_so_far : l.numbers.items ++ copy_numbers g.at.source (drop l.id-index l.ids) (forest_of l.nodes.items) ≡ copy_numbers g.at.source l.ids (forest_of l.fn.nodes.items);
 }

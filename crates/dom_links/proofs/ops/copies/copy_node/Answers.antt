@@ -5,7 +5,7 @@ use Rattle.dom_links.specs.Copying.{AreRows, IsTooLarge}
 use Rattle.dom_links.specs.Forest.{children_of, forest_of}
 use Rattle.dom_links.specs.Lists.{first}
 use Rattle.dom_links.specs.Trees.{trees}
-use Rattle.dom_links.proofs.Copied.{count_is, fault_passed, first_inside, held_is, held_known, held_made, lent_node, no_room, no_room_held, plain_made, rows_more, rows_pushed}
+use Rattle.dom_links.proofs.copies.Copied.{count_is, fault_passed, first_inside, held_is, held_known, held_made, lent_node, no_room, no_room_held, plain_made, rows_more, rows_pushed}
 use Rattle.dom_links.proofs.ops.copies.copy_node.Goals as goal
 use Rattle.dom_links.proofs.ops.copies.copy_node.Goals.{in-Some+in_ok-copy_alone, in_default}
 

@@ -2,9 +2,9 @@ use Rattle.std.proofs.Common.{◌∙◌, ◌∷◌, [], None, ap, arith, length,
 use Rattle.dom_links.specs.Copies.{copied_below}
 use Rattle.dom_links.specs.Sound.{IsForest}
 use Rattle.dom_links.specs.Forest.{forest_of}
-use Rattle.dom_links.proofs.Chains.{forest_of-arena}
-use Rattle.dom_links.proofs.Copied.{count_is, first_number, no_numbers}
-use Rattle.dom_links.proofs.CopiedForests.{copied_kept, inside_all, sound_again, taken_back}
+use Rattle.dom_links.proofs.forest.Chains.{forest_of-arena}
+use Rattle.dom_links.proofs.copies.Copied.{count_is, first_number, no_numbers}
+use Rattle.dom_links.proofs.copies.CopiedForests.{copied_kept, inside_all, sound_again, taken_back}
 use Rattle.dom_links.proofs.ops.copies.copy_one.Goals as goal
 
 pub returns-in-Ok-clause-sound : goal.returns-in-Ok-clause-sound

@@ -3,7 +3,7 @@ use Rattle.std.specs.Prelude.{ℕ, Option, IfSome}
 use Rattle.std.proofs.lemmas.Result.{err_from_is_err_and}
 use Rattle.dom_links.specs.Copying.{AreRows, IsTooLarge, with_row}
 use Rattle.dom_links.specs.Forest.{forest_of}
-use Rattle.dom_links.proofs.Copied.{fault_passed, lent_node, next_known, row_larger, row_made, rows_pushed}
+use Rattle.dom_links.proofs.copies.Copied.{fault_passed, lent_node, next_known, row_larger, row_made, rows_pushed}
 use Rattle.dom_links.proofs.ops.copies.copy_row.Goals as goal
 
 pub copy_node-requires : goal.copy_node-requires

@@ -2,7 +2,7 @@ use Rattle.std.proofs.Common.{arith, subst, vec_len}
 use Rattle.std.proofs.lemmas.Result.{err_from_is_err_and}
 use Rattle.dom_links.specs.Copying.{AreRows, IsTooLarge, with_rows}
 use Rattle.dom_links.specs.Forest.{forest_of}
-use Rattle.dom_links.proofs.Copied.{count_is, fault_passed, rows_left, rows_popped, rows_refused, rows_step}
+use Rattle.dom_links.proofs.copies.Copied.{count_is, fault_passed, rows_left, rows_popped, rows_refused, rows_step}
 use Rattle.dom_links.proofs.ops.copies.copy_rows.Goals as goal
 
 pub loop-row-smaller : goal.loop-row-smaller

@@ -4,8 +4,8 @@ use Rattle.dom_links.specs.Copies.{copied_below, fragment_of}
 use Rattle.dom_links.specs.Forest.{Forest, forest_of}
 use Rattle.dom_links.specs.Growth.{lone, with_child}
 use Rattle.dom_links.specs.Sound.{IsForest}
-use Rattle.dom_links.proofs.Cuts.{length-contents}
-use Rattle.dom_links.proofs.CopiedForests.{fragment_kept}
+use Rattle.dom_links.proofs.moves.Cuts.{length-contents}
+use Rattle.dom_links.proofs.copies.CopiedForests.{fragment_kept}
 use Rattle.dom_links.proofs.ops.copies.fragment_of.Goals as goal
 
 pub returns-clause-sound : goal.returns-clause-sound

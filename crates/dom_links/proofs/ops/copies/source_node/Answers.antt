@@ -1,6 +1,6 @@
 use Rattle.std.proofs.Common.{◌<◌, length, refl, ap, ◌∙◌, get_or}
 use Rattle.std.proofs.lemmas.Option.{slice_get_read}
-use Rattle.dom_links.proofs.Copied.{other_read, same_read}
+use Rattle.dom_links.proofs.copies.Copied.{other_read, same_read}
 use Rattle.dom_links.proofs.ops.copies.source_node.Goals as goal
 
 pub returns-in-Some : goal.returns-in-Some

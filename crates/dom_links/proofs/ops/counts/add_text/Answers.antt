@@ -1,7 +1,7 @@
 use Rattle.std.proofs.Common.{sym, ◌∙◌, arith, refl}
 use Rattle.std.proofs.lemmas.Iterator.{YieldsList-from_chars}
 use Rattle.std.proofs.lemmas.Iterator.Consumers.{YieldsList-turn, YieldsList-end}
-use Rattle.dom_links.proofs.Counting.{starts, ends, white_read, letter_read}
+use Rattle.dom_links.proofs.texts.Counting.{starts, ends, white_read, letter_read}
 use Rattle.dom_links.proofs.ops.counts.add_text.Goals as goal
 use Rattle.dom_links.proofs.ops.counts.add_text.Goals.{then-read, else-read}
 

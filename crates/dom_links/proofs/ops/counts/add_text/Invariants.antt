@@ -1,5 +1,5 @@
 use Rattle.std.proofs.Common.{ℕ, List, []}
-use Rattle.dom_links.proofs.Counting.{IsPartCounted}
+use Rattle.dom_links.proofs.texts.Counting.{IsPartCounted}
 use Rattle.dom_links.proofs.ops.counts.add_text.Given as goal
 
 -- what is left of the text is still to be counted

@@ -3,7 +3,7 @@ use Rattle.std.proofs.lemmas.List.{with_items_is, length_push}
 use Rattle.dom_nodes.specs.declared.node_data.TreeNode.{TreeNode}
 use Rattle.dom_links.specs.Growth.{Appended}
 use Rattle.dom_links.specs.Writes.{LinkedLast}
-use Rattle.dom_links.proofs.Linked.{last_was, last_there, linked_there}
+use Rattle.dom_links.proofs.forest.Linked.{last_was, last_there, linked_there}
 use Rattle.dom_links.proofs.ops.create.add_child.Goals as goal
 
 pub link_last-requires-clause-left_known : goal.link_last-requires-clause-left_known

@@ -3,7 +3,7 @@ use Rattle.dom_nodes.specs.declared.node_data.TreeNode.{TreeNode}
 use Rattle.dom_links.specs.Forest.{IsArenaOf, StandsOnce, forest_of}
 use Rattle.dom_links.specs.Growth.{lone, with_node}
 use Rattle.dom_links.specs.Sound.{Edited, IsForest}
-use Rattle.dom_links.proofs.Appends.{empty_arena, empty_forest, lone_forest}
+use Rattle.dom_links.proofs.forest.Appends.{empty_arena, empty_forest, lone_forest}
 use Rattle.dom_links.proofs.ops.create.create_root.Goals as goal
 
 pub push_alone-requires : goal.push_alone-requires

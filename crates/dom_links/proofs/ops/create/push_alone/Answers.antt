@@ -1,6 +1,6 @@
 use Rattle.std.proofs.Common.{refl}
 use Rattle.std.proofs.lemmas.Result.{on_ok_weaker}
-use Rattle.dom_links.proofs.Grown.{created}
+use Rattle.dom_links.proofs.forest.Grown.{created}
 use Rattle.dom_links.proofs.ops.create.push_alone.Goals as goal
 
 pub returns-clause-ok : goal.returns-clause-ok

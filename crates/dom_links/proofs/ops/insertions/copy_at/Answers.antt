@@ -1,6 +1,6 @@
 use Rattle.std.proofs.Common.{◌∙◌, ap}
 use Rattle.dom_links.specs.Forest.{forest_of}
-use Rattle.dom_links.proofs.Fresh.{fresh_here}
+use Rattle.dom_links.proofs.copies.Fresh.{fresh_here}
 use Rattle.dom_links.proofs.ops.insertions.copy_at.Goals as goal
 
 pub put_copies-requires-clause-new : goal.put_copies-requires-clause-new

@@ -1,6 +1,6 @@
 use Rattle.std.proofs.Common.{◌∷◌, take}
 use Rattle.dom_links.specs.Forest.{forest_of}
-use Rattle.dom_links.proofs.Gathering.{IsGathered}
+use Rattle.dom_links.proofs.copies.Gathering.{IsGathered}
 use Rattle.dom_links.proofs.ops.insertions.gather.Given as goal
 
 abbrev pub invariant-loop-id : goal.invariant-loop-id

@@ -2,9 +2,9 @@ use Rattle.std.proofs.Common.{◌∙◌, ap, arith, sym}
 use Rattle.dom_links.specs.Forest.{forest_of}
 use Rattle.dom_links.specs.Lists.{stands_in}
 use Rattle.dom_links.specs.Sound.{target}
-use Rattle.dom_links.proofs.Cuts.{length-contents}
-use Rattle.dom_links.proofs.Gathering.{IsRun, is_run, none_moved, run_moved}
-use Rattle.dom_links.proofs.Neighbours.{first-stands}
+use Rattle.dom_links.proofs.moves.Cuts.{length-contents}
+use Rattle.dom_links.proofs.copies.Gathering.{IsRun, is_run, none_moved, run_moved}
+use Rattle.dom_links.proofs.forest.Neighbours.{first-stands}
 use Rattle.dom_links.proofs.ops.insertions.move_list.Goals as goal
 
 pub returns-in_default : goal.returns-in_default

@@ -1,6 +1,6 @@
 use Rattle.std.proofs.Common.{subst, sym}
 use Rattle.dom_links.specs.Insertions.{Placed}
-use Rattle.dom_links.proofs.Inserting.{in_place_of_children}
+use Rattle.dom_links.proofs.copies.Inserting.{in_place_of_children}
 use Rattle.dom_links.proofs.ops.insertions.put_new.Goals as goal
 
 pub returns-in-InsteadOfChildren : goal.returns-in-InsteadOfChildren

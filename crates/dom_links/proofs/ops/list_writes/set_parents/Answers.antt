@@ -1,5 +1,5 @@
 use Rattle.std.proofs.Common.{◌≤◌, arith, length}
-use Rattle.dom_links.proofs.BlockWrites.{setting_starts, setting_goes_on, set_at_end, set_in_all}
+use Rattle.dom_links.proofs.moves.BlockWrites.{setting_starts, setting_goes_on, set_at_end, set_in_all}
 use Rattle.dom_links.proofs.ops.list_writes.set_parents.Goals as goal
 
 pub returns-in_default-clause-set : goal.returns-in_default-clause-set

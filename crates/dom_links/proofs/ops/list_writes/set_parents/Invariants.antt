@@ -1,4 +1,4 @@
-use Rattle.dom_links.proofs.BlockWrites.{Setting}
+use Rattle.dom_links.proofs.moves.BlockWrites.{Setting}
 use Rattle.dom_links.proofs.ops.list_writes.set_parents.Given as goal
 
 -- the parents are set this far

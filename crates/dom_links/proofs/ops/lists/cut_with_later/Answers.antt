@@ -1,8 +1,8 @@
 use Rattle.std.proofs.Common.{◌∙◌}
 use Rattle.dom_links.specs.Forest.{forest_of}
-use Rattle.dom_links.proofs.Attach.{read_parent, read_prev}
-use Rattle.dom_links.proofs.Cuts.{parent_known, prev_known}
-use Rattle.dom_links.proofs.BlockMoves.{cut_freed, nexts_known_opened}
+use Rattle.dom_links.proofs.moves.Attach.{read_parent, read_prev}
+use Rattle.dom_links.proofs.moves.Cuts.{parent_known, prev_known}
+use Rattle.dom_links.proofs.moves.BlockMoves.{cut_freed, nexts_known_opened}
 use Rattle.dom_links.proofs.ops.lists.cut_with_later.Goals as goal
 
 pub join-requires-clause-owner_known : goal.join-requires-clause-owner_known

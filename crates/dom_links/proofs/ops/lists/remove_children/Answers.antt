@@ -1,4 +1,4 @@
-use Rattle.dom_links.proofs.TwoSteps.{children_cut_out, no_children_removed}
+use Rattle.dom_links.proofs.moves.TwoSteps.{children_cut_out, no_children_removed}
 use Rattle.dom_links.proofs.ops.lists.remove_children.Goals as goal
 
 pub returns-in_default : goal.returns-in_default

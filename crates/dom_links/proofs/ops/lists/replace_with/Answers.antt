@@ -1,6 +1,6 @@
 use Rattle.dom_links.specs.Moves.{before_node}
-use Rattle.dom_links.proofs.BlockMoves.{moved_one}
-use Rattle.dom_links.proofs.TwoSteps.{replaces}
+use Rattle.dom_links.proofs.moves.BlockMoves.{moved_one}
+use Rattle.dom_links.proofs.moves.TwoSteps.{replaces}
 use Rattle.dom_links.proofs.ops.lists.replace_with.Goals as goal
 
 pub returns : goal.returns

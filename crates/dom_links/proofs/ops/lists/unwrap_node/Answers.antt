@@ -3,10 +3,10 @@ use Rattle.dom_links.specs.Lists.{stands_in}
 use Rattle.dom_links.specs.Forest.{forest_of}
 use Rattle.dom_links.specs.Moves.{before_node}
 use Rattle.dom_links.specs.ListMoves.{MovedList, wrapper}
-use Rattle.dom_links.proofs.Cuts.{length-contents}
-use Rattle.dom_links.proofs.Depth.{parent_inside}
-use Rattle.dom_links.proofs.Places.{siblings_child}
-use Rattle.dom_links.proofs.TwoSteps.{IsWrapper, unwraps, wrapper_apart, wrapper_is}
+use Rattle.dom_links.proofs.moves.Cuts.{length-contents}
+use Rattle.dom_links.proofs.forest.Depth.{parent_inside}
+use Rattle.dom_links.proofs.forest.Places.{siblings_child}
+use Rattle.dom_links.proofs.moves.TwoSteps.{IsWrapper, unwraps, wrapper_apart, wrapper_is}
 use Rattle.dom_links.proofs.ops.lists.unwrap_node.Goals as goal
 
 pub move_to-requires-clause-target_known : goal.move_to-requires-clause-target_known

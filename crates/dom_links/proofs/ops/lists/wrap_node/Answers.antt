@@ -1,6 +1,6 @@
 use Rattle.dom_links.specs.Moves.{before_node, end_of}
-use Rattle.dom_links.proofs.BlockMoves.{moved_one}
-use Rattle.dom_links.proofs.TwoSteps.{wraps}
+use Rattle.dom_links.proofs.moves.BlockMoves.{moved_one}
+use Rattle.dom_links.proofs.moves.TwoSteps.{wraps}
 use Rattle.dom_links.proofs.ops.lists.wrap_node.Goals as goal
 
 pub returns : goal.returns

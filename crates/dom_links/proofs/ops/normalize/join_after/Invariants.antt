@@ -1,7 +1,7 @@
 use Rattle.std.proofs.Common.{length, false, string_bytes}
 use Rattle.dom_links.specs.Forest.{forest_of}
 use Rattle.dom_links.specs.Walk.{row_on}
-use Rattle.dom_links.proofs.Joining.{GoesOver}
+use Rattle.dom_links.proofs.texts.Joining.{GoesOver}
 use Rattle.dom_links.proofs.ops.normalize.join_after.Given as goal
 
 -- the texts so far were joined

@@ -1,7 +1,7 @@
 use Rattle.std.proofs.Common.{length, true}
 use Rattle.dom_links.specs.Forest.{forest_of}
 use Rattle.dom_links.specs.Walk.{row_on}
-use Rattle.dom_links.proofs.Joining.{GoesBack}
+use Rattle.dom_links.proofs.texts.Joining.{GoesBack}
 use Rattle.dom_links.proofs.ops.normalize.nearest_before.Given as goal
 
 -- only empty texts were met

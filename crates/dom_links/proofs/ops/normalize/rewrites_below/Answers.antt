@@ -1,5 +1,5 @@
 use Rattle.dom_links.specs.Forest.{forest_of}
-use Rattle.dom_links.proofs.Rewriting.{found_more}
+use Rattle.dom_links.proofs.texts.Rewriting.{found_more}
 use Rattle.dom_links.proofs.ops.normalize.rewrites_below.Goals as goal
 
 pub loop-below-preserved : goal.loop-below-preserved

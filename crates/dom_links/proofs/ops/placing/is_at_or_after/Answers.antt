@@ -2,8 +2,8 @@ use Rattle.std.proofs.Common.{◌∙◌, sym}
 use Rattle.std.proofs.lemmas.Bool.{eqb-false, eqb-true, not-true, not-false}
 use Rattle.std.specs.Prelude.{◌==◌}
 use Rattle.dom_links.specs.Forest.{forest_of}
-use Rattle.dom_links.proofs.SiblingWalks.{Seeking, Along, goes_forth, seeks_forth, seeks_no_more, sought_it, seeking_starts}
-use Rattle.dom_links.proofs.BlockMoves.{known_inside}
+use Rattle.dom_links.proofs.walks.SiblingWalks.{Seeking, Along, goes_forth, seeks_forth, seeks_no_more, sought_it, seeking_starts}
+use Rattle.dom_links.proofs.moves.BlockMoves.{known_inside}
 use Rattle.dom_links.proofs.ops.placing.is_at_or_after.Goals as goal
 
 pub loop-n-init : goal.loop-n-init

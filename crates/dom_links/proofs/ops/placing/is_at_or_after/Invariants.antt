@@ -1,7 +1,7 @@
 use Rattle.std.proofs.Common.{false, length}
 use Rattle.dom_links.specs.Forest.{forest_of}
 use Rattle.dom_links.specs.Walk.{later}
-use Rattle.dom_links.proofs.SiblingWalks.{Seeking}
+use Rattle.dom_links.proofs.walks.SiblingWalks.{Seeking}
 use Rattle.dom_links.proofs.ops.placing.is_at_or_after.Given as goal
 
 -- n was not met yet

@@ -1,8 +1,8 @@
 use Rattle.std.proofs.Common.{arith, ◌≤◌, sym, ◌∙◌, length}
 use Rattle.std.proofs.lemmas.Bool.{eqb-false, eqb-true}
 use Rattle.dom_links.specs.Forest.{forest_of}
-use Rattle.dom_links.proofs.Cuts.{length-contents}
-use Rattle.dom_links.proofs.Climbs.{free_at_top, climb_more, climb_ends, met_it}
+use Rattle.dom_links.proofs.moves.Cuts.{length-contents}
+use Rattle.dom_links.proofs.forest.Climbs.{free_at_top, climb_more, climb_ends, met_it}
 use Rattle.dom_links.proofs.ops.placing.is_at_or_below.Goals as goal
 
 pub returns-in_default : goal.returns-in_default

@@ -1,5 +1,5 @@
 use Rattle.dom_links.specs.Forest.{forest_of}
-use Rattle.dom_links.proofs.Climbs.{Climb}
+use Rattle.dom_links.proofs.forest.Climbs.{Climb}
 use Rattle.dom_links.proofs.ops.placing.is_at_or_below.Given as goal
 
 -- the climb has come this far

@@ -1,7 +1,7 @@
 use Rattle.std.proofs.Common.{◌≡◌, ◌∙◌, ap, arith, length}
 use Rattle.dom_links.specs.Forest.{forest_of}
-use Rattle.dom_links.proofs.Cuts.{length-contents}
-use Rattle.dom_links.proofs.SettingTexts.{allowed_in}
+use Rattle.dom_links.proofs.moves.Cuts.{length-contents}
+use Rattle.dom_links.proofs.texts.SettingTexts.{allowed_in}
 use Rattle.dom_links.proofs.ops.set_text.replace_children.Goals as goal
 
 pub set_only_child-requires-clause-allowed : goal.set_only_child-requires-clause-allowed

@@ -1,4 +1,4 @@
-use Rattle.dom_links.proofs.SettingTexts.{only_child_sound}
+use Rattle.dom_links.proofs.texts.SettingTexts.{only_child_sound}
 use Rattle.dom_links.proofs.ops.set_text.set_only_child.Goals as goal
 
 pub returns-clause-sound : goal.returns-clause-sound

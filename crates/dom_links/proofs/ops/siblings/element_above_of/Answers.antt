@@ -2,10 +2,10 @@ use Rattle.std.proofs.Common.{◌∙◌, ap, sym, ◌≡◌, ◌<◌, Some, leng
 use Rattle.dom_nodes.specs.declared.node_data.TreeNode.{TreeNode}
 use Rattle.dom_nodes.specs.Kinds.{is_element}
 use Rattle.dom_links.specs.Forest.{forest_of, parent}
-use Rattle.dom_links.proofs.Attach.{read_parent}
-use Rattle.dom_links.proofs.Changing.{element_here}
-use Rattle.dom_links.proofs.Cuts.{parent_known}
-use Rattle.dom_links.proofs.TwoSteps.{element_named, no_element}
+use Rattle.dom_links.proofs.moves.Attach.{read_parent}
+use Rattle.dom_links.proofs.forest.Changing.{element_here}
+use Rattle.dom_links.proofs.moves.Cuts.{parent_known}
+use Rattle.dom_links.proofs.moves.TwoSteps.{element_named, no_element}
 use Rattle.dom_links.proofs.ops.siblings.element_above_of.Goals as goal
 
 pub bounds-nodes-value-3 : goal.bounds-nodes-value-3

@@ -1,7 +1,7 @@
 use Rattle.std.proofs.Common.{◌∙◌}
 use Rattle.dom_links.specs.Forest.{forest_of}
-use Rattle.dom_links.proofs.Attach.{first_known, read_first}
-use Rattle.dom_links.proofs.TwoSteps.{first_child_told}
+use Rattle.dom_links.proofs.moves.Attach.{first_known, read_first}
+use Rattle.dom_links.proofs.moves.TwoSteps.{first_child_given}
 use Rattle.dom_links.proofs.ops.siblings.first_child_of.Goals as goal
 
 pub returns-clause-first : goal.returns-clause-first
@@ -11,4 +11,4 @@ pub returns-clause-known : goal.returns-clause-known
 returns-clause-known c = first_known (forest_of c.args.nodes.now) c.args.nodes.now c.args.x _ c.requires.linked (returns-clause-first c)
 
 pub returns-clause-all : goal.returns-clause-all
-returns-clause-all c = first_child_told c.args.nodes.now c.args.x _ c.requires.linked (returns-clause-first c)
+returns-clause-all c = first_child_given c.args.nodes.now c.args.x _ c.requires.linked (returns-clause-first c)

@@ -1,6 +1,6 @@
 use Rattle.std.proofs.Common.{sym, ◌∙◌}
 use Rattle.dom_links.specs.Forest.{forest_of}
-use Rattle.dom_links.proofs.RowWalks.{Passed, passed_it, element_is, neighbour_is}
+use Rattle.dom_links.proofs.walks.RowWalks.{Passed, passed_it, element_is, neighbour_is}
 use Rattle.dom_links.proofs.ops.siblings.first_element_on.Goals as goal
 
 passed : (c : goal.After-neighbour-next) → Passed (forest_of c.args.nodes.now) c.args.rev c.args.from c.loop-next.next c.neighbour-next.result

@@ -1,7 +1,7 @@
 use Rattle.std.proofs.Common.{length}
 use Rattle.dom_links.specs.Forest.{forest_of}
 use Rattle.dom_links.specs.Walk.{row_on}
-use Rattle.dom_links.proofs.RowWalks.{Seeking}
+use Rattle.dom_links.proofs.walks.RowWalks.{Seeking}
 use Rattle.dom_links.proofs.ops.siblings.first_element_on.Given as goal
 
 -- no element was met yet

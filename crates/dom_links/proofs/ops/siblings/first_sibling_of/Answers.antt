@@ -1,7 +1,7 @@
 use Rattle.std.proofs.Common.{◌∙◌, sym}
 use Rattle.dom_links.specs.Forest.{forest_of}
-use Rattle.dom_links.proofs.SiblingWalks.{beside_itself, Along, goes_back, comes_first, inside_nodes}
-use Rattle.dom_links.proofs.BlockMoves.{all_siblings, known_inside}
+use Rattle.dom_links.proofs.walks.SiblingWalks.{beside_itself, Along, goes_back, comes_first, inside_nodes}
+use Rattle.dom_links.proofs.moves.BlockMoves.{all_siblings, known_inside}
 use Rattle.dom_links.proofs.ops.siblings.first_sibling_of.Goals as goal
 
 pub loop-prev-init : goal.loop-prev-init

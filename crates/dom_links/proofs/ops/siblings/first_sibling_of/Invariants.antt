@@ -1,7 +1,7 @@
 use Rattle.std.proofs.Common.{true, length}
 use Rattle.dom_links.specs.Forest.{forest_of}
 use Rattle.dom_links.specs.Walk.{later}
-use Rattle.dom_links.proofs.Places.{Beside}
+use Rattle.dom_links.proofs.forest.Places.{Beside}
 use Rattle.dom_links.proofs.ops.siblings.first_sibling_of.Given as goal
 
 -- a node of the list is reached

@@ -1,4 +1,4 @@
-use Rattle.dom_links.proofs.Dissolving.{Dissolves, dissolves, moved_known}
+use Rattle.dom_links.proofs.moves.Dissolving.{Dissolves, dissolves, moved_known}
 use Rattle.dom_links.proofs.ops.strip.dissolve.Goals as goal
 
 pub returns-clause-made : goal.returns-clause-made

@@ -3,8 +3,8 @@ use Rattle.dom_links.specs.Forest.{forest_of}
 use Rattle.dom_links.specs.Lists.{stands_in}
 use Rattle.dom_links.specs.ListMoves.{MovedList}
 use Rattle.dom_links.specs.Moves.{before_node}
-use Rattle.dom_links.proofs.Dissolving.{known_in}
-use Rattle.dom_links.proofs.TwoSteps.{no_children_moved, wrapper_apart}
+use Rattle.dom_links.proofs.moves.Dissolving.{known_in}
+use Rattle.dom_links.proofs.moves.TwoSteps.{no_children_moved, wrapper_apart}
 use Rattle.dom_links.proofs.ops.strip.put_children_before.Goals as goal
 
 pub first_child_of-requires-clause-known : goal.first_child_of-requires-clause-known

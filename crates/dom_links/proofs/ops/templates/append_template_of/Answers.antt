@@ -4,8 +4,8 @@ use Rattle.dom_nodes.specs.declared.node_data.TreeNode.{TreeNode}
 use Rattle.dom_links.specs.Moves.{end_of}
 use Rattle.dom_links.specs.Sound.{Moved}
 use Rattle.dom_links.specs.Growth.{AppendedTemplate}
-use Rattle.dom_links.proofs.BlockMoves.{moved_one}
-use Rattle.dom_links.proofs.Templates.{appended_template}
+use Rattle.dom_links.proofs.moves.BlockMoves.{moved_one}
+use Rattle.dom_links.proofs.forest.Templates.{appended_template}
 use Rattle.dom_links.proofs.ops.templates.append_template_of.Goals as goal
 
 pub returns-clause-ok : goal.returns-clause-ok

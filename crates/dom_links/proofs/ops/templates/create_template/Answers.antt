@@ -1,4 +1,4 @@
-use Rattle.dom_links.proofs.Templates.{created_template}
+use Rattle.dom_links.proofs.forest.Templates.{created_template}
 use Rattle.dom_links.proofs.ops.templates.create_template.Goals as goal
 
 pub returns-clause-ok : goal.returns-clause-ok

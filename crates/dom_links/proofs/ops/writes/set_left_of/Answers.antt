@@ -1,5 +1,5 @@
 use Rattle.std.proofs.Common.{sym, ◌∙◌, ap, Some, rules}
-use Rattle.dom_links.proofs.Written.{prev_written, last_written}
+use Rattle.dom_links.proofs.forest.Written.{prev_written, last_written}
 use Rattle.dom_links.proofs.ops.writes.set_left_of.Goals as goal
 
 pub returns-in-Some : goal.returns-in-Some

@@ -1,5 +1,5 @@
 use Rattle.std.proofs.Common.{sym, ◌∙◌, ap, Some, rules}
-use Rattle.dom_links.proofs.Written.{next_written, first_written}
+use Rattle.dom_links.proofs.forest.Written.{next_written, first_written}
 use Rattle.dom_links.proofs.ops.writes.set_right_of.Goals as goal
 
 pub returns-in-Some : goal.returns-in-Some

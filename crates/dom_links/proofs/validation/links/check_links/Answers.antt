@@ -1,7 +1,7 @@
 use Rattle.std.proofs.Common.{ap, rules, sym, ◌∙◌}
 use Rattle.std.specs.Prelude.{option_and_then}
-use Rattle.dom_links.proofs.Checked.{has_link}
-use Rattle.dom_links.proofs.Sounds.{sound_agrees, sound_not_astray}
+use Rattle.dom_links.proofs.checks.Checked.{has_link}
+use Rattle.dom_links.proofs.checks.Sounds.{sound_agrees, sound_not_astray}
 use Rattle.dom_links.proofs.validation.links.check_links.Goals as goal
 
 pub returns-then-is_some-clause-cause : goal.returns-then-is_some-clause-cause

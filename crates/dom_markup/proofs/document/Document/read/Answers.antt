@@ -4,9 +4,9 @@ use Rattle.dom_markup.specs.Frames.{HasRead}
 use Rattle.dom_markup.specs.Reader.{opened_by}
 use Rattle.dom_markup.specs.Token.{mode_of}
 use Rattle.std.proofs.lemmas.Bool.{eqb-true, eqb-false}
-use Rattle.dom_markup.proofs.Frames.{nil_from_length0}
-use Rattle.dom_markup.proofs.Items.{Begins-shorter}
-use Rattle.dom_markup.proofs.Steps.{progress_none, progress_step, stopped, whole_text, unclosed, refused}
+use Rattle.dom_markup.proofs.rows.Frames.{nil_from_length0}
+use Rattle.dom_markup.proofs.grammar.Items.{Begins-shorter}
+use Rattle.dom_markup.proofs.rows.Steps.{progress_none, progress_step, stopped, whole_text, unclosed, refused}
 use Rattle.dom_markup.proofs.document.Document.read.Goals as goal
 
 pub loop-left-init : goal.loop-left-init

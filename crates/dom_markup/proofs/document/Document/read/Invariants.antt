@@ -1,7 +1,7 @@
 use Rattle.std.proofs.Common.{length}
 use Rattle.std.specs.Str.{IsUtf8}
 use Rattle.dom_markup.specs.Token.{mode_of}
-use Rattle.dom_markup.proofs.Steps.{Progress}
+use Rattle.dom_markup.proofs.rows.Steps.{Progress}
 use Rattle.dom_markup.proofs.document.Document.read.Given as goal
 
 abbrev pub invariant-loop-left : goal.invariant-loop-left

@@ -1,6 +1,6 @@
 use Rattle.std.proofs.Common.{rules}
-use Rattle.dom_markup.proofs.AttrLemmas.{kept_none, kept_one, kept_all}
-use Rattle.dom_markup.proofs.Reading.{SameEnd-refl, SameEnd-step, length_after}
+use Rattle.dom_markup.proofs.rows.AttrLemmas.{kept_none, kept_one, kept_all}
+use Rattle.dom_markup.proofs.grammar.Reading.{SameEnd-refl, SameEnd-step, length_after}
 use Rattle.dom_markup.proofs.document.attributes.attrs_of.Goals as goal
 
 pub loop-written-init : goal.loop-written-init

@@ -1,8 +1,8 @@
 use Rattle.std.proofs.Common.{length}
 use Rattle.std.specs.Str.{IsUtf8}
 use Rattle.dom_markup.specs.Attributes.{IsNoted}
-use Rattle.dom_markup.specs.Stretches.{SameEnd}
-use Rattle.dom_markup.proofs.AttrLemmas.{AreKept}
+use Rattle.dom_markup.specs.ByteClasses.{SameEnd}
+use Rattle.dom_markup.proofs.rows.AttrLemmas.{AreKept}
 use Rattle.dom_markup.proofs.document.attributes.attrs_of.Given as goal
 
 abbrev pub invariant-loop-written : goal.invariant-loop-written

@@ -1,7 +1,7 @@
 use Rattle.std.proofs.Common.{refl, sym, ◌∙◌}
 use Rattle.std.proofs.lemmas.Bool.{false≢true}
-use Rattle.dom_markup.proofs.Spans.{nil_from_length, length_from_nil}
-use Rattle.dom_markup.proofs.Doctypes.{doctype_shape, doctype_made}
+use Rattle.dom_markup.proofs.grammar.Spans.{nil_from_length, length_from_nil}
+use Rattle.dom_markup.proofs.grammar.Doctypes.{doctype_shape, doctype_made}
 use Rattle.dom_markup.proofs.document.doctypes.doctype_at.Goals as goal
 
 pub returns-then-not-eq_ignore_ascii_case-clause-none : goal.returns-then-not-eq_ignore_ascii_case-clause-none

@@ -1,5 +1,5 @@
 use Rattle.std.proofs.Common.{refl, inr}
-use Rattle.dom_markup.proofs.Doctypes.{public_known, after_public, from_public, after_system, system_some, system_one, after_none}
+use Rattle.dom_markup.proofs.grammar.Doctypes.{public_known, after_public, from_public, after_system, system_some, system_one, after_none}
 use Rattle.dom_markup.proofs.document.doctypes.identifiers_at.Goals as goal
 
 pub word_end-requires : goal.word_end-requires

@@ -1,4 +1,4 @@
-use Rattle.dom_markup.proofs.Doctypes.{public_some, public_one, public_two}
+use Rattle.dom_markup.proofs.grammar.Doctypes.{public_some, public_one, public_two}
 use Rattle.dom_markup.proofs.document.doctypes.public_at.Goals as goal
 
 pub returns-in_err-public : goal.returns-in_err-public

@@ -1,7 +1,7 @@
 use Rattle.std.proofs.Common.{sym, ◌∙◌, inl, inr}
-use Rattle.dom_markup.proofs.Reading.{behind_first}
-use Rattle.dom_markup.proofs.Spans.{nil_from_length}
-use Rattle.dom_markup.proofs.Doctypes.{quoted_shape, quotes_differ}
+use Rattle.dom_markup.proofs.grammar.Reading.{behind_first}
+use Rattle.dom_markup.proofs.grammar.Spans.{nil_from_length}
+use Rattle.dom_markup.proofs.grammar.Doctypes.{quoted_shape, quotes_differ}
 use Rattle.dom_markup.proofs.document.doctypes.quoted_at.Goals as goal
 
 pub returns-then-is_empty : goal.returns-then-is_empty

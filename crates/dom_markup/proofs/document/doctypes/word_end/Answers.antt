@@ -1,7 +1,7 @@
 use Rattle.std.proofs.Common.{refl, sym, ◌∙◌}
 use Rattle.std.proofs.lemmas.Bool.{false≢true}
-use Rattle.dom_markup.proofs.Spans.{nil_from_length, length_from_nil}
-use Rattle.dom_markup.proofs.Doctypes.{word_shape, word_made}
+use Rattle.dom_markup.proofs.grammar.Spans.{nil_from_length, length_from_nil}
+use Rattle.dom_markup.proofs.grammar.Doctypes.{word_shape, word_made}
 use Rattle.dom_markup.proofs.document.doctypes.word_end.Goals as goal
 
 pub returns-then-is_empty-clause-none : goal.returns-then-is_empty-clause-none

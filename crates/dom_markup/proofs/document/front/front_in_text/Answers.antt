@@ -1,6 +1,6 @@
 use Rattle.dom_markup.specs.Bytes.{folded}
 use Rattle.dom_markup.specs.Token.{mode_of}
-use Rattle.dom_markup.proofs.Items.{found_end, found_text, no_end_left, unclosed_cause}
+use Rattle.dom_markup.proofs.grammar.Items.{found_end, found_text, no_end_left, unclosed_cause}
 use Rattle.dom_markup.proofs.document.front.front_in_text.Goals as goal
 
 pub returns-in-Some : goal.returns-in-Some

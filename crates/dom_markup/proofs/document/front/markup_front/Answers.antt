@@ -2,7 +2,7 @@ use Rattle.std.proofs.Common.{◌≡◌, ℕ, List, refl, sym, ap, subst, true, 
 use Rattle.dom_markup.specs.Bytes.{folded}
 use Rattle.dom_markup.specs.References.{decoded}
 use Rattle.dom_markup.specs.Markup.{BeginsDoctype, BeginsEnd, begins_markup}
-use Rattle.dom_markup.proofs.Items.{asks, some_text, no_comment, no_declaration, no_end_tag, no_instruction, no_slash}
+use Rattle.dom_markup.proofs.grammar.Items.{asks, some_text, no_comment, no_declaration, no_end_tag, no_instruction, no_slash}
 use Rattle.dom_markup.proofs.document.front.markup_front.Goals as goal
 
 pub returns-then-not-begins_markup : goal.returns-then-not-begins_markup

@@ -2,7 +2,7 @@ use Rattle.std.proofs.Common.{ℕ, List, subst}
 use Rattle.std.proofs.lemmas.Bool.{false≢true}
 use Rattle.dom_markup.specs.Bytes.{folded}
 use Rattle.dom_markup.specs.Markup.{BeginsEnd}
-use Rattle.dom_markup.proofs.Ends.{other_end}
+use Rattle.dom_markup.proofs.grammar.Ends.{other_end}
 use Rattle.dom_markup.proofs.document.raw.after_end.Goals as goal
 
 pub returns-in_err-written : goal.returns-in_err-written

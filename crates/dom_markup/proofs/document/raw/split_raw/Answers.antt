@@ -1,6 +1,6 @@
 use Rattle.std.proofs.Common.{◌+◌, arith, length-drop}
 use Rattle.dom_markup.specs.Bytes.{folded}
-use Rattle.dom_markup.proofs.Ends.{next_less, no_less_left, first_end, goes_past}
+use Rattle.dom_markup.proofs.grammar.Ends.{next_less, no_less_left, first_end, goes_past}
 use Rattle.dom_markup.proofs.document.raw.split_raw.Goals as goal
 
 pub returns-in-Some-after_end-clause-some : goal.returns-in-Some-after_end-clause-some

@@ -1,6 +1,6 @@
 use Rattle.std.proofs.Common.{◌-◌, length}
 use Rattle.dom_markup.specs.Bytes.{folded}
-use Rattle.dom_markup.proofs.Ends.{Searched}
+use Rattle.dom_markup.proofs.grammar.Ends.{Searched}
 use Rattle.dom_markup.proofs.document.raw.split_raw.Given as goal
 
 abbrev pub invariant-loop-found : goal.invariant-loop-found

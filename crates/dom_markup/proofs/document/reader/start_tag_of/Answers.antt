@@ -4,7 +4,7 @@ use Rattle.dom_nodes.specs.Words.{is_among}
 use Rattle.dom_markup.specs.Bytes.{folded}
 use Rattle.dom_markup.specs.Names.{void_names}
 use Rattle.dom_markup.specs.Markup.{NamesElement, kept_after}
-use Rattle.dom_markup.proofs.Items.{start_closes, start_fails, start_unnamed}
+use Rattle.dom_markup.proofs.grammar.Items.{start_closes, start_fails, start_unnamed}
 use Rattle.dom_markup.proofs.document.reader.start_tag_of.Goals as goal
 
 pub returns-then-not-names_element : goal.returns-then-not-names_element

@@ -1,7 +1,7 @@
 use Rattle.std.proofs.Common.{sym, ◌∙◌}
 use Rattle.dom_markup.specs.Bytes.{is_name_byte}
-use Rattle.dom_markup.proofs.Reading.{attribute_shape}
-use Rattle.dom_markup.proofs.Spans.{nil_from_length, splits_front}
+use Rattle.dom_markup.proofs.grammar.Reading.{attribute_shape}
+use Rattle.dom_markup.proofs.grammar.Spans.{nil_from_length, splits_front}
 use Rattle.dom_markup.proofs.document.scan.attribute_at.Goals as goal
 
 pub returns-then-is_empty-clause-none : goal.returns-then-is_empty-clause-none

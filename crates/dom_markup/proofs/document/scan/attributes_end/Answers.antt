@@ -1,5 +1,5 @@
 use Rattle.std.proofs.Common.{rules}
-use Rattle.dom_markup.proofs.Reading.{SameEnd-refl, SameEnd-step, length_after}
+use Rattle.dom_markup.proofs.grammar.Reading.{SameEnd-refl, SameEnd-step, length_after}
 use Rattle.dom_markup.proofs.document.scan.attributes_end.Goals as goal
 
 pub loop-after-init : goal.loop-after-init

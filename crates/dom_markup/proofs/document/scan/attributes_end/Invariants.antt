@@ -1,6 +1,6 @@
 use Rattle.std.proofs.Common.{length}
 use Rattle.std.specs.Str.{IsUtf8}
-use Rattle.dom_markup.specs.Stretches.{SameEnd}
+use Rattle.dom_markup.specs.ByteClasses.{SameEnd}
 use Rattle.dom_markup.proofs.document.scan.attributes_end.Given as goal
 
 abbrev pub invariant-loop-after : goal.invariant-loop-after

@@ -1,6 +1,6 @@
 use Rattle.std.proofs.Common.{◌≡◌, ◌∷◌, false, sym, ◌∙◌, inl, inr}
 use Rattle.std.proofs.lemmas.Bool.{true≢false}
-use Rattle.dom_markup.proofs.Reading.{close_shape}
+use Rattle.dom_markup.proofs.grammar.Reading.{close_shape}
 use Rattle.dom_markup.proofs.document.scan.close_at.Goals as goal
 
 pub returns-then-not-slash : goal.returns-then-not-slash

@@ -1,5 +1,5 @@
 use Rattle.std.specs.Prelude.{codes}
-use Rattle.dom_markup.proofs.Marks.{found_first, found_nowhere}
+use Rattle.dom_markup.proofs.grammar.Marks.{found_first, found_nowhere}
 use Rattle.dom_markup.proofs.document.scan.comment_at.Goals as goal
 
 pub returns-clause-some : goal.returns-clause-some

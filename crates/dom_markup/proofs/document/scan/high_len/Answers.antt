@@ -8,6 +8,6 @@ use Rattle.dom_markup.proofs.document.scan.high_len.Goals as goal
 
 pub returns : goal.returns
 returns c =
-    let is = c.low_places-low.ensures in
+    let is = c.low_bytes-low.ensures in
     let first = first_set_mask_l is_low (chunk 0 16 c.args.bytes.now) 16 (length-chunk 0 16 c.args.bytes.now c.requires) (omega arith) in
     ap (count_trailing_zeros 64) is ∙ sym (cond-false _ _ _ (ne_eqb (mask_l (map is_low (chunk 0 16 c.args.bytes.now))) 0 (λ e. c.if-low-eq0.false (is ∙ e)))) ∙ first

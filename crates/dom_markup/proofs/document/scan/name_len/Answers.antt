@@ -2,7 +2,7 @@ use Rattle.std.proofs.Common.{◌≡◌, ◌+◌, ◌∙◌, ap, sym, arith}
 use Rattle.std.specs.List.{prefix_len}
 use Rattle.std.proofs.lemmas.List.Sums.{prefix_len-le-length}
 use Rattle.dom_markup.specs.Bytes.{is_name_byte}
-use Rattle.dom_markup.proofs.Highs.{past_high}
+use Rattle.dom_markup.proofs.grammar.NameBytes.{past_high}
 use Rattle.dom_markup.proofs.document.scan.name_len.Goals as goal
 
 pub returns : goal.returns

@@ -1,7 +1,7 @@
 use Rattle.std.proofs.Common.{arith}
 use Rattle.std.proofs.lemmas.Bool.{eqb-true}
 use Rattle.std.proofs.lemmas.Str.{IsCharBoundary-after_ascii}
-use Rattle.dom_markup.proofs.Firsts.{stands_nowhere, first_whole, first_lacks}
+use Rattle.dom_markup.proofs.grammar.Firsts.{stands_nowhere, first_whole, first_lacks}
 use Rattle.dom_markup.proofs.document.scan.split_letter.Goals as goal
 
 pub returns-in_err-at-clause-none : goal.returns-in_err-at-clause-none

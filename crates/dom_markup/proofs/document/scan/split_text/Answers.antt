@@ -1,4 +1,4 @@
-use Rattle.dom_markup.proofs.Texts.{take_front, text_boundary}
+use Rattle.dom_markup.proofs.grammar.Texts.{take_front, text_boundary}
 use Rattle.dom_markup.proofs.document.scan.split_text.Goals as goal
 
 pub split_at-requires : goal.split_at-requires

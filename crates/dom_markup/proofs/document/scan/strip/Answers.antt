@@ -1,6 +1,6 @@
 use Rattle.std.proofs.Common.{◌≡◌, ℕ, List, ◌∷◌, Bor, rules}
 use Rattle.std.proofs.lemmas.Str.Pattern.{strip_prefix_char}
-use Rattle.dom_markup.proofs.Spans.{IfNone-from_cases}
+use Rattle.dom_markup.proofs.grammar.Spans.{IfNone-from_cases}
 use Rattle.dom_markup.proofs.document.scan.strip.Goals as goal
 
 pub returns : goal.returns

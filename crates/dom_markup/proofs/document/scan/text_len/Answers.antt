@@ -1,6 +1,6 @@
 use Rattle.std.proofs.Common.{arith, length-drop, sym, ap, ◌∙◌}
 use Rattle.dom_markup.specs.Markup.{begins_markup}
-use Rattle.dom_markup.proofs.Texts.{front_ends, front_goes_on, front_all}
+use Rattle.dom_markup.proofs.grammar.Texts.{front_ends, front_goes_on, front_all}
 use Rattle.dom_markup.proofs.document.scan.text_len.Goals as goal
 
 pub returns-then-begins_markup : goal.returns-then-begins_markup

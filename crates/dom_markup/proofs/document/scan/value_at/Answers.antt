@@ -1,6 +1,6 @@
 use Rattle.std.proofs.Common.{sym, ◌∙◌}
-use Rattle.dom_markup.proofs.Reading.{bare_none}
-use Rattle.dom_markup.proofs.Spans.{nil_from_length}
+use Rattle.dom_markup.proofs.grammar.Reading.{bare_none}
+use Rattle.dom_markup.proofs.grammar.Spans.{nil_from_length}
 use Rattle.dom_markup.proofs.document.scan.value_at.Goals as goal
 
 pub returns-then-is_empty : goal.returns-then-is_empty

@@ -1,4 +1,4 @@
-use Rattle.dom_markup.proofs.Reading.{value_none, value_some, value_from}
+use Rattle.dom_markup.proofs.grammar.Reading.{value_none, value_some, value_from}
 use Rattle.dom_markup.proofs.document.scan.value_behind.Goals as goal
 
 pub returns-in_default-clause-some : goal.returns-in_default-clause-some

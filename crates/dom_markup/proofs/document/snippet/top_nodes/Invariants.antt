@@ -7,4 +7,4 @@ use Rattle.dom_markup.proofs.document.snippet.top_nodes.Given as goal
 
 -- those so far, and those of what is left
 abbrev pub invariant-loop-id : goal.invariant-loop-id
-invariant-loop-id l = l.tops ++ filter (λ n. not (node_is is_doctype l.tree n)) l.id-iterator ≡ top_nodes l.tree
+invariant-loop-id l = l.top_ids ++ filter (λ n. not (node_is is_doctype l.tree n)) l.id-iterator ≡ top_nodes l.tree

@@ -1,6 +1,6 @@
 use Rattle.std.proofs.Common.{refl, rules}
-use Rattle.dom_markup.proofs.Reading.{end_tag_shape}
-use Rattle.dom_markup.proofs.Items.{end_made}
+use Rattle.dom_markup.proofs.grammar.Reading.{end_tag_shape}
+use Rattle.dom_markup.proofs.grammar.Items.{end_made}
 use Rattle.dom_markup.proofs.document.tags.end_tag_end.Goals as goal
 
 pub returns-in_err-rest-clause-none : goal.returns-in_err-rest-clause-none

@@ -2,7 +2,7 @@ use Rattle.std.proofs.Common.{[], rules}
 use Rattle.std.proofs.lemmas.Result.{err_from_is_err_and}
 use Rattle.dom_markup.specs.Bytes.{folded}
 use Rattle.dom_markup.specs.Markup.{NamesElement, kept_after}
-use Rattle.dom_markup.proofs.Items.{start_closes, start_fails, start_unnamed}
+use Rattle.dom_markup.proofs.grammar.Items.{start_closes, start_fails, start_unnamed}
 use Rattle.dom_markup.proofs.document.tags.start_tag_end.Goals as goal
 
 pub returns-then-not-names_element : goal.returns-then-not-names_element

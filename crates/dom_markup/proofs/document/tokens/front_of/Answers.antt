@@ -1,6 +1,6 @@
 use Rattle.std.proofs.Common.{◌≡◌, ℕ, List, sym, ap, ◌∙◌, subst, length, length-append, arith}
 use Rattle.std.specs.Str.{IsCharBoundary}
-use Rattle.dom_markup.proofs.Fronts.{cut_boundary, before_rest}
+use Rattle.dom_markup.proofs.grammar.Fronts.{cut_boundary, before_rest}
 use Rattle.dom_markup.proofs.document.tokens.front_of.Goals as goal
 
 pub overflow_sub-text : goal.overflow_sub-text

@@ -2,7 +2,7 @@ use Rattle.std.proofs.Common.{refl}
 use Rattle.std.proofs.lemmas.Result.{err_from_is_err_and}
 use Rattle.dom_markup.specs.Bytes.{folded}
 use Rattle.dom_markup.specs.declared.document.tokens.TokenKind.TheVariants as kinds
-use Rattle.dom_markup.proofs.Items.{found_start}
+use Rattle.dom_markup.proofs.grammar.Items.{found_start}
 use Rattle.dom_markup.proofs.document.tokens.start_at.Goals as goal
 
 pub returns-in_err-name : goal.returns-in_err-name

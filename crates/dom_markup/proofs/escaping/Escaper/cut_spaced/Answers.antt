@@ -1,7 +1,7 @@
 use Rattle.std.proofs.Common.{◌≡◌, ◌+◌, refl, arith}
 use Rattle.std.specs.Prelude.{codes}
 use Rattle.dom_markup.specs.Escaping.{spaced}
-use Rattle.dom_markup.proofs.EscapeLemmas.{no_space, no_space_byte, first_space, space_before, space_after, cut_parts, cut_shorter}
+use Rattle.dom_markup.proofs.html.EscapeLemmas.{no_space, no_space_byte, first_space, space_before, space_after, cut_parts, cut_shorter}
 use Rattle.dom_markup.proofs.escaping.Escaper.cut_spaced.Goals as goal
 
 pub returns-in_err-memchr : goal.returns-in_err-memchr

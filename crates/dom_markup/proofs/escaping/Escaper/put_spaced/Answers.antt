@@ -1,7 +1,7 @@
 use Rattle.std.proofs.Common.{rules}
 use Rattle.std.proofs.lemmas.Result.{err_from_is_err_and}
 use Rattle.dom_markup.specs.Escaping.{spaced}
-use Rattle.dom_markup.proofs.CutLemmas.{fault_before, fault_name, cut_whole, cut_written}
+use Rattle.dom_markup.proofs.html.CutLemmas.{fault_before, fault_name, cut_whole, cut_written}
 use Rattle.dom_markup.proofs.escaping.Escaper.put_spaced.Goals as goal
 
 pub returns-in_err-put : goal.returns-in_err-put

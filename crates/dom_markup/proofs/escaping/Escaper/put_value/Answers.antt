@@ -1,4 +1,4 @@
-use Rattle.dom_markup.proofs.EscapeLemmas.{nothing_named}
+use Rattle.dom_markup.proofs.html.EscapeLemmas.{nothing_named}
 use Rattle.dom_markup.proofs.escaping.Escaper.put_value.Goals as goal
 
 pub returns-in-None : goal.returns-in-None

@@ -1,4 +1,4 @@
-use Rattle.dom_markup.proofs.ReadBack.{value_reads_back}
+use Rattle.dom_markup.proofs.html.ReadBack.{value_reads_back}
 use Rattle.dom_markup.proofs.laws.escaping.value_reads_back.Goals as goal
 
 pub returns : goal.returns

@@ -1,4 +1,4 @@
-use Rattle.dom_markup.proofs.FaultLemmas.{fault_mark, limit_fault, nesting_fault, token_fault}
+use Rattle.dom_markup.proofs.grammar.FaultLemmas.{fault_mark, limit_fault, nesting_fault, token_fault}
 use Rattle.dom_markup.proofs.laws.faults.kinds_of_faults.Goals as goal
 
 pub returns : goal.returns

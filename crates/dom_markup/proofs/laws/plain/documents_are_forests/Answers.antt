@@ -1,4 +1,4 @@
-use Rattle.dom_markup.proofs.DocumentSound.{document_sound}
+use Rattle.dom_markup.proofs.rows.DocumentSound.{document_sound}
 use Rattle.dom_markup.proofs.laws.plain.documents_are_forests.Goals as goal
 
 pub returns : goal.returns

@@ -1,4 +1,4 @@
-use Rattle.dom_markup.proofs.SameLemmas.{documents_same}
+use Rattle.dom_markup.proofs.plain.SameLemmas.{documents_same}
 use Rattle.dom_markup.proofs.laws.plain.documents_of_the_same_trees.Goals as goal
 
 pub returns : goal.returns

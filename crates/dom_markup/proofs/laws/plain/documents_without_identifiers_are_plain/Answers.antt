@@ -1,4 +1,4 @@
-use Rattle.dom_markup.proofs.BareRows.{bare_document}
+use Rattle.dom_markup.proofs.rows.BareRows.{bare_document}
 use Rattle.dom_markup.proofs.laws.plain.documents_without_identifiers_are_plain.Goals as goal
 
 pub returns : goal.returns

@@ -1,4 +1,4 @@
-use Rattle.dom_markup.proofs.PlainForest.{represented-text, document-text}
+use Rattle.dom_markup.proofs.plain.PlainForest.{represented-text, document-text}
 use Rattle.dom_markup.proofs.laws.plain.html_of_trees.Goals as goal
 
 pub returns : goal.returns

@@ -1,7 +1,7 @@
 use Rattle.dom_markup.specs.Numbered.{document_of}
-use Rattle.dom_markup.proofs.DocumentSound.{document_sound}
-use Rattle.dom_markup.proofs.PlainForest.{plain_document_inside_spells, plain_document_spells}
-use Rattle.dom_markup.proofs.SameLemmas.{plain_same}
+use Rattle.dom_markup.proofs.rows.DocumentSound.{document_sound}
+use Rattle.dom_markup.proofs.plain.PlainForest.{plain_document_inside_spells, plain_document_spells}
+use Rattle.dom_markup.proofs.plain.SameLemmas.{plain_same}
 use Rattle.dom_markup.proofs.laws.plain.plain_documents_are_spelled.Goals as goal
 
 pub returns : goal.returns

@@ -1,4 +1,4 @@
-use Rattle.dom_markup.proofs.PlainForest.{plain_document_spells}
+use Rattle.dom_markup.proofs.plain.PlainForest.{plain_document_spells}
 use Rattle.dom_markup.proofs.laws.plain.plain_reads_back.Goals as goal
 
 pub returns : goal.returns

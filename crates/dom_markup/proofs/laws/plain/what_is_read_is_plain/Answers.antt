@@ -1,6 +1,6 @@
-use Rattle.dom_markup.proofs.PlainRead.{read_plain}
-use Rattle.dom_markup.proofs.PlainRows.{document-root, document-represents}
-use Rattle.dom_markup.proofs.PlainUtf8.{read_utf8}
+use Rattle.dom_markup.proofs.plain.PlainRead.{read_plain}
+use Rattle.dom_markup.proofs.plain.PlainRows.{document-root, document-represents}
+use Rattle.dom_markup.proofs.plain.PlainUtf8.{read_utf8}
 use Rattle.dom_markup.proofs.laws.plain.what_is_read_is_plain.Goals as goal
 
 pub returns : goal.returns

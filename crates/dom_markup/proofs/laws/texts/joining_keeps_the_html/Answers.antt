@@ -1,4 +1,4 @@
-use Rattle.dom_markup.proofs.JoinedHtml.{html_joins, html_reading, written_alike}
+use Rattle.dom_markup.proofs.html.JoinedHtml.{html_joins, html_reading, written_alike}
 use Rattle.dom_markup.proofs.laws.texts.joining_keeps_the_html.Goals as goal
 
 pub returns : goal.returns

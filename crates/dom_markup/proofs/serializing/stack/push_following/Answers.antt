@@ -4,8 +4,8 @@ use Rattle.dom_links.specs.Walk.{IsWithin}
 use Rattle.dom_markup.specs.declared.serializing.stack.SerializeOp.TheVariants.{Close}
 use Rattle.dom_links.specs.Weights.{row_weight}
 use Rattle.dom_markup.specs.Pending.{ops_text, row_text, weight}
-use Rattle.dom_markup.proofs.PendingLemmas.{pushed, element-below, element-weight, top-below, top-weight, children-within, on_ok}
-use Rattle.dom_markup.proofs.RowLemmas.{contents_within, known_node}
+use Rattle.dom_markup.proofs.html.PendingLemmas.{pushed, element-below, element-weight, top-below, top-weight, children-within, on_ok}
+use Rattle.dom_markup.proofs.rows.RowLemmas.{contents_within, known_node}
 use Rattle.dom_markup.proofs.serializing.stack.push_following.Goals as goal
 
 pub push_open-requires-clause-within : goal.push_open-requires-clause-within

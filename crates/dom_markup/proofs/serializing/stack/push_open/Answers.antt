@@ -1,7 +1,7 @@
 use Rattle.std.proofs.Common.{arith, refl}
 use Rattle.dom_links.specs.Forest.{forest_of}
-use Rattle.dom_markup.proofs.PendingLemmas.{row_pushed}
-use Rattle.dom_markup.proofs.RowLemmas.{no_row}
+use Rattle.dom_markup.proofs.html.PendingLemmas.{row_pushed}
+use Rattle.dom_markup.proofs.rows.RowLemmas.{no_row}
 use Rattle.dom_markup.proofs.serializing.stack.push_open.Goals as goal
 
 pub returns-in_ok-push : goal.returns-in_ok-push

@@ -3,9 +3,9 @@ use Rattle.dom_links.specs.Forest.{forest_of}
 use Rattle.dom_markup.specs.Html.{inner_html_of}
 use Rattle.dom_markup.specs.Pending.{ops_text, row_text}
 use Rattle.dom_markup.specs.Writing.{Writes}
-use Rattle.dom_markup.proofs.PendingLemmas.{children-within, only}
-use Rattle.dom_markup.proofs.RowLemmas.{inner-piece, inner-bare, inner-unknown}
-use Rattle.dom_markup.proofs.WritingLemmas.{nothing-written}
+use Rattle.dom_markup.proofs.html.PendingLemmas.{children-within, only}
+use Rattle.dom_markup.proofs.rows.RowLemmas.{inner-piece, inner-bare, inner-unknown}
+use Rattle.dom_markup.proofs.html.WritingLemmas.{nothing-written}
 use Rattle.dom_markup.proofs.serializing.stack.put_children.Goals as goal
 
 pub returns-in_default : goal.returns-in_default

@@ -3,9 +3,9 @@ use Rattle.std.proofs.lemmas.Result.{err_from_is_err_and}
 use Rattle.dom_links.specs.Forest.{forest_of}
 use Rattle.dom_markup.specs.Html.{html_of, opening}
 use Rattle.dom_markup.specs.Pending.{ops_text, text_below}
-use Rattle.dom_markup.proofs.PendingLemmas.{only}
-use Rattle.dom_markup.proofs.RowLemmas.{html-pieces, html-unknown}
-use Rattle.dom_markup.proofs.WritingLemmas.{nothing-written, nothing-begun, fault-first, then-writes}
+use Rattle.dom_markup.proofs.html.PendingLemmas.{only}
+use Rattle.dom_markup.proofs.rows.RowLemmas.{html-pieces, html-unknown}
+use Rattle.dom_markup.proofs.html.WritingLemmas.{nothing-written, nothing-begun, fault-first, then-writes}
 use Rattle.dom_markup.proofs.serializing.stack.put_node.Goals as goal
 
 pub returns-in_default : goal.returns-in_default

@@ -2,8 +2,8 @@ use Rattle.std.proofs.Common.{◌++◌, arith}
 use Rattle.std.proofs.lemmas.Result.{err_from_is_err_and}
 use Rattle.dom_links.specs.Forest.{forest_of}
 use Rattle.dom_markup.specs.Pending.{op_text, ops_text}
-use Rattle.dom_markup.proofs.PendingLemmas.{popped, still_left, stepped}
-use Rattle.dom_markup.proofs.WritingLemmas.{written-then, fault-inside}
+use Rattle.dom_markup.proofs.html.PendingLemmas.{popped, still_left, stepped}
+use Rattle.dom_markup.proofs.html.WritingLemmas.{written-then, fault-inside}
 use Rattle.dom_markup.proofs.serializing.stack.put_ops.Goals as goal
 
 pub put_op-requires-clause-known : goal.put_op-requires-clause-known

@@ -3,8 +3,8 @@ use Rattle.std.specs.Prelude.{codes}
 use Rattle.std.proofs.lemmas.Result.{err_from_is_err_and}
 use Rattle.dom_nodes.specs.Escaping.{escaped_value}
 use Rattle.dom_markup.specs.Html.{prefix_text}
-use Rattle.dom_markup.proofs.TagLemmas.{attr-first, attr-value}
-use Rattle.dom_markup.proofs.WritingLemmas.{fault-first, fault-inside, then-writes, written-then}
+use Rattle.dom_markup.proofs.grammar.TagLemmas.{attr-first, attr-value}
+use Rattle.dom_markup.proofs.html.WritingLemmas.{fault-first, fault-inside, then-writes, written-then}
 use Rattle.dom_markup.proofs.serializing.tags.put_attr.Goals as goal
 
 pub returns-in_err-put_parts : goal.returns-in_err-put_parts

@@ -3,8 +3,8 @@ use Rattle.std.specs.Prelude.{codes}
 use Rattle.std.specs.List.{flat_map}
 use Rattle.std.proofs.lemmas.Result.{err_from_is_err_and}
 use Rattle.dom_markup.specs.Html.{attr_text}
-use Rattle.dom_markup.proofs.TagLemmas.{tag-first, tag-attr, tag-last}
-use Rattle.dom_markup.proofs.WritingLemmas.{fault-first, fault-inside, then-writes, flat_map-split}
+use Rattle.dom_markup.proofs.grammar.TagLemmas.{tag-first, tag-attr, tag-last}
+use Rattle.dom_markup.proofs.html.WritingLemmas.{fault-first, fault-inside, then-writes, flat_map-split}
 use Rattle.dom_markup.proofs.serializing.tags.put_start_tag.Goals as goal
 
 pub returns-in_err-put_parts : goal.returns-in_err-put_parts

@@ -14,7 +14,7 @@ pub returns-then-eq-clause-rest : goal.returns-then-eq-clause-rest
 returns-then-eq-clause-rest c =
     let forest = forest_of c.args.nodes.now in
     let p = pushed forest c.args.ops.now.items c.push_op.new.ops.items (Close c.args.id) (slice_get_within _ c.args.id _ c.requires.node.content_is) c.requires.all_within c.in_ok-push_op-in-Element.ensures.ok in
-    let pre : bytes_eq c.in-Element.element.name.local (codes "pre") ≡ true = ap (λ t. bytes_eq t (codes "pre")) (sym c.node_name-in-Element.ensures) ∙ (sym c.eq.ensures ∙ c.if-eq.true) in
+    let pre : bytes_eq c.in-Element.element.name.local (codes "pre") ≡ true = ap (λ t. bytes_eq t (codes "pre")) (sym c.node_name.ensures) ∙ (sym c.eq.ensures ∙ c.if-eq.true) in
     on_ok-any c.keep_text.result (pre-rest forest c.args.id c.args.node.now.content c.in-Element.element c.requires.node.content_is c.in-Element.is pre _ _ p.rest)
 
 pub returns-then-eq-clause-all_within : goal.returns-then-eq-clause-all_within
@@ -41,7 +41,7 @@ pub returns-else-eq-clause-rest : goal.returns-else-eq-clause-rest
 returns-else-eq-clause-rest c =
     let forest = forest_of c.args.nodes.now in
     let p = pushed forest c.args.ops.now.items c.push_op.new.ops.items (Close c.args.id) (slice_get_within _ c.args.id _ c.requires.node.content_is) c.requires.all_within c.in_ok-push_op-in-Element.ensures.ok in
-    let other : bytes_eq c.in-Element.element.name.local (codes "pre") ≡ false = ap (λ t. bytes_eq t (codes "pre")) (sym c.node_name-in-Element.ensures) ∙ (sym c.eq.ensures ∙ c.if-eq.false) in
+    let other : bytes_eq c.in-Element.element.name.local (codes "pre") ≡ false = ap (λ t. bytes_eq t (codes "pre")) (sym c.node_name.ensures) ∙ (sym c.eq.ensures ∙ c.if-eq.false) in
     on_ok_weaker c.push_open-in-Element.result (λ more. children-rest forest c.requires.sound.forest c.args.id c.args.node.now c.in-Element.element c.requires.node c.in-Element.is other _ _ _ p.rest (more ∙ ap (λ at. row_events forest at ++ ops_events forest c.push_op.new.ops.items) c.get-first.ensures)) c.push_open-in-Element.ensures.rest
 
 pub returns-else-eq-clause-weight : goal.returns-else-eq-clause-weight

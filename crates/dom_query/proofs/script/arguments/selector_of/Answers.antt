@@ -5,14 +5,14 @@ use Rattle.dom_selectors.specs.Grammar.{Refused}
 use Rattle.dom_query.specs.Script.{StandsForNothing}
 use Rattle.dom_query.proofs.script.arguments.selector_of.Goals as goal
 
--- a fault other than memory tells that the text stands for nothing
-told : (text : List ℕ) (fault : SelectorFault) → Refused text fault → fault ≢ Memory → StandsForNothing text
-told text Syntax refused other = refused
-told text UnknownPseudoClass refused other = refused.1
-told text Number refused other = refused.1
-told text NestedHas refused other = refused.1
-told text TooDeep refused other = refused.1
-told text Memory refused other = absurd (other refl)
+-- a fault other than memory says that the text stands for nothing
+evidence : (text : List ℕ) (fault : SelectorFault) → Refused text fault → fault ≢ Memory → StandsForNothing text
+evidence text Syntax refused other = refused
+evidence text UnknownPseudoClass refused other = refused.1
+evidence text Number refused other = refused.1
+evidence text NestedHas refused other = refused.1
+evidence text TooDeep refused other = refused.1
+evidence text Memory refused other = absurd (other refl)
 
 pub returns-else-is_memory : goal.returns-else-is_memory
-returns-else-is_memory c = told (chars c.args.text.now) c.in-Err.fault c.in-Err.ensures.refused c.if-is_memory.ensures
+returns-else-is_memory c = evidence (chars c.args.text.now) c.in-Err.fault c.in-Err.ensures.refused c.if-is_memory.ensures

@@ -1,5 +1,5 @@
 use Rattle.std.proofs.Common.{codes, inl, sym, ◌∙◌}
-use Rattle.dom_markup.proofs.Marks.{found_first, found_nowhere}
+use Rattle.dom_markup.proofs.grammar.Marks.{found_first, found_nowhere}
 use Rattle.dom_markup.specs.Markup.{EndsAtMark}
 use Rattle.dom_query.proofs.Names.{no-pair-alone, no-pair-spaced}
 use Rattle.dom_query.proofs.script.edit_line.pair_of.Goals as goal

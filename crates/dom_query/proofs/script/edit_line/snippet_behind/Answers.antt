@@ -7,7 +7,7 @@ returns-in-Some-clause-ok c = markup-read c.args.line.now c.args.word.now c.in-S
 
 pub returns-in-Some-clause-refused : goal.returns-in-Some-clause-refused
 returns-in-Some-clause-refused c =
-    IfErr-weaker c.snippet_of.result _ _ (λ fault told. line-limit c.args.line.now c.args.word.now c.in-Some.argument.now fault c.in-Some.ensures told) c.snippet_of.ensures.refused
+    IfErr-weaker c.snippet_of.result _ _ (λ fault evidence. line-limit c.args.line.now c.args.word.now c.in-Some.argument.now fault c.in-Some.ensures evidence) c.snippet_of.ensures.refused
 
 pub returns-in-None-clause-ok : goal.returns-in-None-clause-ok
 returns-in-None-clause-ok c = λ read h. c.in-None.ensures h.0 h.1

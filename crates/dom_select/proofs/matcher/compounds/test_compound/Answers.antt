@@ -7,4 +7,4 @@ returns-then-not-all-clause-is c =
 
 pub returns-clause-is : goal.returns-clause-is
 returns-clause-is c =
-    parts_decide c.args.compound.now c.args.x.now.tree.now c.args.x.now.id c.args.nested.now c.requires.answers c.are_true-all.result c.parts_hold.result c.are_true-all.ensures c.if-not-all.false (rw c.deref.ensures.value at c.parts_hold.ensures.is)
+    parts_decide c.args.compound.now c.args.x.now.tree.now c.args.x.now.id c.args.nested.now c.requires.answers c.are_true-all.result c.parts_hold.result c.are_true-all.ensures c.if-not-all.false (rw c.requires.caches at (rw c.deref.ensures.value at c.parts_hold.ensures.is))

@@ -1,8 +1,8 @@
 use Rattle.std.proofs.Common.{ℕ, List, [], ◌∷◌, ◌++◌}
 use Rattle.dom_select.specs.Descendants.{IsMatch}
-use Rattle.dom_select.specs.Selected.{Picks, Selected}
+use Rattle.dom_select.specs.Selected.{FiltersTo, Selected}
 use Rattle.dom_select.proofs.matcher.descendants.named_below.Given as goal
 
--- what was picked and what is to come is what is selected
+-- what was matched and what is to come is what is selected
 abbrev pub invariant-loop-id : goal.invariant-loop-id
-invariant-loop-id l = (ids : List ℕ) → Picks (IsMatch l.matcher l.tree) l.id-iterator.left ids → Selected l.tree (l.root ∷ []) l.matcher (l.named.items ++ ids)
+invariant-loop-id l = (ids : List ℕ) → FiltersTo (IsMatch l.matcher l.tree) l.id-iterator.left ids → Selected l.tree (l.root ∷ []) l.matcher (l.named.items ++ ids)

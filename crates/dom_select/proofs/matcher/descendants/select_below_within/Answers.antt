@@ -1,9 +1,9 @@
 use Rattle.std.proofs.Common.{◌∙◌, subst}
 use Rattle.std.proofs.lemmas.Result.{IfOk-weaker}
 use Rattle.dom_links.specs.Lists.{IsDistinct}
-use Rattle.dom_links.proofs.GivenNodes.{given_nodes}
+use Rattle.dom_links.proofs.walks.GivenNodes.{given_nodes}
 use Rattle.dom_select.specs.Descendants.{IsMatch}
-use Rattle.dom_select.proofs.PickLemmas.{picked_of_all, some_weaker}
+use Rattle.dom_select.proofs.FilterLemmas.{filtered_of_all, some_weaker}
 use Rattle.dom_select.proofs.SelectionLemmas.{selected_below}
 use Rattle.dom_select.proofs.matcher.descendants.select_below_within.Goals as goal
 
@@ -11,6 +11,6 @@ pub returns-clause-selected : goal.returns-clause-selected
 returns-clause-selected c =
     let walk = c.descendant_ids_of_it.ensures in
     let once = subst IsDistinct walk.all walk.once in
-    IfOk-weaker c.pick_within.result _ _ (λ found. some_weaker found _ _ (λ ids h.
+    IfOk-weaker c.collect_within.result _ _ (λ found. some_weaker found _ _ (λ ids h.
     selected_below c.args.tree.now c.args.root.now c.args.matcher.now ids.items once
-    (picked_of_all (IsMatch c.args.matcher.now c.args.tree.now) _ ids.items _ (λ ns d. given_nodes c.descendant_ids_of_it.result ns d ∙ walk.all) h))) c.pick_within.ensures.picked
+    (filtered_of_all (IsMatch c.args.matcher.now c.args.tree.now) _ ids.items _ (λ ns d. given_nodes c.descendant_ids_of_it.result ns d ∙ walk.all) h))) c.collect_within.ensures.matched

@@ -3,7 +3,7 @@ use Rattle.std.specs.Fn.{FnReturnsAt}
 use Rattle.dom_links.specs.Forest.{forest_of}
 use Rattle.dom_links.specs.Walk.{row_on}
 use Rattle.dom_select.specs.Traversals.{FindsFirst}
-use Rattle.dom_select.proofs.MiniPathLemmas.{row_step, shorter}
+use Rattle.dom_select.proofs.ChildRowLemmas.{row_step, shorter}
 use Rattle.dom_select.proofs.traversal.Traversal.find_child_element.Goals as goal
 
 pub loop-next-init : goal.loop-next-init

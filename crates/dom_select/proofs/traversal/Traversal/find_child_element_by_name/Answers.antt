@@ -3,7 +3,7 @@ use Rattle.std.specs.Prelude.{find}
 use Rattle.dom_links.specs.Forest.{forest_of}
 use Rattle.dom_links.specs.Walk.{row_on}
 use Rattle.dom_trees.specs.Views.{has_local_name}
-use Rattle.dom_select.proofs.MiniPathLemmas.{found_later, row_step, shorter}
+use Rattle.dom_select.proofs.ChildRowLemmas.{found_later, row_step, shorter}
 use Rattle.dom_select.proofs.traversal.Traversal.find_child_element_by_name.Goals as goal
 
 pub loop-next-init : goal.loop-next-init

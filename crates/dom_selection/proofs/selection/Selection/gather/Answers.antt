@@ -7,7 +7,7 @@ use Rattle.dom_trees.specs.declared.node_ref.NodeRef.{NodeRef}
 use Rattle.dom_trees.specs.Views.{refs_to}
 use Rattle.dom_select.specs.Selected.{first_occurrences}
 use Rattle.dom_selection.specs.Selections.{ids_of}
-use Rattle.dom_selection.specs.Steps.{step_of}
+use Rattle.dom_selection.specs.Steps.{related_by}
 use Rattle.dom_selection.proofs.AboveLemmas.{closed_on, closed_start}
 use Rattle.dom_selection.proofs.GatherLemmas.{goes_on_from, goes_start, left_from, met_all, gathered_in}
 use Rattle.dom_selection.proofs.SelectionLemmas.{one_tree_of}
@@ -16,29 +16,29 @@ use Rattle.dom_selection.proofs.selection.Selection.gather.Goals as goal
 pub loop-node-init : goal.loop-node-init
 loop-node-init c = (closed_start c.args.step c.new-gathered.result c.new-gathered.ensures.met, goes_start c.new-gathered.result _)
 
-pub meet_from-requires : goal.meet_from-requires
-meet_from-requires c = c.loop-node.invariant.0
+pub gather_related-requires : goal.gather_related-requires
+gather_related-requires c = c.loop-node.invariant.0
 
-good : (c : goal.In_ok-meet_from) → IsForest c.loop-node.gathered.tree.now
+good : (c : goal.In_ok-gather_related) → IsForest c.loop-node.gathered.tree.now
 good c =
     subst (λ (t : Bor Forest). IsForest t.now) (sym (c.loop-node.invariant.1.1.tree ∙ c.new-gathered.ensures.tree))
     (subst IsForest c.nodes-nodes.ensures.value c.nodes-nodes.ensures.sound.forest)
 
 pub loop-node-preserved : goal.loop-node-preserved
 loop-node-preserved c = (
-  closed_on c.args.step c.new-gathered.result c.loop-node.gathered c.meet_from.new.self _ _ c.node-item.result.id (good c) c.new-gathered.ensures.met c.loop-node.invariant.1 c.loop-node.invariant.0 c.in_ok-meet_from.ensures,
-  goes_on_from c.new-gathered.result c.loop-node.gathered c.meet_from.new.self (step_of c.args.step) _
+  closed_on c.args.step c.new-gathered.result c.loop-node.gathered c.gather_related.new.self _ _ c.node-item.result.id (good c) c.new-gathered.ensures.met c.loop-node.invariant.1 c.loop-node.invariant.0 c.in_ok-gather_related.ensures,
+  goes_on_from c.new-gathered.result c.loop-node.gathered c.gather_related.new.self (related_by c.args.step) _
       (drop c.loop-node.node-index c.nodes-node-items.result.now) (drop (c.loop-node.node-index + 1) c.nodes-node-items.result.now) c.node-item.result
-      c.loop-node.invariant.1 (left_from c.nodes-node-items.result.now c.loop-node.node-index c.node-item.result c.loop-node-test.true c.node-item.is) c.in_ok-meet_from.ensures,
+      c.loop-node.invariant.1 (left_from c.nodes-node-items.result.now c.loop-node.node-index c.node-item.result c.loop-node-test.true c.node-item.is) c.in_ok-gather_related.ensures,
 )
 
 pub of_one_tree-requires : goal.of_one_tree-requires
 of_one_tree-requires c =
-    one_tree_of _ _ _ (met_all c.new-gathered.result c.loop-node.gathered (step_of c.args.step) c.nodes-node-items.result.now c.loop-node.node-index c.new-gathered.ensures.met c.loop-node-test.false c.loop-node.invariant.1)
+    one_tree_of _ _ _ (met_all c.new-gathered.result c.loop-node.gathered (related_by c.args.step) c.nodes-node-items.result.now c.loop-node.node-index c.new-gathered.ensures.met c.loop-node-test.false c.loop-node.invariant.1)
 
 pub returns : goal.returns
 returns c =
     c.of_one_tree.ensures
-    ∙ gathered_in c.args.self.now c.loop-node.gathered.nodes.items (step_of c.args.step) c.new-gathered.result.tree (sym c.in-Some.ensures.tree ∙ ap Some (sym c.new-gathered.ensures.tree))
-    (subst (λ (ns : List NodeRef). c.loop-node.gathered.nodes.items ≡ refs_to c.new-gathered.result.tree (first_occurrences [] (flat_map (step_of c.args.step c.new-gathered.result.tree.now) (ids_of ns)))) c.nodes-node-items.ensures.nodes
-    (met_all c.new-gathered.result c.loop-node.gathered (step_of c.args.step) c.nodes-node-items.result.now c.loop-node.node-index c.new-gathered.ensures.met c.loop-node-test.false c.loop-node.invariant.1))
+    ∙ gathered_in c.args.self.now c.loop-node.gathered.nodes.items (related_by c.args.step) c.new-gathered.result.tree (sym c.in-Some.ensures.tree ∙ ap Some (sym c.new-gathered.ensures.tree))
+    (subst (λ (ns : List NodeRef). c.loop-node.gathered.nodes.items ≡ refs_to c.new-gathered.result.tree (first_occurrences [] (flat_map (related_by c.args.step c.new-gathered.result.tree.now) (ids_of ns)))) c.nodes-node-items.ensures.nodes
+    (met_all c.new-gathered.result c.loop-node.gathered (related_by c.args.step) c.nodes-node-items.result.now c.loop-node.node-index c.new-gathered.ensures.met c.loop-node-test.false c.loop-node.invariant.1))

@@ -1,5 +1,5 @@
 use Rattle.std.proofs.Common.{◌∙◌}
-use Rattle.dom_links.proofs.GivenNodes.{collected_nodes}
+use Rattle.dom_links.proofs.walks.GivenNodes.{collected_nodes}
 use Rattle.dom_trees.proofs.tree.Tree.descendant_ids_of.Goals as goal
 
 pub returns : goal.returns

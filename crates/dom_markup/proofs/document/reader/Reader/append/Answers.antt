@@ -1,8 +1,8 @@
 use Rattle.std.proofs.Common.{◌≡◌, ◌<◌, ℕ, length, true, refl, sym, ap, ◌∙◌, subst, rules}
 use Rattle.dom_links.specs.Growth.{with_child}
-use Rattle.dom_links.specs.Sound.{bears}
-use Rattle.dom_markup.proofs.Frames.{parent_known, parent_bears}
-use Rattle.dom_markup.proofs.Steps.{only_limits, parent_is}
+use Rattle.dom_links.specs.Sound.{children_allowed_at}
+use Rattle.dom_markup.proofs.rows.Frames.{parent_known, parent_bears}
+use Rattle.dom_markup.proofs.rows.Steps.{only_limits, parent_is}
 use Rattle.dom_markup.proofs.document.reader.Reader.append.Goals as goal
 
 pub limit_of-requires : goal.limit_of-requires
@@ -12,7 +12,7 @@ limit_of-requires c =
     let parent = c.parent-parent.ensures ∙ parent_is reading.0 c.args.self.now reading.1 in
     only_limits forest c.parent-parent.result c.args.content c.in-Err.fault
     (subst (λ (n : ℕ). n < length forest.content) (sym parent) (parent_known reading.0 _ _ reading.1))
-    (subst (λ (n : ℕ). bears forest n ≡ true) (sym parent) (parent_bears reading.0 _ _ reading.1))
+    (subst (λ (n : ℕ). children_allowed_at forest n ≡ true) (sym parent) (parent_bears reading.0 _ _ reading.1))
     c.requires.plain c.in-Err.ensures.cause
 
 pub returns-in-Ok : goal.returns-in-Ok

@@ -5,7 +5,7 @@ use Rattle.dom_trees.specs.NewNodes.{element_with}
 use Rattle.dom_markup.specs.Bytes.{folded}
 use Rattle.dom_markup.specs.Names.{is_template}
 use Rattle.dom_markup.specs.Reader.{Grows, parent_number}
-use Rattle.dom_markup.proofs.Steps.{of_parts, plain_made, template_made}
+use Rattle.dom_markup.proofs.rows.Steps.{of_parts, plain_made, template_made}
 use Rattle.dom_markup.proofs.document.reader.Reader.append_element.Goals as goal
 
 pub returns-then-not-is_template : goal.returns-then-not-is_template

@@ -3,7 +3,7 @@ use Rattle.std.proofs.lemmas.Bool.{eqb-true, eqb-false}
 use Rattle.dom_markup.specs.Frames.{HasRead}
 use Rattle.dom_markup.specs.Reader.{opened_by}
 use Rattle.dom_markup.specs.declared.document.reader.Open.{Open}
-use Rattle.dom_markup.proofs.Frames.{nil_from_length0, whole_read, leaves_open}
+use Rattle.dom_markup.proofs.rows.Frames.{nil_from_length0, whole_read, leaves_open}
 use Rattle.dom_markup.proofs.document.reader.Reader.finish.Goals as goal
 
 pub returns-then-is_empty-clause-items : goal.returns-then-is_empty-clause-items

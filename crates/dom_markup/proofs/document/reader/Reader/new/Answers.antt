@@ -1,7 +1,7 @@
 use Rattle.std.proofs.Common.{[], refl, ◌∙◌, sym, ap, map}
 use Rattle.dom_markup.specs.ValueTrees.ValueTrees.{no_trees}
 use Rattle.dom_markup.specs.Reader.{opened_by}
-use Rattle.dom_markup.proofs.Frames.{document_of-none}
+use Rattle.dom_markup.proofs.rows.Frames.{document_of-none}
 use Rattle.dom_markup.proofs.document.reader.Reader.new.Goals as goal
 
 pub returns : goal.returns

@@ -3,8 +3,8 @@ use Rattle.std.proofs.lemmas.Result.{err_from_is_err_and}
 use Rattle.dom_markup.specs.Markup.Item.{comment}
 use Rattle.dom_nodes.specs.declared.node_data.NodeData.TheVariants.{Comment}
 use Rattle.dom_markup.specs.Frames.{is_top}
-use Rattle.dom_markup.proofs.Frames.{comment_leaf}
-use Rattle.dom_markup.proofs.Steps.{no_number, leaf_read}
+use Rattle.dom_markup.proofs.rows.Frames.{comment_leaf}
+use Rattle.dom_markup.proofs.rows.Steps.{no_number, leaf_read}
 use Rattle.dom_markup.proofs.document.reader.Reader.read_comment.Goals as goal
 
 pub returns-in_err-append : goal.returns-in_err-append

@@ -6,9 +6,9 @@ use Rattle.dom_markup.specs.Markup.Item.{doctype}
 use Rattle.dom_markup.specs.Frames.{is_top}
 use Rattle.dom_markup.specs.Reader.{opened_by}
 use Rattle.dom_markup.specs.declared.document.reader.Open.{Open}
-use Rattle.dom_markup.proofs.Frames.{doctype_leaf, top_where_none, leaves_open, nil_from_length0}
+use Rattle.dom_markup.proofs.rows.Frames.{doctype_leaf, top_where_none, leaves_open, nil_from_length0}
 use Rattle.dom_markup.specs.Bytes.{folded}
-use Rattle.dom_markup.proofs.Steps.{no_number, leaf_read}
+use Rattle.dom_markup.proofs.rows.Steps.{no_number, leaf_read}
 use Rattle.dom_markup.proofs.document.reader.Reader.read_doctype.Goals as goal
 
 nil_from_map : (os : List Open) → map opened_by os ≡ [] → os ≡ []

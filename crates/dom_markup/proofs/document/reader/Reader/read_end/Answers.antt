@@ -7,7 +7,7 @@ use Rattle.dom_markup.specs.Markup.Item.{end_tag}
 use Rattle.dom_markup.specs.declared.document.reader.Open.{Open}
 use Rattle.dom_markup.specs.Frames.{HasRead, Opened}
 use Rattle.dom_markup.specs.Reader.{opened_by}
-use Rattle.dom_markup.proofs.Frames.{reads_end, ends_another, ends_nothing}
+use Rattle.dom_markup.proofs.rows.Frames.{reads_end, ends_another, ends_nothing}
 use Rattle.dom_markup.proofs.document.reader.Reader.read_end.Goals as goal
 
 pub returns-in_default : goal.returns-in_default

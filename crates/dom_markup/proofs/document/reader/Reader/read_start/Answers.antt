@@ -6,7 +6,7 @@ use Rattle.dom_markup.specs.Names.{mode_in, void_names}
 use Rattle.dom_markup.specs.Markup.Item.{start_tag}
 use Rattle.dom_markup.specs.Reader.{parent_number}
 use Rattle.dom_markup.specs.declared.document.reader.Open.{Open}
-use Rattle.dom_markup.proofs.Steps.{start_declined, start_read, started_is, tag_stops, void_read}
+use Rattle.dom_markup.proofs.rows.Steps.{start_declined, start_read, started_is, tag_stops, void_read}
 use Rattle.dom_markup.proofs.document.reader.Reader.read_start.Goals as goal
 
 pub returns-in_err-started : goal.returns-in_err-started

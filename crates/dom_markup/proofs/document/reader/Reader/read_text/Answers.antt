@@ -4,8 +4,8 @@ use Rattle.dom_markup.specs.Token.{contents_in, mode_of}
 use Rattle.dom_markup.specs.Markup.Item.{characters}
 use Rattle.dom_nodes.specs.declared.node_data.NodeData.TheVariants.{Text}
 use Rattle.dom_markup.specs.Frames.{is_top}
-use Rattle.dom_markup.proofs.Frames.{text_leaf}
-use Rattle.dom_markup.proofs.Steps.{no_number, leaf_read}
+use Rattle.dom_markup.proofs.rows.Frames.{text_leaf}
+use Rattle.dom_markup.proofs.rows.Steps.{no_number, leaf_read}
 use Rattle.dom_markup.proofs.document.reader.Reader.read_text.Goals as goal
 
 pub returns-in_err-append : goal.returns-in_err-append

@@ -1,5 +1,5 @@
 use Rattle.std.proofs.Common.{refl}
-use Rattle.dom_markup.proofs.Filling.{node_put}
+use Rattle.dom_markup.proofs.rows.Filling.{node_put}
 use Rattle.dom_markup.proofs.document.sink.DocumentTreeSink.append.Goals as goal
 
 pub returns-in-AppendNode : goal.returns-in-AppendNode

@@ -1,6 +1,6 @@
 use Rattle.std.proofs.Common.{◌∙◌, subst}
 use Rattle.dom_links.specs.Sound.{IsForest}
-use Rattle.dom_markup.proofs.Putting.{puts_read}
+use Rattle.dom_markup.proofs.rows.Putting.{puts_read}
 use Rattle.dom_markup.proofs.document.snippet.Snippet.put_at.Goals as goal
 
 pub returns : goal.returns

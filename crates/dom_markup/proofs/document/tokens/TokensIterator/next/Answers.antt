@@ -1,8 +1,8 @@
 use Rattle.std.proofs.Common.{◌<◌, length, refl, sym, ◌∙◌, rules}
 use Rattle.std.proofs.Math.Seq.{drop-length}
-use Rattle.dom_markup.proofs.FaultLemmas.{token_fault}
-use Rattle.dom_markup.proofs.Items.{Begins-suffix, Begins-shorter}
-use Rattle.dom_markup.proofs.Spans.{length_from_nil}
+use Rattle.dom_markup.proofs.grammar.FaultLemmas.{token_fault}
+use Rattle.dom_markup.proofs.grammar.Items.{Begins-suffix, Begins-shorter}
+use Rattle.dom_markup.proofs.grammar.Spans.{length_from_nil}
 use Rattle.dom_markup.proofs.document.tokens.TokensIterator.next.Goals as goal
 
 pub item_at-requires : goal.item_at-requires

@@ -1,4 +1,4 @@
-use Rattle.dom_select.proofs.MiniMeetLemmas.{met_or_not, none_met}
+use Rattle.dom_select.proofs.MiniMatchLemmas.{met_or_not, none_met}
 use Rattle.dom_select.proofs.mini_selector.extension.NodeRefMiniSelect.mini_is.Goals as goal
 
 pub returns-in-Ok : goal.returns-in-Ok

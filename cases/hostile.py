@@ -1,0 +1,246 @@
+"""Hostile inputs. Of each text below, which together use every rule of its grammar, every prefix, every text with one byte
+changed to each of CHANGED, and every text with a byte left out is read by the program `calls` in one process, and the answer
+is compared with that of the grammar in grammars.py: read, with the same result, or refused. A fault has a name that the
+documents have, and a place inside the text.
+
+Raw nodes: a tree of 7 nodes with each link changed to each other number, to none and to 99, and with two changes at random,
+are a forest exactly where the definition in docs/FOREST.md says so."""
+import random
+import re
+import subprocess
+
+import grammars
+from rows import SECONDS, built
+
+CHANGED = b"<>/\"'=&-!?#; \x00\x80\xff"
+MARKUPS = (
+    '<!doctype HTML><p CLASS="a&amp;b" id=\'x\' k = v>1 < 2 &gt;</p>',
+    '<!DOCTYPE a PUBLIC "p" \'s\'><ul><li>&#39;&#x27;&nbsp;</li><BR/></ul>',
+    "<template><u>a</u></template><!-- - -- >--><img src=a/b hidden>&quot",
+    "<script>a<b</scriptx></SCRIPT ><textarea>&lt;</textarea>&#0;&#128;<",
+    "<title>a&amp;</title ><div a a=2 b= '<>'><hr k=\"é\" /></div>\t&gt;",
+    "<style></style><!doctype x SYSTEM 's' ><a-b _=1><i>&eacute;</i></a-b>",
+)
+SELECTORS = (
+    "div#a.b > p:not(.c, [d=\"e\" i]) ~ li:nth-child(2n + 1)",
+    "a:has(> b + c, ~ d) *:is(e f):where(g) , [h|=i]:root",
+    "[a] , [b~='c\\'d' s][e|=f][g^=h][i$=j][k*=l]:empty :hover",
+    "\\31 a#-b.\\.c:contains(\"d\\\n\"):has-text('') > --x:last-of-type",
+    "p:nth-last-child(-n+3) + q:nth-of-type(odd):only-child:any-link",
+    "é:not(:is(:where(:not(x)))) u:nth-last-of-type(EVEN) v:scope",
+)
+PATHS = (
+    "div.a.b#c > p[d=\"e\"][f] + li ~ b",
+    "span[title**\"Title\"] a [x = The Title] b",
+    " > a#b.c [d] [e~='f'] , rest",
+    "#a .b [c^=\"d\"] ~ e-f[g|=h i]",
+    "a[b$='c']  +  d[e*=f]\t>\ng",
+    "x[a][b]] y [c = 'd' ] z-1",
+)
+SCRIPTS = (
+    "select p\nset-attr a b c\nadd-class x y\nhtml\n",
+    "find p, b\n\nfilter #a\nappend-html <i>&amp;</i>\ndocument",
+    "select #a\nparent\nchildren\nadd b\nancestors\ncount\ntext",
+    "select p\nset-text \nrename q\nstrip b i\nnormalize\nformatted",
+    "first\nselect p\nbefore-html <!--x-->\nunwrap\nnext\nprev\nlast\n",
+    "remove-attr id\nselect p\nattr id\ninner-html\nreplace-html \nremove",
+)
+FAULTS = {
+    "markup": "BadTag SlashOnOpen BadComment BadDeclaration Instruction Unclosed MismatchedEnd StrayEnd MisplacedDoctype",
+    "selector": "UnknownPseudoClass Number NestedHas TooDeep Syntax",
+    "path": "BadQuotedValue",
+}
+
+
+def variants(text):
+    """Every prefix of the text, every text with one byte changed, and every one with a byte left out, as bytes."""
+    whole = text.encode()
+    found = {whole[:at] for at in range(len(whole) + 1)}
+    for at in range(len(whole)):
+        found.add(whole[:at] + whole[at + 1 :])
+        found.update(whole[:at] + bytes([byte]) + whole[at + 1 :] for byte in CHANGED)
+    return found
+
+
+def asked(words, lines):
+    """What `calls` answers to each line on standard input."""
+    given = "".join(f"{line}\n" for line in lines).encode()
+    ran = subprocess.run([built("calls"), *words], input=given, capture_output=True, timeout=SECONDS)
+    answers = ran.stdout.decode(errors="replace").split("\n")[:-1]
+    if ran.returncode or ran.stderr or len(answers) != len(lines):
+        print(f"calls {words}: status {ran.returncode}, {len(answers)} answers to {len(lines)} lines, {ran.stderr[:300]}")
+    return answers
+
+
+def wanted_of(kind, data):
+    """What the grammar says of an input: the whole answer, or None where it is a fault of some name."""
+    try:
+        text = data.decode()
+    except UnicodeDecodeError:
+        return "BadScript(0)" if kind == "script" else "BadMarkup"
+    if kind == "script":
+        bad = grammars.first_bad_line(text)
+        return f"BadScript({bad})" if bad else "ends"
+    try:
+        return getattr(grammars, kind)(text)
+    except grammars.Refused:
+        return None
+
+
+def is_right(kind, data, answer):
+    """Whether an answer is that of the grammar, or a fault that may be, at a place inside the text."""
+    wanted = wanted_of(kind, data)
+    if wanted == "ends":
+        return answer == "done" or re.fullmatch(r"Edit\(\d+, (NoChildrenHere|RootOrFragment|Cycle)\)", answer) is not None
+    if wanted is not None:
+        return answer == wanted
+    name, _, place = answer.partition(" ")
+    if name not in FAULTS[kind].split():
+        return False
+    return kind != "markup" or place.isdigit() and int(place) <= len(data)
+
+
+def texts(kind, whole):
+    """Has the program asked each variant of the texts; returns how many answers are right and how many aren't."""
+    inputs = sorted(set().union(*(variants(text) for text in whole)))
+    answers = asked(["batch", kind], [data.hex() for data in inputs])
+    wrong = [(data, answer) for data, answer in zip(inputs, answers) if not is_right(kind, data, answer)]
+    for data, answer in wrong[:10]:
+        print(f"hostile {kind}: {data!r}: {answer!r}, and the grammar says {wanted_of(kind, data)!r}")
+    read = sum(answer.startswith(("read", "done", "Edit")) for answer in answers)
+    failed = len(wrong) + len(inputs) - len(answers)
+    print(f"hostile texts, {kind}: {len(inputs) - failed} passed, {failed} failed ({read} of them read)")
+    return len(inputs) - failed, failed
+
+
+# A tree: what each node is, with its parent, the siblings before and after, and the first and last child. 0 holds 1, which
+# holds 2, 3 and 4; 2 is a template with the contents 5, which holds 6.
+TREE = (
+    ("document", None, None, None, 1, 1),
+    ("element", 0, None, None, 2, 4),
+    (5, 1, None, 3, None, None),
+    ("element", 1, 2, 4, None, None),
+    ("element", 1, 3, None, None, None),
+    ("fragment", None, None, None, 6, 6),
+    ("element", 5, None, None, None, None),
+)
+
+
+def line_of(nodes, first):
+    """The siblings from a first one on, or None where they come round or leave the tree."""
+    found = []
+    while first is not None:
+        if first in found or first >= len(nodes):
+            return None
+        found.append(first)
+        first = nodes[first][3]
+    return found
+
+
+def is_acyclic(children, contents):
+    """Whether no node reaches itself by steps to a child or to template contents."""
+    below = {number: set(children[number]) | ({contents[number]} - {None}) for number in children}
+    left = set(below)
+    while leaves := {number for number in left if not below[number] & left}:
+        left -= leaves
+    return not left
+
+
+def links_of(count, children, runs):
+    """The five links of each node of these lists."""
+    links = {}
+    for parent, line in [*children.items(), *((None, run) for run in runs)]:
+        for before, number, after in zip([None, *line], line, [*line[1:], None]):
+            own = children[number]
+            links[number] = (parent, before, after, own[0] if own else None, own[-1] if own else None)
+    return [links[number] for number in range(count)]
+
+
+def is_forest(nodes):
+    """Whether the links are those of a forest: lists are read off, all links are made of them again, and compared."""
+    children = {number: line_of(nodes, node[4]) for number, node in enumerate(nodes)}
+    runs = [line_of(nodes, number) for number, node in enumerate(nodes) if node[1] is None and node[2] is None]
+    if None in children.values() or None in runs:
+        return False
+    if sorted(number for line in (*children.values(), *runs) for number in line) != list(range(len(nodes))):
+        return False
+    links = links_of(len(nodes), children, runs)
+    kinds = [node[0] for node in nodes]
+    contents = [kind if isinstance(kind, int) else None for kind in kinds]
+    named = [number for number in contents if number is not None]
+    return (
+        all(links[number] == node[1:] for number, node in enumerate(nodes))
+        and all([number] in runs for number, kind in enumerate(kinds) if number == 0 or kind in ("document", "fragment"))
+        and all(kinds[number] != "text" or not children[number] for number in children)
+        and all(0 < number < len(nodes) and kinds[number] == "fragment" for number in named)
+        and len(named) == len(set(named))
+        and is_acyclic(children, contents)
+    )
+
+
+def changed(nodes, number, link, value):
+    """The nodes with one link changed; link 0 is the template contents, for an element."""
+    node = list(nodes[number])
+    node[link] = value if link or value is not None else "element"
+    return nodes[:number] + (tuple(node),) + nodes[number + 1 :]
+
+
+def random_forest(dice):
+    """The nodes of a forest of 7: each goes behind others of a list, or begins a run; a fragment may be contents."""
+    kinds = ["document", *(dice.choice(["element", "element", "text", "fragment"]) for _ in range(6))]
+    children, runs = {number: [] for number in range(7)}, [[0]]
+    for number in range(1, 7):
+        elements = [other for other in range(1, number) if kinds[other] == "element"]
+        open_runs = [run for run in runs if kinds[run[0]] not in ("document", "fragment")]
+        lists = [children[other] for other in (0, *elements)] + open_runs
+        if kinds[number] == "fragment" or dice.random() < 0.2:
+            runs.append([number])
+            if kinds[number] == "fragment" and elements and dice.random() < 0.7:
+                kinds[dice.choice(elements)] = number
+        else:
+            dice.choice(lists).append(number)
+    return tuple((kind, *own) for kind, own in zip(kinds, links_of(7, children, runs)))
+
+
+def changed_trees():
+    """The tree itself, with each link changed to each other number, to none and to 99, and with two such changes; forests
+    at random, and each with a change."""
+    values = [*range(len(TREE)), None, 99]
+    links = [(number, link) for number in range(len(TREE)) for link in range(6)]
+    links = [(number, link) for number, link in links if link or TREE[number][0] not in ("document", "fragment")]
+    ones = [(number, link, value) for number, link in links for value in values if TREE[number][link] != value]
+    yield TREE
+    for one in ones:
+        yield changed(TREE, *one)
+    dice = random.Random(7)
+    for _ in range(10_000):
+        first, second = dice.sample(ones, 2)
+        yield changed(changed(TREE, *first), *second)
+    for _ in range(1_000):
+        forest = random_forest(dice)
+        yield forest
+        yield changed(forest, dice.randrange(7), dice.randint(1, 5), dice.choice(values))
+
+
+def raw_nodes():
+    """Has `from_nodes` and `validate` asked; returns how many answers are right and how many aren't."""
+    trees = list(dict.fromkeys(changed_trees()))
+    spelled = [";".join(" ".join("-" if word is None else str(word) for word in node) for node in nodes) for nodes in trees]
+    answers = asked(["raw"], spelled)
+    good = passed = 0
+    for nodes, answer in zip(trees, answers):
+        is_good = is_forest(nodes)
+        good += is_good
+        is_same = answer == "forest true true" if is_good else not answer.startswith("forest") and answer.endswith(" true")
+        passed += is_same
+        if not is_same:
+            print(f"raw nodes {nodes}: {answer!r}, and the definition says {is_good}")
+    print(f"raw nodes: {passed} passed, {len(trees) - passed} failed ({good} of them a forest)")
+    return passed, len(trees) - passed if good else len(trees)
+
+
+def hostile():
+    """Returns how many inputs are answered as they must be, and how many aren't."""
+    counted = [texts("markup", MARKUPS), texts("selector", SELECTORS), texts("path", PATHS), texts("script", SCRIPTS)]
+    counted.append(raw_nodes())
+    return tuple(sum(column) for column in zip(*counted))

@@ -1,0 +1,188 @@
+//! Many inputs in one process: `calls batch KIND` reads them in hexadecimal, one a line on standard
+//! input, and prints one answer a line. `calls raw` reads nodes with their links in that way.
+
+use crate::words::cut;
+use dom_query::{
+    Attrs, Document, Element, Link, LocalName, Matcher, NodeData, NodeId, Text, Tree, TreeNode,
+    parse_selector_list, run,
+};
+use dom_trees::names::html_name;
+use std::alloc::Global;
+use std::io::Read;
+use std::str;
+
+/// What the scripts are run over.
+const MARKUP: &str = "<p id=a>x</p>";
+
+fn digit_of(byte: u8) -> Option<u8> {
+    match byte {
+        b'0'..=b'9' => Some(byte.wrapping_sub(b'0')),
+        b'a'..=b'f' => Some(byte.wrapping_sub(b'a').wrapping_add(10)),
+        _ => None,
+    }
+}
+
+/// The bytes that a line spells.
+fn bytes_of(alloc: Global, line: &str) -> Option<Vec<u8>> {
+    let mut bytes = Vec::new(alloc);
+    let mut is_second = false;
+    let mut first: u8 = 0;
+    for byte in line.as_bytes() {
+        let digit = digit_of(*byte)?;
+        if is_second {
+            let value = first.wrapping_mul(16).wrapping_add(digit);
+            bytes.push(value).ok()?;
+        }
+        first = digit;
+        is_second = !is_second;
+    }
+    Some(bytes)
+}
+
+/// How a run ends.
+fn show_run(rt: &HostRuntime, markup: &[u8], script: &[u8]) -> Option<()> {
+    let mut out: Vec<u8> = Vec::new(rt.alloc());
+    match run(rt.alloc(), markup, script, &mut out) {
+        Ok(()) => println!(rt; "done").ok(),
+        Err(fault) => println!(rt; "{fault:?}").ok(),
+    }
+}
+
+/// The HTML of the document that is read, or why it is refused.
+fn show_document(rt: &HostRuntime, text: &str) -> Option<()> {
+    match Document::parse(rt.alloc(), text) {
+        Ok(document) => {
+            let html = document.html().ok()?;
+            println!(rt; "read {html}").ok()
+        }
+        Err(fault) => {
+            let (kind, at) = (fault.kind, fault.at);
+            println!(rt; "{kind:?} {at}").ok()
+        }
+    }
+}
+
+fn show_selector(rt: &HostRuntime, text: &str) -> Option<()> {
+    match Matcher::new(rt.alloc(), text) {
+        Ok(_) => println!(rt; "read").ok(),
+        Err(fault) => println!(rt; "{fault:?}").ok(),
+    }
+}
+
+/// How many mini selectors are read, and how many bytes are left.
+fn show_path(rt: &HostRuntime, text: &str) -> Option<()> {
+    match parse_selector_list(rt.alloc(), text) {
+        Ok((rest, list)) => {
+            let (count, left) = (list.len(), rest.len());
+            println!(rt; "read {count} {left}").ok()
+        }
+        Err(fault) => println!(rt; "{fault:?}").ok(),
+    }
+}
+
+/// What the bytes are read as.
+fn answer(rt: &HostRuntime, kind: &str, bytes: &[u8]) -> Option<()> {
+    if kind == "script" {
+        return show_run(rt, MARKUP.as_bytes(), bytes);
+    }
+    let Ok(text) = str::from_utf8(bytes) else {
+        return show_run(rt, bytes, b"document");
+    };
+    match kind {
+        "markup" => show_document(rt, text),
+        "selector" => show_selector(rt, text),
+        "path" => show_path(rt, text),
+        _ => None,
+    }
+}
+
+fn input(rt: &HostRuntime) -> Option<String> {
+    let mut text = String::new(rt.alloc());
+    rt.stdin().read_to_string(&mut text).ok()?;
+    Some(text)
+}
+
+/// Answers each input.
+pub fn answer_all(rt: &HostRuntime, kind: &str) -> Option<()> {
+    let text = input(rt)?;
+    for line in text.as_str().lines() {
+        let bytes = bytes_of(rt.alloc(), line)?;
+        answer(rt, kind, bytes.as_slice())?;
+    }
+    Some(())
+}
+
+/// The node of the number that a word spells; none, where it is `-`.
+fn named(word: &str) -> Option<NodeId> {
+    NodeId::new(word.parse::<usize>().ok()?)
+}
+
+/// What a node is: `document`, `fragment`, `text`, `element`, or an element with these contents.
+fn data_of(alloc: Global, word: &str) -> Option<NodeData> {
+    match word {
+        "document" => Some(NodeData::Document),
+        "fragment" => Some(NodeData::Fragment),
+        "text" => {
+            let contents = Text::new(alloc, "x").ok()?;
+            Some(NodeData::Text { contents })
+        }
+        _ => {
+            let name = html_name(LocalName::new(alloc, "b").ok()?);
+            let attrs = Attrs::new(alloc);
+            Some(NodeData::Element(Element::new(name, attrs, named(word), false)))
+        }
+    }
+}
+
+/// The node of this number: `KIND PARENT PREV NEXT FIRST LAST`.
+fn node_of(alloc: Global, number: usize, line: &str) -> Option<TreeNode> {
+    let (kind, links) = cut(line);
+    let (parent, siblings) = cut(links);
+    let (prev, behind) = cut(siblings);
+    let (next, children) = cut(behind);
+    let (first, last) = cut(children);
+    Some(TreeNode {
+        id: NodeId::new(number)?,
+        parent: Link::new(named(parent)),
+        prev_sibling: Link::new(named(prev)),
+        next_sibling: Link::new(named(next)),
+        first_child: Link::new(named(first)),
+        last_child: Link::new(named(last)),
+        content: data_of(alloc, kind)?,
+    })
+}
+
+fn nodes_of(alloc: Global, line: &str) -> Option<Vec<TreeNode>> {
+    let mut nodes = Vec::new(alloc);
+    for node in line.split(';') {
+        let number = nodes.len();
+        nodes.push(node_of(alloc, number, node)?).ok()?;
+    }
+    Some(nodes)
+}
+
+/// Whether the nodes are a forest's, by `from_nodes` and `validate`, and whether they come back as
+/// they were given.
+fn check(rt: &HostRuntime, nodes: Vec<TreeNode>) -> Option<()> {
+    let given = format!(in rt.alloc(); "{nodes:?}").ok()?;
+    match Tree::from_nodes(nodes) {
+        Ok(tree) => {
+            let is_kept = format!(in rt.alloc(); "{:?}", tree.nodes()).ok()? == given;
+            let is_valid = tree.validate().is_ok();
+            println!(rt; "forest {is_kept} {is_valid}").ok()
+        }
+        Err((back, fault)) => {
+            let is_kept = format!(in rt.alloc(); "{back:?}").ok()? == given;
+            println!(rt; "{fault:?} {is_kept}").ok()
+        }
+    }
+}
+
+/// Answers for the nodes of each line, which stand apart by `;`.
+pub fn check_all(rt: &HostRuntime) -> Option<()> {
+    let text = input(rt)?;
+    for line in text.as_str().lines() {
+        check(rt, nodes_of(rt.alloc(), line)?)?;
+    }
+    Some(())
+}

@@ -1,0 +1,259 @@
+//! Calls that change one tree. Where a request is refused, the tree is as it was, its length too.
+
+use crate::limits::calls::{Ending, Page, done_if, refused_if};
+use crate::limits::memory::{Memory, take_memory};
+use crate::words::cut;
+use crate::{lent, trees};
+use dom_links::gap::Gap;
+use dom_query::{
+    Allow, Attrs, Document, EditFault, ElementFlags, LocalName, NodeData, NodeId, NodeOrText,
+    OutOfMemory, Place, Text, Tree, TreeNode, TreeSink, ValidateFault, sanitize,
+};
+use dom_trees::names::html_name;
+use std::alloc::Global;
+
+const MARKUP: &str = "<div class=\"a a-word-that-is-longer-than-what-a-node-keeps\" \
+    title=\"a value that is too long to be kept within a node\"><p>one<b>two</b>a text that is too \
+    long to be kept within the value of a node</p><template><i>x</i></template></div><u>y</u>";
+
+/// A text that a node keeps apart.
+const LONG: &str = "a text that is longer than a node keeps within its own value";
+
+pub const CHANGES: [&str; 38] = [
+    "node 2 set_html <i title='one that is not kept within a node'>x</i>",
+    "node 2 append_html <i title='one that is not kept within a node'>x</i>",
+    "node 2 prepend_html <i title='one that is not kept within a node'>x</i>",
+    "node 2 before_html <i title='one that is not kept within a node'>x</i>",
+    "node 2 after_html <i title='one that is not kept within a node'>x</i>",
+    "node 2 replace_with_html <i title='one that is not kept within a node'>x</i>",
+    "node 2 wrap_html <i title='one that is not kept within a node'></i>",
+    "node 2 set_text a text that is longer than a node keeps within its own value",
+    "node 3 set_text a text that is longer than a node keeps within its own value",
+    "node 2 set_attr title a value that is longer than a node keeps within its own",
+    "node 1 set_attr title another value that is longer than a node keeps within its own",
+    "node 2 rename a-name-that-is-longer-than-a-node-keeps-within-its-own",
+    "node 1 add_class a-word-that-is-longer-than-a-node-keeps b",
+    "node 1 remove_class a b",
+    "node 2 normalize",
+    "make new_element a-name-that-is-longer-than-a-node-keeps-within-its-own",
+    "make new_text a text that is longer than a node keeps within its own value",
+    "make new_comment a text that is longer than a node keeps within its own value",
+    "tree new_instruction",
+    "tree append_doctype_of",
+    "tree add_text_at",
+    "tree copy_nodes",
+    "tree merge",
+    "tree copy_at",
+    "tree merge_at",
+    "tree set_text_of",
+    "document normalize",
+    "document sanitize",
+    "document parse_error",
+    "document create_comment",
+    "document create_pi",
+    "document append",
+    "document append_before_sibling",
+    "document append_doctype_to_document",
+    "grow make new_fragment",
+    "grow tree append_child_data_of",
+    "grow tree append_template_of",
+    "grow document create_element",
+];
+/// How many nodes are made one after the other, so that the nodes have to move.
+const ROUNDS: usize = 100;
+
+/// Where an edit ends, whatever it made.
+fn unit<T: Drop>(made: Result<T, EditFault>) -> Result<(), EditFault> {
+    match made {
+        Ok(_) => Ok(()),
+        Err(fault) => Err(fault),
+    }
+}
+
+/// The same of a call whose only fault is a refusal.
+fn edit(done: Result<(), OutOfMemory>) -> Result<(), EditFault> {
+    match done {
+        Ok(()) => Ok(()),
+        Err(OutOfMemory) => Err(EditFault::Memory),
+    }
+}
+
+/// A call of `Tree`.
+fn change_tree(tree: &mut Tree, page: &Page, call: &str) -> Option<Result<(), EditFault>> {
+    let (first, second) = (NodeId::new(1)?, NodeId::new(2)?);
+    let other = &page.document.tree;
+    let name = html_name(LocalName::new(tree.allocator(), "b").ok()?);
+    let attrs = Attrs::new(tree.allocator());
+    Some(match call {
+        "new_instruction" => unit(tree.new_instruction("x", LONG)),
+        "append_child_data_of" => {
+            let contents = Text::new(tree.allocator(), "x").ok()?;
+            unit(tree.append_child_data_of(&first, NodeData::Text { contents }))
+        }
+        "append_template_of" => unit(tree.append_template_of(&first, name, attrs)),
+        "append_doctype_of" => unit(tree.append_doctype_of(&first, LONG, LONG, LONG)),
+        "add_text_at" => tree.add_text_at(Gap::EndOf(second), LONG),
+        "copy_nodes" => unit(tree.copy_nodes(&[first, second])),
+        "merge" => unit(tree.merge(other, &[first, second])),
+        "copy_at" => tree.copy_at(&second, Place::After, &[first, second]),
+        "merge_at" => tree.merge_at(&second, Place::InsteadOfChildren, other, &[first]),
+        "set_text_of" => tree.set_text_of(&second, LONG),
+        _ => return None,
+    })
+}
+
+/// A call of `Document`.
+fn change_document(document: &mut Document, call: &str) -> Option<Result<(), EditFault>> {
+    let second = NodeId::new(2)?;
+    let allow = Allow {
+        elements: &["p", "u"],
+        attrs: &["class"],
+        drop: &["b"],
+    };
+    Some(match call {
+        "normalize" => document.normalize(),
+        "sanitize" => edit(sanitize(document, &allow)),
+        "parse_error" => edit(document.parse_error(LONG)),
+        "create_comment" => unit(document.create_comment(LONG)),
+        "create_pi" => unit(document.create_pi("x", LONG)),
+        "append" => document.append(&second, NodeOrText::AppendText(LONG)),
+        "append_before_sibling" => {
+            document.append_before_sibling(&second, NodeOrText::AppendText(LONG))
+        }
+        "append_doctype_to_document" => document.append_doctype_to_document(LONG, LONG, ""),
+        _ => return create(document, call),
+    })
+}
+
+/// A template that the sink makes.
+fn create(document: &mut Document, call: &str) -> Option<Result<(), EditFault>> {
+    let alloc = document.tree.allocator();
+    let name = html_name(LocalName::new(alloc, "template").ok()?);
+    let flags = ElementFlags {
+        template: true,
+        mathml_annotation_xml_integration_point: false,
+    };
+    match call {
+        "create_element" => Some(unit(document.create_element(name, Attrs::new(alloc), flags))),
+        _ => None,
+    }
+}
+
+/// Makes the change that a line says.
+fn changed(document: &mut Document, page: &Page, line: &str) -> Option<Result<(), EditFault>> {
+    let (group, rest) = cut(line);
+    let (call, words) = cut(rest);
+    match group {
+        "node" => lent::edited(&mut document.tree, rest),
+        "make" => trees::made(&mut document.tree, call, words).map(unit),
+        "tree" => change_tree(&mut document.tree, page, call),
+        "document" => change_document(document, call),
+        _ => None,
+    }
+}
+
+/// All that a document holds, as a text.
+fn shown(alloc: Global, document: &Document) -> Option<String> {
+    let (nodes, errors) = (document.tree.nodes(), &document.errors);
+    format!(in alloc; "{nodes:?} {errors:?}").ok()
+}
+
+/// The document that the changes are made in: two texts of it stand side by side.
+fn made(alloc: Global) -> Option<Document> {
+    let mut document = Document::parse(alloc, MARKUP).ok()?;
+    let text = document.tree.new_text("three").ok()?;
+    document.tree.append_child_of(&NodeId::new(2)?, &text).ok()?;
+    Some(document)
+}
+
+/// The document with a change that has ample memory.
+fn wanted(alloc: Global, page: &Page, line: &str) -> Option<String> {
+    let mut document = made(alloc)?;
+    changed(&mut document, page, line)?.ok()?;
+    shown(alloc, &document)
+}
+
+/// Makes a change with so much memory: all of it is done or nothing.
+pub fn changes(alloc: Global, page: &Page, line: &str, memory: Memory) -> Option<Ending> {
+    if let ("grow", call) = cut(line) {
+        return grows(alloc, page, call, memory);
+    }
+    let mut document = made(alloc)?;
+    let before = shown(alloc, &document)?;
+    let wanted = wanted(alloc, page, line)?;
+    let held = take_memory(alloc, memory)?;
+    let answer = changed(&mut document, page, line);
+    drop(held);
+    let after = shown(alloc, &document)?;
+    Some(match answer? {
+        Ok(()) => done_if(after == wanted && after != before),
+        Err(fault) => refused_if(fault == EditFault::Memory && after == before),
+    })
+}
+
+/// Makes nodes by a call, until it is refused: then it has made none.
+fn grow(document: &mut Document, page: &Page, line: &str, step: usize) -> Option<Ending> {
+    for _ in 0..ROUNDS {
+        let before = document.tree.len();
+        match changed(document, page, line)? {
+            Ok(()) if document.tree.len() == before.saturating_add(step) => {}
+            Ok(()) => return Some(Ending::Wrong),
+            Err(fault) => {
+                let is_same = document.tree.len() == before;
+                return Some(refused_if(fault == EditFault::Memory && is_same));
+            }
+        }
+    }
+    Some(Ending::Done)
+}
+
+/// Makes nodes by a call with so much memory. The first call says how many it makes.
+fn grows(alloc: Global, page: &Page, line: &str, memory: Memory) -> Option<Ending> {
+    let mut document = made(alloc)?;
+    let before = document.tree.len();
+    changed(&mut document, page, line)?.ok()?;
+    let step = document.tree.len().saturating_sub(before);
+    let held = take_memory(alloc, memory)?;
+    let ending = grow(&mut document, page, line, step);
+    drop(held);
+    document.tree.validate().ok()?;
+    ending
+}
+
+/// The nodes of a document, apart from it.
+fn nodes_of(alloc: Global) -> Option<Vec<TreeNode>> {
+    let mut nodes = Vec::new(alloc);
+    nodes.push(node(0, NodeData::Document)?).ok()?;
+    nodes.push(node(1, NodeData::Fragment)?).ok()?;
+    Some(nodes)
+}
+
+/// A node without links.
+fn node(number: usize, content: NodeData) -> Option<TreeNode> {
+    let none = dom_query::Link::new(None);
+    Some(TreeNode {
+        id: NodeId::new(number)?,
+        parent: none,
+        prev_sibling: none,
+        next_sibling: none,
+        first_child: none,
+        last_child: none,
+        content,
+    })
+}
+
+/// Makes a tree of nodes, which come back where that is refused.
+pub fn takes_nodes(alloc: Global, memory: Memory) -> Option<Ending> {
+    let nodes = nodes_of(alloc)?;
+    let before = format!(in alloc; "{nodes:?}").ok()?;
+    let held = take_memory(alloc, memory)?;
+    let answer = Tree::from_nodes(nodes);
+    drop(held);
+    match answer {
+        Ok(tree) => Some(done_if(tree.len() == 2)),
+        Err((back, fault)) => {
+            let is_same = format!(in alloc; "{back:?}").ok()? == before;
+            Some(refused_if(is_same && fault == ValidateFault::Memory))
+        }
+    }
+}

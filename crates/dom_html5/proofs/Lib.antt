@@ -1,0 +1,2 @@
+pub mod Enclosing
+mod PartLemmas

@@ -1,9 +1,0 @@
-use Rattle.std.proofs.Common.{◌∙◌, ap, slice_get}
-use Rattle.dom_index.proofs.PositionLemmas.{last_told}
-use Rattle.dom_index.proofs.index.last_at.Goals as goal
-
-pub returns : goal.returns
-returns c =
-    let g = c.args.layout.now in
-    last_told g.tree.now g.order.items g.places.items g.ordered g.is_preorder g.lasts.items g.spans c.args.n c.written.result
-    (c.written.ensures ∙ ap (λ ns. slice_get ns c.args.n) c.deref.ensures.value)

@@ -1,0 +1,54 @@
+-- Type bytes of nodes, and type filters of compounds.
+use Rattle.std.specs.Prelude.{not, ℕ, ◌≡◌, ◌<◌, ◌==◌, ◌&&◌, ◌||◌, nat_lt, Bool, true, List, Some, length, slice_get, slice_index_or}
+use Rattle.std.specs.Str.{bytes_eq}
+use Rattle.dom_nodes.specs.declared.node_data.NodeData.{NodeData}
+use Rattle.dom_nodes.specs.declared.node_data.NodeData.TheVariants.{Element}
+use Rattle.dom_nodes.specs.KnownNames.{known_name}
+use Rattle.dom_links.specs.Forest.{Forest}
+use Rattle.dom_selectors.specs.Syntax.{CompoundSelector, compound, NestedLists, no_lists}
+use Rattle.dom_select.specs.Meaning.{Holds}
+use Rattle.dom_index.specs.declared.type_filter.TypeFilter.{TypeFilter}
+use Rattle.dom_index.specs.NodeSets.{in_set}
+
+abbrev pub byte_at : List ℕ → ℕ → ℕ
+byte_at bytes n = slice_index_or bytes n 0
+
+-- the byte is the number of an element's name, or 254 where it has none, and 255 of what is no element
+abbrev pub is_type_byte : NodeData → ℕ → Bool
+is_type_byte (Element element) byte = (byte == 254) || (nat_lt byte 247 && bytes_eq (known_name byte) element.name.local)
+is_type_byte _ byte = byte == 255
+
+-- an element with the known name of that number
+abbrev pub HasKnownName : ℕ → NodeData → Type 0
+HasKnownName number (Element element) = element.name.local ≡ known_name number
+HasKnownName number _ = ⊥
+
+-- the type bytes of the nodes, by number
+pub record AreTypeBytes (forest : Forest) (bytes : List ℕ) : Type 0 where
+  pub long : length bytes ≡ length forest.content
+  pub each : (n : ℕ) (node : NodeData) → slice_get forest.content n ≡ Some node → is_type_byte node (byte_at bytes n) ≡ true
+
+-- the nodes of the other set whose byte is that number, or of a name without one
+pub record IsFilteredByType (bytes : List ℕ) (number : ℕ) (table other : List Bool) : Type 0 where
+  pub long : length table ≡ length other
+  pub each : (n : ℕ) → n < length other → in_set table n ≡ (in_set other n && ((byte_at bytes n == number) || (byte_at bytes n == 254)))
+
+-- among the first so many nodes, the names of those in the set have numbers
+abbrev pub HaveKnownTypes : List ℕ → List Bool → ℕ → Type 0
+HaveKnownTypes bytes table count = (n : ℕ) → n < count → in_set table n ≡ true → byte_at bytes n ≡ 254 → ⊥
+
+-- the nodes with the bytes of elements
+pub record AreElements (bytes : List ℕ) (table : List Bool) : Type 0 where
+  pub long : length table ≡ length bytes
+  pub each : (n : ℕ) → n < length bytes → in_set table n ≡ not (byte_at bytes n == 255)
+
+-- the lists in a compound
+abbrev pub lists_in : CompoundSelector → NestedLists
+lists_in (compound parts lists) = lists
+
+-- a node that matches the compound has the name, and where the compound has no other part each node with the name matches
+pub record IsTypeFilterOf (c : CompoundSelector) (wanted : TypeFilter) : Type 0 where
+  pub known : wanted.number < 247
+  pub needs : (forest : Forest) (n : ℕ) (node : NodeData) → slice_get forest.content n ≡ Some node → Holds c forest n → HasKnownName wanted.number node
+  pub suffices : wanted.is_all ≡ true → (forest : Forest) (n : ℕ) (node : NodeData) → slice_get forest.content n ≡ Some node → HasKnownName wanted.number node → Holds c forest n
+  pub alone : wanted.is_all ≡ true → lists_in c ≡ no_lists

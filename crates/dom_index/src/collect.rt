@@ -1,0 +1,99 @@
+//! The elements of a set below some nodes, in the order of the traversals.
+
+ghost use Rattle.std.specs.Prelude.{◌≡◌, ◌<◌, ◌++◌, ◌∷◌, ◌&&◌, ℕ, [], length, true, IfOk, OnOk};
+ghost use Rattle.std.specs.List.{flat_map};
+ghost use Rattle.dom_links.specs.ListMoves.{element_at};
+ghost use Rattle.dom_links.specs.Lists.{stands_in};
+ghost use Rattle.dom_links.specs.Trees.{walk_below};
+ghost use Rattle.dom_trees.specs.Views.{refs_to};
+ghost use Rattle.dom_index.specs.Collected.{collected, set_left};
+ghost use Rattle.dom_index.specs.NodeSets.{in_set};
+
+use crate::preorder::{Preorder, below};
+use crate::type_filter::is_element_at;
+use dom_links::laws::trees_of_a_forest;
+use dom_nodes::fault::OutOfMemory;
+use dom_nodes::node_id::NodeId;
+use dom_trees::node_ref::NodeRef;
+use dom_trees::tree::Tree;
+
+/// The elements below the roots that are in the set, each once, in the order of the traversals.
+pub(crate) fn collect_matches<'a>(
+    preorder: &Preorder<'a>,
+    roots: &[NodeId],
+    table: Vec<bool>,
+) -> Result<Vec<NodeRef<'a>>, OutOfMemory>
+    requires { length table.items ≡ length preorder.now.tree.now.content }
+    ensures { IfOk result (λ found. found.items ≡ refs_to preorder.now.tree
+        (collected preorder.now.tree.now table.items
+        (flat_map (walk_below preorder.now.tree.now) roots.now))) }
+{
+    let mut table = table;
+    let mut found = Vec::new(preorder.tree.allocator());
+    for root in roots {
+        collect_below(preorder, *root, &mut table, &mut found)?;
+    }
+    Ok(found)
+}
+
+/// Moves the elements below a node from the set to those found.
+fn collect_below<'a>(
+    preorder: &Preorder<'a>,
+    root: NodeId,
+    table: &mut Vec<bool>,
+    found: &mut Vec<NodeRef<'a>>,
+) -> Result<(), OutOfMemory>
+    requires { length table.old.items ≡ length preorder.now.tree.now.content }
+    ensures long { length table.new.items ≡ length table.old.items }
+    ensures added { OnOk result (found.new.items ≡ found.old.items ++ refs_to preorder.now.tree
+        (collected preorder.now.tree.now table.old.items (walk_below preorder.now.tree.now root))) }
+    ensures left { OnOk result (table.new.items
+        ≡ set_left preorder.now.tree.now table.old.items (walk_below preorder.now.tree.now root)) }
+{
+    walk_laws(preorder.tree);
+    let row = below(preorder, root);
+    for i in 0..row.len() {
+        let id = row[i];
+        if !is_element_in(preorder, table, id) {
+            continue;
+        }
+        table[id.value()] = false;
+        push_ref(found, &NodeRef::new(id, preorder.tree))?;
+    }
+    Ok(())
+}
+
+/// Adds a node.
+pub(crate) fn push_ref<'a>(
+    found: &mut Vec<NodeRef<'a>>,
+    node: &NodeRef<'a>,
+) -> Result<(), OutOfMemory>
+    ensures { OnOk result (found.new.items ≡ found.old.items ++ node.now ∷ []) }
+{
+    match found.push(NodeRef::new(node.id, node.tree)) {
+        Ok(()) => Ok(()),
+        Err(_) => Err(OutOfMemory),
+    }
+}
+
+/// Whether the node is an element of the set.
+fn is_element_in(preorder: &Preorder<'_>, table: &[bool], id: NodeId) -> bool
+    requires known { id < length preorder.now.tree.now.content }
+    requires table_long { length table.now ≡ length preorder.now.tree.now.content }
+    ensures { result ≡ (in_set table.now id && element_at preorder.now.tree.now id) }
+{
+    let n = id.value();
+    if !table[n] {
+        return false;
+    }
+    is_element_at(preorder, n)
+}
+
+/// States that a traversal visits nodes of the tree. It does nothing.
+pub(crate) fn walk_laws(tree: &Tree)
+    ensures { (n m : ℕ) → stands_in m (walk_below tree.now n) ≡ true
+        → m < length tree.now.content }
+{
+    let _nodes = tree.nodes();
+    trees_of_a_forest();
+}

@@ -1,0 +1,211 @@
+//! Sets of nodes as one flag for each node, and their operations.
+
+ghost use Rattle.std.specs.Prelude.{◌≡◌, ◌<◌, ◌≤◌, ◌+◌, ◌^◌, ℕ, true, length, map, IfOk, IfSome};
+ghost use Rattle.dom_selectors.specs.declared.syntax.Combinator.TheVariants.{Sibling};
+ghost use Rattle.dom_selectors.specs.ListsAsTrees.{lists_of};
+ghost use Rattle.dom_selectors.specs.Syntax.{no_lists};
+ghost use Rattle.dom_selectors.specs.ValuesAsTrees.{read_compound, read_nested};
+ghost use Rattle.dom_links.specs.ListMoves.{element_at};
+ghost use Rattle.dom_selectors.specs.Spelling.{Decides};
+ghost use Rattle.dom_select.specs.Answers.{AreAnswers};
+ghost use Rattle.dom_select.specs.Meaning.{Holds, ListsHold};
+ghost use Rattle.dom_index.specs.TestCounts.{IsFilteredByCompound, AddsTests, cardinality};
+ghost use Rattle.dom_index.specs.TypeBytes.{AreElements, IsTypeFilterOf, lists_in};
+ghost use Rattle.dom_index.specs.NodeSets.{AllHold, AreOperands, IsComplement, IsIntersection};
+ghost use Rattle.dom_index.specs.NodeSets.{IsPrefiltered, IsSetOf, IsUnion, in_set};
+
+use crate::preorder::{Preorder, numbered};
+use crate::type_filter::{
+    NO_ELEMENT, TypeFilter, decided_by_type, have_known_types, intersect_type, is_element_at,
+    type_filter_of,
+};
+use dom_nodes::fault::OutOfMemory;
+use dom_select::matcher::caches::SelectorCaches;
+use dom_select::matcher::compounds::test_compound;
+use dom_selectors::syntax::{Combinator, Compound};
+use dom_trees::node_ref::NodeRef;
+
+/// The nodes of the set that match the compound, whose nested lists match at each of them.
+pub(crate) fn filter_by_compound(
+    preorder: &Preorder<'_>,
+    compound: &Compound,
+    wanted: Vec<bool>,
+    tests: &mut u128,
+) -> Result<Vec<bool>, OutOfMemory>
+    requires wanted { length wanted.items ≡ length preorder.now.tree.now.content }
+    requires lists { (n : ℕ) → n < length preorder.now.tree.now.content
+        → in_set wanted.items n ≡ true →
+        ListsHold (lists_of (map read_nested compound.now.nested.items)) preorder.now.tree.now n }
+    ensures table { IfOk result (λ table. IsFilteredByCompound (read_compound compound.now)
+        preorder.now.tree.now wanted.items table.items) }
+    ensures counted { IfOk result (λ _.
+        AddsTests tests.old tests.new (λ asked. asked ≡ cardinality wanted.items)) }
+    ensures tests { tests.new ≤ tests.old + cardinality wanted.items }
+{
+    let prepared = PreparedCompound {
+        compound,
+        name: type_filter_of(compound),
+        answers: vec![in preorder.tree.allocator(); true; compound.nested.len()]?,
+    };
+    let mut caches = SelectorCaches::new(preorder.tree);
+    let mut table = wanted;
+    let mut asked = 0;
+    for n in 0..table.len() {
+        if !table[n] {
+            continue;
+        }
+        table[n] = compound_holds(preorder, &prepared, n, &mut caches, &mut asked);
+    }
+    *tests = tests.saturating_add(asked);
+    Ok(table)
+}
+
+/// A compound, its type filter, if it has one, and the answers of its nested lists.
+#[derive(Drop)]
+struct PreparedCompound<'c> {
+    compound: &'c Compound,
+    name: Option<TypeFilter>,
+    answers: Vec<bool>,
+}
+
+/// Whether the node matches the compound; its type alone may decide that. It adds one to `asked`.
+fn compound_holds(
+    preorder: &Preorder<'_>,
+    prepared: &PreparedCompound<'_>,
+    n: usize,
+    caches: &mut SelectorCaches<'_>,
+    asked: &mut u128,
+) -> bool
+    requires known { n < length preorder.now.tree.now.content }
+    requires name { IfSome prepared.now.name
+        (IsTypeFilterOf (read_compound prepared.now.compound.now)) }
+    requires answers { AreAnswers
+        (lists_of (map read_nested prepared.now.compound.now.nested.items))
+        preorder.now.tree.now n prepared.now.answers.items }
+    requires caches { caches.old ≡ preorder.now.tree.now }
+    requires room { asked.old + 1 < 2 ^ 128 }
+    ensures is { Decides result (Holds (read_compound prepared.now.compound.now)
+        preorder.now.tree.now n) }
+    ensures kept { caches.new ≡ caches.old }
+    ensures counted { asked.new ≡ asked.old + 1 }
+{
+    if let Some(answer) = decided_by_type(preorder, n, prepared.name) {
+        *asked += 1;
+        return answer;
+    }
+    let node = NodeRef::new(numbered(preorder.tree, n), preorder.tree);
+    test_compound(prepared.compound, &node, &prepared.answers, caches, asked)
+}
+
+/// The elements.
+pub(crate) fn elements(preorder: &Preorder<'_>) -> Result<Vec<bool>, OutOfMemory>
+    ensures { IfOk result (λ table. IsSetOf table.items (length preorder.now.tree.now.content)
+        (λ n. element_at preorder.now.tree.now n ≡ true)) }
+{
+    let mut table = vec![in preorder.tree.allocator(); false; preorder.order.len()]?;
+    mark_elements(&preorder.type_bytes, &mut table);
+    Ok(table)
+}
+
+/// Marks the nodes whose bytes are those of elements.
+fn mark_elements(bytes: &[u8], table: &mut Vec<bool>)
+    requires { length bytes.now ≡ length table.old.items }
+    ensures { AreElements bytes.now table.new.items }
+{
+    let cells = table.as_mut_slice();
+    for n in 0..cells.len() {
+        cells[n] = bytes[n] != NO_ELEMENT;
+    }
+}
+
+/// The intersection with another set.
+pub(crate) fn intersect(table: &mut Vec<bool>, other: &[bool])
+    requires { length other.now ≡ length table.old.items }
+    ensures { IsIntersection table.new.items table.old.items other.now }
+{
+    let cells = table.as_mut_slice();
+    for n in 0..cells.len() {
+        cells[n] = cells[n] & other[n];
+    }
+}
+
+/// Keeps the nodes that may have the type of the compound. Whether all that are kept match it: it
+/// is a type selector alone, and the type byte of each names it.
+pub(crate) fn filter_by_type(
+    preorder: &Preorder<'_>,
+    compound: &Compound,
+    table: &mut Vec<bool>,
+) -> bool
+    requires { length table.old.items ≡ length preorder.now.tree.now.content }
+    ensures asked { IsPrefiltered preorder.now.tree.now (read_compound compound.now) table.new.items
+        table.old.items }
+    ensures answer { result ≡ true → (lists_in (read_compound compound.now) ≡ no_lists)
+        × AllHold preorder.now.tree.now (read_compound compound.now) table.new.items }
+{
+    let Some(wanted) = type_filter_of(compound) else {
+        return false;
+    };
+    intersect_type(table, &preorder.type_bytes, wanted.number);
+    wanted.is_all && have_known_types(table, &preorder.type_bytes)
+}
+
+/// The number of nodes in the set.
+pub(crate) fn member_count(table: &[bool]) -> usize
+    ensures { result ≡ cardinality table.now }
+{
+    let mut count: usize = 0;
+    for n in 0..table.len() {
+        if table[n] {
+            count += 1;
+        }
+    }
+    count
+}
+
+/// The union with another set.
+pub(crate) fn unite(table: &mut Vec<bool>, other: &[bool])
+    requires { length other.now ≡ length table.old.items }
+    ensures { IsUnion table.new.items table.old.items other.now }
+{
+    let cells = table.as_mut_slice();
+    for n in 0..cells.len() {
+        cells[n] = cells[n] | other[n];
+    }
+}
+
+/// The complement.
+pub(crate) fn complement(table: &mut Vec<bool>)
+    ensures { IsComplement table.new.items table.old.items }
+{
+    let cells = table.as_mut_slice();
+    for n in 0..cells.len() {
+        cells[n] = !cells[n];
+    }
+}
+
+/// Keeps the nodes that may be operands of the combinator.
+pub(crate) fn intersect_operands(
+    preorder: &Preorder<'_>,
+    combinator: Combinator,
+    table: &mut Vec<bool>,
+)
+    requires { length table.old.items ≡ length preorder.now.tree.now.content }
+    ensures { AreOperands preorder.now.tree.now combinator table.new.items table.old.items }
+{
+    match combinator {
+        Combinator::Descendant | Combinator::Child => {}
+        Combinator::Adjacent | Combinator::Sibling => intersect_elements(preorder, table),
+    }
+}
+
+/// Keeps the elements.
+fn intersect_elements(preorder: &Preorder<'_>, table: &mut Vec<bool>)
+    requires { length table.old.items ≡ length preorder.now.tree.now.content }
+    ensures { AreOperands preorder.now.tree.now Sibling table.new.items table.old.items }
+{
+    for n in 0..table.len() {
+        if table[n] {
+            table[n] = is_element_at(preorder, n);
+        }
+    }
+}

@@ -1,0 +1,304 @@
+//! The preorder of a tree's nodes.
+
+ghost use Rattle.std.specs.Prelude.{◌≡◌, ◌<◌, ◌≤◌, ◌+◌, ◌∷◌, ℕ, List, [], length, map, true};
+ghost use Rattle.std.specs.Prelude.{false, IfOk, Some};
+ghost use Rattle.dom_links.specs.Forest.{children_of, parent};
+ghost use Rattle.dom_links.specs.Laws.{AreLines, AreTrees};
+ghost use Rattle.dom_links.specs.Lists.{IsDistinct, first, stands_in};
+ghost use Rattle.dom_links.specs.Sound.{IsForest};
+ghost use Rattle.dom_links.specs.Trees.{ancestors, walk_below};
+ghost use Rattle.dom_links.specs.Walk.{IsWithin};
+ghost use Rattle.dom_index.specs.TypeBytes.{AreTypeBytes};
+ghost use Rattle.dom_index.specs.Orders.{AreSubtreeEnds, ArePlaces, AreSpans, IsOrder, IsTraversed};
+ghost use Rattle.dom_index.specs.Orders.{number_at};
+ghost use Rattle.dom_index.specs.Preorder.{above_it, preorder, preorder_to, run_on, run_past};
+ghost use Rattle.dom_index.specs.Preorder.{starts_run};
+
+use crate::type_filter::{NO_ELEMENT, type_byte};
+use dom_links::iters::{node_at, parent_id, predict_next, prev_sibling_id};
+use dom_links::laws::{lines_of_a_forest, trees_of_a_forest};
+use dom_nodes::fault::OutOfMemory;
+use dom_nodes::link::Link;
+use dom_nodes::node_id::NodeId;
+use dom_trees::tree::Tree;
+
+/// A tree, its nodes in preorder with the parent of each, and by number the position of each node,
+/// its subtree end (the last position at or below it) and its type byte.
+#[derive(Drop)]
+pub(crate) struct Preorder<'a> {
+    pub(crate) tree: &'a Tree,
+    pub(crate) order: Vec<NodeId>,
+    pub(crate) above: Vec<Link>,
+    pub(crate) places: Vec<u32>,
+    pub(crate) subtree_ends: Vec<u32>,
+    pub(crate) type_bytes: Vec<u8>,
+    ghost is_preorder: { order.items ≡ preorder tree.now },
+    ghost parents_given: { above.items ≡ map (parent tree.now) order.items },
+    ghost ordered: { IsOrder tree.now order.items places.items },
+    ghost spans: { AreSpans tree.now order.items places.items subtree_ends.items },
+    ghost named: { AreTypeBytes tree.now type_bytes.items },
+}
+
+/// States that a tree is a forest, of no more nodes than can be numbered. It does nothing.
+pub(crate) fn forest_laws(tree: &Tree)
+    ensures forest { IsForest tree.now }
+    ensures lines { AreLines tree.now }
+    ensures trees { AreTrees tree.now }
+    ensures few { length tree.now.content ≤ 4294967295 }
+{
+    let _nodes = tree.nodes();
+    lines_of_a_forest();
+    trees_of_a_forest();
+}
+
+/// Whether the node is the first of a run: it has no parent and no previous sibling.
+fn starts_run(tree: &Tree, id: NodeId) -> bool
+    ensures { result ≡ starts_run tree.now id }
+{
+    let nodes = tree.nodes();
+    parent_id(nodes, &id).is_none() && prev_sibling_id(nodes, &id).is_none()
+}
+
+/// What a traversal has written: by position each visited node and its parent, and by number its
+/// position, its subtree end and its type byte.
+#[derive(Drop)]
+struct Traversal {
+    visited: usize,
+    order: Vec<NodeId>,
+    above: Vec<Link>,
+    places: Vec<u32>,
+    subtree_ends: Vec<u32>,
+    type_bytes: Vec<u8>,
+}
+
+/// The type byte of a node that wasn't visited.
+const NOT_VISITED: u8 = 253;
+
+impl Traversal {
+    /// A traversal that has visited no node of the tree.
+    fn new(tree: &Tree) -> Result<Traversal, OutOfMemory>
+        ensures none { IfOk result (λ traversal. traversal.visited ≡ 0) }
+        ensures traversed { IfOk result (IsTraversed tree.now) }
+        ensures ended { IfOk result (λ traversal.
+            AreSubtreeEnds tree.now [] 0 0 traversal.subtree_ends.items) }
+    {
+        let alloc = tree.allocator();
+        let count = tree.len();
+        Ok(Traversal {
+            visited: 0,
+            order: vec![in alloc; NodeId::root(); count]?,
+            above: vec![in alloc; Link::new(None); count]?,
+            places: vec![in alloc; 0; count]?,
+            subtree_ends: vec![in alloc; 0; count]?,
+            type_bytes: vec![in alloc; NOT_VISITED; count]?,
+        })
+    }
+
+    /// Visits the node that is next in preorder. Its first child.
+    #[inline(always)]
+    fn visit(&mut self, tree: &Tree, id: NodeId) -> Option<NodeId>
+        requires known { id < length tree.now.content }
+        requires room { self.old.visited < length tree.now.content }
+        requires next { number_at (preorder tree.now) self.old.visited ≡ id }
+        requires traversed { IsTraversed tree.now self.old }
+        ensures first { result ≡ first (children_of tree.now id) }
+        ensures visited { self.new.visited ≡ self.old.visited + 1 }
+        ensures traversed { IsTraversed tree.now self.new }
+        ensures kept { self.new.subtree_ends ≡ self.old.subtree_ends }
+    {
+        order_laws(tree);
+        let node = node_at(tree.nodes(), id);
+        let n = id.value();
+        let place = self.visited;
+        self.order[place] = id;
+        self.above[place] = node.parent;
+        self.places[n] = place as u32;
+        self.type_bytes[n] = type_byte(&node.content);
+        self.visited = place + 1;
+        node.first_child.get()
+    }
+}
+
+/// Writes the position `last`, the last one visited, as the subtree end of a leaf and of each
+/// ancestor whose subtree ends with it. The next node of the run.
+#[inline(always)]
+fn end_subtrees(tree: &Tree, id: NodeId, last: u32, subtree_ends: &mut Vec<u32>) -> Option<NodeId>
+    requires known { id < length tree.now.content }
+    requires visited { last < length tree.now.content }
+    requires ended { AreSubtreeEnds tree.now (id ∷ ancestors tree.now id) (last + 1) (length
+        (run_past tree.now (id ∷ ancestors tree.now id))) subtree_ends.old.items }
+    ensures within { IsWithin tree.now result }
+    ensures next { run_past tree.now (id ∷ ancestors tree.now id) ≡ run_on tree.now result }
+    ensures ended { AreSubtreeEnds tree.now (above_it tree.now result) (last + 1) (length
+        (run_on tree.now result)) subtree_ends.new.items }
+{
+    order_laws(tree);
+    forest_laws(tree);
+    let mut ended = Some(id);
+    while let Some(at) = ended {
+        subtree_ends[at.value()] = last;
+        let node = node_at(tree.nodes(), at);
+        let next = node.next_sibling.get();
+        if next.is_some() {
+            return next;
+        }
+        ended = node.parent.get();
+    }
+    None
+}
+
+/// The traversal of all nodes in preorder. A visited node starts no run, so each is looked at once,
+/// but for those of a run that come before its first node by number.
+fn visit_tree(tree: &Tree) -> Result<Traversal, OutOfMemory>
+    ensures all { IfOk result (λ traversal. traversal.visited ≡ length tree.now.content) }
+    ensures traversed { IfOk result (IsTraversed tree.now) }
+    ensures ended { IfOk result (λ traversal.
+        AreSubtreeEnds tree.now [] traversal.visited 0 traversal.subtree_ends.items) }
+{
+    started_laws(tree);
+    order_laws(tree);
+    let mut traversal = Traversal::new(tree)?;
+    for n in 0..tree.len() {
+        if traversal.type_bytes[n] != NOT_VISITED {
+            continue;
+        }
+        let id = numbered(tree, n);
+        if starts_run(tree, id) {
+            visit_run(tree, id, &mut traversal);
+            if traversal.visited == tree.len() {
+                return Ok(traversal);
+            }
+        }
+    }
+    Ok(traversal)
+}
+
+/// States that a node of an earlier run starts none. It does nothing.
+fn started_laws(tree: &Tree)
+    ensures { (n : ℕ) → n < length tree.now.content
+        → stands_in n (preorder_to tree.now n) ≡ true → starts_run tree.now n ≡ false }
+{
+    forest_laws(tree);
+}
+
+/// The number as a node's.
+pub(crate) fn numbered(tree: &Tree, n: usize) -> NodeId
+    requires { n < length tree.now.content }
+    ensures { result ≡ n }
+{
+    forest_laws(tree);
+    match NodeId::new(n) {
+        Some(id) => id,
+        None => NodeId::root(),
+    }
+}
+
+/// Visits a node, and writes the subtree ends that are known with it. The next node of the run.
+#[inline(always)]
+fn visit_next(tree: &Tree, id: NodeId, traversal: &mut Traversal) -> Option<NodeId>
+    requires known { id < length tree.now.content }
+    requires room { traversal.old.visited < length tree.now.content }
+    requires next { number_at (preorder tree.now) traversal.old.visited ≡ id }
+    requires traversed { IsTraversed tree.now traversal.old }
+    requires ended { AreSubtreeEnds tree.now (ancestors tree.now id) traversal.old.visited (length
+        (run_on tree.now (Some id))) traversal.old.subtree_ends.items }
+    ensures within { IsWithin tree.now result }
+    ensures steps { run_on tree.now (Some id) ≡ id ∷ run_on tree.now result }
+    ensures visited { traversal.new.visited ≡ traversal.old.visited + 1 }
+    ensures traversed { IsTraversed tree.now traversal.new }
+    ensures ended { AreSubtreeEnds tree.now (above_it tree.now result) traversal.new.visited (length
+        (run_on tree.now result)) traversal.new.subtree_ends.items }
+{
+    order_laws(tree);
+    forest_laws(tree);
+    let last = traversal.visited as u32;
+    let first = traversal.visit(tree, id);
+    if first.is_some() {
+        return first;
+    }
+    end_subtrees(tree, id, last, &mut traversal.subtree_ends)
+}
+
+/// Visits the nodes of a run, from its first one on.
+fn visit_run(tree: &Tree, first: NodeId, traversal: &mut Traversal)
+    requires known { first < length tree.now.content }
+    requires starts { starts_run tree.now first ≡ true }
+    requires visited { traversal.old.visited ≡ length (preorder_to tree.now first) }
+    requires traversed { IsTraversed tree.now traversal.old }
+    requires ended { AreSubtreeEnds tree.now [] traversal.old.visited 0
+        traversal.old.subtree_ends.items }
+    ensures visited { traversal.new.visited ≡ length (preorder_to tree.now (first + 1)) }
+    ensures traversed { IsTraversed tree.now traversal.new }
+    ensures ended { AreSubtreeEnds tree.now [] traversal.new.visited 0
+        traversal.new.subtree_ends.items }
+{
+    order_laws(tree);
+    forest_laws(tree);
+    let mut next = Some(first);
+    while let Some(at) = next {
+        let follower = visit_next(tree, at, traversal);
+        next = predict_next(follower, at.value() + 1);
+    }
+}
+
+impl<'a> Preorder<'a> {
+    /// The preorder of a tree.
+    pub(crate) fn new(tree: &'a Tree) -> Result<Preorder<'a>, OutOfMemory>
+        ensures { IfOk result (λ preorder. preorder.tree ≡ tree.entry) }
+    {
+        forest_laws(tree);
+        order_laws(tree);
+        let traversal = visit_tree(tree)?;
+        let Traversal {
+            order,
+            above,
+            places,
+            subtree_ends,
+            type_bytes,
+            ..
+        } = traversal;
+        Ok(Preorder {
+            tree,
+            order,
+            above,
+            places,
+            subtree_ends,
+            type_bytes,
+        })
+    }
+}
+
+/// States that the preorder has each node once. It does nothing.
+fn order_laws(tree: &Tree)
+    ensures long { length (preorder tree.now) ≡ length tree.now.content }
+    ensures once { IsDistinct (preorder tree.now) }
+    ensures inside { (n : ℕ) → stands_in n (preorder tree.now) ≡ true
+        → n < length tree.now.content }
+    ensures all { (n : ℕ) → n < length tree.now.content
+        → stands_in n (preorder tree.now) ≡ true }
+    ensures order { (places : List ℕ) → ArePlaces tree.now (preorder tree.now) places
+        → IsOrder tree.now (preorder tree.now) places }
+{
+    forest_laws(tree);
+}
+
+/// The descendants of a node, in preorder.
+pub(crate) fn below<'i>(preorder: &'i Preorder<'_>, id: NodeId) -> &'i [NodeId]
+    ensures { result.now ≡ walk_below preorder.now.tree.now id }
+{
+    none_below_law(preorder.tree, id);
+    let n = id.value();
+    if n >= preorder.order.len() {
+        return &[];
+    }
+    let first = preorder.places[n] as usize + 1;
+    let end = preorder.subtree_ends[n] as usize + 1;
+    &preorder.order[first..end]
+}
+
+/// States that an unknown number has no descendants. It does nothing.
+fn none_below_law(tree: &Tree, id: NodeId)
+    ensures { length tree.now.content ≤ id → walk_below tree.now id ≡ [] }
+{
+    forest_laws(tree);
+}

@@ -1,0 +1,135 @@
+//! One byte for the type of each node, and filters by it.
+
+ghost use Rattle.std.specs.Prelude.{◌≡◌, ◌<◌, length, true, IfSome};
+ghost use Rattle.dom_selectors.specs.Spelling.{Decides};
+ghost use Rattle.dom_selectors.specs.Syntax.{CompoundSelector};
+ghost use Rattle.dom_select.specs.Meaning.{Holds};
+ghost use Rattle.dom_links.specs.ListMoves.{element_at};
+ghost use Rattle.dom_selectors.specs.ValuesAsTrees.{read_compound};
+ghost use Rattle.dom_nodes.specs.KnownNames.{known_name};
+ghost use Rattle.dom_select.specs.Parts.{name_within};
+ghost use Rattle.dom_nodes.specs.declared.name.Namespace.{Namespace};
+ghost use Rattle.dom_index.specs.TypeBytes.{HaveKnownTypes, IsFilteredByType, IsTypeFilterOf};
+ghost use Rattle.dom_index.specs.TypeBytes.{is_type_byte};
+
+use crate::preorder::Preorder;
+use dom_nodes::node_data::NodeData;
+use dom_selectors::selector_name::SelectorName;
+use dom_selectors::syntax::{Compound, Part};
+
+/// The byte of an element whose name has no number.
+const UNKNOWN: u8 = 254;
+
+/// The byte of a node that is no element.
+pub(crate) const NO_ELEMENT: u8 = 255;
+
+/// The type byte of a node: the number of its name where it has one.
+pub(crate) fn type_byte(node: &NodeData) -> u8
+    ensures { is_type_byte node.now result ≡ true }
+{
+    let NodeData::Element(element) = node else {
+        return NO_ELEMENT;
+    };
+    match element.name.local.number() {
+        Some(number) => number,
+        None => UNKNOWN,
+    }
+}
+
+/// Whether the node of that number is an element.
+pub(crate) fn is_element_at(preorder: &Preorder<'_>, n: usize) -> bool
+    requires { n < length preorder.now.tree.now.content }
+    ensures { result ≡ element_at preorder.now.tree.now n }
+{
+    preorder.type_bytes[n] != NO_ELEMENT
+}
+
+/// The number of a compound's type selector, and whether the compound has no other part.
+#[derive(Clone, Copy)]
+pub(crate) struct TypeFilter {
+    pub(crate) number: u8,
+    pub(crate) is_all: bool,
+}
+
+/// The number of the name that elements of every namespace have to match a type selector.
+fn type_number(name: &SelectorName) -> Option<u8>
+    ensures { IfSome result (λ number. (number < 247)
+        × ((ns : Namespace) → name_within ns name.now ≡ known_name number)) }
+{
+    let folded = name.folded();
+    if folded.as_str() != name.as_str() {
+        return None;
+    }
+    folded.number()
+}
+
+/// The filter of the type selector that the compound begins with, if its name has a number.
+pub(crate) fn type_filter_of(compound: &Compound) -> Option<TypeFilter>
+    ensures { IfSome result (IsTypeFilterOf (read_compound compound.now)) }
+{
+    let Some(Part::Type(name)) = compound.parts.first() else {
+        return None;
+    };
+    let number = type_number(name)?;
+    let is_all = is_one_part(compound);
+    Some(TypeFilter { number, is_all })
+}
+
+/// Whether the compound is one part and nothing else.
+fn is_one_part(compound: &Compound) -> bool
+    ensures { result ≡ true → (length compound.now.parts.items ≡ 1)
+        × (length compound.now.nested.items ≡ 0) }
+{
+    if !compound.nested.is_empty() {
+        return false;
+    }
+    compound.parts.len() == 1
+}
+
+/// Keeps the nodes whose byte is that number, or of a name without one.
+pub(crate) fn intersect_type(table: &mut Vec<bool>, bytes: &[u8], number: u8)
+    requires { length bytes.now ≡ length table.old.items }
+    ensures { IsFilteredByType bytes.now number table.new.items table.old.items }
+{
+    let cells = table.as_mut_slice();
+    for n in 0..cells.len() {
+        let byte = bytes[n];
+        cells[n] = cells[n] & ((byte == number) | (byte == UNKNOWN));
+    }
+}
+
+/// Whether the name of each node in the set has a number.
+pub(crate) fn have_known_types(table: &[bool], bytes: &[u8]) -> bool
+    requires { length bytes.now ≡ length table.now }
+    ensures { result ≡ true → HaveKnownTypes bytes.now table.now (length table.now) }
+{
+    let mut unknown = false;
+    for n in 0..table.len() {
+        unknown = unknown | (table[n] & (bytes[n] == UNKNOWN));
+    }
+    !unknown
+}
+
+/// Whether a compound with this type filter matches the node, where the type byte decides that.
+pub(crate) fn decided_by_type(
+    preorder: &Preorder<'_>,
+    n: usize,
+    wanted: Option<TypeFilter>,
+) -> Option<bool>
+    requires { n < length preorder.now.tree.now.content }
+    ensures { IfSome result (λ answer. (c : CompoundSelector) → IfSome wanted (IsTypeFilterOf c)
+        → Decides answer (Holds c preorder.now.tree.now n)) }
+{
+    let wanted = wanted?;
+    let name = preorder.type_bytes[n];
+    if name == UNKNOWN {
+        return None;
+    }
+    if name != wanted.number {
+        return Some(false);
+    }
+    if !wanted.is_all {
+        return None;
+    }
+    Some(true)
+}

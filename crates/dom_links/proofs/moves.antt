@@ -1,0 +1,18 @@
+-- Nodes are cut out and put elsewhere.
+pub mod Attach
+pub mod Cuts
+pub mod Fills
+pub mod Gaps
+pub mod Kept
+pub mod Acyclicity
+pub mod BlockLists
+pub mod BlockCuts
+pub mod BlockFills
+pub mod BlockGaps
+pub mod BlockKept
+pub mod BlockWrites
+pub mod BlockMoves
+pub mod TwoSteps
+pub mod Unwrapping
+pub mod Dissolving
+pub mod Stripping

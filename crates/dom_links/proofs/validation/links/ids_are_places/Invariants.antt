@@ -1,8 +1,0 @@
-use Rattle.std.proofs.Common.{ℕ, ◌<◌, ◌≡◌, Some}
-use Rattle.std.specs.Prelude.{slice_get}
-use Rattle.dom_links.specs.Forest.{ids_of}
-use Rattle.dom_links.proofs.validation.links.ids_are_places.Given as goal
-
--- so far each number is its place
-abbrev pub invariant-loop-n : goal.invariant-loop-n
-invariant-loop-n l = (k : ℕ) → k < l.n → slice_get (ids_of l.nodes) k ≡ Some k

@@ -1,0 +1,102 @@
+//! Cycles of links.
+
+ghost use Rattle.std.specs.Prelude.{ℕ, ◌≡◌, ◌<◌, ◌+◌, EachIndex, IfOk, IfSome, MatchBool, length};
+ghost use Rattle.dom_links.specs.Forest.{prev_link};
+ghost use Rattle.dom_links.specs.Validation.{AreHosts, AreLinksBy, AreMarks, Ends, HasCycle};
+ghost use Rattle.dom_links.specs.Validation.{LinksKnown, link_at, parent_or_host};
+
+use dom_nodes::node_data::TreeNode;
+use dom_nodes::node_id::NodeId;
+use std::alloc::{AllocError, Global};
+
+/// Follows the links from `start`, and marks what it reaches, up to an end or to what is marked.
+/// Whether that was marked on the same way.
+fn closes_cycle(links: &[Option<NodeId>], marks: &mut [usize], start: usize) -> bool
+    requires known { (n : ℕ) → IfSome (link_at links.now n) (λ m. m < length links.now) }
+    requires here { start < length links.now }
+    requires earlier { AreMarks links.now marks.old start }
+    ensures { MatchBool result (HasCycle (link_at links.now))
+        (AreMarks links.now marks.new (start + 1)) }
+{
+    let mut at = start;
+    while marks[at] == 0 {
+        marks[at] = start + 1;
+        let Some(next) = links[at] else {
+            return false;
+        };
+        at = next.value();
+    }
+    marks[at] == start + 1
+}
+
+/// Whether some number leads back to itself. Each number is reached once.
+fn has_cycle(alloc: Global, links: &[Option<NodeId>]) -> Result<bool, AllocError>
+    requires { (n : ℕ) → IfSome (link_at links.now n) (λ m. m < length links.now) }
+    ensures { IfOk result
+        (λ ring. MatchBool ring (HasCycle (link_at links.now))
+        ((n : ℕ) → Ends (link_at links.now) n)) }
+{
+    let mut marks = vec![in alloc; 0; links.len()]?;
+    for start in 0..links.len() {
+        if closes_cycle(links, &mut marks, start) {
+            return Ok(true);
+        }
+    }
+    Ok(false)
+}
+
+/// The parent of each node, or its host where it has no parent.
+fn parents_or_hosts(
+    alloc: Global,
+    nodes: &[TreeNode],
+    hosts: &[Option<NodeId>],
+) -> Result<Vec<Option<NodeId>>, AllocError>
+    requires { length hosts.now ≡ length nodes.now }
+    ensures { IfOk result
+        (λ ups. AreLinksBy ups.items (length nodes.now) (parent_or_host nodes.now hosts.now)) }
+{
+    let mut ups = Vec::with_capacity(alloc, nodes.len())?;
+    for n in 0..nodes.len() {
+        ups.push(nodes[n].parent.get().or(hosts[n]))?;
+    }
+    Ok(ups)
+}
+
+/// Whether a node is reached again by steps to the parent, or to the host where there is no parent.
+pub(crate) fn has_ancestor_cycle(
+    alloc: Global,
+    nodes: &[TreeNode],
+    hosts: &[Option<NodeId>],
+) -> Result<bool, AllocError>
+    requires known { EachIndex nodes.now (λ n. LinksKnown nodes.now n) }
+    requires hosts { AreHosts nodes.now hosts.now }
+    ensures { IfOk result
+        (λ ring. MatchBool ring (HasCycle (parent_or_host nodes.now hosts.now))
+        ((n : ℕ) → Ends (parent_or_host nodes.now hosts.now) n)) }
+{
+    let ups = parents_or_hosts(alloc, nodes, hosts)?;
+    has_cycle(alloc, &ups)
+}
+
+/// The sibling before each node.
+fn siblings_before(alloc: Global, nodes: &[TreeNode]) -> Result<Vec<Option<NodeId>>, AllocError>
+    ensures { IfOk result
+        (λ prevs. AreLinksBy prevs.items (length nodes.now) (prev_link nodes.now)) }
+{
+    let mut prevs = Vec::with_capacity(alloc, nodes.len())?;
+    for node in nodes {
+        prevs.push(node.prev_sibling.get())?;
+    }
+    Ok(prevs)
+}
+
+/// Whether a node is reached again by steps to the sibling before.
+pub(crate) fn has_sibling_cycle(alloc: Global, nodes: &[TreeNode]) -> Result<bool, AllocError>
+    requires { EachIndex nodes.now (λ n. LinksKnown nodes.now n) }
+    ensures { IfOk result
+        (λ ring. MatchBool ring (HasCycle (prev_link nodes.now))
+        ((n : ℕ) → Ends (prev_link nodes.now) n)) }
+{
+    let prevs = siblings_before(alloc, nodes)?;
+    has_cycle(alloc, &prevs)
+}

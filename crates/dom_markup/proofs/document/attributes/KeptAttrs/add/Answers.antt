@@ -1,0 +1,37 @@
+use Rattle.std.proofs.Common.{◌≡◌, ◌∷◌, ◌++◌, ℕ, List, Bool, [], None, refl, sym, ◌∙◌, ap}
+use Rattle.std.specs.List.{list_any}
+use Rattle.std.proofs.lemmas.Result.{on_ok_weaker}
+use Rattle.dom_nodes.specs.declared.name.Attr.{Attr}
+use Rattle.dom_nodes.specs.declared.name.Namespace.TheVariants.{None as NoNamespace}
+use Rattle.dom_nodes.specs.Changes.{is_attr_named}
+use Rattle.dom_markup.specs.Bytes.{folded}
+use Rattle.dom_markup.specs.References.{decoded}
+use Rattle.dom_markup.specs.Numbered.{read_attr}
+use Rattle.dom_markup.specs.ByteClasses.{attribute_of}
+use Rattle.dom_markup.proofs.rows.AttrLemmas.{left_out, added}
+use Rattle.dom_markup.proofs.document.attributes.KeptAttrs.add.Goals as goal
+
+-- the test was made on the kept attributes, with the folded name
+tested : (attrs : List Attr) (name local folds : List ℕ) (found answer : Bool) → name ≡ local → local ≡ folds →
+    found ≡ list_any (is_attr_named name) attrs → found ≡ answer → list_any (is_attr_named folds) attrs ≡ answer
+tested attrs name local folds found answer f g h i =
+    ap (λ (n : List ℕ). list_any (is_attr_named n) attrs) (sym (f ∙ g)) ∙ sym h ∙ i
+
+abbrev of : List ℕ → List ℕ → Attr
+of local value = record { name = record { prefix = None; ns = NoNamespace; local = local }; value = value }
+
+attr_of_read : (local value name text : List ℕ) → local ≡ folded name → value ≡ decoded text → of local value ≡ read_attr (attribute_of name text)
+attr_of_read local value name text e f = ap (λ (l : List ℕ). of l value) e ∙ ap (λ (v : List ℕ). of (folded name) v) f
+
+pub returns-then-has-clause-added : goal.returns-then-has-clause-added
+returns-then-has-clause-added c =
+    left_out c.args.self.now.attrs (attribute_of c.args.written.name.now c.args.written.value.now)
+    (tested _ _ _ _ _ _ refl c.in_ok-local.ensures c.has.ensures c.if-has.true)
+
+pub returns-clause-added : goal.returns-clause-added
+returns-clause-added c =
+    let new = tested _ _ _ _ _ _ refl c.in_ok-local.ensures c.has.ensures c.if-has.false in
+    let attr = attr_of_read c.in_ok-local.local c.in_ok-value.value c.args.written.name.now c.args.written.value.now c.in_ok-local.ensures c.in_ok-value.ensures in
+    let grown = c.in_ok-push.ensures.ok ∙ ap (λ (a : Attr). c.args.self.now.attrs ++ a ∷ []) attr in
+    on_ok_weaker c.note.result (λ _ kept e. c.note.ensures.attrs ∙ grown
+    ∙ added c.args.self.now.attrs (attribute_of c.args.written.name.now c.args.written.value.now) new kept e) c.note.ensures.noted

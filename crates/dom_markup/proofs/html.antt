@@ -1,0 +1,8 @@
+-- What is written of a forest.
+pub mod WritingLemmas
+pub mod CutLemmas
+pub mod EscapeLemmas
+pub mod PendingLemmas
+pub mod InertLemmas
+pub mod JoinedHtml
+pub mod ReadBack

@@ -1,0 +1,57 @@
+-- The classes of bytes in markup, and what runs of them stand for.
+use Rattle.std.specs.Prelude.{◌≡◌, ◌≢◌, ℕ, List, [], ◌++◌, Bool, true, false, ◌⊎◌}
+use Rattle.std.specs.List.{list_all}
+use Rattle.dom_markup.specs.Bytes.{is_whitespace, is_name_byte, folded}
+use Rattle.dom_markup.specs.References.{decoded}
+use Rattle.dom_markup.specs.ValueTrees.{Attribute}
+use Rattle.dom_nodes.specs.declared.fault.MarkupFaultKind.{MarkupFaultKind}
+use Rattle.dom_nodes.specs.declared.fault.MarkupFaultKind.TheVariants.{BadTag, SlashOnOpen}
+use Rattle.dom_markup.specs.Markup.{BeginsAttribute, BeginsIdentifiers, BeginsQuoted, Closes, EndsTag, Fails, is_bare_byte}
+use Rattle.dom_markup.specs.declared.document.scan.ByteClass.{ByteClass}
+use Rattle.dom_markup.specs.declared.document.scan.ByteClass.TheVariants.{Whitespace, Name, Bare}
+
+abbrev pub passes : ByteClass → ℕ → Bool
+passes Whitespace = is_whitespace
+passes Name = is_name_byte
+passes Bare = is_bare_byte
+
+-- the attribute of a name and a value as they are written; the references in the value are read
+abbrev pub attribute_of : List ℕ → List ℕ → Attribute
+attribute_of name value = record { name = folded name; value = decoded value }
+
+-- text is front, whose bytes pass, and then behind, which goes on with none that does
+pub record Splits (p : ℕ → Bool) (text front behind : List ℕ) : Type 0 where
+  pub is : text ≡ front ++ behind
+  pub passes : list_all p front ≡ true
+  pub fails : Fails p behind
+
+-- the tags that end so end there alike, with fewer attributes before
+pub record SameEnd (text rest : List ℕ) : Type 0 where
+  pub back : (slash : Bool) (all : List Attribute) (r : List ℕ) → EndsTag slash rest all r → (more : List Attribute) × EndsTag slash text more r
+  pub forth : (slash : Bool) (all : List Attribute) (r : List ℕ) → EndsTag slash text all r → (more : List Attribute) × EndsTag slash rest more r
+
+-- why no tag ends here: a slash stands before the `>` of an element that isn't void, or no end
+abbrev pub ClosesNothing : Bool → List ℕ → MarkupFaultKind → Type 0
+ClosesNothing void text BadTag = ((rest : List ℕ) → Closes void text rest → ⊥) × ((rest : List ℕ) → Closes true text rest → ⊥)
+ClosesNothing void text SlashOnOpen = ((rest : List ℕ) → Closes void text rest → ⊥) × (rest : List ℕ) × Closes true text rest
+ClosesNothing void text _ = ⊥
+
+-- behind the attributes at the front of the text, all that are there, stands rest
+pub record PastAttributes (text rest : List ℕ) : Type 0 where
+  pub same : SameEnd text rest
+  pub none : (attribute : Attribute) (after : List ℕ) → BeginsAttribute rest attribute after → ⊥
+
+-- text is the identifiers of a doctype, its end, and then rest
+abbrev pub EndsDoctype : List ℕ → List ℕ → List ℕ → List ℕ → Type 0
+EndsDoctype text public system rest = (close : List ℕ) × BeginsIdentifiers text public system close × Closes false close rest
+
+-- what follows the word `public` is one identifier or two, the end of the doctype, and then rest
+abbrev pub AfterPublic : List ℕ → List ℕ → List ℕ → List ℕ → Type 0
+AfterPublic after public system rest = (later : List ℕ) × BeginsQuoted after public later
+    × (((system ≡ []) × Closes false later rest) ⊎ ((close : List ℕ) × BeginsQuoted later system close × Closes false close rest))
+
+-- a word that markup knows, in lower case
+pub record IsWord (word : List ℕ) : Type 0 where
+  pub folds : folded word ≡ word
+  pub name : list_all is_name_byte word ≡ true
+  pub some : word ≢ []

@@ -1,0 +1,85 @@
+//! The numbers of the nodes at the top of what was read.
+
+ghost use Rattle.std.specs.Prelude.{◌≡◌, ◌∷◌, ◌++◌, [], IfOk, OnOk};
+ghost use Rattle.dom_markup.specs.IdLists.{numbers};
+
+use dom_nodes::fault::OutOfMemory;
+use dom_nodes::node_id::NodeId;
+use std::alloc::Global;
+use std::marker::Model;
+
+/// Numbers of nodes, of which one needs no memory of its own. A contract sees them as a list.
+#[derive(Drop)]
+pub(super) struct IdList {
+    form: Form,
+    alloc: Global,
+}
+
+/// Where the numbers lie.
+#[derive(Drop)]
+enum Form {
+    Nothing,
+    One([NodeId; 1]),
+    Many(Vec<NodeId>),
+}
+
+impl Model for IdList {
+    ghost use Rattle.std.specs.Prelude.{List, ℕ};
+    ghost use Rattle.dom_markup.specs.IdLists.{numbers};
+
+    ghost Value = { List ℕ };
+
+    ghost view = { λ top_ids. numbers top_ids.form };
+}
+
+impl IdList {
+    /// No numbers.
+    pub(super) fn new(alloc: Global) -> IdList
+        ensures { result ≡ [] }
+    {
+        IdList {
+            form: Form::Nothing,
+            alloc,
+        }
+    }
+
+    /// The numbers, in order.
+    pub(super) fn as_slice(&self) -> &[NodeId]
+        ensures { result.now ≡ self.now }
+    {
+        match &self.form {
+            Form::Nothing => &[],
+            Form::One(number) => number,
+            Form::Many(all) => all.as_slice(),
+        }
+    }
+
+    /// Adds a number at the end.
+    pub(super) fn push(&mut self, id: NodeId) -> Result<(), OutOfMemory>
+        ensures { OnOk result (self.new ≡ self.old ++ id ∷ []) }
+    {
+        match &mut self.form {
+            Form::Nothing => {
+                self.form = Form::One([id]);
+            }
+            Form::One(one) => {
+                let first = one[0];
+                let both = both(self.alloc, first, id)?;
+                self.form = Form::Many(both);
+            }
+            Form::Many(all) => {
+                all.push(id)?;
+            }
+        }
+        Ok(())
+    }
+}
+
+fn both(alloc: Global, first: NodeId, second: NodeId) -> Result<Vec<NodeId>, OutOfMemory>
+    ensures { IfOk result (λ all. all.items ≡ first ∷ second ∷ []) }
+{
+    let mut all = Vec::new(alloc);
+    all.push(first)?;
+    all.push(second)?;
+    Ok(all)
+}

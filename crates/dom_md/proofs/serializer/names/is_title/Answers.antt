@@ -1,0 +1,16 @@
+use Rattle.std.proofs.Common.{◌≡◌, true, refl, ap, ◌∙◌}
+use Rattle.std.specs.Prelude.{◌==◌, codes}
+use Rattle.std.specs.Str.{bytes_eq}
+use Rattle.std.proofs.lemmas.Bool.{agree_below, agree_below_at}
+use Rattle.dom_nodes.specs.KnownNames.{known_name}
+use Rattle.dom_md.specs.declared.serializer.names.TheConstants.{TITLE}
+use Rattle.dom_md.proofs.serializer.names.is_title.Goals as goal
+
+number_is : agree_below (λ n. n == TITLE) (λ n. bytes_eq (known_name n) (codes "title")) 247 ≡ true
+unfolding known_name
+number_is = refl
+
+pub returns-in-Some : goal.returns-in-Some
+returns-in-Some c =
+    agree_below_at (λ n. n == TITLE) (λ n. bytes_eq (known_name n) (codes "title")) 247 c.in-Some.number number_is c.in-Some.ensures.0
+    ∙ ap (λ bytes. bytes_eq bytes (codes "title")) c.in-Some.ensures.1

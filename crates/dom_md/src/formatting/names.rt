@@ -1,0 +1,89 @@
+//! What the names of elements are to formatted text.
+
+ghost use Rattle.std.specs.Prelude.{◌≡◌};
+ghost use Rattle.dom_nodes.specs.Words.{is_among};
+ghost use Rattle.dom_md.specs.Formatted.{block_names, cell_names, line_names};
+
+use dom_nodes::name::LocalName;
+
+/// What the known name of each number is: 1 of a block, 2 of a line, 3 of a cell.
+#[rattlefmt::skip]
+static KINDS: [u8; 247] = [
+    0, 0, 0, 0, 0, 1, 0, 0, 0, 2, 0, 1, 0, 0, 1, 1, 1, 1, 1, 1, 2, 0, 2, 1, 0, 0, 3, 3, 2, 0, 1,
+    0, 0, 0, 0, 0, 0, 0, 0, 1, 0, 0, 0, 0, 0, 0, 0, 0, 0, 1, 0, 0, 0, 0, 0, 0, 0, 0, 0, 0, 0, 0,
+    0, 0, 0, 0, 0, 0, 0, 0, 0, 0, 0, 0, 0, 0, 0, 0, 0, 0, 0, 0, 0, 0, 0, 0, 0, 0, 0, 0, 0, 0, 0,
+    0, 0, 0, 0, 0, 0, 0, 0, 0, 0, 0, 0, 0, 0, 0, 0, 0, 0, 0, 0, 0, 0, 0, 0, 0, 0, 1, 0, 0, 0, 0,
+    0, 0, 0, 0, 0, 0, 0, 0, 0, 0, 0, 0, 0, 0, 0, 0, 0, 0, 0, 0, 0, 0, 0, 0, 0, 0, 0, 0, 0, 0, 0,
+    0, 0, 0, 0, 0, 0, 0, 0, 0, 0, 0, 0, 0, 1, 0, 0, 0, 0, 0, 0, 0, 0, 0, 0, 0, 0, 0, 0, 0, 0, 0,
+    0, 0, 0, 1, 0, 0, 0, 0, 0, 0, 0, 0, 0, 0, 0, 0, 0, 0, 0, 0, 0, 0, 0, 0, 0, 0, 0, 0, 0, 0, 0,
+    0, 0, 0, 0, 0, 0, 0, 0, 0, 0, 0, 0, 1, 0, 0, 0, 0, 0, 0, 0, 0, 0, 0, 0, 0, 0, 0, 0, 0, 0,
+];
+
+/// Whether the element stands in lines of its own, with a blank line behind it.
+pub(super) fn is_block(name: &LocalName) -> bool
+    ensures { result ≡ is_among name.now block_names }
+{
+    match name.number() {
+        Some(number) => KINDS[number as usize] == 1,
+        None => is_block_text(name.as_str()),
+    }
+}
+
+/// Whether a line ends with the element.
+pub(super) fn is_line(name: &LocalName) -> bool
+    ensures { result ≡ is_among name.now line_names }
+{
+    match name.number() {
+        Some(number) => KINDS[number as usize] == 2,
+        None => is_line_text(name.as_str()),
+    }
+}
+
+/// Whether a space parts the element from the next.
+pub(super) fn is_cell(name: &LocalName) -> bool
+    ensures { result ≡ is_among name.now cell_names }
+{
+    match name.number() {
+        Some(number) => KINDS[number as usize] == 3,
+        None => is_cell_text(name.as_str()),
+    }
+}
+
+#[tactic(auto, unfolding(crate::specs::Formatted::block_names))]
+fn is_block_text(name: &str) -> bool
+    ensures { result ≡ is_among name.now block_names }
+{
+    matches!(
+        name,
+        "article"
+            | "blockquote"
+            | "section"
+            | "div"
+            | "p"
+            | "pre"
+            | "h1"
+            | "h2"
+            | "h3"
+            | "h4"
+            | "h5"
+            | "h6"
+            | "ul"
+            | "ol"
+            | "dl"
+            | "table"
+    )
+}
+
+#[tactic(auto, unfolding(crate::specs::Formatted::line_names))]
+fn is_line_text(name: &str) -> bool
+    ensures { result ≡ is_among name.now line_names }
+{
+    matches!(name, "br" | "hr" | "li" | "tr")
+}
+
+#[tactic(auto, unfolding(crate::specs::Formatted::cell_names))]
+fn is_cell_text(name: &str) -> bool
+    ensures { result ≡ is_among name.now cell_names }
+{
+    matches!(name, "td" | "th")
+}

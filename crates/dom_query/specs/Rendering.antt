@@ -1,0 +1,43 @@
+-- What lines write of the selected nodes.
+use Rattle.std.specs.Prelude.{ℕ, List, [], ◌∷◌, ◌++◌, decimal, length, unwrap_or}
+use Rattle.std.specs.List.{flat_map}
+use Rattle.dom_links.specs.Forest.{Forest}
+use Rattle.dom_links.specs.Texts.{text_of}
+use Rattle.dom_trees.specs.Views.{node_attr}
+use Rattle.dom_markup.specs.Scopes.{html_in}
+use Rattle.dom_markup.specs.declared.serializing.TraversalScope.{TraversalScope}
+use Rattle.dom_markup.specs.declared.serializing.TraversalScope.TheVariants.{IncludeNode, ChildrenOnly}
+use Rattle.dom_md.specs.Formatted.{formatted_node}
+use Rattle.dom_query.specs.declared.script.Rendering.{Rendering}
+use Rattle.dom_query.specs.declared.script.Rendering.TheVariants.{Count, Text, Formatted, Html, InnerHtml, Document}
+
+-- the HTML of the first node or of its children, or nothing
+abbrev pub first_html : TraversalScope → Forest → List ℕ → List ℕ
+first_html scope forest [] = []
+first_html scope forest (n ∷ ns) = html_in scope forest n
+
+-- the value of the first node's first attribute of that local name, or nothing
+abbrev pub first_attr : List ℕ → Forest → List ℕ → List ℕ
+first_attr name forest [] = []
+first_attr name forest (n ∷ ns) = unwrap_or (node_attr forest n name) []
+
+-- the texts of the nodes, joined
+abbrev pub texts_of : Forest → List ℕ → List ℕ
+texts_of forest ns = flat_map (text_of forest) ns
+
+-- the formatted texts of the nodes, each with its own tags, joined
+abbrev pub formatted_of : Forest → List ℕ → List ℕ
+formatted_of forest ns = flat_map (formatted_node forest) ns
+
+-- the text, and a line feed
+abbrev pub line_of : List ℕ → List ℕ
+line_of text = text ++ 10 ∷ []
+
+-- what is rendered of the selection; number 0 is the root
+abbrev pub rendered : Rendering → Forest → List ℕ → List ℕ
+rendered Count forest selection = decimal (length selection)
+rendered Text forest selection = texts_of forest selection
+rendered Formatted forest selection = formatted_of forest selection
+rendered Html forest selection = first_html IncludeNode forest selection
+rendered InnerHtml forest selection = first_html ChildrenOnly forest selection
+rendered Document forest selection = html_in IncludeNode forest 0

@@ -1,0 +1,50 @@
+//! What the line that cleans the tree leaves of it.
+
+ghost use Rattle.std.specs.Prelude.{◌≡◌, [], map, slice_index_or, IfOk, OnErr, OnOk};
+ghost use Rattle.dom_query.specs.Cleaning.{IsCleaned, allow_of, listed_in};
+ghost use Rattle.dom_sanitize.specs.Clean.{lists_of};
+
+use crate::script::lists::{listed_in, lists_of};
+use dom_nodes::fault::OutOfMemory;
+use dom_sanitize::sanitize::{Allow, sanitize_tree};
+use dom_trees::tree::Tree;
+use std::alloc::Global;
+
+/// The names of the list at that place.
+fn names_at<'a>(alloc: Global, lists: &[&'a str], place: usize) -> Result<Vec<&'a str>, OutOfMemory>
+    ensures { IfOk result (λ names. map (λ name. name.now) names.items
+        ≡ listed_in (slice_index_or (map (λ list. list.now) lists.now) place [])) }
+{
+    match lists.get(place) {
+        Some(list) => listed_in(alloc, list),
+        None => Ok(Vec::new(alloc)),
+    }
+}
+
+/// Cleans the tree, which is a forest before and after.
+fn clean_by(tree: &mut Tree, allow: &Allow<'_>) -> Result<(), OutOfMemory>
+    ensures ok { OnOk result (IsCleaned (lists_of allow.now) tree.old tree.new) }
+    ensures err { OnErr result (tree.new ≡ tree.old) }
+{
+    let _ = tree.nodes();
+    sanitize_tree(tree, allow)?;
+    let _ = tree.nodes();
+    Ok(())
+}
+
+/// Cleans the tree by three lists of names, which a semicolon parts.
+pub fn clean(tree: &mut Tree, lists: &str) -> Result<(), OutOfMemory>
+    ensures ok { OnOk result (IsCleaned (allow_of lists.now) tree.old tree.new) }
+    ensures err { OnErr result (tree.new ≡ tree.old) }
+{
+    let lists = lists_of(tree.allocator(), lists)?;
+    let elements = names_at(tree.allocator(), &lists, 0)?;
+    let attrs = names_at(tree.allocator(), &lists, 1)?;
+    let dropped = names_at(tree.allocator(), &lists, 2)?;
+    let allow = Allow {
+        elements: &elements,
+        attrs: &attrs,
+        drop: &dropped,
+    };
+    clean_by(tree, &allow)
+}

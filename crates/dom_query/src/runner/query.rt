@@ -1,0 +1,92 @@
+//! The nodes that lines select.
+
+ghost use Rattle.std.specs.Prelude.{◌≡◌, IfOk};
+ghost use Rattle.dom_query.specs.Queries.{Added, QueryResult, navigated};
+ghost use Rattle.dom_select.specs.Meaning.{Means};
+ghost use Rattle.dom_select.specs.Selected.{FiltersTo, Selected};
+ghost use Rattle.dom_selection.specs.Selections.{ids_of};
+
+use crate::script::{Navigation, QueryKind};
+use dom_nodes::fault::OutOfMemory;
+use dom_nodes::node_id::NodeId;
+use dom_select::matcher::Matcher;
+use dom_selection::selection::Selection;
+use dom_trees::tree::Tree;
+
+/// What the selector selects with this selection.
+pub fn query(
+    tree: &Tree,
+    selection: &[NodeId],
+    kind: QueryKind,
+    matcher: &Matcher,
+) -> Result<Vec<NodeId>, OutOfMemory>
+    ensures { IfOk result (λ found.
+        QueryResult tree.now selection.now kind matcher.now found.items) }
+{
+    match kind {
+        QueryKind::Select => find(tree, &[NodeId::root()], matcher),
+        QueryKind::Find => find(tree, selection, matcher),
+        QueryKind::Filter => filter(tree, selection, matcher),
+        QueryKind::Add => add(tree, selection, matcher),
+    }
+}
+
+/// The matches below the selection.
+fn find(tree: &Tree, selection: &[NodeId], matcher: &Matcher) -> Result<Vec<NodeId>, OutOfMemory>
+    ensures { IfOk result (λ found. Selected tree.now selection.now matcher.now found.items) }
+{
+    let from = Selection::from_ids(tree, selection)?;
+    let found = from.select_matcher(matcher)?;
+    found.ids()
+}
+
+/// Those of the selection that the selector means.
+fn filter(tree: &Tree, selection: &[NodeId], matcher: &Matcher) -> Result<Vec<NodeId>, OutOfMemory>
+    ensures { IfOk result (λ found. FiltersTo (Means matcher.now tree.now) selection.now found.items) }
+{
+    let from = Selection::from_ids(tree, selection)?;
+    let kept = from.filter_matcher(matcher)?;
+    kept.ids()
+}
+
+/// The selection, and then the matches below the root that don't stand in it.
+fn add(tree: &Tree, selection: &[NodeId], matcher: &Matcher) -> Result<Vec<NodeId>, OutOfMemory>
+    ensures { IfOk result (λ found. Added tree.now selection.now matcher.now found.items) }
+{
+    let from = Selection::from_ids(tree, selection)?;
+    let all = from.add_matcher(matcher)?;
+    all.ids()
+}
+
+/// The nodes in that direction from the selection.
+fn traverse<'a>(
+    tree: &'a Tree,
+    selection: &[NodeId],
+    navigation: Navigation,
+) -> Result<Selection<'a>, OutOfMemory>
+    ensures { IfOk result (λ found.
+        ids_of found ≡ navigated navigation tree.entry.now selection.now) }
+{
+    let from = Selection::from_ids(tree, selection)?;
+    match navigation {
+        Navigation::Parent => from.parent(),
+        Navigation::Children => from.children(),
+        Navigation::Ancestors => from.ancestors(None),
+        Navigation::Next => from.next_sibling(),
+        Navigation::Prev => from.prev_sibling(),
+        Navigation::First => Ok(from.first()),
+        Navigation::Last => Ok(from.last()),
+    }
+}
+
+/// The numbers of the nodes in that direction from the selection.
+pub fn navigate(
+    tree: &Tree,
+    selection: &[NodeId],
+    navigation: Navigation,
+) -> Result<Vec<NodeId>, OutOfMemory>
+    ensures { IfOk result (λ found. found.items ≡ navigated navigation tree.now selection.now) }
+{
+    let traversed = traverse(tree, selection, navigation)?;
+    traversed.ids()
+}

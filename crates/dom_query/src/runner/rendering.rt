@@ -1,0 +1,130 @@
+//! What lines write.
+
+ghost use Rattle.std.specs.Prelude.{◌≡◌, decimal, length, IfErr};
+ghost use Rattle.dom_markup.specs.Scopes.{html_in};
+ghost use Rattle.dom_markup.specs.Writing.{Writes};
+ghost use Rattle.dom_query.specs.Faults.{GaveOut};
+ghost use Rattle.dom_query.specs.Rendering.{first_attr, first_html, formatted_of, line_of};
+ghost use Rattle.dom_query.specs.Rendering.{rendered, texts_of};
+
+use crate::numbers::write_number;
+use crate::runner::RunFault;
+use crate::script::Rendering;
+use dom_markup::serializing::{NodeMarkup, TraversalScope, WriteFault};
+use dom_markup::writing::write_bytes;
+use dom_md::formatting::formatted_node;
+use dom_nodes::node_id::NodeId;
+use dom_trees::node_ref::NodeRef;
+use dom_trees::tree::Tree;
+use std::io::Write;
+
+/// Writes the number of the nodes, and a line feed.
+fn write_count<W: Write>(selection: &[NodeId], out: &mut W) -> Result<(), WriteFault>
+    ensures { Writes (W.contents out.old) (W.contents out.new) result
+        (line_of (decimal (length selection.now))) }
+{
+    write_number(out, selection.len())?;
+    write_bytes(out, b"\n")
+}
+
+/// Writes the texts of the nodes, and a line feed.
+fn write_texts<W: Write>(tree: &Tree, selection: &[NodeId], out: &mut W) -> Result<(), RunFault>
+    ensures writes { Writes (W.contents out.old) (W.contents out.new) result
+        (line_of (texts_of tree.now selection.now)) }
+    ensures cause { IfErr result GaveOut }
+{
+    for id in selection {
+        let text = NodeRef::new(*id, tree).text()?;
+        write_bytes(out, text.as_bytes())?;
+    }
+    Ok(write_bytes(out, b"\n")?)
+}
+
+/// Writes the formatted texts of the nodes, each with its own tags, and a line feed.
+fn write_formatted<W: Write>(tree: &Tree, selection: &[NodeId], out: &mut W) -> Result<(), RunFault>
+    ensures writes { Writes (W.contents out.old) (W.contents out.new) result
+        (line_of (formatted_of tree.now selection.now)) }
+    ensures cause { IfErr result GaveOut }
+{
+    for id in selection {
+        let text = formatted_node(&NodeRef::new(*id, tree))?;
+        write_bytes(out, text.as_bytes())?;
+    }
+    Ok(write_bytes(out, b"\n")?)
+}
+
+/// Writes the HTML of a node or of its children, and a line feed.
+fn write_node<W: Write>(
+    tree: &Tree,
+    id: NodeId,
+    scope: TraversalScope,
+    out: &mut W,
+) -> Result<(), WriteFault>
+    ensures { Writes (W.contents out.old) (W.contents out.new) result
+        (line_of (html_in scope tree.now id)) }
+{
+    NodeRef::new(id, tree).write_html(scope, out)?;
+    write_bytes(out, b"\n")
+}
+
+/// Writes the HTML of the first node or of its children, or nothing, and a line feed.
+fn write_first<W: Write>(
+    tree: &Tree,
+    selection: &[NodeId],
+    scope: TraversalScope,
+    out: &mut W,
+) -> Result<(), WriteFault>
+    ensures { Writes (W.contents out.old) (W.contents out.new) result
+        (line_of (first_html scope tree.now selection.now)) }
+{
+    match selection.first() {
+        Some(id) => write_node(tree, *id, scope, out),
+        None => write_bytes(out, b"\n"),
+    }
+}
+
+/// The value of the first node's first attribute of that local name; empty where there is none.
+fn value_of<'a>(tree: &'a Tree, selection: &[NodeId], name: &str) -> &'a str
+    ensures { result.now ≡ first_attr name.now tree.now selection.now }
+{
+    match selection.first() {
+        Some(id) => NodeRef::new(*id, tree).attr_or(name, ""),
+        None => "",
+    }
+}
+
+/// Writes the value of the first node's attribute, or nothing, and a line feed.
+pub fn write_attr<W: Write>(
+    tree: &Tree,
+    selection: &[NodeId],
+    name: &str,
+    out: &mut W,
+) -> Result<(), WriteFault>
+    ensures { Writes (W.contents out.old) (W.contents out.new) result
+        (line_of (first_attr name.now tree.now selection.now)) }
+{
+    write_bytes(out, value_of(tree, selection, name).as_bytes())?;
+    write_bytes(out, b"\n")
+}
+
+/// Writes what is to be rendered, and a line feed.
+pub fn render<W: Write>(
+    tree: &Tree,
+    selection: &[NodeId],
+    rendering: Rendering,
+    out: &mut W,
+) -> Result<(), RunFault>
+    ensures writes { Writes (W.contents out.old) (W.contents out.new) result
+        (line_of (rendered rendering tree.now selection.now)) }
+    ensures cause { IfErr result GaveOut }
+{
+    match rendering {
+        Rendering::Count => write_count(selection, out)?,
+        Rendering::Text => write_texts(tree, selection, out)?,
+        Rendering::Formatted => write_formatted(tree, selection, out)?,
+        Rendering::Html => write_first(tree, selection, TraversalScope::IncludeNode, out)?,
+        Rendering::InnerHtml => write_first(tree, selection, TraversalScope::ChildrenOnly, out)?,
+        Rendering::Document => write_node(tree, NodeId::root(), TraversalScope::IncludeNode, out)?,
+    }
+    Ok(())
+}

@@ -1,0 +1,14 @@
+mod NumberLists
+mod PlanLemmas
+mod Cleaning
+mod Moving
+mod RunLists
+mod Planned
+mod Allowed
+mod Doing
+mod Rows
+mod SetLemmas
+mod CleanLemmas
+mod OneClean
+mod TextLemmas
+mod Written

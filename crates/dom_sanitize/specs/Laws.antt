@@ -1,0 +1,51 @@
+-- What is true of every tree that was cleaned.
+use Rattle.std.specs.Prelude.{ℕ, ◌≡◌, true, List, [], ◌++◌, Some, slice_get}
+use Rattle.std.specs.Option.{option_map}
+use Rattle.dom_nodes.specs.declared.node_data.NodeData.TheVariants.{Text}
+use Rattle.dom_links.specs.Forest.{Forest, children_of}
+use Rattle.dom_links.specs.Lists.{stands_in}
+use Rattle.dom_links.specs.Sound.{IsForest}
+use Rattle.dom_links.specs.Texts.{text_at, text_of}
+use Rattle.dom_links.specs.Trees.{NoTrees, Tree, Trees, trees, walk_below}
+use Rattle.dom_sanitize.specs.Clean.{Cleaned, Lists, fate_at, kept}
+use Rattle.dom_sanitize.specs.declared.plan.Fate.{Fate}
+use Rattle.dom_sanitize.specs.declared.plan.Fate.TheVariants.{Stay, Vanish}
+
+-- the node is a text or an allowed element, and all its attributes are allowed
+pub record IsAllowed (allow : Lists) (forest : Forest) (n : ℕ) : Type 0 where
+  pub stays : fate_at allow forest n ≡ Stay
+  pub attrs : option_map (kept allow) (slice_get forest.content n) ≡ slice_get forest.content n
+
+-- each node below the root is allowed
+abbrev pub AreAllowed : Lists → Forest → Type 0
+AreAllowed allow forest = (n : ℕ) → stands_in n (walk_below forest 0) ≡ true → IsAllowed allow forest n
+
+-- each node below the root was below it before
+abbrev pub NothingAppears : (old new : Forest) → Type 0
+NothingAppears old new = (n : ℕ) → stands_in n (walk_below new 0) ≡ true → stands_in n (walk_below old 0) ≡ true
+
+-- cleaned again, it is as it was
+abbrev pub StaysClean : Lists → Forest → Type 0
+StaysClean allow forest = (again : Forest) → IsForest again → Cleaned allow forest again → again ≡ forest
+
+-- what is left of a forest by the lists is one forest
+abbrev pub HasOneClean : Lists → Forest → Type 0
+HasOneClean allow forest = (a b : Forest) → IsForest a → IsForest b → Cleaned allow forest a → Cleaned allow forest b → a ≡ b
+
+abbrev pub if_left : Fate → List ℕ → List ℕ
+if_left Vanish text = []
+if_left _ text = text
+
+-- the text of trees, but for what vanishes
+abbrev pub left_text : Lists → Forest → Trees → List ℕ
+left_text allow forest NoTrees = []
+left_text allow forest (Tree n contents children later) =
+    if_left (fate_at allow forest n) (text_at forest n ++ left_text allow forest children) ++ left_text allow forest later
+
+-- the text of the root is what it was, but for that of what vanished
+abbrev pub KeepsText : Lists → (old new : Forest) → Type 0
+KeepsText allow old new = text_of new 0 ≡ text_at old 0 ++ left_text allow old (trees old (children_of old 0))
+
+-- below the root stand texts alone
+abbrev pub HoldsTextsAlone : Forest → Type 0
+HoldsTextsAlone forest = (n : ℕ) → stands_in n (walk_below forest 0) ≡ true → (contents : List ℕ) × (slice_get forest.content n ≡ Some (Text contents))

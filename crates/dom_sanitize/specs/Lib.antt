@@ -1,0 +1,5 @@
+pub mod Clean
+pub mod Laws
+pub mod Plan
+pub mod Sets
+pub mod Written

@@ -1,0 +1,139 @@
+-- The steps of a cleaning: what becomes of each node, and the moves that come of it.
+use Rattle.std.specs.Prelude.{ℕ, ◌+◌, ◌<◌, ◌≡◌, ◌==◌, ◌&&◌, ◌||◌, Bool, true, false, if◌then◌else◌, is_some, List, [], ◌∷◌, ◌++◌, Option, Some, None, length}
+use Rattle.dom_nodes.specs.Changes.{only_names, with_attrs}
+use Rattle.dom_links.specs.Contents.{with_content}
+use Rattle.dom_links.specs.Forest.{Forest}
+use Rattle.dom_links.specs.declared.gap.Gap.TheVariants.{FrontOf}
+use Rattle.dom_links.specs.Moves.{cut, moved_to}
+use Rattle.dom_links.specs.Sound.{AtOrBelow, children_allowed_at, stays}
+use Rattle.dom_links.specs.Trees.{Trees, NoTrees, Tree, trees, walk}
+use Rattle.dom_links.specs.Walk.{row_on}
+use Rattle.dom_sanitize.specs.Clean.{Lists, fate_at}
+use Rattle.dom_sanitize.specs.declared.plan.Fate.{Fate}
+use Rattle.dom_sanitize.specs.declared.plan.Fate.TheVariants.{Stay, Unwrap, Vanish}
+use Rattle.dom_sanitize.specs.declared.plan.Row.{Row}
+use Rattle.dom_sanitize.specs.declared.plan.Step.{Step}
+
+-- where a node is put again
+abbrev pub home_of : Fate → ℕ → Option ℕ
+home_of Stay home = Some home
+home_of _ home = None
+
+-- the steps of the children of a node that stays, or of one that is unwrapped
+abbrev pub steps_under : Fate → (staying unwrapped : List Step) → List Step
+steps_under Stay staying unwrapped = staying
+steps_under Unwrap staying unwrapped = unwrapped
+steps_under Vanish staying unwrapped = []
+
+-- what becomes of the nodes of some trees, which are put again below `home`
+abbrev pub planned : Lists → Forest → ℕ → Trees → List Step
+planned allow forest home NoTrees = []
+planned allow forest home (Tree n contents children later) =
+    record { id = n; home = home_of (fate_at allow forest n) home }
+    ∷ steps_under (fate_at allow forest n) (planned allow forest n children) (planned allow forest home children)
+    ++ planned allow forest home later
+
+abbrev pub row_plan : Lists → Forest → Option ℕ → ℕ → List Step
+row_plan allow forest first home = planned allow forest home (trees forest (row_on forest false first))
+
+abbrev pub rows_plan : Lists → Forest → List Row → List Step
+rows_plan allow forest [] = []
+rows_plan allow forest (row ∷ rows) = row_plan allow forest (Some row.first) row.home ++ rows_plan allow forest rows
+
+-- how many nodes stand in the rows and below
+abbrev pub rows_weight : Forest → List Row → ℕ
+rows_weight forest [] = 0
+rows_weight forest (row ∷ rows) = length (walk (trees forest (row_on forest false (Some row.first)))) + rows_weight forest rows
+
+abbrev pub with_row : Option ℕ → ℕ → List Row → List Row
+with_row None home rows = rows
+with_row (Some n) home rows = record { first = n; home = home } ∷ rows
+
+-- the rows are of nodes of the forest
+abbrev pub AreRows : Forest → List Row → Type 0
+AreRows forest [] = Unit {0}
+AreRows forest (row ∷ rows) = (row.first < length forest.content) × AreRows forest rows
+
+-- the children of the first node of a row come before the other rows, unless it vanishes
+abbrev pub with_below : Fate → Option ℕ → Row → List Row → List Row
+with_below Stay below row rows = with_row below row.first rows
+with_below Unwrap below row rows = with_row below row.home rows
+with_below Vanish below row rows = rows
+
+-- The first node of a row was looked at: the steps, and those of the rows that are left, are the same as before, and
+-- fewer nodes are left
+pub record LooksAt (allow : Lists) (forest : Forest) (row : Row) (old new : List Row) (before after : List Step) : Type 0 where
+  pub within : AreRows forest new
+  pub whole : after ++ rows_plan allow forest new ≡ before ++ rows_plan allow forest (row ∷ old)
+  pub fewer : rows_weight forest new < rows_weight forest (row ∷ old)
+
+-- for each step, the last one first
+abbrev pub all_done : (Step → Forest → Forest) → List Step → Forest → Forest
+all_done move [] forest = forest
+all_done move (step ∷ steps) forest = move step (all_done move steps forest)
+
+abbrev pub cut_one : Step → Forest → Forest
+cut_one step forest = cut (step.id ∷ []) forest
+
+-- a node that stays goes to the front of the children of its home
+abbrev pub put_one : Step → Forest → Forest
+put_one step forest = put_at step.home step.id forest
+  where
+    put_at : Option ℕ → ℕ → Forest → Forest
+    put_at None n forest = forest
+    put_at (Some home) n forest = moved_to (n ∷ []) (FrontOf home) forest
+
+-- a node that stays is left with the attributes of those names
+abbrev pub clear_one : List (List ℕ) → Step → Forest → Forest
+clear_one names step forest = clear_at step.home step.id forest
+  where
+    clear_at : Option ℕ → ℕ → Forest → Forest
+    clear_at None n forest = forest
+    clear_at (Some home) n forest = with_content n (with_attrs (only_names names)) forest
+
+-- it holds of each step
+abbrev pub EachStep : (Step → Type 0) → List Step → Type 0
+EachStep P [] = Unit {0}
+EachStep P (step ∷ steps) = P step × EachStep P steps
+
+abbrev pub IsKnown : Forest → Step → Type 0
+IsKnown forest step = step.id < length forest.content
+
+-- the node may be put to the front of the children of its home
+pub record MayPutAt (forest : Forest) (n home : ℕ) : Type 0 where
+  pub known : n < length forest.content
+  pub home_known : home < length forest.content
+  pub bearing : children_allowed_at forest home ≡ true
+  pub moves : stays forest n ≡ false
+  pub apart : AtOrBelow forest n home → ⊥
+
+abbrev pub MayPut : Forest → Step → Type 0
+MayPut forest step = may step.home step.id
+  where
+    may : Option ℕ → ℕ → Type 0
+    may None n = Unit {0}
+    may (Some home) n = MayPutAt forest n home
+
+-- each move is allowed once the later ones are made
+abbrev pub MayPutAll : Forest → List Step → Type 0
+MayPutAll forest [] = Unit {0}
+MayPutAll forest (step ∷ steps) = MayPut (all_done put_one steps forest) step × MayPutAll forest steps
+
+-- the nodes of the steps
+abbrev pub ids : List Step → List ℕ
+ids [] = []
+ids (step ∷ steps) = step.id ∷ ids steps
+
+abbrev pub is_home : Option ℕ → ℕ → Bool
+is_home None n = false
+is_home (Some home) n = home == n
+
+-- the nodes that are put below n
+abbrev pub homed : ℕ → List Step → List ℕ
+homed n [] = []
+homed n (step ∷ steps) = if is_home step.home n then step.id ∷ homed n steps else homed n steps
+
+-- n is put again
+abbrev pub staying : ℕ → List Step → Bool
+staying n [] = false
+staying n (step ∷ steps) = ((step.id == n) && is_some step.home) || staying n steps

@@ -1,0 +1,51 @@
+//! The moves: all nodes are cut out first, then those that stay are put back.
+
+ghost use Rattle.std.specs.Prelude.{◌≡◌};
+ghost use Rattle.dom_sanitize.specs.Plan.{EachStep, IsKnown, MayPut, MayPutAll};
+ghost use Rattle.dom_sanitize.specs.Plan.{all_done, cut_one, put_one};
+
+use crate::plan::Step;
+use dom_trees::tree::Tree;
+
+/// Cuts out each node.
+pub(crate) fn cut_out(tree: &mut Tree, steps: &[Step])
+    requires { EachStep (IsKnown tree.old) steps.now }
+    ensures { tree.new ≡ all_done cut_one steps.now tree.old }
+{
+    let mut rest = steps;
+    while let Some((last, front)) = rest.split_last() {
+        cut_one(tree, *last);
+        rest = front;
+    }
+}
+
+/// Cuts out a node.
+fn cut_one(tree: &mut Tree, step: Step)
+    requires { IsKnown tree.old step }
+    ensures { tree.new ≡ cut_one step tree.old }
+{
+    let _ = tree.remove_from_parent(&step.id);
+}
+
+/// Puts the nodes that stay back, the last one first: so a node gets its children before it is put
+/// below another.
+pub(crate) fn put_back(tree: &mut Tree, steps: &[Step])
+    requires { MayPutAll tree.old steps.now }
+    ensures { tree.new ≡ all_done put_one steps.now tree.old }
+{
+    let mut rest = steps;
+    while let Some((last, front)) = rest.split_last() {
+        put_one(tree, *last);
+        rest = front;
+    }
+}
+
+/// Puts a node that stays to the front of its new siblings.
+fn put_one(tree: &mut Tree, step: Step)
+    requires { MayPut tree.old step }
+    ensures { tree.new ≡ put_one step tree.old }
+{
+    if let Some(home) = step.home {
+        let _ = tree.prepend_child_of(&home, &step.id);
+    }
+}

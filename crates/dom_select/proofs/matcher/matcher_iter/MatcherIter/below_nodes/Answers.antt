@@ -1,0 +1,17 @@
+use Rattle.std.proofs.Common.{◌≡◌, List, [], length, map, ap, sym, arith}
+use Rattle.std.proofs.lemmas.Bool.{eq-eqb}
+use Rattle.dom_trees.specs.declared.node_ref.NodeRef.{NodeRef}
+use Rattle.dom_select.specs.Selected.{walks_below}
+use Rattle.dom_select.proofs.FollowLemmas.{is_nil}
+use Rattle.dom_select.proofs.SeveralLemmas.{selected_all}
+use Rattle.dom_select.proofs.matcher.matcher_iter.MatcherIter.below_nodes.Goals as goal
+
+pub returns-in-empty-clause-selected : goal.returns-in-empty-clause-selected
+returns-in-empty-clause-selected c ids none =
+    let no_root : c.args.nodes.now ≡ [] = is_nil c.args.nodes.now (eq-eqb (length c.args.nodes.now) 0 (omega (arith, c.in-empty.len_below))) in
+    selected_all c.args.tree.now (map (λ node. node.id) c.args.nodes.now) c.args.matcher.now [] ids (sym (ap (λ (nodes : List NodeRef). walks_below c.args.tree.now (map (λ node. node.id) nodes)) no_root)) none
+
+pub returns-in-empty-clause-all : goal.returns-in-empty-clause-all
+returns-in-empty-clause-all c =
+    let no_root : c.args.nodes.now ≡ [] = is_nil c.args.nodes.now (eq-eqb (length c.args.nodes.now) 0 (omega (arith, c.in-empty.len_below))) in
+    sym (ap (λ (nodes : List NodeRef). walks_below c.args.tree.now (map (λ node. node.id) nodes)) no_root)

@@ -1,5 +1,0 @@
-use Rattle.dom_selection.proofs.AboveLemmas.{ClimbsOn}
-use Rattle.dom_selection.proofs.selection.gathering.Gathered.climb.Given as goal
-
-abbrev pub invariant-loop-above : goal.invariant-loop-above
-invariant-loop-above l = ClimbsOn l.fn.self l.self l.fn.id l.above-iterator

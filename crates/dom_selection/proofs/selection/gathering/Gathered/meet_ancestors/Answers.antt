@@ -1,7 +1,0 @@
-use Rattle.dom_selection.proofs.GatherLemmas.{goes_on_elements}
-use Rattle.dom_selection.proofs.selection.gathering.Gathered.meet_ancestors.Goals as goal
-
-pub loop-above-preserved : goal.loop-above-preserved
-loop-above-preserved c =
-    goes_on_elements c.args.self.now c.loop-above.self c.meet_element.new.self _ c.loop-above.above-iterator c.next.new.self c.in-Some.above
-    c.loop-above.invariant c.in-Some.ensures.steps c.in_ok-meet_element.ensures

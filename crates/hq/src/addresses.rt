@@ -1,0 +1,71 @@
+//! Addresses in attributes.
+
+use crate::faults::Fault;
+use crate::options::Options;
+use dom_query::Document;
+use std::alloc::Global;
+use url::{ParseError, Url};
+
+/// Whether attributes of that name hold an address.
+fn is_address(name: &str) -> bool {
+    matches!(
+        name,
+        "action"
+            | "background"
+            | "cite"
+            | "data"
+            | "formaction"
+            | "href"
+            | "icon"
+            | "longdesc"
+            | "manifest"
+            | "poster"
+            | "src"
+    )
+}
+
+/// What the addresses of a document are joined to: the page's own base, itself joined to the one
+/// that was given.
+pub fn base_of(document: &Document, options: &Options<'_>) -> Result<Option<Url>, Fault> {
+    let Some(given) = &options.base else {
+        return Ok(None);
+    };
+    let own = document.base_uri().unwrap_or("");
+    if let Some(base) = joined(given, own)? {
+        return Ok(Some(base));
+    }
+    joined(given, "")
+}
+
+/// The value of an attribute joined to a base, where there is one and the value is an address.
+pub fn joined_value(base: &Option<Url>, name: &str, value: &str) -> Result<Option<Url>, Fault> {
+    if !is_address(name) {
+        return Ok(None);
+    }
+    match base {
+        Some(base) => joined(base, value),
+        None => Ok(None),
+    }
+}
+
+/// An address joined to a base, if it is one.
+fn joined(base: &Url, address: &str) -> Result<Option<Url>, Fault> {
+    match base.join(address) {
+        Ok(url) => Ok(Some(url)),
+        Err(ParseError::OutOfMemory) => Err(Fault::Memory),
+        Err(_) => Ok(None),
+    }
+}
+
+/// Whether an address is relative, or of a scheme that sanitising leaves.
+pub fn is_harmless(alloc: Global, address: &str) -> Result<bool, Fault> {
+    match Url::parse(alloc, address) {
+        Ok(url) => Ok(is_harmless_scheme(url.scheme())),
+        Err(ParseError::OutOfMemory) => Err(Fault::Memory),
+        Err(fault) => Ok(fault == ParseError::RelativeUrlWithoutBase),
+    }
+}
+
+fn is_harmless_scheme(scheme: &str) -> bool {
+    matches!(scheme, "http" | "https" | "mailto" | "ftp" | "tel")
+}

@@ -1,0 +1,198 @@
+//! What is taken out of a page before it is asked.
+
+use crate::addresses::is_harmless;
+use crate::faults::Fault;
+use crate::options::Options;
+use dom_query::{Allow, Document, DocumentSelect, NodeId, NodeRef, SelectionMut, sanitize};
+
+/// The elements that sanitising leaves.
+static ELEMENTS: [&str; 73] = [
+    "a",
+    "abbr",
+    "address",
+    "article",
+    "aside",
+    "b",
+    "bdi",
+    "bdo",
+    "blockquote",
+    "body",
+    "br",
+    "caption",
+    "center",
+    "cite",
+    "code",
+    "col",
+    "colgroup",
+    "data",
+    "dd",
+    "del",
+    "details",
+    "dfn",
+    "div",
+    "dl",
+    "dt",
+    "em",
+    "figcaption",
+    "figure",
+    "footer",
+    "h1",
+    "h2",
+    "h3",
+    "h4",
+    "h5",
+    "h6",
+    "header",
+    "hgroup",
+    "hr",
+    "html",
+    "i",
+    "img",
+    "ins",
+    "kbd",
+    "li",
+    "main",
+    "mark",
+    "nav",
+    "ol",
+    "p",
+    "pre",
+    "q",
+    "rp",
+    "rt",
+    "ruby",
+    "s",
+    "samp",
+    "section",
+    "small",
+    "span",
+    "strong",
+    "sub",
+    "summary",
+    "sup",
+    "table",
+    "tbody",
+    "td",
+    "tfoot",
+    "th",
+    "thead",
+    "time",
+    "tr",
+    "tt",
+    "u",
+];
+
+/// The attributes that it leaves.
+static ATTRS: [&str; 26] = [
+    "align",
+    "alt",
+    "cite",
+    "class",
+    "colspan",
+    "datetime",
+    "dir",
+    "height",
+    "href",
+    "hreflang",
+    "id",
+    "lang",
+    "open",
+    "rel",
+    "reversed",
+    "rowspan",
+    "scope",
+    "span",
+    "src",
+    "start",
+    "summary",
+    "title",
+    "translate",
+    "type",
+    "value",
+    "width",
+];
+
+/// The elements that it drops with all that is below them.
+static DROPPED: [&str; 25] = [
+    "applet",
+    "audio",
+    "base",
+    "canvas",
+    "embed",
+    "frame",
+    "frameset",
+    "head",
+    "iframe",
+    "link",
+    "math",
+    "meta",
+    "noembed",
+    "noframes",
+    "noscript",
+    "object",
+    "plaintext",
+    "script",
+    "select",
+    "style",
+    "svg",
+    "textarea",
+    "title",
+    "video",
+    "xmp",
+];
+
+/// Takes out of the document what the options name.
+pub fn clean(document: &mut Document, options: &Options<'_>) -> Result<(), Fault> {
+    for selector in options.removed.as_slice() {
+        let ids = document.select_matcher(selector)?.ids()?;
+        SelectionMut::new(&mut document.tree, ids).remove()?;
+    }
+    if options.sanitizes {
+        let allow = Allow {
+            elements: ELEMENTS.as_slice(),
+            attrs: ATTRS.as_slice(),
+            drop: DROPPED.as_slice(),
+        };
+        sanitize(document, &allow)?;
+        drop_addresses(document)?;
+    }
+    Ok(())
+}
+
+/// Removes the addresses of other schemes than those of the web and of mail.
+fn drop_addresses(document: &mut Document) -> Result<(), Fault> {
+    drop_address(document, "href")?;
+    drop_address(document, "src")?;
+    drop_address(document, "cite")
+}
+
+/// Removes the attributes of that local name where one is such an address.
+fn drop_address(document: &mut Document, name: &str) -> Result<(), Fault> {
+    let ids = harmful(document, name)?;
+    SelectionMut::new(&mut document.tree, ids).remove_attr(name)?;
+    Ok(())
+}
+
+/// The nodes with such an address in an attribute of that local name.
+fn harmful(document: &Document, name: &str) -> Result<Vec<NodeId>, Fault> {
+    let mut found = Vec::new(document.tree.allocator());
+    for node in document.root().descendants_it() {
+        if is_harmful(&node, name)? {
+            found.push(node.id)?;
+        }
+    }
+    Ok(found)
+}
+
+/// Whether an attribute of that local name is such an address.
+fn is_harmful(node: &NodeRef<'_>, name: &str) -> Result<bool, Fault> {
+    let alloc = node.tree.allocator();
+    for attr in node.attrs() {
+        if attr.name.local.as_str() == name {
+            if !is_harmless(alloc, attr.value.as_str())? {
+                return Ok(true);
+            }
+        }
+    }
+    Ok(false)
+}

@@ -1,0 +1,56 @@
+//! Matches as JSON.
+
+use crate::faults::Fault;
+use dom_query::{Attr, NodeMarkup, NodeRef, QualName};
+use serde_json::{Map, Value};
+use std::alloc::Global;
+
+/// A text as JSON.
+pub fn string_json(alloc: Global, text: &str) -> Result<String, Fault> {
+    Ok(Value::try_from_str(alloc, text)?.to_string(alloc)?)
+}
+
+/// An element's name, attributes, text and HTML as JSON.
+pub fn summary_json(alloc: Global, node: &NodeRef<'_>) -> Result<String, Fault> {
+    let name = Value::try_from_str(alloc, node.node_name().unwrap_or(""))?;
+    let attrs = attrs_value(alloc, node.attrs())?;
+    let mut members = Map::new(alloc);
+    add(alloc, &mut members, "name", name)?;
+    add(alloc, &mut members, "attrs", attrs)?;
+    add(alloc, &mut members, "text", Value::String(node.text()?))?;
+    add(alloc, &mut members, "html", Value::String(node.html()?))?;
+    Ok(Value::Object(members).to_string(alloc)?)
+}
+
+/// An object of attributes.
+fn attrs_value(alloc: Global, attrs: &[Attr]) -> Result<Value, Fault> {
+    let mut members = Map::new(alloc);
+    for attr in attrs {
+        let value = Value::try_from_str(alloc, attr.value.as_str())?;
+        let name = name_of(alloc, &attr.name)?;
+        add(alloc, &mut members, name.as_str(), value)?;
+    }
+    Ok(Value::Object(members))
+}
+
+/// A name as it is written: behind its prefix, if it has one.
+fn name_of(alloc: Global, name: &QualName) -> Result<String, Fault> {
+    let mut written = String::new(alloc);
+    if let Some(prefix) = &name.prefix {
+        written.push_str(prefix.as_str())?;
+        written.push(':')?;
+    }
+    written.push_str(name.local.as_str())?;
+    Ok(written)
+}
+
+fn add(
+    alloc: Global,
+    members: &mut Map<String, Value>,
+    name: &str,
+    value: Value,
+) -> Result<(), Fault> {
+    let name = String::from_str(alloc, name)?;
+    members.insert(name, value)?;
+    Ok(())
+}

@@ -1,0 +1,123 @@
+//! `hq SELECTOR [FILE ..]` prints what a selector matches in pages. `hq --help` lists the options.
+#![tactic(auto)]
+
+mod addresses;
+mod cleaning;
+mod command;
+mod faults;
+mod json;
+mod options;
+mod output;
+mod pages;
+mod tree;
+
+use clap::Error;
+use command::command;
+use faults::{Fault, report, report_in};
+use options::Options;
+use pages::print_file;
+use std::env;
+use std::io::{BufWriter, Write};
+use std::process::ExitCode;
+
+/// The status where something matched.
+const MATCHED: u8 = 0;
+
+/// The status where nothing matched.
+const UNMATCHED: u8 = 1;
+
+/// The status where something is at fault.
+const FAULTY: u8 = 2;
+
+fn main(rt: HostRuntime) -> ExitCode {
+    let Ok(args) = env::args(&rt) else {
+        let _ = eprintln!(rt; "hq: an argument isn't UTF-8");
+        return ExitCode::from(FAULTY);
+    };
+    let Ok(words) = args.collect::<Vec<String>>(rt.alloc()) else {
+        return ExitCode::from(failed(&rt, Fault::Memory));
+    };
+    ExitCode::from(obey(&rt, words.as_slice()))
+}
+
+/// Does what the words ask for, and gives the status.
+fn obey(rt: &HostRuntime, words: &[String]) -> u8 {
+    let read = match command(rt.alloc()) {
+        Ok(command) => command.try_get_matches_from(words),
+        Err(_) => return failed(rt, Fault::Memory),
+    };
+    match read {
+        Ok(matches) => match Options::new(rt.alloc(), &matches) {
+            Ok(options) => run(rt, &options),
+            Err(fault) => failed(rt, fault),
+        },
+        Err(refused) => show(rt, &refused),
+    }
+}
+
+/// Shows a fault of usage, or the text of --help or --version, and gives the status.
+fn show(rt: &HostRuntime, refused: &Error) -> u8 {
+    if refused.print(rt).is_err() || refused.use_stderr() {
+        return FAULTY;
+    }
+    MATCHED
+}
+
+/// Prints what is asked for, and gives the status.
+fn run(rt: &HostRuntime, options: &Options<'_>) -> u8 {
+    match print_files(rt, options) {
+        Ok(status) => status,
+        Err(fault) => failed(rt, fault),
+    }
+}
+
+/// Prints what is asked for of each file, and gives the status.
+fn print_files(rt: &HostRuntime, options: &Options<'_>) -> Result<u8, Fault> {
+    let mut out = BufWriter::new(rt.alloc(), rt.stdout())?;
+    let mut status = UNMATCHED;
+    for name in options.files.as_slice() {
+        status = joined_status(status, print_or_report(rt, name, options, &mut out)?);
+    }
+    out.flush()?;
+    Ok(status)
+}
+
+/// The status of two files together.
+fn joined_status(status: u8, another: u8) -> u8 {
+    if status == FAULTY || another == FAULTY {
+        return FAULTY;
+    }
+    status.min(another)
+}
+
+/// Prints what is asked for of a file, and gives its status. One at fault is reported, and another
+/// may be read then.
+fn print_or_report<W: Write>(
+    rt: &HostRuntime,
+    name: &str,
+    options: &Options<'_>,
+    out: &mut W,
+) -> Result<u8, Fault> {
+    match print_file(rt, name, options, out) {
+        Ok(true) => Ok(MATCHED),
+        Ok(false) => Ok(UNMATCHED),
+        Err(fault) => {
+            if !fault.is_of_a_file() {
+                return Err(fault);
+            }
+            // What was printed before stands before the report.
+            out.flush()?;
+            report_in(rt, name, &fault);
+            Ok(FAULTY)
+        }
+    }
+}
+
+/// Reports a fault that ends the program, and gives the status. That nobody reads on is no fault.
+fn failed(rt: &HostRuntime, fault: Fault) -> u8 {
+    if fault.is_broken_pipe() {
+        return MATCHED;
+    }
+    report(rt, &fault);
+    FAULTY
+}
