@@ -7,7 +7,7 @@ use crate::words::{cut, node_of};
 use crate::{lent, trees};
 use dom_query::{
     DescendantMatches, Document, Matches, MiniSelect, MiniSelector, NodeEdit, NodeId, NodeRef,
-    NodeSelect, Selection, Text, Tree, TreeSink,
+    NodeSelect, OutOfMemory, Selection, Text, Tree, TreeSink,
 };
 use std::alloc::Global;
 
@@ -156,22 +156,38 @@ fn count(page: &Page, matches: Matches<'_, '_, '_>, mini: &MiniSelector<'_>, cal
     }
 }
 
-/// Makes a call, whose memory is taken before.
-pub fn tries(alloc: Global, page: &Page, line: &str, memory: Memory) -> Option<Ending> {
+/// Makes a call that reads, whose memory is taken before.
+fn reads(alloc: Global, page: &Page, call: &str, memory: Memory) -> Option<Ending> {
+    let mini = MiniSelector::new(alloc, "div.x[a=b]").ok()?;
+    let roots = [NodeId::root()];
+    let answer = Matches::new(&page.document.tree, &roots, &page.matcher);
+    let held = take_memory(alloc, memory)?;
+    let found = match answer {
+        Ok(matches) => count(page, matches, &mini, call),
+        Err(OutOfMemory) => 0,
+    };
+    drop(held);
+    Some(done_if(found > 0))
+}
+
+/// Makes a call that changes the document, whose memory is taken before.
+fn changes(alloc: Global, line: &str, memory: Memory) -> Option<Ending> {
     let mut document = Document::parse(alloc, MARKUP).ok()?;
     let text = Text::new(
         alloc,
         "another text that is too long to be kept within a node",
     )
     .ok()?;
-    let mini = MiniSelector::new(alloc, "div.x[a=b]").ok()?;
-    let roots = [NodeId::root()];
-    let matches = Matches::new(&page.document.tree, &roots, &page.matcher).ok()?;
     let held = take_memory(alloc, memory)?;
-    let is_done = match cut(line) {
-        ("ask", call) => Some(count(page, matches, &mini, call) > 0),
-        _ => is_changed(&mut document, line, text),
-    };
+    let is_done = is_changed(&mut document, line, text);
     drop(held);
     Some(done_if(is_done?))
+}
+
+/// Makes a call of the list.
+pub fn tries(alloc: Global, page: &Page, line: &str, memory: Memory) -> Option<Ending> {
+    match cut(line) {
+        ("ask", call) => reads(alloc, page, call, memory),
+        _ => changes(alloc, line, memory),
+    }
 }
