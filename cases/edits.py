@@ -245,9 +245,10 @@ class Trial:
         for file in (self.folder / "src").rglob("*.rt"):
             heads = map(HEAD.match, file.read_text(encoding="utf-8").split("\n"))
             own.setdefault(file.stem, set()).update(head[2] for head in heads if head)
-        paths = proved or self.kept_paths()
-        named = [path for path in paths if any(path[-1] in names for names in own.values())]
-        self.functions = [path for path in named if path[0] in (own.get("lib", ()) if len(path) == 1 else own)]
+        # (nor has what is derived, which may stand in a cycle of calls)
+        written = lambda path: any(path[-1] in own.get(part, ()) for part in [*path[:-1], "lib"])
+        paths = filter(written, proved or self.kept_paths())
+        self.functions = [path for path in paths if path[0] in (own.get("lib", ()) if len(path) == 1 else own)]
 
     def kept_paths(self):
         """The paths of the functions whose proofs a library has that was built outside the gate."""
