@@ -14,8 +14,8 @@ one of cases/hq or cases/pages (html5lib's tests of tree construction) is one of
 
 `calls limited` does each call that takes memory with ever more of it, in an address space of LIMITED bytes; refusals.py refuses
 each request for memory in turn, hostile.py has texts and nodes read that are changed in every place, and depth.py deep and wide
-trees. What the line `sanitize` leaves of random forests is compared with cases/clean.py. Which public functions are called at
-all is counted by cases/coverage.py.
+trees. What the line `sanitize` leaves of random forests is compared with cases/clean.py, and what paths find with cases/paths.py.
+Which public functions are called at all is counted by cases/coverage.py.
 
 A snippet is a block of README.md, docs/API.md, docs/SINK.md or docs/PAGES.md: one of rust stands in a file of crates/tour/src, line for line
 but for its indentation, and one of text in its stdout, which the gate compares with what it prints.
@@ -39,13 +39,14 @@ import coverage  # noqa: E402
 import depth  # noqa: E402
 import edits  # noqa: E402
 import hostile  # noqa: E402
+import paths  # noqa: E402
 import refusals  # noqa: E402
 import streams  # noqa: E402
 from rows import ROOT, SECONDS, built, given, words_of  # noqa: E402
 
 NO_FUNCTION = "no_function_of_this_name"
 LIMITED = 256 * 1024 * 1024
-SEED, FORESTS = 1, 2000
+SEED, FORESTS, PATHS = 1, 2000, 500
 
 
 class Clock:
@@ -187,6 +188,13 @@ def cleaned():
     return passed, failed
 
 
+def followed():
+    """Compares what paths find in random forests with a meaning of our own."""
+    passed, failed = paths.compared(built("calls"), SEED, PATHS)
+    print(f"paths in random forests: {passed} passed, {failed} failed")
+    return passed, failed
+
+
 def blocks(file):
     """The fenced blocks of a document: the kind, the number of the first line, and the lines."""
     kind, start, held = None, 0, []
@@ -292,7 +300,7 @@ def refused_callers():
 def main():
     clock, cases_alone = Clock(), sys.argv[1:] == ["--cases"]
     counts = [] if cases_alone else gate(clock)
-    tables = [table, calls, pages, limited, cleaned, streams.streams, snippets, wrong_bodies, coverage.coverage]
+    tables = [table, calls, pages, limited, cleaned, followed, streams.streams, snippets, wrong_bodies, coverage.coverage]
     counts += clock.timed("the cases", lambda: [each() for each in tables])
     hard = [("the hostile inputs", hostile.hostile), ("the refusals", refusals.refusals), ("deep and wide trees", depth.depth)]
     counts += [clock.timed(part, each) for part, each in hard]

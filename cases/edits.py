@@ -240,15 +240,17 @@ class Trial:
         self.rt, self.crate, self.jobs, self.is_control, self.wrong = rt, crate, jobs, is_control, []
         self.refusals = refusals
         self.folder = pathlib.Path(crate.folder)
-        # (what this crate hands on of another has proofs of that name, too, but no code here)
-        own = {}
+        # (what is derived may stand in a cycle of calls, but for `from`, and what is handed on has no code here)
+        owners, modules = {}, set()
         for file in (self.folder / "src").rglob("*.rt"):
-            heads = map(HEAD.match, file.read_text(encoding="utf-8").split("\n"))
-            own.setdefault(file.stem, set()).update(head[2] for head in heads if head)
-        # (nor has what is derived, which may stand in a cycle of calls)
-        written = lambda path: any(path[-1] in own.get(part, ()) for part in [*path[:-1], "lib"])
-        paths = filter(written, proved or self.kept_paths())
-        self.functions = [path for path in paths if path[0] in (own.get("lib", ()) if len(path) == 1 else own)]
+            lines = file.read_text(encoding="utf-8").split("\n")
+            modules.add(file.stem)
+            for first, head in enumerate(map(HEAD.match, lines)):
+                if head:
+                    owners.setdefault(head[2], set()).add(owner_of(lines, first) or file.stem)
+        is_from = lambda path: path[-1] == "from" and path[0] in modules
+        is_known = lambda path: ["lib", *path][-2] in owners.get(path[-1], ()) or is_from(path)
+        self.functions = list(filter(is_known, proved or self.kept_paths()))
 
     def kept_paths(self):
         """The paths of the functions whose proofs a library has that was built outside the gate."""
