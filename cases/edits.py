@@ -247,10 +247,10 @@ class Trial:
             modules.add(file.stem)
             for first, head in enumerate(map(HEAD.match, lines)):
                 if head:
-                    owners.setdefault(head[2], set()).add(owner_of(lines, first) or file.stem)
+                    owners.setdefault(head[2], set()).update([owner_of(lines, first), file.stem])
+        is_written = lambda path: not owners.get(path[-1], set()).isdisjoint(["lib", *path[:-1]])
         is_from = lambda path: path[-1] == "from" and path[0] in modules
-        is_known = lambda path: ["lib", *path][-2] in owners.get(path[-1], ()) or is_from(path)
-        self.functions = list(filter(is_known, proved or self.kept_paths()))
+        self.functions = [path for path in proved or self.kept_paths() if is_written(path) or is_from(path)]
 
     def kept_paths(self):
         """The paths of the functions whose proofs a library has that was built outside the gate."""

@@ -14,7 +14,7 @@ use dom_markup::document::sink::TreeSink;
 use dom_nodes::name::LocalName;
 use html5_tokens::parse_error::ErrorAt;
 use html5_tokens::token::Token;
-use html5_tokens::tokenizer::{MARKS, State, Tokenizer};
+use html5_tokens::tokenizer::{State, Tokenizer};
 use std::alloc::Global;
 
 /// How a page is read. By default no scripts run, and elements may lie in one another as deep as
@@ -219,19 +219,33 @@ impl PageParser {
     fn read(&mut self, piece: &str) -> Result<(), PageFault>
         ensures { ReadsPage self.old → ReadsPage self.new }
     {
-        for stretch in piece.split_inclusive(MARKS) {
-            if let Some(token) = self.tokens.read_stretch(stretch)? {
-                self.token(token)?;
+        let mut rest = piece;
+        for _ in 0..piece.len() {
+            rest = self.read_token(rest)?;
+            if rest.is_empty() {
+                break;
             }
         }
         Ok(())
     }
 
+    /// Reads up to the end of a token, and returns what follows it.
+    fn read_token<'a>(&mut self, text: &'a str) -> Result<&'a str, PageFault>
+        ensures { ReadsPage self.old → ReadsPage self.new }
+    {
+        let mut token = None;
+        let rest = self.tokens.read_token(text, &mut token)?;
+        if let Some(token) = token {
+            self.token(token)?;
+        }
+        Ok(rest)
+    }
+
     fn token(&mut self, token: Token) -> Result<(), PageFault>
         ensures { ReadsPage self.old → ReadsPage self.new }
     {
-        let text = self.tokens.take_text();
-        self.builder.characters(text.as_str())?;
+        self.builder.characters(self.tokens.text())?;
+        self.tokens.clear_text();
         match token {
             Token::Tag(tag) => self.builder.tag(&tag)?,
             Token::Comment(text) => self.builder.comment(text.as_str())?,

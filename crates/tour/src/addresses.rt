@@ -16,12 +16,18 @@ pub fn print_links<W: Write>(alloc: Global, html: &str, out: &mut W) -> Result<(
     let base = document.base_uri().unwrap_or("");
     let links = document.select("a[href]:not([href^='#'])")?;
     for link in links.nodes() {
-        write!(out, "{}: ", link.text()?)?;
-        print_address(base, link, out)?;
-        let trusted = !link.is("[rel~=nofollow]")?;
-        writeln!(out, "{}", if trusted { "" } else { " (not followed)" })?;
+        print_link(base, link, out)?;
     }
     writeln!(out, "{} links", links.length())?;
+    Ok(())
+}
+
+/// Prints a link.
+fn print_link<W: Write>(base: &str, link: &NodeRef<'_>, out: &mut W) -> Result<(), TourFault> {
+    write!(out, "{}: ", link.text()?)?;
+    print_address(base, link, out)?;
+    let trusted = !link.is("[rel~=nofollow]")?;
+    writeln!(out, "{}", if trusted { "" } else { " (not followed)" })?;
     Ok(())
 }
 

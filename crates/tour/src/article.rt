@@ -17,7 +17,12 @@ pub fn print_article<W: Write>(alloc: Global, html: &str, out: &mut W) -> Result
     let document = Document::parse(alloc, html)?;
     let title = document.select_single("title")?;
     writeln!(out, "title: {}", title.text()?)?;
-    let Some(id) = longest(&document)? else {
+    print_longest(&document, out)
+}
+
+/// Prints the block with most to read, as Markdown.
+fn print_longest<W: Write>(document: &Document, out: &mut W) -> Result<(), TourFault> {
+    let Some(id) = longest(document)? else {
         writeln!(out, "no article")?;
         return Ok(());
     };

@@ -1,7 +1,7 @@
 //! Changing a tree.
 
 use crate::fault::TourFault;
-use dom_query::{DescendantMatches, Document, EditFault, Matcher, NodeMarkup};
+use dom_query::{DescendantMatches, Document, EditFault, Matcher, NodeId, NodeMarkup, Tree};
 use std::alloc::Global;
 use std::io::Write;
 
@@ -12,13 +12,20 @@ pub fn print_changed<W: Write>(alloc: Global, out: &mut W) -> Result<(), TourFau
     let Some(first) = DescendantMatches::new(document.root(), &paragraphs).next() else {
         return Ok(());
     };
-    // A node's number outlives the borrow; `node_mut` lends the tree to change it.
+    // A node's number outlives the borrow.
     let id = first.id;
-    let tree = &mut document.tree;
+    change(&mut document.tree, &id, out)?;
+    writeln!(out, "{}", document.root().html()?)?;
+    Ok(())
+}
+
+/// Puts a word at the end of a paragraph.
+fn change<W: Write>(tree: &mut Tree, id: &NodeId, out: &mut W) -> Result<(), TourFault> {
     let bold = tree.new_element("b")?;
     let bang = tree.new_text("!")?;
     tree.append_child_of(&bold, &bang)?;
-    if let Some(mut paragraph) = tree.node_mut(&id) {
+    // `node_mut` lends the tree to change the node.
+    if let Some(mut paragraph) = tree.node_mut(id) {
         paragraph.set_attr("lang", "en")?;
         paragraph.add_class("first")?;
         paragraph.append_child(&bold)?;
@@ -26,6 +33,5 @@ pub fn print_changed<W: Write>(alloc: Global, out: &mut W) -> Result<(), TourFau
     // An edit that is not allowed is refused, and changes nothing.
     let refused = tree.append_child_of(&bang, &bold);
     writeln!(out, "{}", refused == Err(EditFault::NoChildrenHere))?;
-    writeln!(out, "{}", document.root().html()?)?;
     Ok(())
 }

@@ -26,17 +26,23 @@ pub fn print_comments<W: Write>(
 
 fn print_comment<W: Write>(alloc: Global, comment: &str, out: &mut W) -> Result<(), TourFault> {
     let mut document = Document::parse(alloc, comment)?;
+    clean(&mut document)?;
+    writeln!(out, "{}", document.root().html()?)?;
+    Ok(())
+}
+
+/// Keeps what a comment may have, and marks its links.
+fn clean(document: &mut Document) -> Result<(), TourFault> {
     let allow = Allow {
         elements: &["a", "b", "br", "code", "em", "i", "li", "p", "strong", "ul"],
         attrs: &["href"],
         drop: &["script", "style"],
     };
-    sanitize(&mut document, &allow)?;
+    sanitize(document, &allow)?;
     // Values are the caller's matter: other schemes, and addresses without one, go.
     let others = "[href]:not([href^='http:' i], [href^='https:' i], [href^='mailto:' i])";
-    select(&mut document, others)?.remove_attr("href")?;
-    select(&mut document, "a[href]")?.set_attr("rel", "nofollow")?;
-    writeln!(out, "{}", document.root().html()?)?;
+    select(document, others)?.remove_attr("href")?;
+    select(document, "a[href]")?.set_attr("rel", "nofollow")?;
     Ok(())
 }
 

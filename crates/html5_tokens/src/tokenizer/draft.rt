@@ -1,6 +1,6 @@
 //! The tag that is being read.
 
-ghost use Rattle.std.specs.Prelude.{◌≡◌, IfSome};
+ghost use Rattle.std.specs.Prelude.{◌≡◌, ◌<◌, IfSome, length};
 
 use crate::attributes::Attributes;
 use crate::token::{Tag, TagKind};
@@ -34,8 +34,14 @@ impl TagDraft {
 
     /// Begins a tag.
     pub fn begin(&mut self, alloc: Global, kind: TagKind) {
-        *self = TagDraft::new(alloc);
         self.kind = kind;
+        self.name.clear();
+        self.self_closing = false;
+        if !self.attrs.is_empty() {
+            self.attrs = Attributes::new(alloc);
+        }
+        self.attr_name.clear();
+        self.attr_value.clear();
     }
 
     /// Whether an earlier attribute has the name of the one that is being read.
@@ -54,6 +60,15 @@ impl TagDraft {
         let value = mem::replace(&mut self.attr_value, String::new(alloc));
         self.attrs.add(alloc, name, value)?;
         Ok(())
+    }
+
+    /// Adds an attribute that was read whole.
+    pub fn add_attr(&mut self, alloc: Global, name: &str, value: &str) -> Result<(), AllocError>
+        requires { 0 < length name.now }
+    {
+        let name = String::from_str(alloc, name)?;
+        let value = String::from_str(alloc, value)?;
+        self.attrs.add(alloc, name, value)
     }
 
     /// The tag that was begun, if one was. None is begun then.

@@ -9,6 +9,7 @@ use super::state::{
     TagState,
 };
 use super::{State, Step, Tokenizer};
+use crate::token::Token;
 use std::alloc::AllocError;
 
 /// The character that ends each token, and so a stretch of a page.
@@ -16,7 +17,7 @@ pub const MARKS: char = '>';
 
 /// The characters that a state reads as they stand.
 #[derive(Clone, Copy, Drop)]
-enum Run {
+pub enum Run {
     Text,
     Raw,
     Plaintext,
@@ -68,6 +69,22 @@ fn ends_tag_name(byte: u8) -> bool {
     byte <= b'>' && matches!(byte, 0 | b'\t' | b'\n' | 0xc | b'\r' | b' ' | b'/' | b'>')
 }
 
+/// Whether a byte ends the name of an attribute, or is an error in it.
+#[inline(always)]
+fn ends_attr_name(byte: u8) -> bool
+    ensures { result ≡ true → byte < 128 }
+{
+    byte <= b'>' && (ends_tag_name(byte) || matches!(byte, b'"' | b'\'' | b'<' | b'='))
+}
+
+/// Whether a byte ends a value in double quotes.
+#[inline(always)]
+fn ends_value(byte: u8) -> bool
+    ensures { result ≡ true → byte < 128 }
+{
+    matches!(byte, 0 | b'\r' | b'&' | b'"')
+}
+
 /// Whether a byte ends a value without quotes, or has a parse error or a reference begin in it.
 #[inline(always)]
 fn ends_unquoted_value(byte: u8) -> bool {
@@ -93,8 +110,8 @@ impl Run {
             Run::Escaped | Run::Comment => matches!(byte, 0 | b'\r' | b'-' | b'<'),
             Run::BogusComment => matches!(byte, 0 | b'\r' | b'>'),
             Run::TagName => ends_tag_name(byte),
-            Run::AttrName => ends_tag_name(byte) || matches!(byte, b'"' | b'\'' | b'<' | b'='),
-            Run::AttrValue(Quote::Double) => matches!(byte, 0 | b'\r' | b'&' | b'"'),
+            Run::AttrName => ends_attr_name(byte),
+            Run::AttrValue(Quote::Double) => ends_value(byte),
             Run::AttrValue(Quote::Single) => matches!(byte, 0 | b'\r' | b'&' | b'\''),
             Run::UnquotedValue => ends_unquoted_value(byte),
             Run::DoctypeId(_, Quote::Double) => matches!(byte, 0 | b'\r' | b'>' | b'"'),
@@ -104,11 +121,54 @@ impl Run {
     }
 }
 
+/// How many bytes stand before the first that ends a run of text.
+fn text_len(text: &str) -> usize
+    ensures boundary { IsCharBoundary text.now result }
+    ensures text { IsRun text.now → result ≡ length text.now }
+{
+    for (index, byte) in text.as_bytes().iter().enumerate() {
+        if ends_text(*byte) {
+            return index;
+        }
+    }
+    text.len()
+}
+
+/// How many bytes stand before the first that ends the name of an attribute.
+pub fn attr_name_len(text: &str) -> usize
+    ensures { IsCharBoundary text.now result }
+{
+    for (index, byte) in text.as_bytes().iter().enumerate() {
+        if ends_attr_name(*byte) {
+            return index;
+        }
+    }
+    text.len()
+}
+
+/// How many bytes stand before the first that ends a value in double quotes.
+pub fn value_len(text: &str) -> usize
+    ensures { IsCharBoundary text.now result }
+{
+    for (index, byte) in text.as_bytes().iter().enumerate() {
+        if ends_value(*byte) {
+            return index;
+        }
+    }
+    text.len()
+}
+
 /// How many bytes stand before the first that ends the run.
-fn run_len(run: Run, text: &str) -> usize
+pub fn run_len(run: Run, text: &str) -> usize
     ensures boundary { IsCharBoundary text.now result }
     ensures text { run ≡ Run.Text → IsRun text.now → result ≡ length text.now }
 {
+    match run {
+        Run::Text => return text_len(text),
+        Run::AttrName => return attr_name_len(text),
+        Run::AttrValue(Quote::Double) => return value_len(text),
+        _ => {}
+    }
     for (index, byte) in text.as_bytes().iter().enumerate() {
         if run.ends_at(*byte) {
             return index;
@@ -147,18 +207,101 @@ impl Tokenizer {
         self.read_marks(rest)
     }
 
+    /// Reads a text up to the end of the first token in it, which is put there, and returns what
+    /// follows that. Errors where memory is refused.
+    pub fn read_token<'a>(
+        &mut self,
+        text: &'a str,
+        token: &mut Option<Token>,
+    ) -> Result<&'a str, AllocError>
+        ensures text { IsInText self.old → self.old.errors ≡ None → IsRun text.now → IfOk result
+            (λ rest. (rest.now ≡ []) × (token.new ≡ token.old)
+            × AddsText self.old self.new text.now) }
+    {
+        if self.errors.is_some() {
+            return self.read_first(text, token);
+        }
+        let rest = self.read_run(text)?;
+        if rest.is_empty() {
+            return Ok(rest);
+        }
+        self.read_to_token(rest, token)
+    }
+
+    /// Reads the first stretch of a text, and returns what follows it.
+    #[inline(never)]
+    fn read_first<'a>(
+        &mut self,
+        text: &'a str,
+        token: &mut Option<Token>,
+    ) -> Result<&'a str, AllocError> {
+        let Some(stretch) = text.split_inclusive(MARKS).next() else {
+            return Ok(text);
+        };
+        if let Some(made) = self.read_stretch(stretch)? {
+            *token = Some(made);
+        }
+        Ok(text.get(stretch.len()..).unwrap_or(""))
+    }
+
     /// Reads a text that begins with a character that is no part of a run.
     fn read_marks(&mut self, text: &str) -> Step {
         let mut token = None;
         let mut rest = text;
-        while let Some((c, after)) = split_char(rest) {
-            if let Some(made) = self.step(c)? {
-                token = Some(made);
+        for _ in 0..text.len() {
+            if rest.is_empty() {
+                break;
             }
-            self.offset = self.offset.saturating_add(c.len_utf8());
-            rest = self.read_run(after)?;
+            rest = self.read_to_token(rest, &mut token)?;
         }
         Ok(token)
+    }
+
+    /// Reads such a text up to the end of a token, if one ends in it; a character at least.
+    fn read_to_token<'a>(
+        &mut self,
+        text: &'a str,
+        token: &mut Option<Token>,
+    ) -> Result<&'a str, AllocError> {
+        let mut made = None;
+        let mut rest = text;
+        for _ in 0..text.len() {
+            let front = self.read_plain(rest, &mut made)?;
+            self.offset = self
+                .offset
+                .saturating_add(rest.len().saturating_sub(front.len()));
+            rest = if front.len() < rest.len() {
+                front
+            } else {
+                self.read_char(rest, &mut made)?
+            };
+            if made.is_some() {
+                *token = made;
+                break;
+            }
+            rest = self.read_run(rest)?;
+            if rest.is_empty() {
+                break;
+            }
+        }
+        Ok(rest)
+    }
+
+    /// Reads a character.
+    #[inline(never)]
+    fn read_char<'a>(
+        &mut self,
+        text: &'a str,
+        token: &mut Option<Token>,
+    ) -> Result<&'a str, AllocError> {
+        let Some((c, after)) = split_char(text) else {
+            return Ok(text);
+        };
+        if let Some(made) = self.step(c)? {
+            *token = Some(made);
+        }
+        self.offset = self.offset.saturating_add(c.len_utf8());
+        Ok(after)
     }
 
     /// Reads the run at the front of a text as one slice, and returns what follows it.
