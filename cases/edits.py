@@ -33,7 +33,7 @@ ROOT = pathlib.Path(__file__).resolve().parent.parent
 EDITS = ROOT / "cases" / "must-fail"
 HEAD = re.compile(r"(\s*)(?:pub(?:\([^)]*\))? )?(?:const )?(?:unsafe )?fn (\w+)")
 NOTE = re.compile(r"(?:note: )?(?:\./)?(src/\S+?):(\d+):\d+: ")
-IMPL = re.compile(r"impl\b(?:<.*?>)? (?:(\w+)(?:<.*>)? for )?(\w+)")
+IMPL = re.compile(r"impl\b(?:<(.*?)>)? (?:(\w+)(?:<(?:'\w+,? ?)*&?(\w*).*>)? for )?(\w+)")
 HOLE = "use Rattle.{0}.Statement.{{statement}}\n\npub {1}_spec : {{M : Type 1}} → statement M\n{1}_spec = ?\n"
 FUNCTION = re.compile(r"fn (\S+): (?:no proof|not proved)")
 CYCLE = re.compile(r"\s*#\[cycle\((\w+)\)")
@@ -75,11 +75,15 @@ def function_at(lines, at):
 
 
 def owner_of(lines, first):
-    """The name under which the prover knows the `impl` that the function at that line stands in, or None."""
+    """The name under which the prover knows the `impl` that the function at that line stands in, or None: the type, and the
+    trait with its first argument, if that is no parameter of the `impl`."""
     if not lines[first].startswith(" "):
         return None
     found = next((IMPL.match(line) for line in reversed(lines[:first]) if IMPL.match(line)), None)
-    return found and found[2] + (found[1] or "")
+    if found is None:
+        return None
+    generics, trait, argument, of = found.groups(default="")
+    return of + trait + ("" if argument in re.findall(r"\w+", generics) else argument)
 
 
 def body_of(lines, first):

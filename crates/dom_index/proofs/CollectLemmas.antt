@@ -3,10 +3,7 @@ use Rattle.std.proofs.Common.{◌≡◌, ◌≢◌, ◌<◌, ℕ, List, [], ◌�
 use Rattle.std.specs.Prelude.{◌&&◌, ◌||◌, ◌==◌}
 use Rattle.std.specs.List.{flat_map}
 use Rattle.std.proofs.lemmas.Bool.{cases_Bool, eq-eqb, eqb-true, or_right}
-use Rattle.std.proofs.lemmas.List.{length-set, map-append}
-use Rattle.std.specs.Borrow.{Bor}
-use Rattle.dom_trees.specs.declared.node_ref.NodeRef.{NodeRef}
-use Rattle.dom_trees.specs.Views.{refs_to}
+use Rattle.std.proofs.lemmas.List.{length-set}
 use Rattle.dom_links.specs.Forest.{Forest}
 use Rattle.dom_links.specs.Lists.{stands_in}
 use Rattle.dom_links.proofs.forest.Neighbours.{stands_in-append}
@@ -123,43 +120,40 @@ module _ (forest : Forest) where
     collected_selected roots table inside answer =
         collected_new (length forest.content) (flat_map (walk_below forest) roots) [] table answer.long inside (λ m known. decided_first (in_set table m) (element_at forest m) m refl (answer.each m known))
 
--- a walk in which a node is looked at: what was picked, what is to come, and the table that is left
-pub record Collected (tree : Bor Forest) (found : List NodeRef) (table : List Bool) (left : List ℕ) (all : List NodeRef) (end : List Bool) : Type 0 where
-  pub long : length table ≡ length tree.now.content
-  pub inside : (m : ℕ) → stands_in m left ≡ true → m < length tree.now.content
-  pub all_collected : found ++ refs_to tree (collected tree.now table left) ≡ all
-  pub rest : set_left tree.now table left ≡ end
+-- a walk in which a node is looked at: what was collected, what is to come, and the table that is left
+pub record Collected (forest : Forest) (found : List ℕ) (table : List Bool) (left all : List ℕ) (end : List Bool) : Type 0 where
+  pub long : length table ≡ length forest.content
+  pub inside : (m : ℕ) → stands_in m left ≡ true → m < length forest.content
+  pub all_collected : found ++ collected forest table left ≡ all
+  pub rest : set_left forest table left ≡ end
 
-module _ (tree : Bor Forest) (found : List NodeRef) (table : List Bool) (left more : List ℕ) (n : ℕ) (all : List NodeRef) (end : List Bool) (h : Collected tree found table left all end) (step : left ≡ n ∷ more) where
-  abbrev node : NodeRef
-  node = record { id = n; tree = tree }
-
-  pub next_inside : n < length tree.now.content
+module _ (forest : Forest) (found : List ℕ) (table : List Bool) (left more : List ℕ) (n : ℕ) (all : List ℕ) (end : List Bool) (h : Collected forest found table left all end) (step : left ≡ n ∷ more) where
+  pub next_inside : n < length forest.content
   next_inside = h.inside n (ap (stands_in n) step ∙ ap (λ c. c || stands_in n more) (eq-eqb n n refl))
 
-  later_inside : (m : ℕ) → stands_in m more ≡ true → m < length tree.now.content
+  later_inside : (m : ℕ) → stands_in m more ≡ true → m < length forest.content
   later_inside m s = h.inside m (ap (stands_in m) step ∙ or_right (n == m) (stands_in m more) s)
 
-  pub pick_it : (b : Bool) → b ≡ (in_set table n && element_at tree.now n) → b ≡ true → Collected tree (found ++ node ∷ []) (set table n false) more all end
-  pick_it b is t =
-      let chosen : (in_set table n && element_at tree.now n) ≡ true = sym is ∙ t in
-      let added : found ++ refs_to tree (collected tree.now table (n ∷ more)) ≡ all = subst (λ ns. found ++ refs_to tree (collected tree.now table ns) ≡ all) step h.all_collected in
-      let left_so : set_left tree.now table (n ∷ more) ≡ end = subst (λ ns. set_left tree.now table ns ≡ end) step h.rest in
+  pub collect_it : (b : Bool) → b ≡ (in_set table n && element_at forest n) → b ≡ true → Collected forest (found ++ n ∷ []) (set table n false) more all end
+  collect_it b is t =
+      let chosen : (in_set table n && element_at forest n) ≡ true = sym is ∙ t in
+      let added : found ++ collected forest table (n ∷ more) ≡ all = subst (λ ns. found ++ collected forest table ns ≡ all) step h.all_collected in
+      let left_so : set_left forest table (n ∷ more) ≡ end = subst (λ ns. set_left forest table ns ≡ end) step h.rest in
       record {
         long = length-set table n false ∙ h.long;
         inside = later_inside;
-        all_collected = append_assoc found (node ∷ []) (refs_to tree (collected tree.now (set table n false) more)) ∙ rw chosen at added;
+        all_collected = append_assoc found (n ∷ []) (collected forest (set table n false) more) ∙ rw chosen at added;
         rest = rw chosen at left_so;
       }
 
-  pub pick_there : (b : Bool) (new : List NodeRef) (i : ℕ) → b ≡ (in_set table n && element_at tree.now n) → b ≡ true → new ≡ found ++ node ∷ [] → i ≡ n → Collected tree new (set table i false) more all end
-  pick_there b new i is t e f = subst (λ ns. Collected tree ns (set table i false) more all end) (sym e) (subst (λ k. Collected tree (found ++ node ∷ []) (set table k false) more all end) (sym f) (pick_it b is t))
+  pub collect_there : (b : Bool) (new : List ℕ) (i : ℕ) → b ≡ (in_set table n && element_at forest n) → b ≡ true → new ≡ found ++ n ∷ [] → i ≡ n → Collected forest new (set table i false) more all end
+  collect_there b new i is t e f = subst (λ ns. Collected forest ns (set table i false) more all end) (sym e) (subst (λ k. Collected forest (found ++ n ∷ []) (set table k false) more all end) (sym f) (collect_it b is t))
 
-  pub pass_it : (b : Bool) → b ≡ (in_set table n && element_at tree.now n) → b ≡ false → Collected tree found table more all end
+  pub pass_it : (b : Bool) → b ≡ (in_set table n && element_at forest n) → b ≡ false → Collected forest found table more all end
   pass_it b is f =
-      let chosen : (in_set table n && element_at tree.now n) ≡ false = sym is ∙ f in
-      let added : found ++ refs_to tree (collected tree.now table (n ∷ more)) ≡ all = subst (λ ns. found ++ refs_to tree (collected tree.now table ns) ≡ all) step h.all_collected in
-      let left_so : set_left tree.now table (n ∷ more) ≡ end = subst (λ ns. set_left tree.now table ns ≡ end) step h.rest in
+      let chosen : (in_set table n && element_at forest n) ≡ false = sym is ∙ f in
+      let added : found ++ collected forest table (n ∷ more) ≡ all = subst (λ ns. found ++ collected forest table ns ≡ all) step h.all_collected in
+      let left_so : set_left forest table (n ∷ more) ≡ end = subst (λ ns. set_left forest table ns ≡ end) step h.rest in
       record {
         long = h.long;
         inside = later_inside;
@@ -179,11 +173,9 @@ walks_inside forest (r ∷ roots) inside m s = elim (cases_Bool (stands_in m (wa
 pub roots_cut : (forest : Forest) (i : ℕ) (roots : List ℕ) (r : ℕ) → i < length roots → r ≡ get_or roots i r → flat_map (walk_below forest) (drop i roots) ≡ walk_below forest r ++ flat_map (walk_below forest) (drop (i + 1) roots)
 roots_cut forest i roots r known is = ap (flat_map (walk_below forest)) (row_cut i roots r known is)
 
-pub root_collected : (tree : Bor Forest) (found new : List NodeRef) (table left : List Bool) (walk more : List ℕ) (all : List NodeRef) → new ≡ found ++ refs_to tree (collected tree.now table walk) → left ≡ set_left tree.now table walk →
-    found ++ refs_to tree (collected tree.now table (walk ++ more)) ≡ all → new ++ refs_to tree (collected tree.now left more) ≡ all
-root_collected tree found new table left walk more all e f h =
-    let forest = tree.now in
-    ap (λ ns. ns ++ refs_to tree (collected forest left more)) e ∙ (append_assoc found (refs_to tree (collected forest table walk)) (refs_to tree (collected forest left more))
-    ∙ (ap (λ t. found ++ (refs_to tree (collected forest table walk) ++ refs_to tree (collected forest t more))) f
-    ∙ (ap (λ ns. found ++ ns) (sym (map-append (λ id. record { id = id; tree = tree }) (collected forest table walk) (collected forest (set_left forest table walk) more)))
-    ∙ (ap (λ ns. found ++ refs_to tree ns) (sym (collected-append forest table walk more)) ∙ h))))
+pub root_collected : (forest : Forest) (found new : List ℕ) (table left : List Bool) (walk more : List ℕ) (all : List ℕ) → new ≡ found ++ collected forest table walk → left ≡ set_left forest table walk →
+    found ++ collected forest table (walk ++ more) ≡ all → new ++ collected forest left more ≡ all
+root_collected forest found new table left walk more all e f h =
+    ap (λ ns. ns ++ collected forest left more) e ∙ (append_assoc found (collected forest table walk) (collected forest left more)
+    ∙ (ap (λ t. found ++ (collected forest table walk ++ collected forest t more)) f
+    ∙ (ap (λ ns. found ++ ns) (sym (collected-append forest table walk more)) ∙ h)))

@@ -1,11 +1,10 @@
 //! The elements of a set below some nodes, in the order of the traversals.
 
-ghost use Rattle.std.specs.Prelude.{◌≡◌, ◌<◌, ◌++◌, ◌∷◌, ◌&&◌, ℕ, [], length, true, IfOk, OnOk};
+ghost use Rattle.std.specs.Prelude.{◌≡◌, ◌<◌, ◌++◌, ◌&&◌, ℕ, length, true, IfOk, OnOk};
 ghost use Rattle.std.specs.List.{flat_map};
 ghost use Rattle.dom_links.specs.ListMoves.{element_at};
 ghost use Rattle.dom_links.specs.Lists.{stands_in};
 ghost use Rattle.dom_links.specs.Trees.{walk_below};
-ghost use Rattle.dom_trees.specs.Views.{refs_to};
 ghost use Rattle.dom_index.specs.Collected.{collected, set_left};
 ghost use Rattle.dom_index.specs.NodeSets.{in_set};
 
@@ -14,19 +13,17 @@ use crate::type_filter::is_element_at;
 use dom_links::laws::trees_of_a_forest;
 use dom_nodes::fault::OutOfMemory;
 use dom_nodes::node_id::NodeId;
-use dom_trees::node_ref::NodeRef;
 use dom_trees::tree::Tree;
 
 /// The elements below the roots that are in the set, each once, in the order of the traversals.
-pub(crate) fn collect_matches<'a>(
-    preorder: &Preorder<'a>,
+pub(crate) fn collect_matches(
+    preorder: &Preorder<'_>,
     roots: &[NodeId],
     table: Vec<bool>,
-) -> Result<Vec<NodeRef<'a>>, OutOfMemory>
+) -> Result<Vec<NodeId>, OutOfMemory>
     requires { length table.items ≡ length preorder.now.tree.now.content }
-    ensures { IfOk result (λ found. found.items ≡ refs_to preorder.now.tree
-        (collected preorder.now.tree.now table.items
-        (flat_map (walk_below preorder.now.tree.now) roots.now))) }
+    ensures { IfOk result (λ found. found.items ≡ collected preorder.now.tree.now table.items
+        (flat_map (walk_below preorder.now.tree.now) roots.now)) }
 {
     let mut table = table;
     let mut found = Vec::new(preorder.tree.allocator());
@@ -37,16 +34,16 @@ pub(crate) fn collect_matches<'a>(
 }
 
 /// Moves the elements below a node from the set to those found.
-fn collect_below<'a>(
-    preorder: &Preorder<'a>,
+fn collect_below(
+    preorder: &Preorder<'_>,
     root: NodeId,
     table: &mut Vec<bool>,
-    found: &mut Vec<NodeRef<'a>>,
+    found: &mut Vec<NodeId>,
 ) -> Result<(), OutOfMemory>
     requires { length table.old.items ≡ length preorder.now.tree.now.content }
     ensures long { length table.new.items ≡ length table.old.items }
-    ensures added { OnOk result (found.new.items ≡ found.old.items ++ refs_to preorder.now.tree
-        (collected preorder.now.tree.now table.old.items (walk_below preorder.now.tree.now root))) }
+    ensures added { OnOk result (found.new.items ≡ found.old.items
+        ++ collected preorder.now.tree.now table.old.items (walk_below preorder.now.tree.now root)) }
     ensures left { OnOk result (table.new.items
         ≡ set_left preorder.now.tree.now table.old.items (walk_below preorder.now.tree.now root)) }
 {
@@ -58,22 +55,9 @@ fn collect_below<'a>(
             continue;
         }
         table[id.value()] = false;
-        push_ref(found, &NodeRef::new(id, preorder.tree))?;
+        found.push(id)?;
     }
     Ok(())
-}
-
-/// Adds a node.
-pub(crate) fn push_ref<'a>(
-    found: &mut Vec<NodeRef<'a>>,
-    node: &NodeRef<'a>,
-) -> Result<(), OutOfMemory>
-    ensures { OnOk result (found.new.items ≡ found.old.items ++ node.now ∷ []) }
-{
-    match found.push(NodeRef::new(node.id, node.tree)) {
-        Ok(()) => Ok(()),
-        Err(_) => Err(OutOfMemory),
-    }
 }
 
 /// Whether the node is an element of the set.

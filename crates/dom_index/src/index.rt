@@ -5,6 +5,7 @@ ghost use Rattle.std.specs.Iterator.{YieldsFirst, item_count};
 ghost use Rattle.dom_links.specs.Indexes.{index_at};
 ghost use Rattle.dom_links.specs.Lists.{stands_in};
 ghost use Rattle.dom_links.specs.Trees.{walk_below};
+ghost use Rattle.dom_select.specs.Selected.{Selected};
 ghost use Rattle.dom_index.specs.TestCounts.{AddsTests, SelectorsTests, everywhere};
 ghost use Rattle.dom_index.specs.CompoundCounts.{selectors_count};
 ghost use Rattle.dom_index.specs.Index.{Finds, IsLastBelow};
@@ -13,6 +14,7 @@ ghost use Rattle.dom_index.specs.Preorder.{position};
 use crate::collect::{collect_matches, walk_laws};
 use crate::evaluation::list_set;
 use crate::preorder::{Preorder, below, forest_laws};
+use crate::selecting::nodes_of;
 use dom_links::indexes::IndexKind;
 use dom_nodes::fault::OutOfMemory;
 use dom_nodes::node_id::NodeId;
@@ -73,6 +75,24 @@ impl<'a> TreeIndex<'a> {
     ) -> Result<Vec<NodeRef<'a>>, OutOfMemory>
         ensures found { IfOk result (λ found.
             Finds self.old.tree roots.now matcher.now found.items) }
+        ensures asked { IfOk result (λ _. AddsTests 0 self.new.tests
+            (SelectorsTests matcher.now self.old.tree.now (everywhere self.old.tree.now))) }
+        ensures tests { self.new.tests
+            ≤ selectors_count matcher.now * length self.old.tree.now.content }
+        ensures kept { self.new.tree ≡ self.old.tree }
+    {
+        let ids = self.select_ids(matcher, roots)?;
+        nodes_of(self.preorder.tree, &ids)
+    }
+
+    /// The numbers of what `select` returns.
+    pub(crate) fn select_ids(
+        &mut self,
+        matcher: &Matcher,
+        roots: &[NodeId],
+    ) -> Result<Vec<NodeId>, OutOfMemory>
+        ensures found { IfOk result (λ ids.
+            Selected self.old.tree.now roots.now matcher.now ids.items) }
         ensures asked { IfOk result (λ _. AddsTests 0 self.new.tests
             (SelectorsTests matcher.now self.old.tree.now (everywhere self.old.tree.now))) }
         ensures tests { self.new.tests

@@ -6,7 +6,6 @@ ghost use Rattle.dom_select.specs.Selected.{Selected};
 ghost use Rattle.dom_index.specs.Index.{Finds};
 ghost use Rattle.dom_trees.specs.Views.{refs_to};
 
-use crate::collect::push_ref;
 use crate::index::TreeIndex;
 use dom_nodes::fault::OutOfMemory;
 use dom_nodes::node_id::NodeId;
@@ -20,9 +19,30 @@ use dom_trees::tree::Tree;
 /// How many steps of a match are worth an index, for each node of the tree.
 const STEPS_PER_NODE: u64 = 8;
 
-/// The elements below the roots that match one of the matcher's selectors, each once, in the order
-/// of the traversals. Each candidate is tested where that takes few steps. Where it takes very
-/// many, and where `:has` has descendant or `~` combinators, an index is made.
+/// The numbers of the elements below the roots that match one of the matcher's selectors, each
+/// once, in the order of the traversals. Each candidate is tested where that takes few steps. Where
+/// it takes very many, and where `:has` has descendant or `~` combinators, an index is made.
+pub fn select_ids(
+    tree: &Tree,
+    roots: &[NodeId],
+    matcher: &Matcher,
+) -> Result<Vec<NodeId>, OutOfMemory>
+    ensures { IfOk result (λ ids. Selected tree.now roots.now matcher.now ids.items) }
+{
+    let selectors = matcher.selectors();
+    if needs_index(selectors) {
+        return select_by_index(tree, roots, matcher);
+    }
+    if !needs_budget(selectors) {
+        return select_by_node(tree, roots, matcher);
+    }
+    match select_within(tree, roots, matcher, step_budget(tree))? {
+        Some(ids) => Ok(ids),
+        None => select_by_index(tree, roots, matcher),
+    }
+}
+
+/// The nodes of the numbers that `select_ids` returns.
 pub fn select_nodes<'a>(
     tree: &'a Tree,
     roots: &[NodeId],
@@ -30,33 +50,23 @@ pub fn select_nodes<'a>(
 ) -> Result<Vec<NodeRef<'a>>, OutOfMemory>
     ensures { IfOk result (λ found. Finds tree.entry roots.now matcher.now found.items) }
 {
-    let selectors = matcher.selectors();
-    if needs_index(selectors) {
-        return select_by_index(tree, roots, matcher);
-    }
-    if !needs_budget(selectors) {
-        let ids = select_by_node(tree, roots, matcher)?;
-        return nodes_of(tree, &ids);
-    }
-    match select_within(tree, roots, matcher, step_budget(tree))? {
-        Some(ids) => nodes_of(tree, &ids),
-        None => select_by_index(tree, roots, matcher),
-    }
+    let ids = select_ids(tree, roots, matcher)?;
+    nodes_of(tree, &ids)
 }
 
-/// The same, by an index of the tree.
-fn select_by_index<'a>(
-    tree: &'a Tree,
+/// The same as `select_ids`, by an index of the tree.
+fn select_by_index(
+    tree: &Tree,
     roots: &[NodeId],
     matcher: &Matcher,
-) -> Result<Vec<NodeRef<'a>>, OutOfMemory>
-    ensures { IfOk result (λ found. Finds tree.entry roots.now matcher.now found.items) }
+) -> Result<Vec<NodeId>, OutOfMemory>
+    ensures { IfOk result (λ ids. Selected tree.now roots.now matcher.now ids.items) }
 {
     let mut index = TreeIndex::new(tree)?;
-    index.select(matcher, roots)
+    index.select_ids(matcher, roots)
 }
 
-/// The numbers of the same, by a test of each candidate.
+/// The same, by a test of each candidate.
 fn select_by_node(
     tree: &Tree,
     roots: &[NodeId],
@@ -71,15 +81,25 @@ fn select_by_node(
 }
 
 /// The nodes of these numbers.
-fn nodes_of<'a>(tree: &'a Tree, ids: &[NodeId]) -> Result<Vec<NodeRef<'a>>, OutOfMemory>
+pub(crate) fn nodes_of<'a>(tree: &'a Tree, ids: &[NodeId]) -> Result<Vec<NodeRef<'a>>, OutOfMemory>
     ensures { IfOk result (λ nodes. nodes.items ≡ refs_to tree.entry ids.now) }
 {
     let root = tree.root();
     let mut nodes = Vec::with_capacity(tree.allocator(), ids.len())?;
     for id in ids {
-        push_ref(&mut nodes, &NodeRef::new(*id, root.tree))?;
+        push_node(&mut nodes, &NodeRef::new(*id, root.tree))?;
     }
     Ok(nodes)
+}
+
+/// Adds a node.
+fn push_node<'a>(nodes: &mut Vec<NodeRef<'a>>, node: &NodeRef<'a>) -> Result<(), OutOfMemory>
+    ensures { OnOk result (nodes.new.items ≡ nodes.old.items ++ node.now ∷ []) }
+{
+    match nodes.push(NodeRef::new(node.id, node.tree)) {
+        Ok(()) => Ok(()),
+        Err(_) => Err(OutOfMemory),
+    }
 }
 
 /// How many steps are worth an index of the tree.

@@ -3,10 +3,11 @@
 ghost use Rattle.std.specs.Prelude.{◌≡◌, IfOk};
 ghost use Rattle.dom_query.specs.Queries.{Added, QueryResult, navigated};
 ghost use Rattle.dom_select.specs.Meaning.{Means};
-ghost use Rattle.dom_select.specs.Selected.{FiltersTo, Selected};
+ghost use Rattle.dom_select.specs.Selected.{FiltersTo};
 ghost use Rattle.dom_selection.specs.Selections.{ids_of};
 
 use crate::script::{Navigation, QueryKind};
+use dom_index::selecting::select_ids;
 use dom_nodes::fault::OutOfMemory;
 use dom_nodes::node_id::NodeId;
 use dom_select::matcher::Matcher;
@@ -24,20 +25,11 @@ pub fn query(
         QueryResult tree.now selection.now kind matcher.now found.items) }
 {
     match kind {
-        QueryKind::Select => find(tree, &[NodeId::root()], matcher),
-        QueryKind::Find => find(tree, selection, matcher),
+        QueryKind::Select => select_ids(tree, &[NodeId::root()], matcher),
+        QueryKind::Find => select_ids(tree, selection, matcher),
         QueryKind::Filter => filter(tree, selection, matcher),
         QueryKind::Add => add(tree, selection, matcher),
     }
-}
-
-/// The matches below the selection.
-fn find(tree: &Tree, selection: &[NodeId], matcher: &Matcher) -> Result<Vec<NodeId>, OutOfMemory>
-    ensures { IfOk result (λ found. Selected tree.now selection.now matcher.now found.items) }
-{
-    let from = Selection::from_ids(tree, selection)?;
-    let found = from.select_matcher(matcher)?;
-    found.ids()
 }
 
 /// Those of the selection that the selector means.

@@ -1,13 +1,12 @@
 use Rattle.std.proofs.Common.{◌++◌, drop}
 use Rattle.dom_links.specs.Trees.{walk_below}
-use Rattle.dom_trees.specs.Views.{refs_to}
 use Rattle.dom_index.specs.Collected.{collected, set_left}
 use Rattle.dom_index.proofs.CollectLemmas.{Collected}
 use Rattle.dom_index.proofs.collect.collect_below.Given as goal
 
--- what was picked and what is still to be picked
+-- what was collected and what is still to be collected
 abbrev pub invariant-loop-i : goal.invariant-loop-i
 invariant-loop-i l =
-    let tree = l.preorder.tree in
-    let walk = walk_below tree.now l.fn.root in
-    Collected tree l.found.items l.table.items (drop l.i l.row) (l.fn.found.items ++ refs_to tree (collected tree.now l.fn.table.items walk)) (set_left tree.now l.fn.table.items walk)
+    let forest = l.preorder.tree.now in
+    let walk = walk_below forest l.fn.root in
+    Collected forest l.found.items l.table.items (drop l.i l.row) (l.fn.found.items ++ collected forest l.fn.table.items walk) (set_left forest l.fn.table.items walk)

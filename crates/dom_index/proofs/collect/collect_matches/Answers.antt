@@ -1,20 +1,19 @@
 use Rattle.std.proofs.Common.{◌≡◌, ◌++◌, ◌+◌, ◌∙◌, drop, subst, arith}
 use Rattle.std.specs.List.{flat_map}
 use Rattle.dom_links.specs.Trees.{walk_below}
-use Rattle.dom_trees.specs.Views.{refs_to}
 use Rattle.dom_index.specs.Collected.{collected}
 use Rattle.dom_index.proofs.CollectLemmas.{root_collected, roots_cut}
 use Rattle.dom_index.proofs.collect.collect_matches.Goals as goal
 
 pub loop-root-preserved : goal.loop-root-preserved
 loop-root-preserved c =
-    let tree = c.args.preorder.now.tree in
+    let forest = c.args.preorder.now.tree.now in
     let roots = c.args.roots.now in
     let i = c.loop-root.root-index in
     let r = c.root-item.result in
-    let all = refs_to tree (collected tree.now c.args.table.items (flat_map (walk_below tree.now) roots)) in
-    let h = subst (λ ns. c.loop-root.found.items ++ refs_to tree (collected tree.now c.loop-root.table.items ns) ≡ all) (roots_cut tree.now i roots r (omega arith) c.root-item.is) c.loop-root.invariant.all in
+    let all = collected forest c.args.table.items (flat_map (walk_below forest) roots) in
+    let h = subst (λ ns. c.loop-root.found.items ++ collected forest c.loop-root.table.items ns ≡ all) (roots_cut forest i roots r (omega arith) c.root-item.is) c.loop-root.invariant.all in
     record {
       long = c.collect_below.ensures.long ∙ c.loop-root.invariant.long;
-      all = root_collected tree c.loop-root.found.items c.collect_below.new.found.items c.loop-root.table.items c.collect_below.new.table.items (walk_below tree.now r) (flat_map (walk_below tree.now) (drop (i + 1) roots)) all c.in_ok-collect_below.ensures.added c.in_ok-collect_below.ensures.left h;
+      all = root_collected forest c.loop-root.found.items c.collect_below.new.found.items c.loop-root.table.items c.collect_below.new.table.items (walk_below forest r) (flat_map (walk_below forest) (drop (i + 1) roots)) all c.in_ok-collect_below.ensures.added c.in_ok-collect_below.ensures.left h;
     }

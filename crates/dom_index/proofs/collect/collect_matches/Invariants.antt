@@ -1,15 +1,14 @@
 use Rattle.std.proofs.Common.{◌≡◌, ◌++◌, length, drop}
 use Rattle.std.specs.List.{flat_map}
 use Rattle.dom_links.specs.Trees.{walk_below}
-use Rattle.dom_trees.specs.Views.{refs_to}
 use Rattle.dom_index.specs.Collected.{collected}
 use Rattle.dom_index.proofs.collect.collect_matches.Given as goal
 
--- what was picked and what is still to be picked
+-- what was collected and what is still to be collected
 abbrev pub invariant-loop-root : goal.invariant-loop-root
 invariant-loop-root l =
-    let tree = l.preorder.tree in
+    let forest = l.preorder.tree.now in
     record {
-      long : length l.table.items ≡ length tree.now.content;
-      all : l.found.items ++ refs_to tree (collected tree.now l.table.items (flat_map (walk_below tree.now) (drop l.root-index l.roots))) ≡ refs_to tree (collected tree.now l.fn.table.items (flat_map (walk_below tree.now) l.roots));
+      long : length l.table.items ≡ length forest.content;
+      all : l.found.items ++ collected forest l.table.items (flat_map (walk_below forest) (drop l.root-index l.roots)) ≡ collected forest l.fn.table.items (flat_map (walk_below forest) l.roots);
     }

@@ -1,16 +1,17 @@
-use Rattle.std.proofs.Common.{◌≡◌, ◌<◌, ◌∙◌, ℕ, true, ap, length, replicate, subst, arith}
+use Rattle.std.proofs.Common.{◌≡◌, ◌<◌, ◌∙◌, ℕ, true, ap, length, replicate, subst, sym, arith}
 use Rattle.std.specs.List.{flat_map}
 use Rattle.std.specs.Result.{IfOk}
 use Rattle.std.proofs.lemmas.List.{get_or-replicate}
 use Rattle.std.proofs.lemmas.Result.{IfOk-weaker}
 use Rattle.dom_links.specs.Trees.{walk_below}
 use Rattle.dom_select.specs.Meaning.{Means}
-use Rattle.dom_index.specs.Index.{Finds, Indexed}
+use Rattle.dom_select.specs.Selected.{Selected}
+use Rattle.dom_index.specs.Index.{Indexed}
 use Rattle.dom_index.specs.Collected.{collected}
 use Rattle.dom_index.specs.NodeSets.{IsSetOf, in_set}
 use Rattle.dom_index.proofs.ListLemmas.{decided_anywhere}
 use Rattle.dom_index.proofs.CollectLemmas.{collected_selected, walks_inside}
-use Rattle.dom_index.proofs.index.TreeIndex.select.Goals as goal
+use Rattle.dom_index.proofs.index.TreeIndex.select_ids.Goals as goal
 
 pub returns-clause-found : goal.returns-clause-found
 returns-clause-found c =
@@ -22,5 +23,5 @@ returns-clause-found c =
     let answer = subst (λ list. IsSetOf table (length forest.content) (Means list forest)) c.selectors.ensures (decided_anywhere all table (length forest.content) _ everywhere c.in_ok-table.ensures.table) in
     let ids = collected forest table (flat_map (walk_below forest) c.args.roots.now) in
     let selected = collected_selected forest c.args.matcher.now c.args.roots.now table (walks_inside forest c.args.roots.now c.walk_laws.ensures) answer in
-    subst (λ (it : Indexed). IfOk c.collect_matches.result (λ found. Finds it.tree c.args.roots.now c.args.matcher.now found.items)) c.self.view_is
-    (IfOk-weaker c.collect_matches.result _ _ (λ found e. (ids, selected, e)) c.collect_matches.ensures)
+    subst (λ (it : Indexed). IfOk c.collect_matches.result (λ found. Selected it.tree.now c.args.roots.now c.args.matcher.now found.items)) c.self.view_is
+    (IfOk-weaker c.collect_matches.result _ _ (λ found e. subst (Selected forest c.args.roots.now c.args.matcher.now) (sym e) selected) c.collect_matches.ensures)
