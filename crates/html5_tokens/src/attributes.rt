@@ -39,6 +39,18 @@ fn push(attrs: &mut Vec<TagAttr>, attr: TagAttr) -> Result<(), AllocError>
     Ok(())
 }
 
+/// Moves attributes to those whose memory is spare, as far as there is memory.
+fn spare_all(spare: &mut Vec<TagAttr>, attrs: &mut Vec<TagAttr>)
+    ensures { attrs.new.items ≡ [] }
+{
+    for _ in 0..attrs.len() {
+        if let Some(attr) = attrs.pop() {
+            let _ = spare.push(attr);
+        }
+    }
+    attrs.clear();
+}
+
 /// The attributes of a tag so far, no two of one name. The names of all but the last few stand in a
 /// set too, so that a tag of many attributes is read quickly, whatever their names are.
 #[derive(Drop)]
@@ -46,6 +58,8 @@ pub struct Attributes {
     kept: Vec<TagAttr>,
     noted: usize,
     older: BTreeSet<String>,
+    /// Attributes of earlier tags, whose memory serves for those to come.
+    spare: Vec<TagAttr>,
     ghost distinct: { are_distinct kept.items ≡ true },
     ghost within: { noted ≤ length kept.items },
     ghost names: { (name : List ℕ)
@@ -59,6 +73,7 @@ impl Attributes {
             kept: Vec::new(alloc),
             noted: 0,
             older: BTreeSet::new(alloc),
+            spare: Vec::new(alloc),
         }
     }
 
@@ -71,6 +86,9 @@ impl Attributes {
     pub fn has(&self, name: &str) -> bool
         ensures { result ≡ list_any (is_named name.now) self.now.kept.items }
     {
+        if self.noted == 0 {
+            return has_attr(self.kept.as_slice(), name);
+        }
         let (_, recent) = self.kept.as_slice().split_at(self.noted);
         self.older.contains(name) || has_attr(recent, name)
     }
@@ -100,11 +118,53 @@ impl Attributes {
         self.note(alloc)
     }
 
+    /// The same of a copy of the name and the value.
+    pub fn add_copy(&mut self, alloc: Global, name: &str, value: &str) -> Result<(), AllocError>
+        requires { 0 < length name.now }
+    {
+        let (mut own_name, mut own_value) = self.at_hand(alloc);
+        own_name.push_str(name)?;
+        own_value.push_str(value)?;
+        self.add(alloc, own_name, own_value)
+    }
+
+    /// Two empty texts, with memory that is at hand.
+    fn at_hand(&mut self, alloc: Global) -> (String, String)
+        ensures name { string_bytes result.0 ≡ [] }
+        ensures value { string_bytes result.1 ≡ [] }
+    {
+        match self.spare.pop() {
+            Some(
+                TagAttr {
+                    mut name,
+                    mut value,
+                },
+            ) => {
+                name.clear();
+                value.clear();
+                (name, value)
+            }
+            None => (String::new(alloc), String::new(alloc)),
+        }
+    }
+
     /// Takes all attributes out.
     pub fn take(&mut self, alloc: Global) -> Vec<TagAttr>
         ensures { are_distinct result.items ≡ true }
     {
         let taken = mem::replace(self, Attributes::new(alloc));
         taken.kept
+    }
+
+    /// Puts all attributes there, in place of those of an earlier tag.
+    pub fn exchange(&mut self, alloc: Global, attrs: &mut Vec<TagAttr>)
+        ensures { are_distinct attrs.new.items ≡ true }
+    {
+        if self.noted > 0 {
+            self.older = BTreeSet::new(alloc);
+            self.noted = 0;
+        }
+        spare_all(&mut self.spare, attrs);
+        mem::swap(&mut self.kept, attrs);
     }
 }

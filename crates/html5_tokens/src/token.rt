@@ -70,6 +70,14 @@ impl Doctype {
     }
 }
 
+/// Which of the three a token is.
+#[derive(Clone, Copy, PartialEq, Eq, Debug, Drop)]
+pub enum TokenKind {
+    Tag,
+    Comment,
+    Doctype,
+}
+
 /// What is read between runs of characters.
 #[derive(Drop)]
 pub enum Token {

@@ -19,7 +19,7 @@ mod text;
 ghost use Rattle.std.specs.Prelude.{◌≡◌, [], string_bytes};
 
 use crate::parse_error::ErrorAt;
-use crate::token::{Doctype, Token};
+use crate::token::{Doctype, Tag, Token, TokenKind};
 use draft::TagDraft;
 use references::Reference;
 pub use runs::MARKS;
@@ -40,6 +40,8 @@ pub struct Tokenizer {
     /// The characters that stand before the next token.
     text: String,
     tag: TagDraft,
+    /// The last tag that ended. Its memory serves for those to come.
+    ended: Option<Tag>,
     /// The name of the last start tag.
     last_start: String,
     /// The temporary buffer of script data.
@@ -58,6 +60,10 @@ pub struct Tokenizer {
 
 /// The token that ends at a character, if one does. Errors where memory is refused.
 pub type Step = Result<Option<Token>, AllocError>;
+
+/// The kind of the token that ends at a character, if one does. The token itself is kept. Errors
+/// where memory is refused.
+type Progress = Result<Option<TokenKind>, AllocError>;
 
 /// What stands in place of a character that may not stand in a page.
 const REPLACEMENT: char = '\u{fffd}';
@@ -82,6 +88,7 @@ impl Tokenizer {
             in_foreign: false,
             text: String::new(alloc),
             tag: TagDraft::new(alloc),
+            ended: None,
             last_start: String::new(alloc),
             letters: String::new(alloc),
             comment: String::new(alloc),
@@ -117,6 +124,38 @@ impl Tokenizer {
         self.text.clear();
     }
 
+    /// The last tag, from its end to the end of the next.
+    pub fn tag(&self) -> Option<&Tag> {
+        self.ended.as_ref()
+    }
+
+    /// The last comment, from its end to the beginning of the next.
+    pub fn comment(&self) -> &str {
+        self.comment.as_str()
+    }
+
+    /// The last doctype, from its end to the beginning of the next.
+    pub fn doctype(&self) -> &Doctype {
+        &self.doctype
+    }
+
+    /// Takes the token of that kind that ended last, if there is one.
+    fn take_token(&mut self, kind: Option<TokenKind>) -> Option<Token>
+        ensures { kind ≡ None → (result ≡ None) × (self.new ≡ self.old) }
+    {
+        match kind? {
+            TokenKind::Tag => Some(Token::Tag(self.ended.take()?)),
+            TokenKind::Comment => {
+                let comment = mem::replace(&mut self.comment, String::new(self.alloc));
+                Some(Token::Comment(comment))
+            }
+            TokenKind::Doctype => {
+                let doctype = mem::replace(&mut self.doctype, Doctype::new());
+                Some(Token::Doctype(doctype))
+            }
+        }
+    }
+
     /// Switches to the state in which what follows a start tag is read.
     pub fn switch_to(&mut self, state: State)
         ensures { self.new ≡ record self.old { state = state } }
@@ -134,7 +173,7 @@ impl Tokenizer {
 
     /// Reads a character. A carriage return is a line feed, and with a line feed behind it they are
     /// one.
-    fn step(&mut self, letter: char) -> Step {
+    fn step(&mut self, letter: char) -> Progress {
         let follows = self.after_return;
         self.after_return = letter == '\r';
         if follows && letter == '\n' {
@@ -148,7 +187,7 @@ impl Tokenizer {
     }
 
     /// Reads a character outside a reference.
-    fn read(&mut self, c: char) -> Step {
+    fn read(&mut self, c: char) -> Progress {
         match self.state {
             State::Data => self.in_data(c),
             State::Rcdata => self.in_rcdata(c),
@@ -167,13 +206,13 @@ impl Tokenizer {
     }
 
     /// Goes on in a state.
-    fn then(&mut self, state: State) -> Step {
+    fn then(&mut self, state: State) -> Progress {
         self.state = state;
         Ok(None)
     }
 
     /// Goes on in the state of the characters themselves, with this one.
-    fn back_to(&mut self, raw: Raw, c: char) -> Step {
+    fn back_to(&mut self, raw: Raw, c: char) -> Progress {
         self.state = raw.state();
         match raw {
             Raw::Rcdata => self.in_rcdata(c),

@@ -1,12 +1,12 @@
 //! Attributes.
 
 use super::state::{AttrState, Quote, TagState};
-use super::{REPLACEMENT, State, Step, Tokenizer, is_space};
+use super::{Progress, REPLACEMENT, State, Tokenizer, is_space};
 use crate::parse_error::ParseError;
 use std::alloc::AllocError;
 
 impl Tokenizer {
-    pub(super) fn in_attribute(&mut self, state: AttrState, c: char) -> Step {
+    pub(super) fn in_attribute(&mut self, state: AttrState, c: char) -> Progress {
         match state {
             AttrState::BeforeName => self.before_attr_name(c),
             AttrState::Name => self.attr_name(c),
@@ -18,11 +18,11 @@ impl Tokenizer {
         }
     }
 
-    fn attr_then(&mut self, state: AttrState) -> Step {
+    fn attr_then(&mut self, state: AttrState) -> Progress {
         self.then(State::Attribute(state))
     }
 
-    fn before_attr_name(&mut self, c: char) -> Step {
+    fn before_attr_name(&mut self, c: char) -> Progress {
         match c {
             '/' | '>' => self.after_attr_name(c),
             '=' => {
@@ -38,7 +38,7 @@ impl Tokenizer {
         }
     }
 
-    fn attr_name(&mut self, c: char) -> Step {
+    fn attr_name(&mut self, c: char) -> Progress {
         match c {
             '/' | '>' | '=' => self.attr_name_ends(c),
             '\0' => {
@@ -56,7 +56,7 @@ impl Tokenizer {
 
     /// A character behind the name of an attribute. An earlier attribute of that name is noted here,
     /// before the value is read.
-    fn attr_name_ends(&mut self, c: char) -> Step {
+    fn attr_name_ends(&mut self, c: char) -> Progress {
         self.note_repeated_name()?;
         match c {
             '/' => self.then(State::Tag(TagState::SelfClosing)),
@@ -74,7 +74,7 @@ impl Tokenizer {
         Ok(())
     }
 
-    fn after_attr_name(&mut self, c: char) -> Step {
+    fn after_attr_name(&mut self, c: char) -> Progress {
         match c {
             '/' => self.then(State::Tag(TagState::SelfClosing)),
             '>' => self.emit_tag(),
@@ -87,7 +87,7 @@ impl Tokenizer {
         }
     }
 
-    fn before_attr_value(&mut self, c: char) -> Step {
+    fn before_attr_value(&mut self, c: char) -> Progress {
         match c {
             '"' => self.attr_then(AttrState::Quoted(Quote::Double)),
             '\'' => self.attr_then(AttrState::Quoted(Quote::Single)),
@@ -103,7 +103,7 @@ impl Tokenizer {
         }
     }
 
-    fn quoted_value(&mut self, quote: Quote, c: char) -> Step {
+    fn quoted_value(&mut self, quote: Quote, c: char) -> Progress {
         if c == quote.letter() {
             return self.attr_then(AttrState::AfterQuoted);
         }
@@ -113,7 +113,7 @@ impl Tokenizer {
         }
     }
 
-    fn unquoted_value(&mut self, c: char) -> Step {
+    fn unquoted_value(&mut self, c: char) -> Progress {
         match c {
             '&' => self.begin_reference(),
             '>' => self.emit_tag(),
@@ -126,7 +126,7 @@ impl Tokenizer {
         }
     }
 
-    fn after_quoted_value(&mut self, c: char) -> Step {
+    fn after_quoted_value(&mut self, c: char) -> Progress {
         match c {
             '/' => self.then(State::Tag(TagState::SelfClosing)),
             '>' => self.emit_tag(),
@@ -139,13 +139,13 @@ impl Tokenizer {
         }
     }
 
-    fn attr_letter(&mut self, c: char) -> Step {
+    fn attr_letter(&mut self, c: char) -> Progress {
         self.tag.attr_name.push(c)?;
         Ok(None)
     }
 
     /// A character of a value; a null is replaced.
-    fn value_letter(&mut self, c: char) -> Step {
+    fn value_letter(&mut self, c: char) -> Progress {
         if c == '\0' {
             self.error(ParseError::UnexpectedNullCharacter)?;
             self.tag.attr_value.push(REPLACEMENT)?;

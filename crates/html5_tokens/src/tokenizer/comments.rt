@@ -1,13 +1,12 @@
 //! Comments.
 
 use super::state::CommentState;
-use super::{REPLACEMENT, State, Step, Tokenizer};
+use super::{Progress, REPLACEMENT, State, Tokenizer};
 use crate::parse_error::ParseError;
-use crate::token::Token;
-use std::mem;
+use crate::token::TokenKind;
 
 impl Tokenizer {
-    pub(super) fn in_comment(&mut self, state: CommentState, c: char) -> Step {
+    pub(super) fn in_comment(&mut self, state: CommentState, c: char) -> Progress {
         match state {
             CommentState::Bogus => self.bogus_comment_letter(c),
             CommentState::Start | CommentState::StartDash => self.comment_start(state, c),
@@ -37,14 +36,14 @@ impl Tokenizer {
         }
     }
 
-    fn bogus_comment_letter(&mut self, c: char) -> Step {
+    fn bogus_comment_letter(&mut self, c: char) -> Progress {
         match c {
             '>' => self.emit_comment(),
             _ => self.comment_letter(c),
         }
     }
 
-    fn comment_start(&mut self, state: CommentState, c: char) -> Step {
+    fn comment_start(&mut self, state: CommentState, c: char) -> Progress {
         match (state, c) {
             (CommentState::Start, '-') => self.comment_then(CommentState::StartDash),
             (_, '-') => self.comment_then(CommentState::End),
@@ -57,7 +56,7 @@ impl Tokenizer {
         }
     }
 
-    fn comment_less_than(&mut self, c: char) -> Step {
+    fn comment_less_than(&mut self, c: char) -> Progress {
         match c {
             '!' => self.comment_put("!", CommentState::LessThanBang),
             '<' => self.comment_put("<", CommentState::LessThan),
@@ -65,7 +64,7 @@ impl Tokenizer {
         }
     }
 
-    fn comment_end(&mut self, c: char) -> Step {
+    fn comment_end(&mut self, c: char) -> Progress {
         match c {
             '>' => self.emit_comment(),
             '!' => self.comment_then(CommentState::EndBang),
@@ -74,7 +73,7 @@ impl Tokenizer {
         }
     }
 
-    fn comment_end_bang(&mut self, c: char) -> Step {
+    fn comment_end_bang(&mut self, c: char) -> Progress {
         match c {
             '-' => self.comment_put("--!", CommentState::EndDash),
             '>' => {
@@ -86,7 +85,7 @@ impl Tokenizer {
     }
 
     /// A character of a comment; a null is replaced.
-    fn comment_letter(&mut self, c: char) -> Step {
+    fn comment_letter(&mut self, c: char) -> Progress {
         if c == '\0' {
             self.error(ParseError::UnexpectedNullCharacter)?;
             self.comment.push(REPLACEMENT)?;
@@ -96,18 +95,18 @@ impl Tokenizer {
         Ok(None)
     }
 
-    fn comment_then(&mut self, state: CommentState) -> Step {
+    fn comment_then(&mut self, state: CommentState) -> Progress {
         self.then(State::Comment(state))
     }
 
     /// Goes on in a state, with a text that is a part of the comment.
-    fn comment_put(&mut self, text: &str, state: CommentState) -> Step {
+    fn comment_put(&mut self, text: &str, state: CommentState) -> Progress {
         self.comment.push_str(text)?;
         self.comment_then(state)
     }
 
     /// What was read of an end is a part of the comment, and it goes on with this character.
-    fn comment_again(&mut self, text: &str, c: char) -> Step {
+    fn comment_again(&mut self, text: &str, c: char) -> Progress {
         self.comment.push_str(text)?;
         self.state = State::Comment(CommentState::Comment);
         match c {
@@ -118,9 +117,8 @@ impl Tokenizer {
     }
 
     /// Hands out the comment that was read.
-    pub(super) fn emit_comment(&mut self) -> Step {
+    pub(super) fn emit_comment(&mut self) -> Progress {
         self.state = State::Data;
-        let comment = mem::replace(&mut self.comment, String::new(self.alloc));
-        Ok(Some(Token::Comment(comment)))
+        Ok(Some(TokenKind::Comment))
     }
 }

@@ -1,7 +1,7 @@
 //! What stands behind `<!`: a comment, a doctype or a CDATA section.
 
 use super::state::{CdataState, CommentState, DoctypeState, Seen};
-use super::{State, Step, Tokenizer};
+use super::{Progress, State, Tokenizer};
 use crate::parse_error::ParseError;
 use crate::token::Doctype;
 
@@ -30,7 +30,7 @@ fn seen_with(seen: Seen, c: char) -> Option<Seen> {
 }
 
 impl Tokenizer {
-    pub(super) fn in_declaration(&mut self, seen: Seen, c: char) -> Step {
+    pub(super) fn in_declaration(&mut self, seen: Seen, c: char) -> Progress {
         if let (Seen::Dash, '-') = (seen, c) {
             self.comment.clear();
             return self.then(State::Comment(CommentState::Start));
@@ -54,7 +54,7 @@ impl Tokenizer {
     }
 
     /// A CDATA section in foreign content, and else a bogus comment.
-    fn cdata_begins(&mut self, c: char) -> Step {
+    fn cdata_begins(&mut self, c: char) -> Progress {
         if self.in_foreign {
             return self.then(State::Cdata(CdataState::Section));
         }

@@ -1,9 +1,9 @@
 //! Doctypes.
 
 use super::state::{DoctypeState, Id, Quote};
-use super::{REPLACEMENT, State, Step, Tokenizer, is_space};
+use super::{Progress, REPLACEMENT, State, Tokenizer, is_space};
 use crate::parse_error::ParseError;
-use crate::token::{Doctype, Token};
+use crate::token::TokenKind;
 use std::alloc::AllocError;
 use std::mem;
 
@@ -42,7 +42,7 @@ impl Id {
 }
 
 impl Tokenizer {
-    pub(super) fn in_doctype(&mut self, state: DoctypeState, c: char) -> Step {
+    pub(super) fn in_doctype(&mut self, state: DoctypeState, c: char) -> Progress {
         match state {
             DoctypeState::Begin => self.doctype_begins(c),
             DoctypeState::BeforeName => self.before_doctype_name(c),
@@ -59,11 +59,11 @@ impl Tokenizer {
         }
     }
 
-    fn doctype_then(&mut self, state: DoctypeState) -> Step {
+    fn doctype_then(&mut self, state: DoctypeState) -> Progress {
         self.then(State::Doctype(state))
     }
 
-    fn doctype_begins(&mut self, c: char) -> Step {
+    fn doctype_begins(&mut self, c: char) -> Progress {
         if is_space(c) {
             return self.doctype_then(DoctypeState::BeforeName);
         }
@@ -73,7 +73,7 @@ impl Tokenizer {
         self.before_doctype_name(c)
     }
 
-    fn before_doctype_name(&mut self, c: char) -> Step {
+    fn before_doctype_name(&mut self, c: char) -> Progress {
         if is_space(c) {
             return Ok(None);
         }
@@ -86,7 +86,7 @@ impl Tokenizer {
         self.doctype_name(c)
     }
 
-    fn doctype_name(&mut self, c: char) -> Step {
+    fn doctype_name(&mut self, c: char) -> Progress {
         match c {
             '>' => self.emit_doctype(),
             '\0' => {
@@ -98,14 +98,14 @@ impl Tokenizer {
         }
     }
 
-    fn doctype_letter(&mut self, c: char) -> Step {
+    fn doctype_letter(&mut self, c: char) -> Progress {
         if let Some(name) = &mut self.doctype.name {
             name.push(c)?;
         }
         Ok(None)
     }
 
-    fn after_doctype_name(&mut self, c: char) -> Step {
+    fn after_doctype_name(&mut self, c: char) -> Progress {
         match c {
             '>' => self.emit_doctype(),
             'p' | 'P' => self.doctype_then(DoctypeState::Keyword(Id::Public, 1)),
@@ -115,7 +115,7 @@ impl Tokenizer {
         }
     }
 
-    fn doctype_keyword(&mut self, id: Id, count: usize, c: char) -> Step {
+    fn doctype_keyword(&mut self, id: Id, count: usize, c: char) -> Progress {
         let word = match id {
             Id::Public => b"public",
             Id::System => b"system",
@@ -132,7 +132,7 @@ impl Tokenizer {
         }
     }
 
-    fn after_keyword(&mut self, id: Id, c: char) -> Step {
+    fn after_keyword(&mut self, id: Id, c: char) -> Progress {
         match c {
             '"' | '\'' => {
                 self.error(id.missing_whitespace())?;
@@ -143,7 +143,7 @@ impl Tokenizer {
         }
     }
 
-    fn before_id(&mut self, id: Id, c: char) -> Step {
+    fn before_id(&mut self, id: Id, c: char) -> Progress {
         match c {
             '"' => self.begin_id(id, Quote::Double),
             '\'' => self.begin_id(id, Quote::Single),
@@ -156,7 +156,7 @@ impl Tokenizer {
         }
     }
 
-    fn begin_id(&mut self, id: Id, quote: Quote) -> Step {
+    fn begin_id(&mut self, id: Id, quote: Quote) -> Progress {
         let empty = Some(String::new(self.alloc));
         match id {
             Id::Public => self.doctype.public_id = empty,
@@ -165,7 +165,7 @@ impl Tokenizer {
         self.doctype_then(DoctypeState::Quoted(id, quote))
     }
 
-    fn quoted_id(&mut self, id: Id, quote: Quote, c: char) -> Step {
+    fn quoted_id(&mut self, id: Id, quote: Quote, c: char) -> Progress {
         if c == quote.letter() {
             return self.doctype_then(DoctypeState::AfterId(id));
         }
@@ -182,7 +182,7 @@ impl Tokenizer {
         }
     }
 
-    fn id_letter(&mut self, id: Id, c: char) -> Step {
+    fn id_letter(&mut self, id: Id, c: char) -> Progress {
         let text = match id {
             Id::Public => &mut self.doctype.public_id,
             Id::System => &mut self.doctype.system_id,
@@ -205,7 +205,7 @@ impl Tokenizer {
         Ok(())
     }
 
-    fn after_public_id(&mut self, c: char) -> Step {
+    fn after_public_id(&mut self, c: char) -> Progress {
         match c {
             '"' | '\'' => {
                 let missing = ParseError::MissingWhitespaceBetweenDoctypePublicAndSystemIdentifiers;
@@ -217,7 +217,7 @@ impl Tokenizer {
         }
     }
 
-    fn between_ids(&mut self, c: char) -> Step {
+    fn between_ids(&mut self, c: char) -> Progress {
         match c {
             '>' => self.emit_doctype(),
             '"' => self.begin_id(Id::System, Quote::Double),
@@ -227,7 +227,7 @@ impl Tokenizer {
         }
     }
 
-    fn after_system_id(&mut self, c: char) -> Step {
+    fn after_system_id(&mut self, c: char) -> Progress {
         match c {
             '>' => self.emit_doctype(),
             _ if is_space(c) => Ok(None),
@@ -239,7 +239,7 @@ impl Tokenizer {
         }
     }
 
-    fn bogus_doctype(&mut self, c: char) -> Step {
+    fn bogus_doctype(&mut self, c: char) -> Progress {
         match c {
             '>' => self.emit_doctype(),
             '\0' => {
@@ -251,7 +251,7 @@ impl Tokenizer {
     }
 
     /// The doctype isn't well formed; it goes on to its `>`.
-    fn bogus_from(&mut self, error: ParseError, c: char) -> Step {
+    fn bogus_from(&mut self, error: ParseError, c: char) -> Progress {
         self.error(error)?;
         self.doctype.force_quirks = true;
         self.state = State::Doctype(DoctypeState::Bogus);
@@ -259,15 +259,14 @@ impl Tokenizer {
     }
 
     /// Hands out the doctype that was read, with which the document is in quirks mode.
-    pub(super) fn emit_quirks_doctype(&mut self) -> Step {
+    pub(super) fn emit_quirks_doctype(&mut self) -> Progress {
         self.doctype.force_quirks = true;
         self.emit_doctype()
     }
 
     /// Hands out the doctype that was read.
-    pub(super) fn emit_doctype(&mut self) -> Step {
+    pub(super) fn emit_doctype(&mut self) -> Progress {
         self.state = State::Data;
-        let doctype = mem::replace(&mut self.doctype, Doctype::new());
-        Ok(Some(Token::Doctype(doctype)))
+        Ok(Some(TokenKind::Doctype))
     }
 }

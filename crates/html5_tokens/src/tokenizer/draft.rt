@@ -1,6 +1,7 @@
 //! The tag that is being read.
 
-ghost use Rattle.std.specs.Prelude.{◌≡◌, ◌<◌, IfSome, length};
+ghost use Rattle.std.specs.Prelude.{◌≡◌, ◌<◌, length, map, string_bytes};
+ghost use Rattle.std.specs.Char.{to_ascii_lowercase};
 
 use crate::attributes::Attributes;
 use crate::token::{Tag, TagKind};
@@ -66,23 +67,47 @@ impl TagDraft {
     pub fn add_attr(&mut self, alloc: Global, name: &str, value: &str) -> Result<(), AllocError>
         requires { 0 < length name.now }
     {
-        let name = String::from_str(alloc, name)?;
-        let value = String::from_str(alloc, value)?;
-        self.attrs.add(alloc, name, value)
+        self.attrs.add_copy(alloc, name, value)
     }
 
-    /// The tag that was begun, if one was. None is begun then.
-    pub fn finish(&mut self, alloc: Global) -> Option<Tag> {
+    /// Puts the tag that was begun there, if one was, and returns whether one was. None is begun
+    /// then. The memory of the tag that was there serves for those to come.
+    pub fn finish(&mut self, alloc: Global, ended: &mut Option<Tag>) -> bool {
         if self.name.is_empty() {
-            return None;
+            return false;
         }
-        let mut name = mem::replace(&mut self.name, String::new(alloc));
-        name.make_ascii_lowercase();
-        Some(Tag {
+        self.name.make_ascii_lowercase();
+        match ended {
+            Some(tag) => self.finish_in(alloc, tag),
+            None => *ended = Some(self.finish_anew(alloc)),
+        }
+        true
+    }
+
+    /// Puts the tag where another one was.
+    fn finish_in(&mut self, alloc: Global, tag: &mut Tag)
+        requires some { 0 < length (string_bytes self.old.name) }
+        requires folded { map to_ascii_lowercase (string_bytes self.old.name)
+            ≡ string_bytes self.old.name }
+    {
+        mem::swap(&mut self.name, &mut tag.name);
+        self.name.clear();
+        self.attrs.exchange(alloc, &mut tag.attrs);
+        tag.kind = self.kind;
+        tag.self_closing = self.self_closing;
+    }
+
+    /// The tag in memory of its own.
+    fn finish_anew(&mut self, alloc: Global) -> Tag
+        requires some { 0 < length (string_bytes self.old.name) }
+        requires folded { map to_ascii_lowercase (string_bytes self.old.name)
+            ≡ string_bytes self.old.name }
+    {
+        Tag {
             kind: self.kind,
-            name,
+            name: mem::replace(&mut self.name, String::new(alloc)),
             attrs: self.attrs.take(alloc),
             self_closing: self.self_closing,
-        })
+        }
     }
 }

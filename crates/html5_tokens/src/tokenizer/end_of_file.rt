@@ -5,8 +5,9 @@ ghost use Rattle.std.specs.Prelude.{◌≡◌, [], IfOk};
 use super::state::{
     CdataState, CommentState, DoctypeState, EndTagState, Raw, ScriptState, TagState,
 };
-use super::{State, Step, Tokenizer};
+use super::{Progress, State, Step, Tokenizer};
 use crate::parse_error::ParseError;
+use crate::token::TokenKind;
 use std::alloc::AllocError;
 
 impl Tokenizer {
@@ -17,6 +18,15 @@ impl Tokenizer {
     pub fn end(&mut self) -> Step
         ensures text { IsInText self.old → IfOk result (λ token.
             (token ≡ None) × AddsText self.old self.new []) }
+    {
+        let kind = self.end_kind()?;
+        Ok(self.take_token(kind))
+    }
+
+    /// The same; the comment or doctype is lent.
+    pub fn end_kind(&mut self) -> Result<Option<TokenKind>, AllocError>
+        ensures text { IsInText self.old → IfOk result (λ kind.
+            (kind ≡ None) × AddsText self.old self.new []) }
     {
         self.end_reference()?;
         match self.state {
@@ -69,7 +79,7 @@ impl Tokenizer {
         }
     }
 
-    fn end_comment(&mut self, state: CommentState) -> Step {
+    fn end_comment(&mut self, state: CommentState) -> Progress {
         match state {
             CommentState::Bogus => {}
             _ => self.error(ParseError::EofInComment)?,
@@ -77,7 +87,7 @@ impl Tokenizer {
         self.emit_comment()
     }
 
-    fn end_doctype(&mut self, state: DoctypeState) -> Step {
+    fn end_doctype(&mut self, state: DoctypeState) -> Progress {
         match state {
             DoctypeState::Bogus => return self.emit_doctype(),
             DoctypeState::Keyword(_, _) => {

@@ -1,10 +1,10 @@
 //! Tags and references as they are mostly written, read in one go: without nulls, carriage returns,
 //! and in a tag without references. What isn't written so is left to the reading by characters.
 
-use super::runs::{Run, attr_name_len, run_len, value_len};
+use super::runs::{Run, attr_name_len, run_len, tag_name_len, value_len};
 use super::state::{AttrState, Quote, TagState};
 use super::{State, Tokenizer};
-use crate::token::{TagKind, Token};
+use crate::token::{TagKind, TokenKind};
 use std::alloc::AllocError;
 
 /// The references that are mostly met, without `&`, and what they stand for.
@@ -149,18 +149,18 @@ impl Tokenizer {
     pub(super) fn read_plain<'a>(
         &mut self,
         text: &'a str,
-        token: &mut Option<Token>,
+        read: &mut Option<TokenKind>,
     ) -> Result<&'a str, AllocError> {
         if !self.is_plain() {
             return Ok(text);
         }
         match self.state {
             State::Data => match tag_begins(text) {
-                Some((kind, named)) => self.read_plain_tag(kind, named, token),
+                Some((kind, named)) => self.read_plain_tag(kind, named, read),
                 None => Ok(text),
             },
             State::Attribute(AttrState::BeforeName | AttrState::AfterQuoted) => {
-                self.read_plain_attrs(text, token)
+                self.read_plain_attrs(text, read)
             }
             State::Attribute(AttrState::Quoted(_)) => self.read_plain_reference(text),
             _ => Ok(text),
@@ -183,23 +183,23 @@ impl Tokenizer {
         &mut self,
         kind: TagKind,
         text: &'a str,
-        token: &mut Option<Token>,
+        read: &mut Option<TokenKind>,
     ) -> Result<&'a str, AllocError> {
-        let (name, rest) = text.split_at(run_len(Run::TagName, text));
+        let (name, rest) = text.split_at(tag_name_len(text));
         self.tag.begin(self.alloc, kind);
         self.tag.name.push_str(name)?;
         if matches!(first_byte(rest), 0 | b'\r') {
             self.state = State::Tag(TagState::Name);
             return Ok(rest);
         }
-        self.read_plain_attrs(rest, token)
+        self.read_plain_attrs(rest, read)
     }
 
     /// Reads plain attributes, and the end of their tag.
     fn read_plain_attrs<'a>(
         &mut self,
         text: &'a str,
-        token: &mut Option<Token>,
+        read: &mut Option<TokenKind>,
     ) -> Result<&'a str, AllocError> {
         self.state = State::Attribute(AttrState::BeforeName);
         self.finish_attr()?;
@@ -207,7 +207,7 @@ impl Tokenizer {
         for _ in 0..text.len() {
             rest = skip_spaces(rest);
             if let Some(after) = self.plain_end(rest) {
-                *token = self.emit_tag()?;
+                *read = self.emit_tag()?;
                 return Ok(after);
             }
             let Some(attr) = plain_attr(rest) else {

@@ -1,11 +1,11 @@
 //! Raw text ends at an end tag of the last start tag's name: what may be one.
 
 use super::state::{AttrState, EndTagState, Raw, ScriptState, TagState};
-use super::{State, Step, Tokenizer, is_space};
+use super::{Progress, State, Tokenizer, is_space};
 use crate::token::TagKind;
 
 impl Tokenizer {
-    pub(super) fn in_end_tag(&mut self, raw: Raw, state: EndTagState, c: char) -> Step {
+    pub(super) fn in_end_tag(&mut self, raw: Raw, state: EndTagState, c: char) -> Progress {
         match state {
             EndTagState::LessThan => self.raw_less_than(raw, c),
             EndTagState::Open => self.raw_end_tag_open(raw, c),
@@ -13,7 +13,7 @@ impl Tokenizer {
         }
     }
 
-    fn raw_less_than(&mut self, raw: Raw, c: char) -> Step {
+    fn raw_less_than(&mut self, raw: Raw, c: char) -> Progress {
         match (raw, c) {
             (_, '/') => self.then(State::EndTag(raw, EndTagState::Open)),
             (Raw::Script, '!') => {
@@ -33,7 +33,7 @@ impl Tokenizer {
         }
     }
 
-    fn raw_end_tag_open(&mut self, raw: Raw, c: char) -> Step {
+    fn raw_end_tag_open(&mut self, raw: Raw, c: char) -> Progress {
         if c.is_ascii_alphabetic() {
             self.tag.begin(self.alloc, TagKind::End);
             self.state = State::EndTag(raw, EndTagState::Name);
@@ -50,7 +50,7 @@ impl Tokenizer {
         name.eq_ignore_ascii_case(self.last_start.as_str())
     }
 
-    fn raw_end_tag_name(&mut self, raw: Raw, c: char) -> Step {
+    fn raw_end_tag_name(&mut self, raw: Raw, c: char) -> Progress {
         if c.is_ascii_alphabetic() {
             return self.name_letter(c);
         }

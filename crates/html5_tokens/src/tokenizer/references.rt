@@ -5,7 +5,7 @@ ghost use Rattle.html5_tokens.specs.Numbers.{character_of};
 
 use super::errors::is_noncharacter;
 use super::state::AttrState;
-use super::{REPLACEMENT, State, Step, Tokenizer};
+use super::{Progress, REPLACEMENT, State, Tokenizer};
 use crate::named_references::{Names, Value};
 use crate::parse_error::ParseError;
 use std::alloc::AllocError;
@@ -90,7 +90,7 @@ impl Tokenizer {
         !matches!(self.reference, Reference::None)
     }
 
-    pub(super) fn begin_reference(&mut self) -> Step {
+    pub(super) fn begin_reference(&mut self) -> Progress {
         self.written.clear();
         self.behind.clear();
         self.written.push('&')?;

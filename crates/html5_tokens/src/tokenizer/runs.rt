@@ -8,9 +8,10 @@ use super::state::{
     AttrState, CdataState, CommentState, DoctypeState, DoubleState, Id, Quote, ScriptState,
     TagState,
 };
-use super::{State, Step, Tokenizer};
-use crate::token::Token;
+use super::{Progress, State, Step, Tokenizer};
+use crate::token::{Token, TokenKind};
 use std::alloc::AllocError;
+use std::simd::prelude::*;
 
 /// The character that ends each token, and so a stretch of a page.
 pub const MARKS: char = '>';
@@ -65,7 +66,9 @@ fn ends_text(byte: u8) -> bool
 
 /// Whether a byte ends the name of a tag.
 #[inline(always)]
-fn ends_tag_name(byte: u8) -> bool {
+fn ends_tag_name(byte: u8) -> bool
+    ensures { result ≡ true → byte < 128 }
+{
     byte <= b'>' && matches!(byte, 0 | b'\t' | b'\n' | 0xc | b'\r' | b' ' | b'/' | b'>')
 }
 
@@ -121,13 +124,47 @@ impl Run {
     }
 }
 
+/// How many bytes stand before the first of sixteen among which one of four bytes is, and before
+/// that byte; at most a few bytes less.
+#[inline(always)]
+fn skip(bytes: &[u8], ends: [u8; 4]) -> usize {
+    let (blocks, _) = bytes.as_chunks::<16>();
+    let mut count: usize = 0;
+    for block in blocks {
+        let lanes = u8x16::from_array(*block);
+        let marks = lanes.simd_eq(u8x16::splat(ends[0]))
+            | lanes.simd_eq(u8x16::splat(ends[1]))
+            | lanes.simd_eq(u8x16::splat(ends[2]))
+            | lanes.simd_eq(u8x16::splat(ends[3]));
+        let marks = marks.to_bitmask();
+        if marks != 0 {
+            return count.saturating_add(marks.trailing_zeros() as usize);
+        }
+        count = count.saturating_add(16);
+    }
+    count
+}
+
 /// How many bytes stand before the first that ends a run of text.
 fn text_len(text: &str) -> usize
     ensures boundary { IsCharBoundary text.now result }
     ensures text { IsRun text.now → result ≡ length text.now }
 {
+    let bytes = text.as_bytes();
+    for index in skip(bytes, *b"\0\r&<")..bytes.len() {
+        if ends_text(bytes[index]) {
+            return index;
+        }
+    }
+    text.len()
+}
+
+/// How many bytes stand before the first that ends the name of a tag.
+pub fn tag_name_len(text: &str) -> usize
+    ensures { IsCharBoundary text.now result }
+{
     for (index, byte) in text.as_bytes().iter().enumerate() {
-        if ends_text(*byte) {
+        if ends_tag_name(*byte) {
             return index;
         }
     }
@@ -150,8 +187,9 @@ pub fn attr_name_len(text: &str) -> usize
 pub fn value_len(text: &str) -> usize
     ensures { IsCharBoundary text.now result }
 {
-    for (index, byte) in text.as_bytes().iter().enumerate() {
-        if ends_value(*byte) {
+    let bytes = text.as_bytes();
+    for index in skip(bytes, *b"\0\r&\"")..bytes.len() {
+        if ends_value(bytes[index]) {
             return index;
         }
     }
@@ -165,12 +203,19 @@ pub fn run_len(run: Run, text: &str) -> usize
 {
     match run {
         Run::Text => return text_len(text),
+        Run::TagName => return tag_name_len(text),
         Run::AttrName => return attr_name_len(text),
         Run::AttrValue(Quote::Double) => return value_len(text),
         _ => {}
     }
-    for (index, byte) in text.as_bytes().iter().enumerate() {
-        if run.ends_at(*byte) {
+    let bytes = text.as_bytes();
+    let skipped = match run {
+        Run::Raw => skip(bytes, *b"\0\r<<"),
+        Run::Escaped | Run::Comment => skip(bytes, *b"\0\r-<"),
+        _ => 0,
+    };
+    for index in skipped..bytes.len() {
+        if run.ends_at(bytes[index]) {
             return index;
         }
     }
@@ -197,14 +242,8 @@ impl Tokenizer {
         ensures text { IsInText self.old → IsRun stretch.now → IfOk result (λ token.
             (token ≡ None) × AddsText self.old self.new stretch.now) }
     {
-        if self.errors.is_some() {
-            self.check_input(stretch)?;
-        }
-        let rest = self.read_run(stretch)?;
-        if rest.is_empty() {
-            return Ok(None);
-        }
-        self.read_marks(rest)
+        let kind = self.stretch(stretch)?;
+        Ok(self.take_token(kind))
     }
 
     /// Reads a text up to the end of the first token in it, which is put there, and returns what
@@ -218,14 +257,34 @@ impl Tokenizer {
             (λ rest. (rest.now ≡ []) × (token.new ≡ token.old)
             × AddsText self.old self.new text.now) }
     {
+        let mut kind = None;
+        let rest = self.read_kind(text, &mut kind)?;
+        if kind.is_some() {
+            *token = self.take_token(kind);
+        }
+        Ok(rest)
+    }
+
+    /// Reads a text up to the end of the first token in it, and returns what follows that. The kind
+    /// of the token is put there; the token itself is lent, as by [`Tokenizer::tag`]. Errors where
+    /// memory is refused.
+    pub fn read_kind<'a>(
+        &mut self,
+        text: &'a str,
+        kind: &mut Option<TokenKind>,
+    ) -> Result<&'a str, AllocError>
+        ensures text { IsInText self.old → self.old.errors ≡ None → IsRun text.now → IfOk result
+            (λ rest. (rest.now ≡ []) × (kind.new ≡ kind.old)
+            × AddsText self.old self.new text.now) }
+    {
         if self.errors.is_some() {
-            return self.read_first(text, token);
+            return self.read_first(text, kind);
         }
         let rest = self.read_run(text)?;
         if rest.is_empty() {
             return Ok(rest);
         }
-        self.read_to_token(rest, token)
+        self.read_to_token(rest, kind)
     }
 
     /// Reads the first stretch of a text, and returns what follows it.
@@ -233,35 +292,50 @@ impl Tokenizer {
     fn read_first<'a>(
         &mut self,
         text: &'a str,
-        token: &mut Option<Token>,
+        kind: &mut Option<TokenKind>,
     ) -> Result<&'a str, AllocError> {
         let Some(stretch) = text.split_inclusive(MARKS).next() else {
             return Ok(text);
         };
-        if let Some(made) = self.read_stretch(stretch)? {
-            *token = Some(made);
+        if let Some(made) = self.stretch(stretch)? {
+            *kind = Some(made);
         }
         Ok(text.get(stretch.len()..).unwrap_or(""))
     }
 
+    /// Reads a stretch of a page.
+    fn stretch(&mut self, stretch: &str) -> Progress
+        ensures text { IsInText self.old → IsRun stretch.now → IfOk result (λ kind.
+            (kind ≡ None) × AddsText self.old self.new stretch.now) }
+    {
+        if self.errors.is_some() {
+            self.check_input(stretch)?;
+        }
+        let rest = self.read_run(stretch)?;
+        if rest.is_empty() {
+            return Ok(None);
+        }
+        self.read_marks(rest)
+    }
+
     /// Reads a text that begins with a character that is no part of a run.
-    fn read_marks(&mut self, text: &str) -> Step {
-        let mut token = None;
+    fn read_marks(&mut self, text: &str) -> Progress {
+        let mut kind = None;
         let mut rest = text;
         for _ in 0..text.len() {
             if rest.is_empty() {
                 break;
             }
-            rest = self.read_to_token(rest, &mut token)?;
+            rest = self.read_to_token(rest, &mut kind)?;
         }
-        Ok(token)
+        Ok(kind)
     }
 
     /// Reads such a text up to the end of a token, if one ends in it; a character at least.
     fn read_to_token<'a>(
         &mut self,
         text: &'a str,
-        token: &mut Option<Token>,
+        kind: &mut Option<TokenKind>,
     ) -> Result<&'a str, AllocError> {
         let mut made = None;
         let mut rest = text;
@@ -276,7 +350,7 @@ impl Tokenizer {
                 self.read_char(rest, &mut made)?
             };
             if made.is_some() {
-                *token = made;
+                *kind = made;
                 break;
             }
             rest = self.read_run(rest)?;
@@ -292,13 +366,13 @@ impl Tokenizer {
     fn read_char<'a>(
         &mut self,
         text: &'a str,
-        token: &mut Option<Token>,
+        kind: &mut Option<TokenKind>,
     ) -> Result<&'a str, AllocError> {
         let Some((c, after)) = split_char(text) else {
             return Ok(text);
         };
         if let Some(made) = self.step(c)? {
-            *token = Some(made);
+            *kind = Some(made);
         }
         self.offset = self.offset.saturating_add(c.len_utf8());
         Ok(after)

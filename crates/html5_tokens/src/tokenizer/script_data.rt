@@ -1,11 +1,11 @@
 //! Script data behind `<!--`.
 
 use super::state::{DoubleState, EndTagState, Raw, ScriptState};
-use super::{REPLACEMENT, State, Step, Tokenizer, is_space};
+use super::{Progress, REPLACEMENT, State, Tokenizer, is_space};
 use crate::parse_error::ParseError;
 
 impl Tokenizer {
-    pub(super) fn in_script(&mut self, state: ScriptState, c: char) -> Step {
+    pub(super) fn in_script(&mut self, state: ScriptState, c: char) -> Progress {
         match (state, c) {
             (ScriptState::EscapeStart, '-') => {
                 self.text_then(c, State::ScriptData(ScriptState::EscapeStartDash))
@@ -25,7 +25,7 @@ impl Tokenizer {
         }
     }
 
-    fn in_escaped(&mut self, state: ScriptState, c: char) -> Step {
+    fn in_escaped(&mut self, state: ScriptState, c: char) -> Progress {
         let next = match (c, state) {
             ('-', ScriptState::Escaped) => State::ScriptData(ScriptState::EscapedDash),
             ('-', _) => State::ScriptData(ScriptState::EscapedDashDash),
@@ -40,7 +40,7 @@ impl Tokenizer {
         self.text_then(c, next)
     }
 
-    fn double_start(&mut self, c: char) -> Step {
+    fn double_start(&mut self, c: char) -> Progress {
         let is_script = self.letters.as_str() == "script";
         match c {
             '/' | '>' | '\t' | '\n' | '\u{c}' | ' ' => self.escape(c, is_script),
@@ -53,7 +53,7 @@ impl Tokenizer {
     }
 
     /// Goes on in script data that is escaped once or twice, with a character that is text.
-    fn escape(&mut self, c: char, twice: bool) -> Step {
+    fn escape(&mut self, c: char, twice: bool) -> Progress {
         let state = if twice {
             ScriptState::Double(DoubleState::Escaped)
         } else {
@@ -62,13 +62,13 @@ impl Tokenizer {
         self.text_then(c, State::ScriptData(state))
     }
 
-    fn double_letter(&mut self, c: char) -> Step {
+    fn double_letter(&mut self, c: char) -> Progress {
         self.letters.push(c.to_ascii_lowercase())?;
         self.text.push(c)?;
         Ok(None)
     }
 
-    fn double_less_than(&mut self, c: char) -> Step {
+    fn double_less_than(&mut self, c: char) -> Progress {
         match c {
             '/' => {
                 self.letters.clear();
@@ -78,7 +78,7 @@ impl Tokenizer {
         }
     }
 
-    fn double_end(&mut self, c: char) -> Step {
+    fn double_end(&mut self, c: char) -> Progress {
         let is_script = self.letters.as_str() == "script";
         match c {
             '/' | '>' => self.escape(c, !is_script),
@@ -88,11 +88,11 @@ impl Tokenizer {
         }
     }
 
-    fn double_then(&mut self, c: char, state: DoubleState) -> Step {
+    fn double_then(&mut self, c: char, state: DoubleState) -> Progress {
         self.text_then(c, State::ScriptData(ScriptState::Double(state)))
     }
 
-    fn in_double(&mut self, state: DoubleState, c: char) -> Step {
+    fn in_double(&mut self, state: DoubleState, c: char) -> Progress {
         match (c, state) {
             ('-', DoubleState::Escaped) => self.double_then(c, DoubleState::Dash),
             ('-', _) => self.double_then(c, DoubleState::DashDash),

@@ -1,13 +1,13 @@
 //! Tags, outside their attributes.
 
 use super::state::{AttrState, CommentState, Seen, TagState};
-use super::{REPLACEMENT, State, Step, Tokenizer, is_space};
+use super::{Progress, REPLACEMENT, State, Tokenizer, is_space};
 use crate::parse_error::ParseError;
-use crate::token::{Tag, TagKind, Token};
+use crate::token::{TagKind, TokenKind};
 use std::alloc::AllocError;
 
 impl Tokenizer {
-    pub(super) fn in_tag(&mut self, state: TagState, c: char) -> Step {
+    pub(super) fn in_tag(&mut self, state: TagState, c: char) -> Progress {
         match state {
             TagState::Open => self.tag_open(c),
             TagState::EndOpen => self.end_tag_open(c),
@@ -16,7 +16,7 @@ impl Tokenizer {
         }
     }
 
-    fn tag_open(&mut self, c: char) -> Step {
+    fn tag_open(&mut self, c: char) -> Progress {
         match c {
             '!' => {
                 self.comment.clear();
@@ -37,7 +37,7 @@ impl Tokenizer {
         }
     }
 
-    fn end_tag_open(&mut self, c: char) -> Step {
+    fn end_tag_open(&mut self, c: char) -> Progress {
         match c {
             'a'..='z' | 'A'..='Z' => self.begin_tag(TagKind::End, c),
             '>' => {
@@ -52,20 +52,20 @@ impl Tokenizer {
     }
 
     /// Begins a bogus comment with this character.
-    fn bogus_comment(&mut self, c: char) -> Step {
+    fn bogus_comment(&mut self, c: char) -> Progress {
         self.comment.clear();
         self.state = State::Comment(CommentState::Bogus);
         self.in_comment(CommentState::Bogus, c)
     }
 
     /// Begins a tag with the first letter of its name.
-    fn begin_tag(&mut self, kind: TagKind, c: char) -> Step {
+    fn begin_tag(&mut self, kind: TagKind, c: char) -> Progress {
         self.tag.begin(self.alloc, kind);
         self.state = State::Tag(TagState::Name);
         self.name_letter(c)
     }
 
-    fn tag_name(&mut self, c: char) -> Step {
+    fn tag_name(&mut self, c: char) -> Progress {
         match c {
             '/' => self.then(State::Tag(TagState::SelfClosing)),
             '>' => self.emit_tag(),
@@ -78,12 +78,12 @@ impl Tokenizer {
         }
     }
 
-    pub(super) fn name_letter(&mut self, c: char) -> Step {
+    pub(super) fn name_letter(&mut self, c: char) -> Progress {
         self.tag.name.push(c)?;
         Ok(None)
     }
 
-    fn self_closing(&mut self, c: char) -> Step {
+    fn self_closing(&mut self, c: char) -> Progress {
         match c {
             '>' => {
                 self.tag.self_closing = true;
@@ -98,17 +98,15 @@ impl Tokenizer {
     }
 
     /// Hands out the tag that was read. What follows it is data until a caller switches.
-    pub(super) fn emit_tag(&mut self) -> Step {
+    pub(super) fn emit_tag(&mut self) -> Progress {
         self.finish_attr()?;
         self.state = State::Data;
         self.check_end_tag()?;
-        match self.tag.finish(self.alloc) {
-            Some(tag) => {
-                self.note_start(&tag)?;
-                Ok(Some(Token::Tag(tag)))
-            }
-            None => Ok(None),
+        if !self.tag.finish(self.alloc, &mut self.ended) {
+            return Ok(None);
         }
+        self.note_start()?;
+        Ok(Some(TokenKind::Tag))
     }
 
     /// Notes what an end tag may not have.
@@ -126,8 +124,10 @@ impl Tokenizer {
     }
 
     /// Keeps the name of a start tag: raw text ends at an end tag of that name.
-    fn note_start(&mut self, tag: &Tag) -> Result<(), AllocError> {
-        if tag.kind == TagKind::Start {
+    fn note_start(&mut self) -> Result<(), AllocError> {
+        if let Some(tag) = &self.ended
+            && tag.kind == TagKind::Start
+        {
             self.last_start.clear();
             self.last_start.push_str(tag.name.as_str())?;
         }

@@ -1,7 +1,7 @@
 //! Characters outside tags: the data, RCDATA, RAWTEXT, script data, PLAINTEXT and CDATA states.
 
 use super::state::{CdataState, EndTagState, Raw, TagState};
-use super::{REPLACEMENT, State, Step, Tokenizer};
+use super::{Progress, REPLACEMENT, State, Tokenizer};
 use crate::parse_error::ParseError;
 use std::alloc::AllocError;
 
@@ -13,14 +13,14 @@ impl Tokenizer {
     }
 
     /// Goes on in a state, with a character that is text.
-    pub(super) fn text_then(&mut self, c: char, state: State) -> Step {
+    pub(super) fn text_then(&mut self, c: char, state: State) -> Progress {
         self.state = state;
         self.text.push(c)?;
         Ok(None)
     }
 
     /// A character that is text; a null is replaced.
-    pub(super) fn text_letter(&mut self, c: char) -> Step {
+    pub(super) fn text_letter(&mut self, c: char) -> Progress {
         if c == '\0' {
             self.error(ParseError::UnexpectedNullCharacter)?;
             self.text.push(REPLACEMENT)?;
@@ -30,7 +30,7 @@ impl Tokenizer {
         Ok(None)
     }
 
-    pub(super) fn in_data(&mut self, c: char) -> Step {
+    pub(super) fn in_data(&mut self, c: char) -> Progress {
         match c {
             '&' => self.begin_reference(),
             '<' => self.then(State::Tag(TagState::Open)),
@@ -42,21 +42,21 @@ impl Tokenizer {
         }
     }
 
-    pub(super) fn in_rcdata(&mut self, c: char) -> Step {
+    pub(super) fn in_rcdata(&mut self, c: char) -> Progress {
         match c {
             '&' => self.begin_reference(),
             _ => self.in_raw(Raw::Rcdata, c),
         }
     }
 
-    pub(super) fn in_raw(&mut self, raw: Raw, c: char) -> Step {
+    pub(super) fn in_raw(&mut self, raw: Raw, c: char) -> Progress {
         match c {
             '<' => self.then(State::EndTag(raw, EndTagState::LessThan)),
             _ => self.text_letter(c),
         }
     }
 
-    pub(super) fn in_cdata(&mut self, state: CdataState, c: char) -> Step {
+    pub(super) fn in_cdata(&mut self, state: CdataState, c: char) -> Progress {
         match (state, c) {
             (CdataState::Section, ']') => return self.then(State::Cdata(CdataState::Bracket)),
             (CdataState::Section, _) => {}

@@ -1,13 +1,8 @@
-use Rattle.std.proofs.Common.{◌<◌, arith, length, string_bytes}
-use Rattle.std.proofs.lemmas.Grind.{common_steps}
-use Rattle.html5_tokens.proofs.AttributeLemmas.{folded-folded, length-folded}
+use Rattle.html5_tokens.proofs.AttributeLemmas.{folded-folded}
 use Rattle.html5_tokens.proofs.tokenizer.draft.TagDraft.finish.Goals as goal
 
-pub invariant_of-result : goal.invariant_of-result
-invariant_of-result c =
-    let some : 0 < length (string_bytes c.replace-name.result) = grind (arith, common_steps) in
-    record {
-      not_empty = rw (c.make_ascii_lowercase.ensures.bytes, length-folded) some;
-      folded = rw c.make_ascii_lowercase.ensures.bytes (folded-folded _);
-      distinct = c.take.ensures;
-    }
+pub finish_in-requires-clause-folded : goal.finish_in-requires-clause-folded
+finish_in-requires-clause-folded c = rw c.make_ascii_lowercase.ensures.bytes (folded-folded _)
+
+pub finish_anew-requires-clause-folded : goal.finish_anew-requires-clause-folded
+finish_anew-requires-clause-folded c = rw c.make_ascii_lowercase.ensures.bytes (folded-folded _)
