@@ -1,1 +1,3 @@
-pub mod AttributeLemmas
+mod AttributeLemmas
+mod NameLemmas
+mod SortedNames

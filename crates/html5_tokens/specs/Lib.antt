@@ -1,4 +1,6 @@
 pub mod Attributes
+pub mod NameTable
+pub mod NamedReferences
 pub mod Numbers
 pub mod Reading
 pub mod Runs

@@ -2,6 +2,12 @@
 
 mod table;
 
+ghost use Rattle.std.specs.Prelude.{◌≡◌, ◌<◌, ◌≤◌, ◌++◌, ◌∷◌, []};
+ghost use Rattle.std.specs.Prelude.{MatchOption, Some, length, nat_le, slice_range};
+ghost use Rattle.std.specs.Char.{IsScalar};
+ghost use Rattle.html5_tokens.specs.NameTable.{name_at, rank_at, second_of, value_at};
+ghost use Rattle.html5_tokens.specs.NameTable.{AreNames, ArePartedAt};
+
 use table::{FIRSTS, LETTERS, SECONDS, STARTS};
 
 /// The number of names.
@@ -13,7 +19,8 @@ const COUNT: usize = 2231;
 pub struct Names {
     low: usize,
     high: usize,
-    length: usize,
+    place: usize,
+    ghost exactly: { AreNames low high place },
 }
 
 /// The characters that a name stands for.
@@ -24,73 +31,118 @@ pub struct Value {
 }
 
 impl Names {
+    ghost use Rattle.html5_tokens.specs.NamedReferences.{read_of, BeginsNoName};
+    ghost use Rattle.html5_tokens.specs.NamedReferences.{IsNoName, IsValueOf};
+
     /// All names.
-    pub fn all() -> Names {
+    pub fn all() -> Names
+        ensures { read_of result ≡ [] }
+    {
         Names {
             low: 0,
             high: COUNT,
-            length: 0,
+            place: 0,
         }
     }
 
     /// Those of the names that go on with this character; none where no name does.
-    pub fn with(self, letter: u8) -> Option<Names> {
-        let low = self.first_from(letter);
-        let high = match letter.checked_add(1) {
-            Some(above) => self.first_from(above),
-            None => self.high,
-        };
-        if low < high {
-            Some(Names {
-                low,
-                high,
-                length: self.length.saturating_add(1),
-            })
-        } else {
-            None
+    pub fn with(self, letter: u8) -> Option<Names>
+        ensures { MatchOption result (BeginsNoName (read_of self ++ letter ∷ []))
+            (λ more. read_of more ≡ read_of self ++ letter ∷ []) }
+    {
+        let low = self.first_from(u16::from(letter));
+        let high = self.first_from(u16::from(letter) + 1);
+        if low >= high {
+            return None;
         }
+        Some(Names {
+            low,
+            high,
+            place: self.place + 1,
+        })
     }
 
-    /// The first of the names whose next character is this one or a greater one. Halves the names
-    /// at most 12 times, since there are fewer than 4,096.
-    fn first_from(self, letter: u8) -> usize {
+    /// The first of the names whose next character is this one or a greater one.
+    fn first_from(self, letter: u16) -> usize
+        ensures { ArePartedAt self.low self.high self.place letter result }
+    {
         let mut low = self.low;
         let mut high = self.high;
-        for _ in 0..12 {
-            if low >= high {
-                return low;
-            }
+        while low < high {
             let middle = low + (high - low) / 2;
-            match letter_at(middle, self.length) {
-                Some(next) if next >= letter => high = middle,
-                _ => low = middle.saturating_add(1),
+            if is_below(middle, self.place, letter) {
+                low = middle + 1;
+            } else {
+                high = middle;
             }
         }
         low
     }
 
     /// What the characters that were read stand for, where they are a whole name.
-    pub fn value(self) -> Option<Value> {
-        if name(self.low)?.len() != self.length {
-            return None;
+    pub fn value(self) -> Option<Value>
+        ensures { MatchOption result (IsNoName (read_of self)) (IsValueOf (read_of self)) }
+    {
+        if name(self.low).len() == self.place {
+            value_at(self.low)
+        } else {
+            None
         }
-        let first = char::from_u32(*FIRSTS.get(self.low)?)?;
-        let second = match *SECONDS.get(self.low)? {
-            0 => None,
-            number => char::from_u32(u32::from(number)),
-        };
-        Some(Value { first, second })
     }
 }
 
 /// The bytes of a name.
-fn name(index: usize) -> Option<&'static [u8]> {
-    let start = *STARTS.get(index)?;
-    let end = *STARTS.get(index.checked_add(1)?)?;
-    LETTERS.get(usize::from(start)..usize::from(end))
+fn name(index: usize) -> &'static [u8]
+    requires { index < 2231 }
+    ensures { result.now ≡ name_at index }
+{
+    let start = usize::from(STARTS[index]);
+    let end = usize::from(STARTS[index + 1]);
+    part(&LETTERS, start, end)
 }
 
-/// The byte of a name at a place.
-fn letter_at(index: usize, place: usize) -> Option<u8> {
-    name(index)?.get(place).copied()
+fn part(letters: &[u8], start: usize, end: usize) -> &[u8]
+    requires ordered { start ≤ end }
+    requires within { end ≤ length letters.now }
+    ensures { result.now ≡ slice_range letters.now start end }
+{
+    &letters[start..end]
+}
+
+/// Whether the byte of a name at a place is below a letter, or the name ends before it.
+fn is_below(index: usize, place: usize, letter: u16) -> bool
+    requires { index < 2231 }
+    ensures { result ≡ nat_le (rank_at place (name_at index)) letter }
+{
+    let name = name(index);
+    if place < name.len() {
+        u16::from(name[place]) < letter
+    } else {
+        true
+    }
+}
+
+/// The characters that a name stands for.
+fn value_at(index: usize) -> Option<Value>
+    requires { index < 2231 }
+    ensures { result ≡ Some (value_at index) }
+{
+    value_of(FIRSTS[index], SECONDS[index])
+}
+
+/// One character, or two where the second is not 0.
+fn value_of(first: u32, second: u16) -> Option<Value>
+    requires first { IsScalar first }
+    requires second { IsScalar second }
+    ensures { result ≡ Some (record { first = first; second = second_of second }) }
+{
+    let first = char::from_u32(first)?;
+    if second == 0 {
+        return Some(Value {
+            first,
+            second: None,
+        });
+    }
+    let second = char::from_u32(u32::from(second));
+    Some(Value { first, second })
 }

@@ -1,0 +1,41 @@
+-- The table of the named character references: its names, and those of them that begin with a text.
+use Rattle.std.specs.Prelude.{◌≡◌, ℕ, zero, suc, ◌+◌, ◌<◌, ◌≤◌, ◌↔◌, List, [], ◌∷◌, length, take, slice_index, slice_range, Option, None, Some}
+use Rattle.html5_tokens.specs.declared.named_references.Value.{Value}
+use Rattle.html5_tokens.specs.declared.named_references.table.TheConstants.{LETTERS, STARTS, FIRSTS, SECONDS}
+
+-- the name with a number
+unfoldable pub name_at : ℕ → List ℕ
+name_at i = slice_range LETTERS (slice_index STARTS i) (slice_index STARTS (i + 1))
+
+-- the second character of a name, where it stands for two
+abbrev pub second_of : ℕ → Option ℕ
+second_of zero = None
+second_of (suc n) = Some (suc n)
+
+-- the characters that the name with a number stands for
+unfoldable pub value_at : ℕ → Value
+value_at i = record { first = slice_index FIRSTS i; second = second_of (slice_index SECONDS i) }
+
+-- the text begins with the front
+abbrev pub IsFrontOf : List ℕ → List ℕ → Type 0
+IsFrontOf front text = take (length front) text ≡ front
+
+-- the names that begin with the first `place` characters of name `low` are those from it on, before `high`
+pub record AreNames (low high place : ℕ) : Type 0 where
+  pub some : low < high
+  pub within : high ≤ 2231
+  pub read : place ≤ length (name_at low)
+  pub exactly : (i : ℕ) → i < 2231 → IsFrontOf (take place (name_at low)) (name_at i) ↔ ((low ≤ i) × (i < high))
+
+-- one more than the character at a place of a text, and 0 past its end
+abbrev pub rank_at : ℕ → List ℕ → ℕ
+rank_at place [] = 0
+rank_at zero (x ∷ xs) = suc x
+rank_at (suc place) (x ∷ xs) = rank_at place xs
+
+-- of the names from `low` on, before `high`, those before `index` have a character below the letter at a place, or end there
+pub record ArePartedAt (low high place letter index : ℕ) : Type 0 where
+  pub from : low ≤ index
+  pub within : index ≤ high
+  pub below : (i : ℕ) → low ≤ i → i < index → rank_at place (name_at i) ≤ letter
+  pub above : (i : ℕ) → index ≤ i → i < high → letter < rank_at place (name_at i)

@@ -1,0 +1,36 @@
+-- Named character references: what of one was read, and what the longest name stands for.
+use Rattle.std.specs.Prelude.{◌≡◌, ℕ, ◌<◌, ◌≤◌, List, length, take, Option, MatchOption}
+use Rattle.html5_tokens.specs.declared.named_references.Names.{Names}
+use Rattle.html5_tokens.specs.declared.named_references.Value.{Value}
+use Rattle.html5_tokens.specs.NameTable.{name_at, value_at, IsFrontOf}
+
+-- the characters that were read
+abbrev pub read_of : Names → List ℕ
+read_of names = take names.place (name_at names.low)
+
+-- no name begins with the text
+abbrev pub BeginsNoName : List ℕ → Type 0
+BeginsNoName text = (i : ℕ) → i < 2231 → IsFrontOf text (name_at i) → ⊥
+
+-- the text is a name, and the value is what it stands for
+pub record IsValueOf (text : List ℕ) (value : Value) : Type 0 where
+  pub number : ℕ
+  pub known : number < 2231
+  pub name : name_at number ≡ text
+  pub stands_for : value ≡ value_at number
+
+-- the text is no name
+abbrev pub IsNoName : List ℕ → Type 0
+IsNoName text = (i : ℕ) → i < 2231 → name_at i ≡ text → ⊥
+
+-- the value is that of the longest name that the text begins with
+pub record IsValueOfLongest (text : List ℕ) (value : Value) : Type 0 where
+  pub number : ℕ
+  pub known : number < 2231
+  pub front : IsFrontOf (name_at number) text
+  pub stands_for : value ≡ value_at number
+  pub longest : (i : ℕ) → i < 2231 → IsFrontOf (name_at i) text → length (name_at i) ≤ length (name_at number)
+
+-- the value is that of the longest name that the text begins with; none where it begins with no name
+abbrev pub IsLongest : List ℕ → Option Value → Type 0
+IsLongest text value = MatchOption value ((i : ℕ) → i < 2231 → IsFrontOf (name_at i) text → ⊥) (IsValueOfLongest text)
