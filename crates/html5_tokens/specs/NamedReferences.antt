@@ -1,5 +1,5 @@
 -- Named character references: what of one was read, and what the longest name stands for.
-use Rattle.std.specs.Prelude.{◌≡◌, ℕ, ◌<◌, ◌≤◌, List, length, take, Option, MatchOption}
+use Rattle.std.specs.Prelude.{◌≡◌, ℕ, ◌<◌, ◌≤◌, List, length, take, Option, Some, None}
 use Rattle.html5_tokens.specs.declared.named_references.Names.{Names}
 use Rattle.html5_tokens.specs.declared.named_references.Value.{Value}
 use Rattle.html5_tokens.specs.NameTable.{name_at, value_at, IsFrontOf}
@@ -23,14 +23,13 @@ pub record IsValueOf (text : List ℕ) (value : Value) : Type 0 where
 abbrev pub IsNoName : List ℕ → Type 0
 IsNoName text = (i : ℕ) → i < 2231 → name_at i ≡ text → ⊥
 
--- the value is that of the longest name that the text begins with
-pub record IsValueOfLongest (text : List ℕ) (value : Value) : Type 0 where
-  pub number : ℕ
+-- of the names that the text begins with, the one with this number is the longest
+pub record IsLongestName (text : List ℕ) (number : ℕ) : Type 0 where
   pub known : number < 2231
   pub front : IsFrontOf (name_at number) text
-  pub stands_for : value ≡ value_at number
   pub longest : (i : ℕ) → i < 2231 → IsFrontOf (name_at i) text → length (name_at i) ≤ length (name_at number)
 
 -- the value is that of the longest name that the text begins with; none where it begins with no name
-abbrev pub IsLongest : List ℕ → Option Value → Type 0
-IsLongest text value = MatchOption value ((i : ℕ) → i < 2231 → IsFrontOf (name_at i) text → ⊥) (IsValueOfLongest text)
+pub record IsLongest (text : List ℕ) (value : Option Value) : Type 0 where
+  pub some : (i : ℕ) → IsLongestName text i → value ≡ Some (value_at i)
+  pub none : ((i : ℕ) → i < 2231 → IsFrontOf (name_at i) text → ⊥) → value ≡ None

@@ -7,6 +7,7 @@ mod doctypes;
 mod draft;
 mod end_of_file;
 mod errors;
+mod named;
 mod plain;
 mod raw_end_tags;
 mod references;

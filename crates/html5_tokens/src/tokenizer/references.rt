@@ -4,9 +4,9 @@ ghost use Rattle.std.specs.Prelude.{◌≡◌, ◌+◌, ◌*◌, false, min};
 ghost use Rattle.html5_tokens.specs.Numbers.{character_of};
 
 use super::errors::is_noncharacter;
+use super::named::Match;
 use super::state::AttrState;
 use super::{Progress, REPLACEMENT, State, Tokenizer};
-use crate::named_references::{Names, Value};
 use crate::parse_error::ParseError;
 use std::alloc::AllocError;
 
@@ -26,16 +26,6 @@ pub enum Reference {
     HexStart,
     Hex(u32),
     Decimal(u32),
-}
-
-/// The names that begin with what was read, and what the longest one stands for that was read
-/// whole.
-#[derive(Clone, Copy, Drop)]
-pub struct Match {
-    names: Names,
-    value: Option<Value>,
-    /// Whether that name ends in a semicolon.
-    closed: bool,
 }
 
 /// The characters that the numbers 128 to 159 stand for.
@@ -133,12 +123,7 @@ impl Tokenizer {
             return self.go_on(Reference::Number, c);
         }
         if c.is_ascii_alphanumeric() {
-            let found = Match {
-                names: Names::all(),
-                value: None,
-                closed: false,
-            };
-            return self.named(found, c);
+            return self.named(Match::new(), c);
         }
         self.put_written()?;
         Ok(false)
@@ -195,29 +180,20 @@ impl Tokenizer {
     }
 
     fn named(&mut self, found: Match, c: char) -> Result<bool, AllocError> {
-        let more = match u8::try_from(c) {
-            Ok(byte) if !found.closed => found.names.with(byte),
-            _ => None,
-        };
-        match more {
-            Some(names) => self.name_goes_on(found, names, c),
+        match found.with(c) {
+            Some(more) => self.name_goes_on(more, c),
             None => self.name_ends(found, c),
         }
     }
 
-    fn name_goes_on(&mut self, found: Match, names: Names, c: char) -> Result<bool, AllocError> {
+    fn name_goes_on(&mut self, found: Match, c: char) -> Result<bool, AllocError> {
         self.written.push(c)?;
-        let value = names.value();
-        if value.is_some() {
+        if found.is_whole {
             self.behind.clear();
         } else {
             self.behind.push(c)?;
         }
-        self.reference = Reference::Named(Match {
-            names,
-            value: value.or(found.value),
-            closed: value.is_some() && c == ';',
-        });
+        self.reference = Reference::Named(found);
         Ok(true)
     }
 
