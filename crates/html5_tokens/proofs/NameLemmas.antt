@@ -1,11 +1,11 @@
 -- The names that begin with a text stand side by side, and so do those of them with one next character.
-use Rattle.std.proofs.Common.{◌≡◌, ℕ, zero, suc, ◌+◌, ◌<◌, ◌≤◌, ◌⊎◌, ◌↔◌, Bool, true, List, [], ◌∷◌, ◌++◌, take, length, refl, sym, ap, ap₂, subst, ◌∙◌, arith, inl, inr, length-take-le, take_all, le_of_suc-le-suc, suc-le-suc, zero-le, le_refl, le_of_eq, le_trans, lt_of_le_of_lt, lt_of_lt_of_le, nat_lt, nat_le, false, get_or, leb-true, leb-false, le-leb, ltb-true, ◌&&◌, zero-lt-suc, Option, None, Some, MatchOption, length-append, add-one}
+use Rattle.std.proofs.Common.{◌≡◌, ℕ, zero, suc, ◌+◌, ◌<◌, ◌≤◌, ◌⊎◌, ◌↔◌, true, List, [], ◌∷◌, ◌++◌, take, length, refl, sym, ap, ap₂, subst, ◌∙◌, arith, inl, inr, length-take-le, take_all, le_of_suc-le-suc, suc-le-suc, zero-le, le_refl, le_of_eq, le_trans, lt_of_le_of_lt, lt_of_lt_of_le, nat_lt, nat_le, false, get_or, leb-true, leb-false, le-leb, ltb-true, zero-lt-suc, Option, None, Some}
 use Rattle.std.proofs.lemmas.Bool.{cases_lt, and_parts}
 use Rattle.std.proofs.lemmas.Bool.Decides.{nat_tests}
 use Rattle.std.proofs.lemmas.List.{length_push}
 use Rattle.html5_tokens.specs.NameTable.{name_at, rank_at, value_at, IsFrontOf, AreNames, ArePartedAt}
 use Rattle.html5_tokens.specs.declared.named_references.Value.{Value}
-use Rattle.html5_tokens.specs.NamedReferences.{BeginsNoName, IsLongest, IsLongestName, IsNoName, IsValueOf}
+use Rattle.html5_tokens.specs.NamedReferences.{BeginsNoName, IsLongest, IsNoName, IsValueOf}
 use Rattle.html5_tokens.proofs.SortedNames.{rises, rises-later, are_bytes, name_at-once, name_at-rises, name_at-some, name_at-bytes}
 
 -- ---- fronts and the character behind them

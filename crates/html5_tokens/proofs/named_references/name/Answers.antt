@@ -1,4 +1,3 @@
-use Rattle.html5_tokens.proofs.NameLemmas.{ranks_rise}
 use Rattle.html5_tokens.proofs.SortedNames.{ordered_at, within_at, part_is_name}
 use Rattle.html5_tokens.proofs.named_references.name.Goals as goal
 

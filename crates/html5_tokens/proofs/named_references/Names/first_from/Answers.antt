@@ -1,4 +1,4 @@
-use Rattle.std.proofs.Common.{◌<◌, ◌≤◌, ◌+◌, ◌-◌, ◌/◌, sym, ◌∙◌, arith}
+use Rattle.std.proofs.Common.{sym, ◌∙◌, arith}
 use Rattle.html5_tokens.proofs.NameLemmas.{halved_at_first, halved_above, halved_below, parted_when_met}
 use Rattle.html5_tokens.proofs.named_references.Names.first_from.Goals as goal
 

@@ -1,4 +1,4 @@
-use Rattle.std.proofs.Common.{◌≡◌, length, ap, sym, ◌∙◌}
+use Rattle.std.proofs.Common.{length, ap, ◌∙◌}
 use Rattle.html5_tokens.proofs.NameLemmas.{read_no_name}
 use Rattle.html5_tokens.proofs.named_references.Names.value.Goals as goal
 

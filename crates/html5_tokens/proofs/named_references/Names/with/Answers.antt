@@ -1,5 +1,4 @@
-use Rattle.std.proofs.Common.{◌≡◌, ◌<◌, ◌≤◌, ◌+◌, ℕ, subst, ap, arith}
-use Rattle.html5_tokens.specs.NameTable.{name_at, ArePartedAt}
+use Rattle.std.proofs.Common.{arith}
 use Rattle.html5_tokens.proofs.SortedNames.{length-name_at}
 use Rattle.html5_tokens.proofs.NameLemmas.{names_more, names_none, read_more}
 use Rattle.html5_tokens.proofs.named_references.Names.with.Goals as goal

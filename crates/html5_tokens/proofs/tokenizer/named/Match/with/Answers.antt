@@ -1,4 +1,4 @@
-use Rattle.std.proofs.Common.{◌≡◌, ◌≤◌, ◌<◌, ℕ, ◌++◌, ◌∷◌, [], ap, sym, subst, ◌∙◌, arith}
+use Rattle.std.proofs.Common.{◌++◌, ◌∷◌, [], subst}
 use Rattle.html5_tokens.specs.NamedReferences.{read_of, BeginsNoName}
 use Rattle.html5_tokens.proofs.NameLemmas.{longest_ends, longest_stays, longest_whole, no_name_past_bytes, past_from_not}
 use Rattle.html5_tokens.proofs.tokenizer.named.Match.with.Goals as goal
