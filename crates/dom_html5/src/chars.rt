@@ -5,9 +5,42 @@ use crate::fault::PageFault;
 use crate::name::Name;
 use crate::stack::Ns;
 use std::mem;
+use std::simd::prelude::*;
 
 /// The characters that are white space to tree construction.
 const SPACES: [char; 5] = ['\t', '\n', '\u{c}', '\r', ' '];
+
+/// Whether a character of the text is null.
+fn has_null(text: &str) -> bool {
+    let (blocks, rest) = text.as_bytes().as_chunks::<16>();
+    for block in blocks {
+        if u8x16::from_array(*block)
+            .simd_eq(u8x16::splat(0))
+            .to_bitmask()
+            != 0
+        {
+            return true;
+        }
+    }
+    for byte in rest {
+        if *byte == 0 {
+            return true;
+        }
+    }
+    false
+}
+
+/// What follows the white space at the front of a text.
+fn behind_spaces(text: &str) -> &str {
+    let mut count: usize = 0;
+    for byte in text.as_bytes() {
+        if !matches!(*byte, b'\t' | b'\n' | 0xc | b'\r' | b' ') {
+            break;
+        }
+        count = count.saturating_add(1);
+    }
+    text.get(count..).unwrap_or(text)
+}
 
 /// What the characters of a run are: nulls, white space alone, or others too.
 #[derive(Clone, Copy, PartialEq, Eq, Drop)]
@@ -30,6 +63,9 @@ impl TreeBuilder {
         if self.mode == Mode::Text {
             return self.text_run(text);
         }
+        if !has_null(text) {
+            return self.stretch(text);
+        }
         for stretch in text.split_inclusive('\0') {
             match stretch.strip_suffix('\0') {
                 Some(front) => {
@@ -49,21 +85,39 @@ impl TreeBuilder {
         self.put_text(text)
     }
 
-    /// Reads characters of which none is null: white space first, and then the others.
+    /// Reads characters of which none is null: white space first, and then the others; in one run
+    /// where the mode reads them alike.
     fn stretch(&mut self, text: &str) -> Result<(), PageFault> {
-        let rest = text.trim_start_matches(SPACES);
-        if let Some(spaces) = text.get(..text.len().saturating_sub(rest.len()))
-            && !spaces.is_empty()
-        {
-            self.run(Run::Spaces, spaces)?;
-        }
+        let rest = behind_spaces(text);
         if rest.is_empty() {
-            return Ok(());
+            return self.spaces_run(text);
         }
+        if self.joins_spaces() {
+            return self.run(Run::Letters, text);
+        }
+        let spaces = text
+            .get(..text.len().saturating_sub(rest.len()))
+            .unwrap_or("");
+        self.spaces_run(spaces)?;
         if self.drops_letters() {
             return self.words(rest);
         }
         self.run(Run::Letters, rest)
+    }
+
+    fn spaces_run(&mut self, spaces: &str) -> Result<(), PageFault> {
+        if spaces.is_empty() {
+            return Ok(());
+        }
+        self.run(Run::Spaces, spaces)
+    }
+
+    /// Whether white space goes where the letters behind it go, and does nothing else.
+    fn joins_spaces(&self) -> bool {
+        matches!(
+            self.mode,
+            Mode::InBody | Mode::InCaption | Mode::InCell | Mode::InTemplate
+        )
     }
 
     /// Whether the mode may drop letters but keep the white space between them.

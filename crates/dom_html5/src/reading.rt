@@ -13,7 +13,7 @@ use dom_markup::document::Document;
 use dom_markup::document::sink::TreeSink;
 use dom_nodes::name::LocalName;
 use html5_tokens::parse_error::ErrorAt;
-use html5_tokens::token::Token;
+use html5_tokens::token::TokenKind;
 use html5_tokens::tokenizer::{State, Tokenizer};
 use std::alloc::Global;
 
@@ -207,8 +207,8 @@ impl PageParser {
     fn read_end(&mut self) -> Result<(), PageFault>
         ensures { ReadsPage self.old → ReadsPage self.new }
     {
-        if let Some(token) = self.tokens.end()? {
-            self.token(token)?;
+        if let Some(kind) = self.tokens.end_kind()? {
+            self.token(kind)?;
         }
         let text = self.tokens.take_text();
         self.builder.characters(text.as_str())?;
@@ -233,23 +233,28 @@ impl PageParser {
     fn read_token<'a>(&mut self, text: &'a str) -> Result<&'a str, PageFault>
         ensures { ReadsPage self.old → ReadsPage self.new }
     {
-        let mut token = None;
-        let rest = self.tokens.read_token(text, &mut token)?;
-        if let Some(token) = token {
-            self.token(token)?;
+        let mut kind = None;
+        let rest = self.tokens.read_kind(text, &mut kind)?;
+        if let Some(kind) = kind {
+            self.token(kind)?;
         }
         Ok(rest)
     }
 
-    fn token(&mut self, token: Token) -> Result<(), PageFault>
+    /// Reads the token that ended, and the characters before it.
+    fn token(&mut self, kind: TokenKind) -> Result<(), PageFault>
         ensures { ReadsPage self.old → ReadsPage self.new }
     {
         self.builder.characters(self.tokens.text())?;
         self.tokens.clear_text();
-        match token {
-            Token::Tag(tag) => self.builder.tag(&tag)?,
-            Token::Comment(text) => self.builder.comment(text.as_str())?,
-            Token::Doctype(doctype) => self.builder.doctype(&doctype)?,
+        match kind {
+            TokenKind::Tag => {
+                if let Some(tag) = self.tokens.tag() {
+                    self.builder.tag(tag)?;
+                }
+            }
+            TokenKind::Comment => self.builder.comment(self.tokens.comment())?,
+            TokenKind::Doctype => self.builder.doctype(self.tokens.doctype())?,
         }
         if let Some(state) = self.builder.switch.take() {
             self.tokens.switch_to(state);

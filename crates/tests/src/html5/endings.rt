@@ -1,7 +1,8 @@
-//! Each beginning of a text, and the text with any one character changed, is read to its end.
+//! Each beginning of a text, and the text with any one character changed, is read to its end, and
+//! as the same page by both ways of reading tags.
 
 use super::OPTIONS;
-use dom_html5::parse_page;
+use dom_html5::{Options, parse_page};
 use std::alloc::Global;
 use std::process::Abort;
 use std::test::Fail;
@@ -35,8 +36,17 @@ const TEXTS: [&str; 10] = [
 /// What takes the place of a character.
 const MARKS: [&str; 6] = ["", "<", ">", "&", "\0", "/"];
 
-fn ends(rt: &impl Abort, alloc: Global, text: &str) {
-    assert!(rt; parse_page(alloc, text, OPTIONS).is_ok());
+/// A text is read as the same page whether its errors are noted or not: tags are read in one go, or
+/// character by character.
+fn ends(rt: &impl Abort, alloc: Global, text: &str) -> Result<(), Fail> {
+    let noting = Options {
+        errors: true,
+        ..OPTIONS
+    };
+    let page = parse_page(alloc, text, OPTIONS)?.html()?;
+    let noted = parse_page(alloc, text, noting)?.html()?;
+    assert!(rt; page.as_str() == noted.as_str());
+    Ok(())
 }
 
 /// The text up to a place, another character, and what stands behind the character there.
@@ -51,7 +61,7 @@ fn changed(alloc: Global, text: &str, at: usize, mark: &str) -> Result<String, F
 fn beginnings_of_pages_end(rt: HostRuntime) -> Result<(), Fail> {
     for text in TEXTS {
         for at in 0..text.len() {
-            ends(&rt, rt.alloc(), text.get(..at).unwrap_or(""));
+            ends(&rt, rt.alloc(), text.get(..at).unwrap_or(""))?;
         }
     }
     Ok(())
@@ -66,7 +76,7 @@ fn changed_pages_end(rt: HostRuntime) -> Result<(), Fail> {
                     &rt,
                     rt.alloc(),
                     changed(rt.alloc(), text, at, mark)?.as_str(),
-                );
+                )?;
             }
         }
     }
