@@ -4,9 +4,10 @@
 
 use dom_query::{
     Allow, Document, DocumentMd, DocumentSelect, EditFault, Matcher, MiniSelect, NodeId,
-    NodeMarkup, NodeMd, Place, Snippet, Tokens, Tree, TreeIndex, sanitize,
+    NodeMarkup, NodeMd, Options, Place, Snippet, Tokens, Tree, TreeIndex, parse_page, sanitize,
 };
 use dom_select::matcher::descendants::select_below;
+use std::alloc::Global;
 use std::io::Read;
 use std::time::{Duration, Instant};
 
@@ -14,6 +15,7 @@ use std::time::{Duration, Instant};
 #[derive(Clone, Copy, PartialEq, Eq, Debug, Drop)]
 enum Call {
     Parse,
+    Page,
     Drop,
     Tokens,
     Walk,
@@ -37,8 +39,9 @@ enum Call {
     Sanitize,
 }
 
-const CALLS: [(&str, Call); 22] = [
+const CALLS: [(&str, Call); 23] = [
     ("parse", Call::Parse),
+    ("page", Call::Page),
     ("drop", Call::Drop),
     ("tokens", Call::Tokens),
     ("walk", Call::Walk),
@@ -228,22 +231,56 @@ fn move_all(tree: &mut Tree) -> usize {
 
 /// Does a call, and counts bytes or nodes of what it gives.
 fn count_of(rt: &HostRuntime, page: &Page, call: Call) -> Option<usize> {
-    let document = &page.document;
     let source = page.source.as_str();
     match call {
-        Call::Parse => Some(Document::parse(rt.alloc(), source).ok()?.tree.len()),
-        Call::Tokens => last_end(source),
-        Call::Walk => Some(document.root().descendants_it().count()),
-        Call::Html => Some(document.html().ok()?.len()),
-        Call::Text => Some(document.text().ok()?.len()),
-        Call::Formatted => Some(document.formatted_text().ok()?.len()),
-        Call::Md => Some(document.md(None).ok()?.len()),
+        Call::Parse | Call::Page | Call::Tokens => count_read(rt.alloc(), source, call),
+        Call::Html | Call::Text | Call::Formatted | Call::Md => length_of(&page.document, call),
+        Call::Clone | Call::Append | Call::Validate | Call::Walk => count_nodes(page, call),
+        _ => count_found(page, call),
+    }
+}
+
+/// Reads the source, and counts the nodes, or the bytes of tokens.
+fn count_read(alloc: Global, source: &str, call: Call) -> Option<usize> {
+    match call {
+        Call::Parse => Some(Document::parse(alloc, source).ok()?.tree.len()),
+        Call::Page => {
+            let document = parse_page(alloc, source, Options::default()).ok()?;
+            Some(document.tree.len())
+        }
+        _ => last_end(source),
+    }
+}
+
+/// Writes the document, and counts the bytes.
+fn length_of(document: &Document, call: Call) -> Option<usize> {
+    let text = match call {
+        Call::Html => document.html().ok()?,
+        Call::Text => document.text().ok()?,
+        Call::Formatted => document.formatted_text().ok()?,
+        _ => document.md(None).ok()?,
+    };
+    Some(text.len())
+}
+
+/// Copies, tests or walks the document, and counts the nodes.
+fn count_nodes(page: &Page, call: Call) -> Option<usize> {
+    let document = &page.document;
+    match call {
         Call::Clone => Some(document.try_clone().ok()?.tree.len()),
         Call::Append => append_to_all(page),
         Call::Validate => {
             document.tree.validate().ok()?;
             Some(document.tree.len())
         }
+        _ => Some(document.root().descendants_it().count()),
+    }
+}
+
+/// Makes an index, or selects, and counts what is found.
+fn count_found(page: &Page, call: Call) -> Option<usize> {
+    let document = &page.document;
+    match call {
         Call::Index => TreeIndex::new(&document.tree)
             .ok()?
             .last_below(&NodeId::root()),
