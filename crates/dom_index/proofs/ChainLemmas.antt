@@ -61,7 +61,7 @@ module _ (forest : Forest) (lines : AreLines forest) where
   may_last Sibling w u v (inr none) s (inl is) other = absurd (no_earlier w u (ap (earlier forest) is ∙ none) s)
 
   -- a chain that reaches a node before the exempt one reaches it with that node exempt
-  sparing_here : (exempt v : ℕ) → Precedes forest v exempt → (ss : Chain) (w : ℕ) → StepsMatch (steps_of ss) forest exempt w v → StepsMatch (steps_of ss) forest v w v
+  pub sparing_here : (exempt v : ℕ) → Precedes forest v exempt → (ss : Chain) (w : ℕ) → StepsMatch (steps_of ss) forest exempt w v → StepsMatch (steps_of ss) forest v w v
   sparing_here exempt v p [] w h = h
   sparing_here exempt v p (s ∷ ss) w h =
       let u = h.0 in
@@ -76,7 +76,7 @@ module _ (forest : Forest) (lines : AreLines forest) where
       at_spared u (inr q) = precedes_then forest u v exempt q p
 
   -- and back, where the node may stand beside `+` and `~` itself
-  sparing_there : (exempt v : ℕ) → IsFit forest v → (ss : Chain) (w : ℕ) → StepsMatch (steps_of ss) forest v w v → StepsMatch (steps_of ss) forest exempt w v
+  pub sparing_there : (exempt v : ℕ) → IsFit forest v → (ss : Chain) (w : ℕ) → StepsMatch (steps_of ss) forest v w v → StepsMatch (steps_of ss) forest exempt w v
   sparing_there exempt v fit [] w h = h
   sparing_there exempt v fit (s ∷ ss) w h =
       let u = h.0 in
@@ -116,26 +116,26 @@ module _ (forest : Forest) (good : IsForest forest) (lines : AreLines forest) wh
   parent_fit n v up = bearer_fit v (slice_get forest.content v) refl (parent_inside forest n v good up) (good.parents_allow v n up)
 
   -- a left operand may be an operand wherever it has to
-  reached_fit : (k : Combinator) (v n : ℕ) → CombinatorHolds forest k v n → may_be_operand forest k v ≡ true → IsFit forest v
+  pub reached_fit : (k : Combinator) (v n : ℕ) → CombinatorHolds forest k v n → may_be_operand forest k v ≡ true → IsFit forest v
   unfolding CombinatorHolds
   reached_fit Descendant v n s e = let child = some_child (ancestors forest n) n v refl s in parent_fit child.0 v child.1
   reached_fit Child v n s e = parent_fit n v s
   reached_fit Adjacent v n s e = inl e
   reached_fit Sibling v n s e = inl e
 
-  may_serve : (k : Combinator) (v exempt : ℕ) → may_be_operand forest k v ≡ true → MayBeOperand forest exempt k v
+  pub may_serve : (k : Combinator) (v exempt : ℕ) → may_be_operand forest k v ≡ true → MayBeOperand forest exempt k v
   may_serve Descendant v exempt e = tt
   may_serve Child v exempt e = tt
   may_serve Adjacent v exempt e = inr e
   may_serve Sibling v exempt e = inr e
 
-  must_serve : (k : Combinator) (v exempt : ℕ) → Precedes forest v exempt → MayBeOperand forest exempt k v → may_be_operand forest k v ≡ true
+  pub must_serve : (k : Combinator) (v exempt : ℕ) → Precedes forest v exempt → MayBeOperand forest exempt k v → may_be_operand forest k v ≡ true
   must_serve Descendant v exempt p b = refl
   must_serve Child v exempt p b = refl
   must_serve Adjacent v exempt p b = beside_element forest exempt lines v p b
   must_serve Sibling v exempt p b = beside_element forest exempt lines v p b
 
-  may_itself : (k : Combinator) (n : ℕ) → MayBeOperand forest n k n
+  pub may_itself : (k : Combinator) (n : ℕ) → MayBeOperand forest n k n
   may_itself Descendant n = tt
   may_itself Child n = tt
   may_itself Adjacent n = inl refl

@@ -11,4 +11,8 @@ pub mod CollectLemmas
 pub mod PlaceLemmas
 pub mod PositionLemmas
 pub mod SpanLemmas
+pub mod FlagLemmas
+pub mod BareLemmas
+pub mod RowStackLemmas
+pub mod PlainLemmas
 pub mod TraversalLemmas

@@ -86,6 +86,30 @@ byte_of_none (Text contents) byte h = (λ same. refl, λ other. absurd (other h)
 byte_of_none (Comment contents) byte h = (λ same. refl, λ other. absurd (other h))
 byte_of_none (ProcessingInstruction target contents) byte h = (λ same. refl, λ other. absurd (other h))
 
+-- by the byte of a node alone
+module _ (forest : Forest) (n byte : ℕ) (known : n < length forest.content) (named : (node : NodeData) → slice_get forest.content n ≡ Some node → is_type_byte node byte ≡ true) where
+  node_here : (node : NodeData) × (slice_get forest.content n ≡ Some node)
+  node_here = elim (slice_get_cases forest.content n).1 [
+    | inl some ↦ (some.0, some.2)
+    | inr none ↦ absurd (let past = none.0 in omega arith)
+  ]
+
+  -- the byte of an element, and of no element
+  pub element_by_byte : not (nat_eq byte 255) ≡ element_at forest n
+  element_by_byte =
+      let here : element_at forest n ≡ is_element node_here.0 = ap (λ o. option_map_or is_element o false) node_here.1 in
+      let kinds = byte_of_none node_here.0 byte (name_decided node_here.0 byte (named node_here.0 node_here.1)) in
+      (elim (cases_Bool (nat_eq byte 255)) [
+        | inl t ↦ ap not t ∙ sym (kinds.0 (eqb-true byte 255 t))
+        | inr f ↦ ap not f ∙ sym (kinds.1 (λ e. true≢false (sym (eq-eqb byte 255 e) ∙ f)))
+      ]) ∙ sym here
+
+  pub refused_at : (c : CompoundSelector) (wanted : TypeFilter) → IsTypeFilterOf c wanted → (byte ≡ 254 → ⊥) → (byte ≡ wanted.number → ⊥) → Holds c forest n → ⊥
+  refused_at c wanted is known_one other holds = other_name node_here.0 byte wanted.number is.known (name_decided node_here.0 byte (named node_here.0 node_here.1)) known_one other (is.needs forest n node_here.0 node_here.1 holds)
+
+  pub met_at : (c : CompoundSelector) (wanted : TypeFilter) → IsTypeFilterOf c wanted → byte ≡ wanted.number → wanted.is_all ≡ true → Holds c forest n
+  met_at c wanted is same all = is.suffices all forest n node_here.0 node_here.1 (this_name node_here.0 byte wanted.number is.known (name_decided node_here.0 byte (named node_here.0 node_here.1)) same)
+
 module _ (forest : Forest) (bytes : List ℕ) (type_bytes : AreTypeBytes forest bytes) (n : ℕ) (known : n < length forest.content) where
   found : (node : NodeData) × (slice_get forest.content n ≡ Some node)
   found = elim (slice_get_cases forest.content n).1 [

@@ -7,3 +7,7 @@ pub mod Orders
 pub mod Collected
 pub mod Preorder
 pub mod NodeSets
+pub mod FlagRows
+pub mod BareLists
+pub mod NodeTests
+pub mod Tracks

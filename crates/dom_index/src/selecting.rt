@@ -1,12 +1,14 @@
 //! What a selector selects below some nodes: by a test of each candidate, or by an index of the
 //! tree where that takes less.
 
-ghost use Rattle.std.specs.Prelude.{◌≡◌, ◌∷◌, ◌++◌, [], IfOk, OnOk};
+ghost use Rattle.std.specs.Prelude.{◌≡◌, ◌∷◌, ◌++◌, [], IfOk, IfSome, OnOk};
 ghost use Rattle.dom_select.specs.Selected.{Selected};
 ghost use Rattle.dom_index.specs.Index.{Finds};
 ghost use Rattle.dom_trees.specs.Views.{refs_to};
 
 use crate::index::TreeIndex;
+use crate::plain::is_plain;
+use crate::streaming::select_plain;
 use dom_nodes::fault::OutOfMemory;
 use dom_nodes::node_id::NodeId;
 use dom_select::matcher::Matcher;
@@ -20,8 +22,10 @@ use dom_trees::tree::Tree;
 const STEPS_PER_NODE: u64 = 8;
 
 /// The numbers of the elements below the roots that match one of the matcher's selectors, each
-/// once, in the order of the traversals. Each candidate is tested where that takes few steps. Where
-/// it takes very many, and where `:has` has descendant or `~` combinators, an index is made.
+/// once, in the order of the traversals. Below one root, a selector with descendant and child
+/// combinators alone is matched as the traversal goes. Of others each candidate is tested where
+/// that takes few steps. Where it takes very many, and where `:has` has descendant or `~`
+/// combinators, an index is made.
 pub fn select_ids(
     tree: &Tree,
     roots: &[NodeId],
@@ -35,6 +39,9 @@ pub fn select_ids(
     }
     if !needs_budget(selectors) {
         return select_by_node(tree, roots, matcher);
+    }
+    if let Some(ids) = select_along_path(tree, roots, matcher)? {
+        return Ok(ids);
     }
     match select_within(tree, roots, matcher, step_budget(tree))? {
         Some(ids) => Ok(ids),
@@ -64,6 +71,29 @@ fn select_by_index(
 {
     let mut index = TreeIndex::new(tree)?;
     index.select_ids(matcher, roots)
+}
+
+/// The same below one root, for one selector with descendant and child combinators alone and nested
+/// lists of compounds alone: in one traversal. None for others.
+fn select_along_path(
+    tree: &Tree,
+    roots: &[NodeId],
+    matcher: &Matcher,
+) -> Result<Option<Vec<NodeId>>, OutOfMemory>
+    ensures { IfOk result (λ found. IfSome found
+        (λ ids. Selected tree.now roots.now matcher.now ids.items)) }
+{
+    let [root] = roots else {
+        return Ok(None);
+    };
+    let [selector] = matcher.selectors() else {
+        return Ok(None);
+    };
+    if !is_plain(&selector.first, &selector.rest) {
+        return Ok(None);
+    }
+    let ids = select_plain(tree, root, selector)?;
+    Ok(Some(ids))
 }
 
 /// The same, by a test of each candidate.

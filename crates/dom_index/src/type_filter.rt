@@ -18,7 +18,7 @@ use dom_selectors::selector_name::SelectorName;
 use dom_selectors::syntax::{Compound, Part};
 
 /// The byte of an element whose name has no number.
-const UNKNOWN: u8 = 254;
+pub(crate) const UNKNOWN: u8 = 254;
 
 /// The byte of a node that is no element.
 pub(crate) const NO_ELEMENT: u8 = 255;

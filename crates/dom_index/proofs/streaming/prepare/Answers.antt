@@ -1,0 +1,12 @@
+use Rattle.std.proofs.Common.{◌∙◌, ◌+◌, ap, sym, arith, length, ◌∷◌, []}
+use Rattle.std.proofs.lemmas.List.{length-append}
+use Rattle.dom_selectors.specs.declared.syntax.Step.{Step}
+use Rattle.dom_index.proofs.PlainLemmas.{tests_more}
+use Rattle.dom_index.proofs.streaming.prepare.Goals as goal
+
+pub loop-i-preserved : goal.loop-i-preserved
+loop-i-preserved c = record {
+  count = ap length c.in_ok-push_test-2.ensures ∙ (length-append c.loop-i.tests.items (c.in_ok-test.test ∷ []) ∙ ap (λ k. k + 1) c.loop-i.invariant.count);
+  tests = tests_more c.args.first.now c.args.steps.now c.loop-i.i c.index-steps-i.result c.loop-i.tests.items c.push_test-in-loop-i.new.tests.items c.in_ok-test.test (omega arith) c.index-steps-i.is c.loop-i.invariant.count c.in_ok-push_test-2.ensures c.in_ok-test.ensures.ready
+      (ap (λ b. b.now) c.in_ok-test.ensures.compound ∙ ap (λ (x : Step). x.compound) (sym c.index-steps-i.is)) c.loop-i.invariant.tests;
+}

@@ -1,0 +1,74 @@
+-- Rows of flags, one for each step of a selector: whether the compounds before the step match a node from which a node to the right is reached.
+use Rattle.std.specs.Prelude.{ℕ, suc, zero, ◌≡◌, ◌⊎◌, ◌-◌, true, Bool, false, List, [], ◌∷◌, ◌++◌, Option, Some, None, length, take, slice_get, slice_index_or}
+use Rattle.std.specs.Option.{option_map}
+use Rattle.dom_links.specs.Forest.{Forest}
+use Rattle.dom_selectors.specs.declared.syntax.Combinator.{Combinator}
+use Rattle.dom_selectors.specs.declared.syntax.Combinator.TheVariants.{Descendant, Child, Adjacent, Sibling}
+use Rattle.dom_selectors.specs.ListsAsTrees.{steps_of}
+use Rattle.dom_selectors.specs.Spelling.{Decides}
+use Rattle.dom_selectors.specs.Syntax.{CompoundSelector}
+use Rattle.dom_select.specs.Leftward.{ends_at}
+use Rattle.dom_select.specs.Meaning.{ChainMatches, CombinatorHolds, Holds}
+use Rattle.dom_index.specs.NodeSets.{may_be_operand}
+
+-- the first compound and those of the steps match n
+abbrev pub StepsReach : Forest → CompoundSelector → List (Combinator × CompoundSelector) → ℕ → Type 0
+StepsReach forest first steps n = ChainMatches (Holds first forest) (steps_of steps) forest n n
+
+-- n has a left operand of which Q holds
+abbrev pub HasLeft : Forest → Combinator → (ℕ → Type 0) → ℕ → Type 0
+HasLeft forest k Q n = (v : ℕ) × CombinatorHolds forest k v n × ((may_be_operand forest k v ≡ true) × Q v)
+
+-- v is an operand of which Q holds, or propagates that it has one
+abbrev pub Propagates : Forest → Combinator → (ℕ → Type 0) → ℕ → Type 0
+Propagates forest k Q v = ((may_be_operand forest k v ≡ true) × Q v) ⊎ ((ends_at forest k v ≡ true → ⊥) × HasLeft forest k Q v)
+
+-- the same of the next node to the left, if there is one
+abbrev pub PropagatesFrom : Forest → Combinator → (ℕ → Type 0) → Option ℕ → Type 0
+PropagatesFrom forest k Q None = ⊥
+PropagatesFrom forest k Q (Some v) = Propagates forest k Q v
+
+-- the left operands are above
+abbrev pub IsUpward : Combinator → Type 0
+IsUpward Descendant = Unit {0}
+IsUpward Child = Unit {0}
+IsUpward Adjacent = ⊥
+IsUpward Sibling = ⊥
+
+-- the left operands are all those above
+abbrev pub is_deep : Combinator → Bool
+is_deep Descendant = true
+is_deep Child = false
+is_deep Adjacent = false
+is_deep Sibling = false
+
+abbrev pub AreUpward : List (Combinator × CompoundSelector) → Type 0
+AreUpward steps = (j : ℕ) (s : Combinator × CompoundSelector) → slice_get steps j ≡ Some s → IsUpward s.0
+
+-- the flags of the steps at the children of a node, or without one at a node that has no parent
+pub record AreFlags (forest : Forest) (first : CompoundSelector) (steps : List (Combinator × CompoundSelector)) (above : Option ℕ) (flags : List Bool) : Type 0 where
+  pub long : length flags ≡ length steps
+  pub each : (j : ℕ) (s : Combinator × CompoundSelector) → slice_get steps j ≡ Some s → Decides (slice_index_or flags j false) (PropagatesFrom forest s.0 (StepsReach forest first (take j steps)) above)
+
+-- the flags at the children of each of so many nodes, one row after the other
+abbrev pub AreRowsTo : Forest → CompoundSelector → List (Combinator × CompoundSelector) → ℕ → List ℕ → List Bool → Type 0
+AreRowsTo forest first steps zero ns flags = (ns ≡ []) × (flags ≡ [])
+AreRowsTo forest first steps (suc depth) ns flags =
+    (front : List ℕ) × (n : ℕ) × (before : List Bool) × (row : List Bool) × (ns ≡ front ++ n ∷ []) × (flags ≡ before ++ row) × AreFlags forest first steps (Some n) row × AreRowsTo forest first steps depth front before
+
+abbrev pub AreRows : Forest → CompoundSelector → List (Combinator × CompoundSelector) → List ℕ → List Bool → Type 0
+AreRows forest first steps ns flags = (depth : ℕ) × AreRowsTo forest first steps depth ns flags
+
+-- the compound of that number, from 0, the first before those of the steps
+abbrev pub compound_at : CompoundSelector → List (Combinator × CompoundSelector) → ℕ → Option CompoundSelector
+compound_at first steps zero = Some first
+compound_at first steps (suc j) = option_map (λ s. s.1) (slice_get steps j)
+
+-- whether that compound is reached: the first is everywhere
+abbrev pub reached_at : List Bool → ℕ → Bool
+reached_at flags zero = true
+reached_at flags (suc j) = slice_index_or flags j false
+
+-- the last of the nodes
+abbrev pub top : List ℕ → Option ℕ
+top ns = slice_get ns (length ns - 1)

@@ -1,0 +1,54 @@
+-- A selector in a traversal.
+use Rattle.std.specs.Prelude.{ℕ, ◌≡◌, ◌+◌, Bool, false, true, List, Option, Some, length, map, replicate, slice_get}
+use Rattle.dom_links.specs.Forest.{Forest, parent}
+use Rattle.dom_links.specs.ListMoves.{element_at}
+use Rattle.dom_selectors.specs.declared.syntax.Combinator.{Combinator}
+use Rattle.dom_selectors.specs.Syntax.{CompoundSelector}
+use Rattle.dom_selectors.specs.ValuesAsTrees.{read_compound, read_step}
+use Rattle.dom_index.specs.declared.node_tests.NodeTest.{NodeTest}
+use Rattle.dom_index.specs.declared.node_tests.Visited.{Visited}
+use Rattle.dom_index.specs.declared.streaming.Chain.{Chain}
+use Rattle.dom_index.specs.declared.streaming.Rows.{Rows}
+use Rattle.dom_index.specs.FlagRows.{AreFlags, AreRows, AreUpward, StepsReach, compound_at, top}
+use Rattle.dom_index.specs.NodeTests.{IsReady}
+
+-- the steps of a chain, and its first compound
+abbrev pub steps_in : Chain → List (Combinator × CompoundSelector)
+steps_in chain = map read_step chain.steps.now
+
+abbrev pub first_in : Chain → CompoundSelector
+first_in chain = read_compound chain.first.now
+
+-- a test for each of its compounds, and no flag of a step; its combinators go upward
+pub record IsPrepared (chain : Chain) : Type 0 where
+  pub count : length chain.tests.items ≡ length chain.steps.now + 1
+  pub tests : (i : ℕ) (test : NodeTest) → slice_get chain.tests.items i ≡ Some test → IsReady test × (compound_at (first_in chain) (steps_in chain) i ≡ Some (read_compound test.compound.now))
+  pub none : chain.none.items ≡ replicate (length chain.steps.now) false
+  pub upward : AreUpward (steps_in chain)
+
+-- the flags at the children of a node
+abbrev pub FlagsBelow : Chain → Forest → Option ℕ → List Bool → Type 0
+FlagsBelow chain forest above flags = AreFlags forest (first_in chain) (steps_in chain) above flags
+
+-- the rows are those of the nodes of the path
+abbrev pub IsTracked : Chain → Rows → Type 0
+IsTracked chain rows = AreRows rows.tree.now (first_in chain) (steps_in chain) rows.path.items rows.flags.items
+
+-- the selector matches the node
+abbrev pub Reaches : Chain → Forest → ℕ → Type 0
+Reaches chain forest n = StepsReach forest (first_in chain) (steps_in chain) n
+
+-- the node's parent is the last of the path, which is empty without one
+pub record IsNextTo (rows : Rows) (visited : Visited) : Type 0 where
+  pub tree : visited.tree.now ≡ rows.tree.now
+  pub above : top rows.path.items ≡ parent visited.tree.now visited.id
+
+-- the path is one of the tree
+pub record IsFollowing (chain : Chain) (rows : Rows) (forest : Forest) (caches : Forest) : Type 0 where
+  pub tracked : IsTracked chain rows
+  pub tree : rows.tree.now ≡ forest
+  pub caches_are : caches ≡ forest
+
+-- the node is an element that the selector matches
+abbrev pub IsReached : Chain → Forest → ℕ → Type 0
+IsReached chain forest n = (element_at forest n ≡ true) × Reaches chain forest n
