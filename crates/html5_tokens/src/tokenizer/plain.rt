@@ -157,8 +157,9 @@ impl Tokenizer {
         match self.state {
             State::Data => match tag_begins(text) {
                 Some((kind, named)) => self.read_plain_tag(kind, named, read),
-                None => Ok(text),
+                None => self.read_plain_reference(text),
             },
+            State::Rcdata => self.read_plain_reference(text),
             State::Attribute(AttrState::BeforeName | AttrState::AfterQuoted) => {
                 self.read_plain_attrs(text, read)
             }
@@ -167,15 +168,17 @@ impl Tokenizer {
         }
     }
 
-    /// Reads a common reference in a value, if one is at the front of a text.
+    /// Reads a common reference in a text or a value, if one is at the front of a text.
     fn read_plain_reference<'a>(&mut self, text: &'a str) -> Result<&'a str, AllocError> {
-        match plain_reference(text) {
-            Some((meant, rest)) => {
-                self.tag.attr_value.push_str(meant)?;
-                Ok(rest)
-            }
-            None => Ok(text),
+        let Some((meant, rest)) = plain_reference(text) else {
+            return Ok(text);
+        };
+        if self.is_in_value() {
+            self.tag.attr_value.push_str(meant)?;
+        } else {
+            self.text.push_str(meant)?;
         }
+        Ok(rest)
     }
 
     /// Reads what is plain of a tag from its name on.

@@ -88,7 +88,7 @@ impl Tokenizer {
         Ok(None)
     }
 
-    fn is_in_value(&self) -> bool {
+    pub(super) fn is_in_value(&self) -> bool {
         matches!(
             self.state,
             State::Attribute(AttrState::Quoted(_) | AttrState::Unquoted)
