@@ -57,9 +57,10 @@ impl TagDraft {
         if self.attr_name.is_empty() {
             return Ok(());
         }
-        let name = mem::replace(&mut self.attr_name, String::new(alloc));
-        let value = mem::replace(&mut self.attr_value, String::new(alloc));
-        self.attrs.add(alloc, name, value)?;
+        self.attrs
+            .add_copy(alloc, self.attr_name.as_str(), self.attr_value.as_str())?;
+        self.attr_name.clear();
+        self.attr_value.clear();
         Ok(())
     }
 

@@ -91,6 +91,11 @@ fn plain_value(text: &str) -> Option<(&str, &str)> {
     }
 }
 
+/// What follows the quote behind `=`.
+fn quoted(text: &str) -> Option<&str> {
+    behind(b'"', behind(b'=', text)?)
+}
+
 /// The attribute at the front of a text.
 #[inline(always)]
 fn plain_attr(text: &str) -> Option<PlainAttr<'_>> {
@@ -214,7 +219,7 @@ impl Tokenizer {
                 return Ok(after);
             }
             let Some(attr) = plain_attr(rest) else {
-                break;
+                return self.begin_plain_attr(rest);
             };
             if attr.name.is_empty() {
                 break;
@@ -223,6 +228,21 @@ impl Tokenizer {
             rest = attr.rest;
         }
         Ok(rest)
+    }
+
+    /// Begins an attribute whose value stands in double quotes but isn't plain, and returns what
+    /// follows the first of them.
+    fn begin_plain_attr<'a>(&mut self, text: &'a str) -> Result<&'a str, AllocError> {
+        let (name, rest) = text.split_at(attr_name_len(text));
+        let Some(inner) = quoted(rest) else {
+            return Ok(text);
+        };
+        if name.is_empty() {
+            return Ok(text);
+        }
+        self.tag.attr_name.push_str(name)?;
+        self.state = State::Attribute(AttrState::Quoted(Quote::Double));
+        Ok(inner)
     }
 
     /// What follows the end of the tag, where that is next.
