@@ -75,6 +75,7 @@ fn is_space(c: char) -> bool {
 }
 
 impl Tokenizer {
+    ghost use Rattle.std.specs.Option.{option_copied};
     ghost use Rattle.html5_tokens.specs.Reading.{IsInText, text_of};
 
     /// A tokenizer at the beginning of a page.
@@ -126,17 +127,23 @@ impl Tokenizer {
     }
 
     /// The last tag, from its end to the end of the next.
-    pub fn tag(&self) -> Option<&Tag> {
+    pub fn tag(&self) -> Option<&Tag>
+        ensures { option_copied result ≡ self.now.ended }
+    {
         self.ended.as_ref()
     }
 
     /// The last comment, from its end to the beginning of the next.
-    pub fn comment(&self) -> &str {
+    pub fn comment(&self) -> &str
+        ensures { result.now ≡ string_bytes self.now.comment }
+    {
         self.comment.as_str()
     }
 
     /// The last doctype, from its end to the beginning of the next.
-    pub fn doctype(&self) -> &Doctype {
+    pub fn doctype(&self) -> &Doctype
+        ensures { result.now ≡ self.now.doctype }
+    {
         &self.doctype
     }
 

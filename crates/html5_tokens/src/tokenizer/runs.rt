@@ -124,8 +124,8 @@ impl Run {
     }
 }
 
-/// How many bytes stand before the first of sixteen among which one of four bytes is, and before
-/// that byte; at most a few bytes less.
+/// How many bytes stand before the first of four bytes; fewer, if it is among the last fifteen, which
+/// aren't searched.
 #[inline(always)]
 fn skip(bytes: &[u8], ends: [u8; 4]) -> usize {
     let (blocks, _) = bytes.as_chunks::<16>();
