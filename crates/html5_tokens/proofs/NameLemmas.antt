@@ -222,9 +222,6 @@ names_none low high place letter first last names part next none i known h =
 
 -- ---- whole names
 
-pub read_whole : (low high place : ℕ) → AreNames low high place → length (name_at low) ≡ place → name_at low ≡ take place (name_at low)
-read_whole low high place names whole = sym (take_all place (name_at low) (le_of_eq whole))
-
 -- where the first of the names goes on, none of them is what was read
 pub read_no_name : (low high place : ℕ) → AreNames low high place → (length (name_at low) ≡ place → ⊥) → IsNoName (take place (name_at low))
 read_no_name low high place names more i known whole =

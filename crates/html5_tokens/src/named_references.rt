@@ -101,6 +101,7 @@ fn name(index: usize) -> &'static [u8]
     part(&LETTERS, start, end)
 }
 
+/// The letters from one place up to another.
 fn part(letters: &[u8], start: usize, end: usize) -> &[u8]
     requires ordered { start ≤ end }
     requires within { end ≤ length letters.now }
