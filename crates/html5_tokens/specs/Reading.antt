@@ -1,7 +1,10 @@
 -- What a tokenizer has read.
-use Rattle.std.specs.Prelude.{◌≡◌, ℕ, false, List, ◌++◌, string_bytes}
+use Rattle.std.specs.Prelude.{◌≡◌, ℕ, Bool, false, List, [], ◌∷◌, ◌++◌, MatchBool, string_bytes}
 use Rattle.html5_tokens.specs.declared.tokenizer.Tokenizer.{Tokenizer}
-use Rattle.html5_tokens.specs.declared.tokenizer.references.Reference.TheVariants.{None as NoReference}
+use Rattle.html5_tokens.specs.declared.tokenizer.named.Match.{Match}
+use Rattle.html5_tokens.specs.declared.tokenizer.references.Reference.{Reference}
+use Rattle.html5_tokens.specs.declared.tokenizer.references.Reference.TheVariants.{None as NoReference, Named}
+use Rattle.html5_tokens.specs.NamedReferences.{read_of, IsLongest}
 use Rattle.html5_tokens.specs.declared.tokenizer.state.State.TheVariants.{Data}
 
 -- the characters that stand before the next token, as far as they are read
@@ -20,3 +23,14 @@ pub record AddsText (old new : Tokenizer) (text : List ℕ) : Type 0 where
   pub state : new.state ≡ old.state
   pub reference : new.reference ≡ old.reference
   pub after_return : new.after_return ≡ old.after_return
+
+-- these characters of a name were read in the reference
+pub record IsInName (reference : Reference) (read : List ℕ) : Type 0 where
+  pub found : Match
+  pub named : reference ≡ Named found
+  pub read_is : read_of found.names ≡ read
+
+-- a name goes on with the character, or the value is that of the longest name, whatever text follows
+abbrev pub IsNameRead : Match → ℕ → Bool → Reference → Type 0
+IsNameRead found c goes_on new =
+    MatchBool goes_on (IsInName new (read_of found.names ++ c ∷ [])) ((rest : List ℕ) → IsLongest (read_of found.names ++ c ∷ rest) found.value)

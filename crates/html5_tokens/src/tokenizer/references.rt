@@ -1,6 +1,6 @@
 //! Character references.
 
-ghost use Rattle.std.specs.Prelude.{◌≡◌, ◌+◌, ◌*◌, false, min};
+ghost use Rattle.std.specs.Prelude.{◌≡◌, ◌+◌, ◌*◌, true, false, min, IfOk};
 ghost use Rattle.html5_tokens.specs.Numbers.{character_of};
 
 use super::errors::is_noncharacter;
@@ -74,6 +74,9 @@ fn number_error(number: u32) -> Option<ParseError> {
 }
 
 impl Tokenizer {
+    ghost use Rattle.html5_tokens.specs.NamedReferences.{read_of};
+    ghost use Rattle.html5_tokens.specs.Reading.{IsInName, IsNameRead};
+
     pub(super) fn is_in_reference(&self) -> bool
         ensures { self.now.reference ≡ Reference.None → result ≡ false }
     {
@@ -179,14 +182,19 @@ impl Tokenizer {
         Ok(c == ';')
     }
 
-    fn named(&mut self, found: Match, c: char) -> Result<bool, AllocError> {
+    fn named(&mut self, found: Match, c: char) -> Result<bool, AllocError>
+        ensures { IfOk result (λ goes_on. IsNameRead found c goes_on self.new.reference) }
+    {
         match found.with(c) {
             Some(more) => self.name_goes_on(more, c),
             None => self.name_ends(found, c),
         }
     }
 
-    fn name_goes_on(&mut self, found: Match, c: char) -> Result<bool, AllocError> {
+    fn name_goes_on(&mut self, found: Match, c: char) -> Result<bool, AllocError>
+        ensures { IfOk result (λ goes_on. (goes_on ≡ true)
+            × IsInName self.new.reference (read_of found.names)) }
+    {
         self.written.push(c)?;
         if found.is_whole {
             self.behind.clear();
@@ -197,7 +205,9 @@ impl Tokenizer {
         Ok(true)
     }
 
-    fn name_ends(&mut self, found: Match, c: char) -> Result<bool, AllocError> {
+    fn name_ends(&mut self, found: Match, c: char) -> Result<bool, AllocError>
+        ensures { IfOk result (λ goes_on. goes_on ≡ false) }
+    {
         self.put_named(found, Some(c))?;
         if found.value.is_none() {
             self.reference = Reference::Ambiguous;
@@ -207,7 +217,9 @@ impl Tokenizer {
     }
 
     /// Letters and digits behind an ampersand that begin no name are text.
-    fn ambiguous(&mut self, c: char) -> Result<bool, AllocError> {
+    fn ambiguous(&mut self, c: char) -> Result<bool, AllocError>
+        ensures { IfOk result (λ goes_on. goes_on ≡ false) }
+    {
         if c.is_ascii_alphanumeric() {
             return Ok(false);
         }
