@@ -76,6 +76,7 @@ fn number_error(number: u32) -> Option<ParseError> {
 impl Tokenizer {
     ghost use Rattle.html5_tokens.specs.NamedReferences.{read_of};
     ghost use Rattle.html5_tokens.specs.Reading.{IsInName, IsNameRead};
+    ghost use Rattle.html5_tokens.specs.declared.tokenizer.named.Match.{Match};
 
     pub(super) fn is_in_reference(&self) -> bool
         ensures { self.now.reference ≡ Reference.None → result ≡ false }
@@ -99,7 +100,10 @@ impl Tokenizer {
     }
 
     /// Reads a character in a reference, and returns whether it is a part of that.
-    pub(super) fn reference(&mut self, c: char) -> Result<bool, AllocError> {
+    pub(super) fn reference(&mut self, c: char) -> Result<bool, AllocError>
+        ensures { (found : Match) → self.old.reference ≡ Reference.Named found →
+            IfOk result (λ goes_on. IsNameRead found c goes_on self.new.reference) }
+    {
         match self.reference {
             Reference::None => Ok(false),
             Reference::Begun => self.reference_begins(c),
