@@ -1,5 +1,6 @@
 -- What a tokenizer has read.
-use Rattle.std.specs.Prelude.{◌≡◌, ℕ, Bool, false, List, [], ◌∷◌, ◌++◌, MatchBool, string_bytes}
+use Rattle.std.specs.Prelude.{◌≡◌, ℕ, Bool, false, List, [], ◌∷◌, ◌++◌, MatchBool, Option, string_bytes}
+use Rattle.html5_tokens.specs.declared.named_references.Value.{Value}
 use Rattle.html5_tokens.specs.declared.tokenizer.Tokenizer.{Tokenizer}
 use Rattle.html5_tokens.specs.declared.tokenizer.named.Match.{Match}
 use Rattle.html5_tokens.specs.declared.tokenizer.references.Reference.{Reference}
@@ -30,7 +31,6 @@ pub record IsInName (reference : Reference) (read : List ℕ) : Type 0 where
   pub named : reference ≡ Named found
   pub read_is : read_of found.names ≡ read
 
--- a name goes on with the character, or the value is that of the longest name, whatever text follows
-abbrev pub IsNameRead : Match → ℕ → Bool → Reference → Type 0
-IsNameRead found c goes_on new =
-    MatchBool goes_on (IsInName new (read_of found.names ++ c ∷ [])) ((rest : List ℕ) → IsLongest (read_of found.names ++ c ∷ rest) found.value)
+-- where these characters were read and c comes, a name goes on with it, or the value is that of the longest name, whatever follows
+abbrev pub IsNameRead : List ℕ → Option Value → ℕ → Bool → Reference → Type 0
+IsNameRead read value c goes_on new = MatchBool goes_on (IsInName new (read ++ c ∷ [])) ((rest : List ℕ) → IsLongest (read ++ c ∷ rest) value)

@@ -1,6 +1,6 @@
 //! Named character references: the longest name wins.
 
-ghost use Rattle.std.specs.Prelude.{◌≡◌, ◌++◌, ◌∷◌, [], ℕ, List, MatchOption};
+ghost use Rattle.std.specs.Prelude.{◌≡◌, ◌++◌, ◌∷◌, [], ℕ, List, MatchOption, None};
 ghost use Rattle.html5_tokens.specs.NamedReferences.{read_of, IsLongest};
 
 use crate::named_references::{Names, Value};
@@ -21,7 +21,8 @@ pub struct Match {
 impl Match {
     /// Nothing was read.
     pub fn new() -> Match
-        ensures { read_of result.names ≡ [] }
+        ensures read { read_of result.names ≡ [] }
+        ensures value { result.value ≡ None }
     {
         Match {
             names: Names::all(),

@@ -1,6 +1,7 @@
 //! Character references.
 
-ghost use Rattle.std.specs.Prelude.{◌≡◌, ◌+◌, ◌*◌, true, false, min, IfOk};
+ghost use Rattle.std.specs.Prelude.{◌≡◌, ◌+◌, ◌*◌, [], true, false, min, IfOk, None};
+ghost use Rattle.std.specs.Char.{is_ascii_alphanumeric};
 ghost use Rattle.html5_tokens.specs.Numbers.{character_of};
 
 use super::errors::is_noncharacter;
@@ -101,8 +102,11 @@ impl Tokenizer {
 
     /// Reads a character in a reference, and returns whether it is a part of that.
     pub(super) fn reference(&mut self, c: char) -> Result<bool, AllocError>
-        ensures { (found : Match) → self.old.reference ≡ Reference.Named found →
-            IfOk result (λ goes_on. IsNameRead found c goes_on self.new.reference) }
+        ensures begins { self.old.reference ≡ Reference.Begun → is_ascii_alphanumeric c ≡ true →
+            IfOk result (λ goes_on. IsNameRead [] None c goes_on self.new.reference) }
+        ensures goes_on { (found : Match) → self.old.reference ≡ Reference.Named found →
+            IfOk result (λ goes_on.
+            IsNameRead (read_of found.names) found.value c goes_on self.new.reference) }
     {
         match self.reference {
             Reference::None => Ok(false),
@@ -125,7 +129,10 @@ impl Tokenizer {
         }
     }
 
-    fn reference_begins(&mut self, c: char) -> Result<bool, AllocError> {
+    fn reference_begins(&mut self, c: char) -> Result<bool, AllocError>
+        ensures { is_ascii_alphanumeric c ≡ true → IfOk result (λ goes_on.
+            IsNameRead [] None c goes_on self.new.reference) }
+    {
         if c == '#' {
             return self.go_on(Reference::Number, c);
         }
@@ -187,7 +194,8 @@ impl Tokenizer {
     }
 
     fn named(&mut self, found: Match, c: char) -> Result<bool, AllocError>
-        ensures { IfOk result (λ goes_on. IsNameRead found c goes_on self.new.reference) }
+        ensures { IfOk result (λ goes_on.
+            IsNameRead (read_of found.names) found.value c goes_on self.new.reference) }
     {
         match found.with(c) {
             Some(more) => self.name_goes_on(more, c),
