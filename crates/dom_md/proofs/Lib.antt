@@ -3,8 +3,8 @@ pub mod CellLemmas
 pub mod ChunkLemmas
 pub mod FenceLemmas
 pub mod ReadLemmas
-pub mod SimpleLemmas
 pub mod SolidLemmas
+pub mod SpacedLemmas
 pub mod StackLemmas
 pub mod StepLemmas
 pub mod WrittenLemmas

@@ -51,9 +51,13 @@ abbrev pub spaced_on : (gap : Bool) → List ℕ → List ℕ
 spaced_on gap [] = []
 spaced_on gap (c ∷ cs) = if is_whitespace c then spaced_on true cs else if gap then space ∷ c ∷ spaced_on false cs else c ∷ spaced_on false cs
 
+-- a text with one space for each whitespace before a word but the first
+abbrev pub spaced_words : List ℕ → List ℕ
+spaced_words text = encode_utf8_all (spaced_on false (chars text))
+
 -- the words of a text, joined by one space
 abbrev pub joined_words : List ℕ → List ℕ
-joined_words text = encode_utf8_all (spaced_on false (chars (trim_start text)))
+joined_words text = spaced_words (trim_start text)
 
 abbrev pub begins_with_whitespace : List ℕ → Bool
 begins_with_whitespace text = nat_lt (length (trim_start text)) (length text)

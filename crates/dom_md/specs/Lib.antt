@@ -10,7 +10,7 @@ pub mod Names
 pub mod Options
 pub mod Resolved
 pub mod Scopes
-pub mod Simple
 pub mod Solid
+pub mod Visible
 pub mod Words
 pub mod Written

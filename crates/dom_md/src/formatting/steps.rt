@@ -1,21 +1,19 @@
 //! The steps of formatting, each on the text so far.
 
-ghost use Rattle.std.specs.Prelude.{◌≡◌, ◌==◌, IfOk, OnOk, encode_utf8_all, false, length};
-ghost use Rattle.std.specs.Prelude.{string_bytes, true};
+ghost use Rattle.std.specs.Prelude.{◌≡◌, ◌==◌, ◌<◌, ◌≤◌, ◌+◌, ◌-◌, ◌++◌, IfOk, OnOk, drop};
+ghost use Rattle.std.specs.Prelude.{length, slice_index_or, string_bytes, take};
 ghost use Rattle.std.specs.List.{list_any};
-ghost use Rattle.std.specs.Str.{bytes_eq, chars, trim_start};
+ghost use Rattle.std.specs.Str.{IsCharBoundary, IsUtf8, bytes_eq, trim_start};
 ghost use Rattle.dom_nodes.specs.Words.{is_among};
 ghost use Rattle.dom_md.specs.Formatted.{block_names, cell_names, drop_spaces, ends_with};
 ghost use Rattle.dom_md.specs.Formatted.{ends_with_whitespace, is_fresh, is_parted};
-ghost use Rattle.dom_md.specs.Formatted.{joined_words, line_names, spaced_on, with_close};
+ghost use Rattle.dom_md.specs.Formatted.{joined_words, line_names, spaced_words, with_close};
 ghost use Rattle.dom_md.specs.Formatted.{with_gap, with_open, with_text};
-ghost use Rattle.dom_md.specs.Simple.{is_simple, is_simple_byte};
-ghost use Rattle.dom_md.specs.Written.{written};
+ghost use Rattle.dom_md.specs.Visible.{begins_visible, is_visible, stays};
 
 use crate::formatting::names::{is_block, is_cell, is_line};
-use crate::serializer::words::push_written;
 use dom_nodes::name::LocalName;
-use std::alloc::{AllocError, Global};
+use std::alloc::AllocError;
 
 /// An element opens.
 pub(super) fn open_element(text: &mut String, name: &LocalName) -> Result<(), AllocError>
@@ -58,49 +56,7 @@ pub(super) fn close_element(text: &mut String, name: &LocalName) -> Result<(), A
 pub(super) fn add_text(text: &mut String, added: &str) -> Result<(), AllocError>
     ensures { OnOk result (string_bytes text.new ≡ with_text (string_bytes text.old) added.now) }
 {
-    if is_simple(added.as_bytes()) {
-        return add_simple(text, added);
-    }
-    let words = joined_words(*text.allocator(), added)?;
-    let fresh = is_fresh(text.as_str());
-    if words.is_empty() {
-        if fresh {
-            return Ok(());
-        }
-    } else {
-        if !fresh && added.trim_start().len() < added.len() {
-            text.push_str(" ")?;
-        }
-        text.push_str(words.as_str())?;
-    }
-    add_gap(text, added)
-}
-
-/// Whether ASCII whitespace is all the whitespace that the text may have: ASCII bytes alone, and no
-/// vertical tab.
-fn is_simple(bytes: &[u8]) -> bool
-    ensures { result ≡ is_simple bytes.now }
-{
-    for byte in bytes {
-        if !is_simple_byte(*byte) {
-            return false;
-        }
-    }
-    true
-}
-
-fn is_simple_byte(byte: u8) -> bool
-    ensures { result ≡ is_simple_byte byte }
-{
-    byte < 128 && byte != 11
-}
-
-/// Adds the words of such a text.
-fn add_simple(text: &mut String, added: &str) -> Result<(), AllocError>
-    requires { is_simple added.now ≡ true }
-    ensures { OnOk result (string_bytes text.new ≡ with_text (string_bytes text.old) added.now) }
-{
-    let row = simple_row(added);
+    let row = first_word_on(added);
     let fresh = is_fresh(text.as_str());
     if row.is_empty() {
         if fresh {
@@ -110,19 +66,95 @@ fn add_simple(text: &mut String, added: &str) -> Result<(), AllocError>
         if !fresh && row.len() < added.len() {
             text.push_str(" ")?;
         }
-        push_written(text, row, false)?;
+        push_spaced(text, row)?;
     }
     add_gap(text, added)
 }
 
-/// Such a text from its first word on.
-fn simple_row(added: &str) -> &str
-    requires { is_simple added.now ≡ true }
+/// The text from its first word on.
+fn first_word_on(added: &str) -> &str
     ensures row { result.now ≡ trim_start added.now }
-    ensures words { joined_words added.now ≡ written false result.now }
+    ensures words { joined_words added.now ≡ spaced_words result.now }
     ensures empty { (length (joined_words added.now) == 0) ≡ (length result.now == 0) }
 {
     added.trim_start()
+}
+
+/// Adds a text with one space for the whitespace before each word and none at its end. What stays
+/// as it is, most of most texts, is added in one go.
+fn push_spaced(text: &mut String, row: &str) -> Result<(), AllocError>
+    ensures { OnOk result (string_bytes text.new
+        ≡ string_bytes text.old ++ spaced_words row.now) }
+{
+    let mut rest = row;
+    while !rest.is_empty() {
+        let end = same_len(rest.as_bytes());
+        text.push_str(&rest[..end])?;
+        rest = push_next(text, &rest[end..])?;
+    }
+    Ok(())
+}
+
+/// Adds what is written for the character at the front, with the whitespace behind it if it is
+/// whitespace, and gives what stands behind that.
+fn push_next<'a>(text: &mut String, rest: &'a str) -> Result<&'a str, AllocError>
+    ensures words { IfOk result (λ after. string_bytes text.new ++ spaced_words after.now
+        ≡ string_bytes text.old ++ spaced_words rest.now) }
+    ensures shorter { IfOk result (λ after. length after.now ≤ length rest.now - 1) }
+{
+    let mut chars = rest.chars();
+    let Some(c) = chars.next() else {
+        return Ok(rest);
+    };
+    if !c.is_whitespace() {
+        text.push(c)?;
+        return Ok(chars.as_str());
+    }
+    let words = rest.trim_start();
+    if !words.is_empty() {
+        text.push(' ')?;
+    }
+    Ok(words)
+}
+
+/// How many bytes at the front surely stay as they are: visible ASCII, and a space between two such
+/// bytes.
+fn same_len(bytes: &[u8]) -> usize
+    ensures boundary { IsUtf8 bytes.now → IsCharBoundary bytes.now result }
+    ensures same { spaced_words bytes.now
+        ≡ take result bytes.now ++ spaced_words (drop result bytes.now) }
+{
+    for at in 0..bytes.len() {
+        if !stays(bytes, at) {
+            return at;
+        }
+    }
+    bytes.len()
+}
+
+fn stays(bytes: &[u8], at: usize) -> bool
+    requires { at < length bytes.now }
+    ensures { result ≡ stays (slice_index_or bytes.now at 0) (drop (at + 1) bytes.now) }
+{
+    if is_visible(bytes[at]) {
+        return true;
+    }
+    bytes[at] == b' ' && begins_visible(&bytes[at + 1..])
+}
+
+fn begins_visible(bytes: &[u8]) -> bool
+    ensures { result ≡ begins_visible bytes.now }
+{
+    match bytes.first() {
+        Some(first) => is_visible(*first),
+        None => false,
+    }
+}
+
+fn is_visible(byte: u8) -> bool
+    ensures { result ≡ is_visible byte }
+{
+    b' ' < byte && byte < 128
 }
 
 /// Adds a space where the added text ends in whitespace and the text so far does not.
@@ -142,34 +174,6 @@ fn ends_with_whitespace(text: &str) -> bool
     ensures { result ≡ ends_with_whitespace text.now }
 {
     text.trim_end().len() < text.len()
-}
-
-/// The words of a text, joined by one space.
-fn joined_words(alloc: Global, text: &str) -> Result<String, AllocError>
-    ensures { IfOk result (λ words. string_bytes words ≡ joined_words text.now) }
-{
-    spaced(alloc, text.trim_start())
-}
-
-/// The text with one space for each whitespace before a word.
-fn spaced(alloc: Global, text: &str) -> Result<String, AllocError>
-    ensures { IfOk result (λ words. string_bytes words
-        ≡ encode_utf8_all (spaced_on false (chars text.now))) }
-{
-    let mut words = String::with_capacity(alloc, text.len())?;
-    let mut gap = false;
-    for c in text.chars() {
-        if c.is_whitespace() {
-            gap = true;
-        } else {
-            if gap {
-                words.push(' ')?;
-            }
-            words.push(c)?;
-            gap = false;
-        }
-    }
-    Ok(words)
 }
 
 /// Takes the spaces at the end away.
