@@ -1,7 +1,9 @@
 pub mod AddressLemmas
+pub mod BlockLemmas
 pub mod CellLemmas
 pub mod ChunkLemmas
 pub mod FenceLemmas
+pub mod LaneLemmas
 pub mod ReadLemmas
 pub mod SolidLemmas
 pub mod SpacedLemmas

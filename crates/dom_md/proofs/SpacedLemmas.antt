@@ -1,15 +1,18 @@
 -- Words parted by one space: what is added for a text, piece by piece.
-use Rattle.std.proofs.Common.{◌≡◌, ℕ, ◌+◌, ◌<◌, ◌≤◌, Bool, true, false, List, [], ◌∷◌, ◌++◌, length, take, drop, get_or, refl, sym, ◌∙◌, ap, arith, append_assoc, append-nil, take_all, encode_utf8, encode_utf8_all, inl, inr}
-use Rattle.std.specs.Prelude.{◌==◌, nat_lt, if◌then◌else◌}
-use Rattle.std.specs.Char.{is_whitespace, len_utf8}
+use Rattle.std.proofs.Common.{◌≡◌, ℕ, ◌+◌, ◌<◌, ◌≤◌, Bool, true, false, List, [], ◌∷◌, ◌++◌, length, take, drop, get_or, refl, sym, ◌∙◌, ap, arith, append_assoc, append-nil, subst, zero, suc, replicate, bit_xor, w8, Fits, encode_utf8, encode_utf8_all, inl, inr}
+use Rattle.std.specs.Prelude.{◌==◌, ◌||◌, nat_le, nat_lt, not, if◌then◌else◌}
+use Rattle.std.specs.Char.{is_whitespace}
 use Rattle.std.specs.Str.{IsCharBoundary, IsUtf8, all_scalars, chars, skip_leading_whitespace, trim_start}
-use Rattle.std.proofs.lemmas.Bool.{and_parts, cases_Bool, eqb-true, ltb-true, ne_eqb, or_cases}
+use Rattle.std.proofs.lemmas.Bool.{agree_below, agree_below_at, and_from, and_parts, cases_Bool, eqb-true, ltb-true, ne_eqb, or_cases}
 use Rattle.std.proofs.lemmas.Bool.Decides.{nat_tests}
-use Rattle.std.proofs.lemmas.List.{at_drop_more, at_drop_all, take_more}
-use Rattle.std.proofs.lemmas.Str.{IsCharBoundary-after_ascii, IsCharBoundary-start, IsUtf8-past_char, chars-encodes, chars-nil, chars_past_char, encodes-append, encodes-chars, len_utf8_bounds, length-encode, scalars-chars}
+use Rattle.std.proofs.lemmas.List.{at_drop_more, take_more}
+use Rattle.std.specs.Simd.Lanes.{Each1, zip2}
+use Rattle.std.proofs.lemmas.Simd.{Each1-get_or, below_from_Fits, get_or-replicate, get_or-zip2, length-replicate}
+use Rattle.std.proofs.lemmas.Str.{IsCharBoundary-after_ascii, IsCharBoundary-start, IsUtf8-past_char, chars-encodes, chars-nil, chars_past_char, encodes-chars, len_utf8_bounds, length-encode, scalars-chars}
 use Rattle.std.proofs.lemmas.Str.Ascii.{encode_ascii}
 use Rattle.dom_nodes.specs.Ascii.{space}
 use Rattle.dom_md.specs.Formatted.{joined_words, spaced_on, spaced_words}
+use Rattle.dom_md.specs.Lanes.{Marks}
 use Rattle.dom_md.specs.Visible.{begins_visible, is_visible, stays}
 
 -- ---- bytes that stay
@@ -76,6 +79,50 @@ same_more text at within so h =
       same = so.same ∙ ap (λ t. take at text ++ t) here ∙ sym (append_assoc (take at text) (b ∷ []) rest) ∙ ap (λ t. t ++ rest) (sym more);
       boundary = λ utf8. IsCharBoundary-after_ascii text at utf8 within step.1;
     }
+
+-- where some bytes more stay
+pub same_run : (text : List ℕ) (at r : ℕ) → at + r ≤ length text → IsSameTo text at → ((k : ℕ) → k < r → stays (get_or text (at + k) 0) (drop (at + k + 1) text) ≡ true) → IsSameTo text (at + r)
+same_run text at zero within so h = (let none : at + zero ≡ at = omega arith in subst (IsSameTo text) (sym none) so)
+same_run text at (suc r) within so h =
+    let front = same_run text at r (omega arith) so (λ k l. h k (omega arith)) in
+    let more : at + r + 1 ≡ at + suc r = omega arith in
+    subst (IsSameTo text) more (same_more text (at + r) (omega arith) front (h r (omega arith)))
+
+-- ---- the tests of 16 bytes
+
+turned_table : agree_below (λ n. nat_le (bit_xor n 128) 160) (λ n. not (is_visible n)) 256 ≡ true
+turned_table = refl
+
+pub turned : (b : ℕ) → b < 256 → nat_le (bit_xor b 128) 160 ≡ not (is_visible b)
+turned b low = agree_below_at (λ n. nat_le (bit_xor n 128) 160) (λ n. not (is_visible n)) 256 b turned_table low
+
+pub marks-turned : (v r : List ℕ) → length v ≡ 16 → Each1 (Fits w8) v → Marks r (λ k. nat_le (get_or (zip2 bit_xor v (replicate 16 128)) k 0) 160) → Marks r (λ k. not (is_visible (get_or v k 0)))
+marks-turned v r long fits m = record {
+  long = m.long;
+  each = λ k l.
+      let lane : get_or (zip2 bit_xor v (replicate 16 128)) k 0 ≡ bit_xor (get_or v k 0) 128 = get_or-zip2 bit_xor v (replicate 16 128) k 0 0 0 (omega arith) (omega (arith, length-replicate {A = ℕ} 16 128)) ∙ ap (bit_xor (get_or v k 0)) (get_or-replicate 16 k 128 0 l) in
+      let low : get_or v k 0 < 256 = Each1-get_or (λ x. x < 256) v k 0 (omega arith) (below_from_Fits w8 v fits) in
+      m.each k l ∙ (ap (λ x. if nat_le x 160 then 255 else 0) lane ∙ ap (λ b. if b then 255 else 0) (turned (get_or v k 0) low));
+}
+
+first_of : (text : List ℕ) (i : ℕ) → i < length text → begins_visible (drop i text) ≡ is_visible (get_or text i 0)
+first_of text i within = at_drop_more begins_visible text i 0 within
+
+shown : (b : Bool) → not b ≡ false → b ≡ true
+shown true h = refl
+shown false h = absurd (cc)
+
+-- a byte stays where it is visible, or the byte behind it if it is a space
+pub stays-tested : (text : List ℕ) (i : ℕ) → i + 1 < length text → not (is_visible (if get_or text i 0 == space then get_or text (i + 1) 0 else get_or text i 0)) ≡ false → stays (get_or text i 0) (drop (i + 1) text) ≡ true
+stays-tested text i within h = elim (cases_Bool (get_or text i 0 == space)) [
+  | inl gap ↦ (let next : is_visible (get_or text (i + 1) 0) ≡ true = shown _ (rw gap at h) in
+      or_right (is_visible (get_or text i 0)) _ (and_from _ _ gap (first_of text (i + 1) within ∙ next)))
+  | inr other ↦ (let here : is_visible (get_or text i 0) ≡ true = shown _ (rw other at h) in rw here refl)
+]
+  where
+    or_right : (a b : Bool) → b ≡ true → (a || b) ≡ true
+    or_right true b h = refl
+    or_right false b h = h
 
 -- ---- a character
 

@@ -1,12 +1,10 @@
 -- The steps of formatting.
-use Rattle.std.proofs.Common.{◌≡◌, ℕ, zero, suc, ◌+◌, ◌-◌, ◌<◌, ◌≤◌, Bool, true, false, List, [], ◌∷◌, ◌++◌, length, take, drop, get_or, refl, sym, ◌∙◌, ap, arith, append-nil, append_assoc, encode_utf8, encode_utf8_all, inl, inr}
-use Rattle.std.specs.Prelude.{◌==◌, ◌&&◌, codes, if◌then◌else◌}
-use Rattle.std.specs.Char.{is_whitespace}
-use Rattle.std.specs.Str.{chars, bytes_eq}
+use Rattle.std.proofs.Common.{◌≡◌, ℕ, zero, suc, ◌-◌, ◌<◌, ◌≤◌, Bool, true, false, List, [], ◌∷◌, ◌++◌, length, take, drop, get_or, refl, sym, ◌∙◌, ap, arith, inl, inr}
+use Rattle.std.specs.Prelude.{◌==◌, ◌&&◌, codes}
+use Rattle.std.specs.Str.{bytes_eq}
 use Rattle.std.proofs.lemmas.Bool.{cases_Bool, eqb-true, ne_eqb}
-use Rattle.std.proofs.lemmas.List.{at_drop_more, at_drop_all, length_push}
 use Rattle.dom_nodes.specs.Ascii.{space}
-use Rattle.dom_md.specs.Formatted.{drop_spaces, ends_with, spaced_on}
+use Rattle.dom_md.specs.Formatted.{drop_spaces, ends_with}
 
 -- ---- spaces at the end
 

@@ -5,6 +5,7 @@ pub mod Context
 pub mod Fences
 pub mod FormatOps
 pub mod Formatted
+pub mod Lanes
 pub mod Marks
 pub mod Names
 pub mod Options

@@ -1,8 +1,8 @@
 -- How a row of words is written.
-use Rattle.std.specs.Prelude.{◌≡◌, ◌<◌, ◌+◌, ℕ, ◌==◌, ◌&&◌, not, Bool, false, List, [], ◌∷◌, ◌++◌, length, take, drop, slice_index_or, if◌then◌else◌}
+use Rattle.std.specs.Prelude.{◌≡◌, ◌<◌, ◌+◌, ℕ, ◌==◌, ◌&&◌, ◌||◌, not, Bool, false, List, [], ◌∷◌, ◌++◌, length, take, drop, slice_index_or, if◌then◌else◌}
 use Rattle.std.specs.Char.{is_ascii_whitespace}
-use Rattle.dom_nodes.specs.Ascii.{backslash, space}
-use Rattle.dom_md.specs.Chunks.{is_marked}
+use Rattle.dom_nodes.specs.Ascii.{backslash, caret, delete, exclamation_mark, space}
+use Rattle.dom_md.specs.Chunks.{is_mark, is_marked}
 
 -- the text begins with a byte but whitespace
 abbrev pub begins_word : List ℕ → Bool
@@ -12,6 +12,10 @@ begins_word (b ∷ text) = not (is_ascii_whitespace b)
 -- the byte isn't written as it is: whitespace but one space before a word and, with `escape`, a mark
 abbrev pub is_changed : (escape : Bool) → ℕ → List ℕ → Bool
 is_changed escape b text = if is_ascii_whitespace b then not (b == space && begins_word text) else (escape && is_marked b text)
+
+-- a mark, `!`, `^`, `{`, `}` or 127
+abbrev pub is_special : ℕ → Bool
+is_special b = (is_mark b || b == exclamation_mark) || (b == caret || b == 123 || b == 125 || b == delete)
 
 -- what is written for such a byte: a mark behind a backslash, one space for the whitespace before a word
 abbrev pub change_of : (changed text : List ℕ) → List ℕ

@@ -6,6 +6,7 @@ pub mod chunks;
 pub mod context;
 pub mod fences;
 pub mod formatting;
+mod lanes;
 pub mod node_md;
 pub mod serializer;
 

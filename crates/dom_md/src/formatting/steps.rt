@@ -1,7 +1,7 @@
 //! The steps of formatting, each on the text so far.
 
-ghost use Rattle.std.specs.Prelude.{◌≡◌, ◌==◌, ◌<◌, ◌≤◌, ◌+◌, ◌-◌, ◌++◌, IfOk, OnOk, drop};
-ghost use Rattle.std.specs.Prelude.{length, slice_index_or, string_bytes, take};
+ghost use Rattle.std.specs.Prelude.{◌≡◌, ◌==◌, ◌<◌, ◌≤◌, ◌+◌, ◌-◌, ◌++◌, ℕ, IfOk, OnOk, drop};
+ghost use Rattle.std.specs.Prelude.{length, not, slice_index_or, string_bytes, take, true};
 ghost use Rattle.std.specs.List.{list_any};
 ghost use Rattle.std.specs.Str.{IsCharBoundary, IsUtf8, bytes_eq, trim_start};
 ghost use Rattle.dom_nodes.specs.Words.{is_among};
@@ -9,11 +9,14 @@ ghost use Rattle.dom_md.specs.Formatted.{block_names, cell_names, drop_spaces, e
 ghost use Rattle.dom_md.specs.Formatted.{ends_with_whitespace, is_fresh, is_parted};
 ghost use Rattle.dom_md.specs.Formatted.{joined_words, line_names, spaced_words, with_close};
 ghost use Rattle.dom_md.specs.Formatted.{with_gap, with_open, with_text};
+ghost use Rattle.dom_md.specs.Lanes.{Marks};
 ghost use Rattle.dom_md.specs.Visible.{begins_visible, is_visible, stays};
 
 use crate::formatting::names::{is_block, is_cell, is_line};
+use crate::lanes::{at_most, load, past_spaces, unmarked_len};
 use dom_nodes::name::LocalName;
 use std::alloc::AllocError;
+use std::simd::prelude::*;
 
 /// An element opens.
 pub(super) fn open_element(text: &mut String, name: &LocalName) -> Result<(), AllocError>
@@ -120,16 +123,54 @@ fn push_next<'a>(text: &mut String, rest: &'a str) -> Result<&'a str, AllocError
 /// How many bytes at the front surely stay as they are: visible ASCII, and a space between two such
 /// bytes.
 fn same_len(bytes: &[u8]) -> usize
+    ensures within { result ≤ length bytes.now }
     ensures boundary { IsUtf8 bytes.now → IsCharBoundary bytes.now result }
     ensures same { spaced_words bytes.now
         ≡ take result bytes.now ++ spaced_words (drop result bytes.now) }
 {
-    for at in 0..bytes.len() {
+    for at in same_blocks(bytes)..bytes.len() {
         if !stays(bytes, at) {
             return at;
         }
     }
     bytes.len()
+}
+
+/// Some of them, found 16 at a time.
+fn same_blocks(bytes: &[u8]) -> usize
+    ensures within { result ≤ length bytes.now }
+    ensures boundary { IsUtf8 bytes.now → IsCharBoundary bytes.now result }
+    ensures same { spaced_words bytes.now
+        ≡ take result bytes.now ++ spaced_words (drop result bytes.now) }
+{
+    let mut at = 0;
+    while 16 < bytes.len() - at {
+        let run = same_run(bytes, at);
+        at += run;
+        if run < 16 {
+            return at;
+        }
+    }
+    at
+}
+
+/// How many of the 16 bytes at this place stay, up to the first that doesn't.
+fn same_run(bytes: &[u8], at: usize) -> usize
+    requires { at + 17 ≤ length bytes.now }
+    ensures within { result ≤ 16 }
+    ensures stay { (k : ℕ) → k < result
+        → stays (slice_index_or bytes.now (at + k) 0) (drop (at + k + 1) bytes.now) ≡ true }
+{
+    let tested = past_spaces(load(bytes, at), load(bytes, at + 1));
+    unmarked_len(not_visible(tested))
+}
+
+/// Marks the lanes that hold no visible ASCII byte: such bytes alone are above 160 once the top bit
+/// is turned.
+fn not_visible(v: u8x16) -> u8x16
+    ensures { Marks result (λ k. not (is_visible (slice_index_or v k 0))) }
+{
+    at_most(v ^ u8x16::splat(128), 160)
 }
 
 fn stays(bytes: &[u8], at: usize) -> bool

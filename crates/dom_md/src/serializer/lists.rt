@@ -62,10 +62,7 @@ impl<'a> Writer<'a> {
             })?;
         }
         if !is_item {
-            return self.push(Task::Node {
-                id,
-                opts: FormatOpts::new().include_node(),
-            });
+            return self.open_node(id, FormatOpts::new().include_node());
         }
         if let Some(mark) = context.mark() {
             return self.write_item(id, after, mark);

@@ -1,19 +1,22 @@
 //! The words of a text, as they are written.
 
-ghost use Rattle.std.specs.Prelude.{◌≡◌, ◌||◌, ◌+◌, ◌++◌, ◌<◌, ◌≤◌, OnOk, MatchOption, codes};
+ghost use Rattle.std.specs.Prelude.{◌≡◌, ◌||◌, ◌+◌, ◌++◌, ◌<◌, ◌≤◌, ℕ, OnOk, MatchOption, codes};
 ghost use Rattle.std.specs.Prelude.{drop, false, length, slice_index_or, string_bytes, take, true};
 ghost use Rattle.std.specs.Str.{bytes_eq};
 ghost use Rattle.dom_nodes.specs.Words.{words_of};
+ghost use Rattle.dom_md.specs.Lanes.{Marks};
 ghost use Rattle.dom_md.specs.Resolved.{Reads};
 ghost use Rattle.dom_md.specs.Words.{spaced};
 ghost use Rattle.dom_md.specs.Written.{CutsChange, IsFirstChange, begins_word, change_of};
-ghost use Rattle.dom_md.specs.Written.{is_changed, written};
+ghost use Rattle.dom_md.specs.Written.{is_changed, is_special, written};
 
 use crate::chunks::{is_marked, push_escaped_chunk};
 use crate::context::FormatOpts;
+use crate::lanes::{at_most, either, equal_to, load, past_spaces, unmarked_len};
 use crate::serializer::texts::{begins_line, ends_in_marker_digits};
 use dom_nodes::fault::OutOfMemory;
 use std::alloc::AllocError;
+use std::simd::prelude::*;
 
 /// Adds the words of a text, one space between any two, and one before them if they are `parted`.
 pub(super) fn push_words(
@@ -130,12 +133,56 @@ fn find_change(bytes: &[u8], escape: bool) -> Option<usize>
     ensures { MatchOption result (written escape bytes.now ≡ bytes.now) (λ at.
         IsFirstChange escape bytes.now at) }
 {
-    for at in 0..bytes.len() {
+    for at in same_blocks(bytes, escape)..bytes.len() {
         if is_changed(bytes, at, escape) {
             return Some(at);
         }
     }
     None
+}
+
+/// A place up to which all is written as it is, found 16 bytes at a time.
+fn same_blocks(bytes: &[u8], escape: bool) -> usize
+    ensures within { result ≤ length bytes.now }
+    ensures same { written escape bytes.now
+        ≡ take result bytes.now ++ written escape (drop result bytes.now) }
+{
+    let mut at = 0;
+    while 16 < bytes.len() - at {
+        let run = same_run(bytes, at, escape);
+        at += run;
+        if run < 16 {
+            return at;
+        }
+    }
+    at
+}
+
+/// How many of the 16 bytes at this place are surely written as they are, up to the first that may
+/// not be.
+fn same_run(bytes: &[u8], at: usize, escape: bool) -> usize
+    requires { at + 17 ≤ length bytes.now }
+    ensures within { result ≤ 16 }
+    ensures same { (k : ℕ) → k < result → is_changed escape
+        (slice_index_or bytes.now (at + k) 0) (drop (at + k + 1) bytes.now) ≡ false }
+{
+    let here = load(bytes, at);
+    let gaps = at_most(past_spaces(here, load(bytes, at + 1)), b' ');
+    if escape {
+        return unmarked_len(either(gaps, special(here)));
+    }
+    unmarked_len(gaps)
+}
+
+/// Marks the lanes that hold a mark, a `!` or one of a few bytes beside them.
+fn special(v: u8x16) -> u8x16
+    ensures { Marks result (λ k. is_special (slice_index_or v k 0)) }
+{
+    // From `[` to `_`, from `{` to `~`, and 127.
+    let brackets = at_most((v | u8x16::splat(32)) ^ u8x16::splat(127), 4);
+    let quotes = either(equal_to(v, b'`'), equal_to(v, b'*'));
+    let signs = either(equal_to(v, b'<'), equal_to(v, b'!'));
+    either(brackets, either(quotes, signs))
 }
 
 /// 1 for each byte that is written as it is, whatever follows it: no whitespace, no mark and no `!`.
