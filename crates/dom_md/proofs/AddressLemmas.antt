@@ -1,39 +1,32 @@
--- The search for the first `&` of an address.
-use Rattle.std.proofs.Common.{◌≡◌, ℕ, ◌+◌, ◌-◌, ◌<◌, ◌≤◌, true, false, List, [], ◌∷◌, ◌++◌, length, take, drop, get_or, refl, sym, ◌∙◌, ap, arith, append_assoc, append-nil, take_all, length-drop}
-use Rattle.std.specs.Prelude.{◌==◌}
-use Rattle.std.specs.List.{slice_range}
-use Rattle.std.proofs.lemmas.Bool.{eqb-true}
-use Rattle.std.proofs.lemmas.List.{at_drop_more, at_drop_all, take_more}
+-- Addresses with `&amp;` for each `&`.
+use Rattle.std.proofs.Common.{◌≡◌, ◌≢◌, ℕ, suc, ◌<◌, List, [], ◌∷◌, ◌++◌, length, get_or, refl, sym, ◌∙◌, ap, arith, append-nil, append_assoc}
+use Rattle.std.specs.Prelude.{OnOk, Result, codes, if◌then◌else◌, is_ok}
+use Rattle.std.proofs.Common.{Err, Ok}
+use Rattle.std.proofs.lemmas.Bool.{ne_eqb}
 use Rattle.dom_nodes.specs.Ascii.{ampersand}
-use Rattle.dom_md.specs.Addresses.{CutsAmpersand, IsFirstAmpersand, with_ampersands}
+use Rattle.dom_md.specs.Addresses.{with_ampersands}
 
--- up to a place there is none
-abbrev pub IsPlainTo : List ℕ → ℕ → Type 0
-IsPlainTo text at = with_ampersands text ≡ take at text ++ with_ampersands (drop at text)
+-- what has none is written as it is
+plain_front : (front text : List ℕ) → ((i : ℕ) → i < length front → get_or front i 0 ≢ ampersand) → with_ampersands (front ++ text) ≡ front ++ with_ampersands text
+plain_front [] text h = refl
+plain_front (b ∷ front) text h = rw (ne_eqb b ampersand (h 0 (omega arith))) (ap (λ t. b ∷ t) (plain_front front text (λ i l. h (suc i) (omega arith))))
 
-pub ampersand_here : (text : List ℕ) (at : ℕ) → at < length text → IsPlainTo text at → (get_or text at 0 == ampersand) ≡ true → IsFirstAmpersand text at
-ampersand_here text at within same here = record {
-  within = within;
-  ascii = rw (eqb-true (get_or text at 0) ampersand here) (omega arith);
-  whole = same ∙ ap (λ t. take at text ++ t) (at_drop_more with_ampersands text at 0 within ∙ rw here refl);
-}
+pub plain_all : (text : List ℕ) → ((i : ℕ) → i < length text → get_or text i 0 ≢ ampersand) → with_ampersands text ≡ text
+plain_all text h = ap with_ampersands (sym (append-nil text)) ∙ plain_front text [] h ∙ append-nil text
 
-pub plain_more : (text : List ℕ) (at : ℕ) → at < length text → IsPlainTo text at → (get_or text at 0 == ampersand) ≡ false → IsPlainTo text (at + 1)
-plain_more text at within same other =
-    let b = get_or text at 0 in
-    let rest = with_ampersands (drop (at + 1) text) in
-    let here : with_ampersands (drop at text) ≡ b ∷ rest = at_drop_more with_ampersands text at 0 within ∙ rw other refl in
-    let more : take (at + 1) text ≡ take at text ++ b ∷ [] = take_more text at 0 within in
-    same ∙ ap (λ t. take at text ++ t) here ∙ sym (append_assoc (take at text) (b ∷ []) rest) ∙ ap (λ t. t ++ rest) (sym more)
+-- a text that is cut at its first `&`
+pub cut_parts : (text before after : List ℕ) → text ≡ before ++ ampersand ∷ after → ((i : ℕ) → i < length before → get_or before i 0 ≢ ampersand)
+    → with_ampersands text ≡ before ++ (codes "&amp;" ++ with_ampersands after)
+cut_parts text before after is h = ap with_ampersands is ∙ plain_front before (ampersand ∷ after) h
 
-pub plain_all : (text : List ℕ) (at : ℕ) → length text ≤ at → IsPlainTo text at → with_ampersands text ≡ text
-plain_all text at past same = same ∙ (ap (λ t. take at text ++ t) (at_drop_all with_ampersands text at past) ∙ (append-nil (take at text) ∙ take_all at text past))
+-- what is written up to the `&`, and what is still to come
+pub pushed : (old text before after new : List ℕ) → new ≡ (old ++ before) ++ codes "&amp;" → with_ampersands text ≡ before ++ (codes "&amp;" ++ with_ampersands after) → new ++ with_ampersands after ≡ old ++ with_ampersands text
+pushed old text before after new is whole =
+    ap (λ t. t ++ with_ampersands after) is
+    ∙ append_assoc (old ++ before) (codes "&amp;") (with_ampersands after)
+    ∙ append_assoc old before (codes "&amp;" ++ with_ampersands after)
+    ∙ ap (λ t. old ++ t) (sym whole)
 
-pub cut_parts : (text before after : List ℕ) (at : ℕ) → IsFirstAmpersand text at → before ≡ slice_range text 0 at → after ≡ drop (at + 1) text → CutsAmpersand text before after
-cut_parts text before after at found p r =
-    let all : at - 0 ≡ at = omega arith in
-    let front : before ≡ take at text = p ∙ ap (λ n. take n text) all in
-    record {
-      whole = rw (front, r) found.whole;
-      shorter = rw r (let within = found.within in omega (arith, length-drop (at + 1) text));
-    }
+pub pushed_last : {T E : Type 0} (r : Result T E) (old rest new whole : List ℕ) → new ≡ (if is_ok r then old ++ rest else old) → old ++ rest ≡ whole → OnOk r (new ≡ whole)
+pushed_last (Ok x) old rest new whole is h = is ∙ h
+pushed_last (Err e) old rest new whole is h = tt

@@ -77,9 +77,10 @@ impl<'a> Writer<'a> {
             }
             return Ok(());
         }
-        if tag.is_block() {
-            self.begin_lines(id, tag, opts)?;
+        if !tag.is_block() {
+            return Ok(());
         }
+        self.begin_lines(id, tag, opts)?;
         Ok(self.text.push_str(tag.prefix())?)
     }
 

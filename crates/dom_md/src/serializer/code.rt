@@ -4,10 +4,13 @@ use crate::context::FormatOpts;
 use crate::fences::fence_len;
 use crate::serializer::Writer;
 use crate::serializer::images::first_word;
+use crate::serializer::names::tag_of;
 use crate::serializer::nodes::contents;
 use crate::serializer::tasks::Task;
 use crate::serializer::texts::push_block_space;
 use dom_nodes::fault::OutOfMemory;
+use dom_nodes::name::LocalName;
+use dom_nodes::node_data::NodeData;
 use dom_nodes::node_id::NodeId;
 use dom_trees::node_ref::NodeRef;
 
@@ -41,6 +44,9 @@ impl<'a> Writer<'a> {
 
     /// Begins a code span; code of several lines is a block.
     pub(super) fn begin_code(&mut self, id: NodeId, opts: FormatOpts) -> Result<(), OutOfMemory> {
+        if let Some(word) = self.lone_word(id) {
+            return push_code(&mut self.text, word);
+        }
         if has_lines(&NodeRef::new(id, self.tree)) {
             return self.write_preformatted(id, opts);
         }
@@ -56,12 +62,46 @@ impl<'a> Writer<'a> {
         self.begin_text()
     }
 
+    /// The one text below the node, where that has no whitespace and stands in elements alone at
+    /// whose end nothing is written.
+    fn lone_word(&self, id: NodeId) -> Option<&'a str> {
+        let tree = self.tree;
+        let mut at = id;
+        for _ in 0..tree.len() {
+            let first = tree.tree_node(&at)?.first_child.get()?;
+            let child = tree.tree_node(&first)?;
+            if child.next_sibling.get().is_some() {
+                return None;
+            }
+            match &child.content {
+                NodeData::Text { contents } => return as_word(contents.as_str()),
+                NodeData::Element(element) if self.is_plain(&element.name.local) => at = first,
+                _ => return None,
+            }
+        }
+        None
+    }
+
+    fn is_plain(&self, name: &LocalName) -> bool {
+        !self.is_skipped(name) && !tag_of(name).has_end()
+    }
+
     pub(super) fn end_code(&mut self, id: NodeId) -> Result<(), OutOfMemory> {
         let written = self.end_text();
         let raw = NodeRef::new(id, self.tree).text()?;
         let code = trimmed_code(written.as_str(), raw.as_str());
         push_code(&mut self.text, code)
     }
+}
+
+/// The text, if no ASCII whitespace stands in it.
+fn as_word(text: &str) -> Option<&str> {
+    for byte in text.as_bytes() {
+        if byte.is_ascii_whitespace() {
+            return None;
+        }
+    }
+    Some(text)
 }
 
 /// The code without the spaces of an indentation: those beside a line feed at an edge of the text.

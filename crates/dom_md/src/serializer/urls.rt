@@ -1,7 +1,7 @@
 //! Addresses and titles of links and images.
 
-ghost use Rattle.std.specs.Prelude.{◌≡◌, ◌++◌, OnOk, MatchOption, string_bytes};
-ghost use Rattle.dom_md.specs.Addresses.{CutsAmpersand, IsFirstAmpersand, with_ampersands};
+ghost use Rattle.std.specs.Prelude.{◌≡◌, ◌++◌, OnOk, string_bytes};
+ghost use Rattle.dom_md.specs.Addresses.{with_ampersands};
 
 use crate::context::FormatOpts;
 use crate::serializer::texts::push_text;
@@ -74,44 +74,12 @@ fn push_ampersands(text: &mut String, address: &str) -> Result<(), AllocError>
         ≡ string_bytes text.old ++ with_ampersands address.now) }
 {
     let mut rest = address;
-    while let Some(cut) = cut_ampersand(rest) {
-        text.push_str(cut.before)?;
+    while let Some((before, after)) = rest.split_once('&') {
+        text.push_str(before)?;
         text.push_str("&amp;")?;
-        rest = cut.after;
+        rest = after;
     }
     text.push_str(rest)
-}
-
-/// The text before an `&`, and the text after it.
-#[derive(Clone, Copy)]
-struct Parts<'a> {
-    before: &'a str,
-    after: &'a str,
-}
-
-/// What stands before and after the first `&`.
-fn cut_ampersand(text: &str) -> Option<Parts<'_>>
-    ensures { MatchOption result (with_ampersands text.now ≡ text.now) (λ cut.
-        CutsAmpersand text.now cut.before.now cut.after.now) }
-{
-    let at = find_ampersand(text.as_bytes())?;
-    Some(Parts {
-        before: &text[..at],
-        after: &text[at + 1..],
-    })
-}
-
-/// The place of the first `&`.
-fn find_ampersand(bytes: &[u8]) -> Option<usize>
-    ensures { MatchOption result (with_ampersands bytes.now ≡ bytes.now) (λ at.
-        IsFirstAmpersand bytes.now at) }
-{
-    for at in 0..bytes.len() {
-        if bytes[at] == b'&' {
-            return Some(at);
-        }
-    }
-    None
 }
 
 /// Whether the address can stand without brackets round it.
