@@ -9,4 +9,5 @@ pub mod SolidLemmas
 pub mod SpacedLemmas
 pub mod StackLemmas
 pub mod StepLemmas
+pub mod TagLemmas
 pub mod WrittenLemmas

@@ -12,6 +12,7 @@ pub mod Options
 pub mod Resolved
 pub mod Scopes
 pub mod Solid
+pub mod Tags
 pub mod Visible
 pub mod Words
 pub mod Written

@@ -1,9 +1,11 @@
 //! What Markdown makes of the names of elements.
 
-ghost use Rattle.std.specs.Prelude.{◌≡◌, codes};
+ghost use Rattle.std.specs.Prelude.{◌≡◌, ◌≢◌, codes};
 ghost use Rattle.std.specs.Str.{bytes_eq};
 ghost use Rattle.dom_nodes.specs.Words.{is_among};
+ghost use Rattle.dom_md.specs.declared.serializer.names.Tag.TheVariants.{Other};
 ghost use Rattle.dom_md.specs.Names.{is_skipped_number, skipped_names};
+ghost use Rattle.dom_md.specs.Tags.{inner_numbered, tag_named, tag_numbered};
 
 use dom_nodes::name::LocalName;
 
@@ -19,6 +21,56 @@ const STYLE: u8 = 118;
 const META: u8 = 79;
 
 const HEAD: u8 = 70;
+
+const P: u8 = 5;
+
+const DIV: u8 = 39;
+
+const SECTION: u8 = 189;
+
+const ARTICLE: u8 = 168;
+
+const DL: u8 = 11;
+
+const A: u8 = 1;
+
+const LI: u8 = 22;
+
+const UL: u8 = 30;
+
+const OL: u8 = 23;
+
+const STRONG: u8 = 162;
+
+const B: u8 = 2;
+
+const EM: u8 = 13;
+
+const I: u8 = 4;
+
+const CODE: u8 = 64;
+
+const PRE: u8 = 49;
+
+const BR: u8 = 9;
+
+const IMG: u8 = 41;
+
+const TD: u8 = 26;
+
+const TH: u8 = 27;
+
+const TR: u8 = 28;
+
+const TABLE: u8 = 119;
+
+const BLOCKQUOTE: u8 = 229;
+
+const HR: u8 = 20;
+
+const H1: u8 = 14;
+
+const H6: u8 = 19;
 
 /// Whether the name is `href`.
 pub(super) fn is_href(name: &LocalName) -> bool
@@ -89,62 +141,78 @@ pub(super) enum Tag {
 }
 
 /// What an element of that name is. All names that are more than `Other` are known.
-pub(super) fn tag_of(name: &LocalName) -> Tag {
+pub(super) fn tag_of(name: &LocalName) -> Tag
+    ensures { result ≢ Other → result ≡ tag_named name.now }
+{
     match name.number() {
         Some(number) => tag_numbered(number),
         None => Tag::Other,
     }
 }
 
-/// What an element is whose name is known by this number.
-fn tag_numbered(number: u8) -> Tag {
-    match number {
-        // p, div, section, article, dl
-        5 | 39 | 189 | 168 | 11 => Tag::Block,
-        // a
-        1 => Tag::Link,
-        // li
-        22 => Tag::Item,
-        // ul
-        30 => Tag::UnorderedList,
-        // ol
-        23 => Tag::OrderedList,
-        // strong, b
-        162 | 2 => Tag::Strong,
-        // em, i
-        13 | 4 => Tag::Emphasis,
-        // code
-        64 => Tag::Code,
-        // pre
-        49 => Tag::Preformatted,
-        // br
-        9 => Tag::Break,
-        // img
-        41 => Tag::Image,
-        // td, th
-        26 | 27 => Tag::TableCell,
-        // tr
-        28 => Tag::TableRow,
-        // table
-        119 => Tag::Table,
-        // blockquote
-        229 => Tag::Quote,
-        // hr
-        20 => Tag::Rule,
-        // h1
-        14 => Tag::Heading(1),
-        // h2
-        15 => Tag::Heading(2),
-        // h3
-        16 => Tag::Heading(3),
-        // h4
-        17 => Tag::Heading(4),
-        // h5
-        18 => Tag::Heading(5),
-        // h6
-        19 => Tag::Heading(6),
-        _ => Tag::Other,
+/// What an element is whose name is the known one of this number.
+fn tag_numbered(number: u8) -> Tag
+    ensures { result ≡ tag_numbered number }
+{
+    if number == P || number == DIV || number == SECTION || number == ARTICLE || number == DL {
+        return Tag::Block;
     }
+    if H1 <= number && number <= H6 {
+        return Tag::Heading(number - H1 + 1);
+    }
+    if number == BLOCKQUOTE {
+        return Tag::Quote;
+    }
+    if number == TABLE {
+        return Tag::Table;
+    }
+    if number == HR {
+        return Tag::Rule;
+    }
+    if number == UL {
+        return Tag::UnorderedList;
+    }
+    if number == OL {
+        return Tag::OrderedList;
+    }
+    inner_numbered(number)
+}
+
+/// The same of an element that doesn't stand in lines of its own.
+fn inner_numbered(number: u8) -> Tag
+    ensures { result ≡ inner_numbered number }
+{
+    if number == LI {
+        return Tag::Item;
+    }
+    if number == TR {
+        return Tag::TableRow;
+    }
+    if number == TD || number == TH {
+        return Tag::TableCell;
+    }
+    if number == BR {
+        return Tag::Break;
+    }
+    if number == A {
+        return Tag::Link;
+    }
+    if number == IMG {
+        return Tag::Image;
+    }
+    if number == PRE {
+        return Tag::Preformatted;
+    }
+    if number == CODE {
+        return Tag::Code;
+    }
+    if number == STRONG || number == B {
+        return Tag::Strong;
+    }
+    if number == EM || number == I {
+        return Tag::Emphasis;
+    }
+    Tag::Other
 }
 
 impl Tag {
