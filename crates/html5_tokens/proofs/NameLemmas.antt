@@ -98,7 +98,8 @@ ranks_rise low high place names i j from order before =
       | inr more ↦ let same : i ≡ j = omega arith in le_of_eq (ap (λ (n : ℕ). rank_at place (name_at n)) same)
     ]
 
--- the names from `low` on, before `from`, have a character below the letter or end; those from `to` on, before `high`, have no such one
+-- the names from `low` on, before `from`, end at the place or have a character below the letter
+-- there; those from `to` on, before `high`, do not
 pub record AreHalved (low high place letter from to : ℕ) : Type 0 where
   pub start : low ≤ from
   pub order : from ≤ to

@@ -20,7 +20,8 @@ value_at i = record { first = slice_index FIRSTS i; second = second_of (slice_in
 abbrev pub IsFrontOf : List ℕ → List ℕ → Type 0
 IsFrontOf front text = take (length front) text ≡ front
 
--- the names that begin with the first `place` characters of name `low` are those from it on, before `high`
+-- the names from `low` on, before `high`, are those that begin with the first `place` characters
+-- of name `low`
 pub record AreNames (low high place : ℕ) : Type 0 where
   pub some : low < high
   pub within : high ≤ 2231
@@ -33,7 +34,8 @@ rank_at place [] = 0
 rank_at zero (x ∷ xs) = suc x
 rank_at (suc place) (x ∷ xs) = rank_at place xs
 
--- of the names from `low` on, before `high`, those before `index` have a character below the letter at a place, or end there
+-- of the names from `low` on, before `high`, those before `index` end at the place or have a
+-- character below the letter there, and the others do not
 pub record ArePartedAt (low high place letter index : ℕ) : Type 0 where
   pub from : low ≤ index
   pub within : index ≤ high

@@ -31,6 +31,7 @@ pub record IsInName (reference : Reference) (read : List ℕ) : Type 0 where
   pub named : reference ≡ Named found
   pub read_is : read_of found.names ≡ read
 
--- where these characters were read and c comes, a name goes on with it, or the value is that of the longest name, whatever follows
+-- these characters of a name were read, and c comes: a name goes on with it, or the value is that
+-- of the longest name that the text begins with, whatever follows
 abbrev pub IsNameRead : List ℕ → Option Value → ℕ → Bool → Reference → Type 0
 IsNameRead read value c goes_on new = MatchBool goes_on (IsInName new (read ++ c ∷ [])) ((rest : List ℕ) → IsLongest (read ++ c ∷ rest) value)
