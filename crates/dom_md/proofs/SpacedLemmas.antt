@@ -1,5 +1,5 @@
 -- Words parted by one space: what is added for a text, piece by piece.
-use Rattle.std.proofs.Common.{◌≡◌, ℕ, ◌+◌, ◌<◌, ◌≤◌, Bool, true, false, List, [], ◌∷◌, ◌++◌, length, take, drop, get_or, refl, sym, ◌∙◌, ap, arith, append_assoc, append-nil, subst, zero, suc, replicate, bit_xor, w8, Fits, encode_utf8, encode_utf8_all, inl, inr}
+use Rattle.std.proofs.Common.{◌≡◌, ℕ, ◌+◌, ◌-◌, ◌<◌, ◌≤◌, Bool, true, false, List, [], ◌∷◌, ◌++◌, length, take, drop, get_or, refl, sym, ◌∙◌, ap, arith, append_assoc, append-nil, subst, zero, suc, replicate, bit_xor, w8, Fits, encode_utf8, encode_utf8_all, inl, inr}
 use Rattle.std.specs.Prelude.{◌==◌, ◌||◌, nat_le, nat_lt, not, if◌then◌else◌}
 use Rattle.std.specs.Char.{is_whitespace}
 use Rattle.std.specs.Str.{IsCharBoundary, IsUtf8, all_scalars, chars, skip_leading_whitespace, trim_start}
@@ -8,7 +8,7 @@ use Rattle.std.proofs.lemmas.Bool.Decides.{nat_tests}
 use Rattle.std.proofs.lemmas.List.{at_drop_more, take_more}
 use Rattle.std.specs.Simd.Lanes.{Each1, zip2}
 use Rattle.std.proofs.lemmas.Simd.{Each1-get_or, below_from_Fits, get_or-replicate, get_or-zip2, length-replicate}
-use Rattle.std.proofs.lemmas.Str.{IsCharBoundary-after_ascii, IsCharBoundary-start, IsUtf8-past_char, chars-encodes, chars-nil, chars_past_char, encodes-chars, len_utf8_bounds, length-encode, scalars-chars}
+use Rattle.std.proofs.lemmas.Str.{IsCharBoundary-after_ascii, IsCharBoundary-at_seam, IsCharBoundary-start, IsUtf8-past_char, chars-encodes, chars-nil, chars_past_char, encodes-chars, len_utf8_bounds, length-encode, scalars-chars}
 use Rattle.std.proofs.lemmas.Str.Ascii.{encode_ascii}
 use Rattle.dom_nodes.specs.Ascii.{space}
 use Rattle.dom_md.specs.Formatted.{joined_words, spaced_on, spaced_words}
@@ -260,3 +260,55 @@ push_gap old new rest after words c utf8 is white trimmed made =
 pub spaced-end : (old new rest row : List ℕ) → length rest ≡ 0 → new ++ spaced_words rest ≡ old ++ spaced_words row → new ≡ old ++ spaced_words row
 spaced-end old new [] row none whole = sym (append-nil new) ∙ ap (λ cs. new ++ encode_utf8_all (spaced_on false cs)) (sym chars-nil) ∙ whole
 spaced-end old new (b ∷ rest) row none whole = absurd (omega arith)
+
+-- a space before a character that isn't whitespace
+spaced-letter : (after more : List ℕ) (c : ℕ) → IsUtf8 after → after ≡ encode_utf8 c ++ more → is_whitespace c ≡ false → spaced_words (space ∷ after) ≡ space ∷ spaced_words after
+spaced-letter after more c utf8 is dark =
+    let first : chars after ≡ c ∷ chars more = chars_past_char after more c utf8 is in
+    ap (λ cs. encode_utf8_all (spaced_on false cs)) (chars-low space after (omega arith) ∙ ap (λ cs. space ∷ cs) first)
+    ∙ ap encode_utf8_all (gap-dark c (chars more) dark ∙ ap (λ t. space ∷ t) (sym (spaced-dark c (chars more) dark)))
+    ∙ one_byte space (spaced_on false (c ∷ chars more)) (omega arith)
+    ∙ ap (λ cs. space ∷ encode_utf8_all (spaced_on false cs)) (sym first)
+
+pub push_single : (old new rest after more : List ℕ) (c : ℕ) → rest ≡ space ∷ after → IsUtf8 rest → after ≡ encode_utf8 c ++ more → is_whitespace c ≡ false → new ≡ old ++ encode_utf8 space →
+    new ++ spaced_words after ≡ old ++ spaced_words rest
+push_single old new rest after more c front whole is dark made =
+    let utf8 = IsUtf8-past_char rest after space whole (front ∙ ap (λ e. e ++ after) (sym (encode_ascii space (omega arith)))) in
+    ap (λ t. t ++ spaced_words after) (made ∙ ap (λ t. old ++ t) (encode_ascii space (omega arith)))
+    ∙ append_assoc old (space ∷ []) (spaced_words after)
+    ∙ ap (λ t. old ++ t) (sym (spaced-letter after more c utf8 is dark) ∙ ap spaced_words (sym front))
+
+-- ---- characters at the front of a text
+
+-- what was read and what is left
+pub record IsRead (text left : List ℕ) : Type 0 where
+  pub front : List ℕ
+  pub whole : text ≡ front ++ left
+  pub same : spaced_words text ≡ front ++ spaced_words left
+  pub utf8 : IsUtf8 left
+
+pub read_more : (text left after : List ℕ) (c : ℕ) → IsRead text left → left ≡ encode_utf8 c ++ after → is_whitespace c ≡ false → IsRead text after
+read_more text left after c read is dark = record {
+  front = read.front ++ encode_utf8 c;
+  whole = read.whole ∙ (ap (λ t. read.front ++ t) is ∙ sym (append_assoc read.front (encode_utf8 c) after));
+  same = read.same ∙ (ap (λ t. read.front ++ t) (spaced-char left after c read.utf8 is dark) ∙ sym (append_assoc read.front (encode_utf8 c) (spaced_words after)));
+  utf8 = IsUtf8-past_char left after c read.utf8 is;
+}
+
+take-front : (front left : List ℕ) → (take (length front) (front ++ left) ≡ front) × (drop (length front) (front ++ left) ≡ left)
+take-front [] left = (refl, refl)
+take-front (b ∷ front) left = (let rest = take-front front left in (ap (λ t. b ∷ t) rest.0, rest.1))
+
+length-joined : (xs ys : List ℕ) → length (xs ++ ys) ≡ length xs + length ys
+length-joined [] ys = omega arith
+length-joined (x ∷ xs) ys = let rest = length-joined xs ys in omega (arith, rest)
+
+pub read_all : (text left : List ℕ) (n : ℕ) → IsRead text left → n ≡ length text - length left → IsCharBoundary text n × (spaced_words text ≡ take n text ++ spaced_words (drop n text))
+read_all text left n read counted =
+    let size = ap length read.whole in
+    let sum = length-joined read.front left in
+    let is : n ≡ length read.front = omega (arith, size, sum, counted) in
+    let parts = take-front read.front left in
+    let front : take n text ≡ read.front = ap (λ t. take n t) read.whole ∙ ap (λ m. take m (read.front ++ left)) is ∙ parts.0 in
+    let back : drop n text ≡ left = ap (λ t. drop n t) read.whole ∙ ap (λ m. drop m (read.front ++ left)) is ∙ parts.1 in
+    (subst (IsCharBoundary text) (sym is) (IsCharBoundary-at_seam text read.front left read.whole read.utf8), read.same ∙ (ap (λ t. t ++ spaced_words left) (sym front) ∙ ap (λ t. take n text ++ spaced_words t) (sym back)))

@@ -1,7 +1,8 @@
 //! The steps of formatting, each on the text so far.
 
-ghost use Rattle.std.specs.Prelude.{◌≡◌, ◌==◌, ◌<◌, ◌≤◌, ◌+◌, ◌-◌, ◌++◌, ℕ, IfOk, OnOk, drop};
-ghost use Rattle.std.specs.Prelude.{length, not, slice_index_or, string_bytes, take, true};
+ghost use Rattle.std.specs.Prelude.{◌≡◌, ◌==◌, ◌<◌, ◌≤◌, ◌+◌, ◌-◌, ◌++◌, ℕ, IfOk, IfSome, OnOk};
+ghost use Rattle.std.specs.Prelude.{drop, encode_utf8, false, length, not, slice_index_or, string_bytes, take, true};
+ghost use Rattle.std.specs.Char.{is_whitespace};
 ghost use Rattle.std.specs.List.{list_any};
 ghost use Rattle.std.specs.Str.{IsCharBoundary, IsUtf8, bytes_eq, trim_start};
 ghost use Rattle.dom_nodes.specs.Words.{is_among};
@@ -98,8 +99,8 @@ fn push_spaced(text: &mut String, row: &str) -> Result<(), AllocError>
     Ok(())
 }
 
-/// Adds what is written for the character at the front, with the whitespace behind it if it is
-/// whitespace, and gives what stands behind that.
+/// Adds what is written for the character at the front, with the letters or the whitespace behind
+/// it, and gives what stands behind that.
 fn push_next<'a>(text: &mut String, rest: &'a str) -> Result<&'a str, AllocError>
     ensures words { IfOk result (λ after. string_bytes text.new ++ spaced_words after.now
         ≡ string_bytes text.old ++ spaced_words rest.now) }
@@ -111,13 +112,69 @@ fn push_next<'a>(text: &mut String, rest: &'a str) -> Result<&'a str, AllocError
     };
     if !c.is_whitespace() {
         text.push(c)?;
-        return Ok(chars.as_str());
+        return push_letters(text, chars.as_str());
     }
     let words = rest.trim_start();
     if !words.is_empty() {
         text.push(' ')?;
     }
     Ok(words)
+}
+
+/// Adds the characters beyond ASCII at the front, and a single space between them and more of them,
+/// and gives what stands behind.
+fn push_letters<'a>(text: &mut String, rest: &'a str) -> Result<&'a str, AllocError>
+    ensures words { IfOk result (λ after. string_bytes text.new ++ spaced_words after.now
+        ≡ string_bytes text.old ++ spaced_words rest.now) }
+    ensures shorter { IfOk result (λ after. length after.now ≤ length rest.now) }
+{
+    let end = letters_len(rest);
+    text.push_str(&rest[..end])?;
+    push_gap(text, &rest[end..])
+}
+
+/// How many bytes such characters at the front take.
+fn letters_len(text: &str) -> usize
+    ensures boundary { IsCharBoundary text.now result }
+    ensures same { spaced_words text.now
+        ≡ take result text.now ++ spaced_words (drop result text.now) }
+{
+    let mut left = text;
+    while let Some((_, after)) = cut_letter(left) {
+        left = after;
+    }
+    text.len() - left.len()
+}
+
+/// Adds the space at the front where such a character follows it, and gives what stands behind.
+fn push_gap<'a>(text: &mut String, rest: &'a str) -> Result<&'a str, AllocError>
+    ensures words { IfOk result (λ after. string_bytes text.new ++ spaced_words after.now
+        ≡ string_bytes text.old ++ spaced_words rest.now) }
+    ensures shorter { IfOk result (λ after. length after.now ≤ length rest.now) }
+{
+    let Some(after) = rest.strip_prefix(' ') else {
+        return Ok(rest);
+    };
+    match cut_letter(after) {
+        Some(_) => {
+            text.push(' ')?;
+            Ok(after)
+        }
+        None => Ok(rest),
+    }
+}
+
+/// Such a character at the front, and what stands behind it.
+fn cut_letter(text: &str) -> Option<(char, &str)>
+    ensures { IfSome result (λ cut. (is_whitespace cut.0 ≡ false)
+        × (text.now ≡ encode_utf8 cut.0 ++ cut.1.now)) }
+{
+    let mut chars = text.chars();
+    let c = chars.next()?;
+    if c.is_ascii() || c.is_whitespace() {
+        return None;
+    }
+    Some((c, chars.as_str()))
 }
 
 /// How many bytes at the front surely stay as they are: visible ASCII, and a space between two such

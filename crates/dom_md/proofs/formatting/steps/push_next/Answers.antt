@@ -1,5 +1,6 @@
 use Rattle.std.proofs.Common.{◌≡◌, ◌++◌, [], ◌∙◌, ap, append-nil, arith, encode_utf8, length, string_bytes, sym}
 use Rattle.std.specs.Prelude.{◌==◌, if◌then◌else◌}
+use Rattle.std.proofs.lemmas.Result.{IfOk-weaker}
 use Rattle.dom_nodes.specs.Ascii.{space}
 use Rattle.dom_md.specs.Formatted.{spaced_words}
 use Rattle.dom_md.proofs.SpacedLemmas.{push_char, push_gap, trimmed-shorter}
@@ -10,8 +11,9 @@ pub returns-then-not-is_whitespace-clause-words : goal.returns-then-not-is_white
 returns-then-not-is_whitespace-clause-words c =
     let is = sym c.chars-chars.ensures.rest ∙ c.in-Some.ensures.steps.0 in
     let dark = sym c.is_whitespace.ensures ∙ c.if-not-is_whitespace.true in
-    rw c.as_str.ensures (ap (λ t. t ++ spaced_words c.next.new.self.rest.now) c.in_ok-push.ensures.bytes
-    ∙ push_char (string_bytes c.args.text.now) c.args.rest.now c.next.new.self.rest.now c.in-Some.c c.utf8.rest is dark)
+    let next = c.next.new.self.rest.now in
+    let one = ap (λ t. t ++ spaced_words next) c.in_ok-push.ensures.bytes ∙ push_char (string_bytes c.args.text.now) c.args.rest.now next c.in-Some.c c.utf8.rest is dark in
+    IfOk-weaker c.push_letters.result _ _ (λ after h. h ∙ (ap (λ t. string_bytes c.push.new.self ++ spaced_words t) c.as_str.ensures ∙ one)) c.push_letters.ensures.words
 
 pub returns-clause-words : goal.returns-clause-words
 returns-clause-words c =
