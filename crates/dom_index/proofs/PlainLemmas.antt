@@ -1,10 +1,14 @@
 -- Plain selectors: their tests, and what they mean.
-use Rattle.std.proofs.Common.{◌≡◌, ◌↔◌, ◌⊎◌, ◌<◌, ◌+◌, ℕ, zero, suc, List, [], ◌∷◌, ◌++◌, Some, inl, inr, refl, sym, ap, ◌∙◌, subst, length, slice_get, map, arith}
+use Rattle.std.proofs.Common.{◌≡◌, ◌↔◌, ◌⊎◌, ◌<◌, ◌+◌, ℕ, zero, suc, List, [], ◌∷◌, ◌++◌, Some, Bool, true, false, inl, inr, refl, sym, ap, ◌∙◌, subst, length, slice_get, set, take, map, arith}
 use Rattle.std.specs.Option.{option_map}
+use Rattle.std.specs.Prelude.{◌||◌}
+use Rattle.dom_selectors.specs.Spelling.{Decides}
+use Rattle.dom_index.proofs.ForwardLemmas.{decided_by}
+use Rattle.dom_index.proofs.PlaceLemmas.{same_or_not}
 use Rattle.std.proofs.Math.ListN.{get_or}
-use Rattle.std.proofs.lemmas.Option.{none-some, same_Some, slice_get-map, slice_get_cases, slice_get_within, get_or_from_slice_get}
+use Rattle.std.proofs.lemmas.Option.{none-some, same_Some, slice_get-map, slice_get-get_or, slice_get_cases, slice_get_past, slice_get_within, get_or_from_slice_get}
 use Rattle.std.proofs.lemmas.Bool.{cases_lt}
-use Rattle.std.proofs.lemmas.List.{nil_from_length}
+use Rattle.std.proofs.lemmas.List.{get_or-set_other, get_or-set_same, length-append, length-set, nil_from_length, take_more}
 use Rattle.dom_selectors.specs.declared.syntax.Nested.{Nested}
 use Rattle.dom_links.specs.Forest.{Forest}
 use Rattle.dom_selectors.specs.declared.syntax.Combinator.{Combinator}
@@ -17,10 +21,13 @@ use Rattle.dom_selectors.specs.ValuesAsTrees.{read_compound, read_list, read_nes
 use Rattle.dom_selectors.proofs.Layers.{read_compound_is, read_selector_is, read_step_is}
 use Rattle.dom_select.specs.Meaning.{Holds, Means, StepsMatch}
 use Rattle.dom_index.specs.declared.node_tests.NodeTest.{NodeTest}
+use Rattle.dom_index.specs.declared.streaming.Chain.{Chain}
+use Rattle.dom_index.specs.declared.streaming.Rows.{Rows}
+use Rattle.dom_index.specs.Tracks.{AreChainsOf, AreEmpty, AreFollowing, ArePrepared, IsChainOf, IsFollowing, IsPrepared, IsTracked, Reaches, SomeReaches, first_in, steps_in}
 use Rattle.dom_index.specs.BareLists.{IsBare}
 use Rattle.dom_index.specs.TypeBytes.{lists_in}
 use Rattle.dom_index.specs.FlagRows.{IsUpward, StepsReach, compound_at}
-use Rattle.dom_index.specs.NodeTests.{HasBareLists, IsPlain, IsReady}
+use Rattle.dom_index.specs.NodeTests.{ArePlain, HasBareLists, IsPlain, IsReady}
 use Rattle.dom_index.proofs.FlagLemmas.{read_there}
 
 -- an element of a list with one more at its end
@@ -92,3 +99,159 @@ plain_more steps i one other so_far bare up j s below at = elim (cases_lt j i) [
       let here : slice_get steps i ≡ Some s = ap (slice_get steps) (sym same) ∙ at in
       (subst (λ (x : Step). HasBareLists x.compound) (get_or_from_slice_get steps i s one here) bare, subst (λ (x : Step). IsUpward x.combinator) (get_or_from_slice_get steps i s other here) up)
 ]
+
+-- what the selectors of a list mean
+pub some_meant : (selectors : List Selector) (chains : List Chain) → AreChainsOf selectors chains → (forest : Forest) (n : ℕ) → SomeReaches chains forest n ↔ Means (read_list selectors) forest n
+some_meant [] chains are forest n = (λ h. subst (λ (cs : List Chain). SomeReaches cs forest n) are h, λ m. absurd m)
+some_meant (s ∷ ss) [] are forest n = absurd are
+some_meant (s ∷ ss) (chain ∷ chains) are forest n =
+    let one = reached_meant s (first_in chain) (steps_in chain) are.0.first are.0.steps forest n in
+    let more = some_meant ss chains are.1 forest n in (
+      λ h. elim h [
+        | inl here ↦ elim (one.0 here) [
+          | inl m ↦ inl m
+          | inr none ↦ absurd none
+        ]
+        | inr later ↦ inr (more.0 later)
+      ],
+      λ m. elim m [
+        | inl here ↦ inl (one.1 (inl here))
+        | inr later ↦ inr (more.1 later)
+      ],
+    )
+
+-- one chain more
+pub chains_more : (selectors : List Selector) (chains : List Chain) (s : Selector) (chain : Chain) → AreChainsOf selectors chains → IsChainOf s chain → AreChainsOf (selectors ++ s ∷ []) (chains ++ chain ∷ [])
+chains_more [] chains s chain are is = subst (λ (cs : List Chain). AreChainsOf (s ∷ []) (cs ++ chain ∷ [])) (sym are) (is, refl)
+chains_more (t ∷ ts) [] s chain are is = absurd are
+chains_more (t ∷ ts) (c ∷ cs) s chain are is = (are.0, chains_more ts cs s chain are.1 is)
+
+prepared_at : (c : Chain) (cs : List Chain) → IsPrepared c → ArePrepared cs → (i : ℕ) (chain : Chain) → slice_get (c ∷ cs) i ≡ Some chain → IsPrepared chain
+prepared_at c cs here rest zero chain at = subst IsPrepared (same_Some c chain at) here
+prepared_at c cs here rest (suc i) chain at = rest i chain at
+
+pub chains_prepared : (selectors : List Selector) (chains : List Chain) → AreChainsOf selectors chains → ArePrepared chains
+chains_prepared [] chains are = λ i chain at. absurd (none-some chain (sym (ap (λ (cs : List Chain). slice_get cs i) are ∙ slice_get_past [] i (omega arith)) ∙ at))
+chains_prepared (s ∷ ss) [] are = absurd are
+chains_prepared (s ∷ ss) (c ∷ cs) are = prepared_at c cs are.0.prepared (chains_prepared ss cs are.1)
+
+-- one of several and one more
+pub some_more : (chains : List Chain) (chain : Chain) (forest : Forest) (n : ℕ) → SomeReaches (chains ++ chain ∷ []) forest n ↔ (SomeReaches chains forest n ⊎ Reaches chain forest n)
+some_more [] chain forest n = (
+  λ h. elim h [
+    | inl here ↦ inr here
+    | inr none ↦ absurd none
+  ],
+  λ h. elim h [
+    | inl none ↦ absurd none
+    | inr here ↦ inl here
+  ],
+)
+some_more (c ∷ cs) chain forest n =
+    let rest = some_more cs chain forest n in (
+      λ h. elim h [
+        | inl here ↦ inl (inl here)
+        | inr later ↦ elim (rest.0 later) [
+          | inl some ↦ inl (inr some)
+          | inr last ↦ inr last
+        ]
+      ],
+      λ h. elim h [
+        | inl some ↦ elim some [
+          | inl here ↦ inl here
+          | inr later ↦ inr (rest.1 (inl later))
+        ]
+        | inr last ↦ inr (rest.1 (inr last))
+      ],
+    )
+
+-- empty paths follow
+pub empty_follow : (forest : Forest) (chains : List Chain) (paths : List Rows) (caches : Forest) → AreEmpty forest (length chains) paths → caches ≡ forest → AreFollowing chains paths forest caches
+empty_follow forest chains paths caches empty same = record {
+  long = empty.long;
+  each = λ i chain rows one other. let none = empty.each i rows other in ((0, (none.1, none.2)), none.0);
+  caches_are = same;
+}
+
+pub empty_more : (forest : Forest) (count : ℕ) (paths longer : List Rows) (rows : Rows) → AreEmpty forest count paths → longer ≡ paths ++ rows ∷ [] → rows.tree.now ≡ forest → rows.path.items ≡ [] → rows.flags.items ≡ [] → AreEmpty forest (count + 1) longer
+empty_more forest count paths longer rows empty is at path flags = record {
+  long = ap length is ∙ (length-append paths (rows ∷ []) ∙ ap (λ k. k + 1) empty.long);
+  each = λ i r read. elim (old_or_last paths rows i r (ap (λ (ps : List Rows). slice_get ps i) (sym is) ∙ read)) [
+    | inl old ↦ empty.each i r old
+    | inr last ↦ subst (λ (q : Rows). (q.tree.now ≡ forest) × (q.path.items ≡ []) × (q.flags.items ≡ [])) last.1 (at, path, flags)
+  ];
+}
+
+pub empty_none : (forest : Forest) (paths : List Rows) → paths ≡ [] → AreEmpty forest 0 paths
+empty_none forest paths is = record {
+  long = ap length is;
+  each = λ i r read. absurd (none-some r (sym (ap (λ (ps : List Rows). slice_get ps i) is ∙ slice_get_past [] i (omega arith)) ∙ read));
+}
+
+-- what is read with another default is the same
+same_read : {A : Type 0} (xs : List A) (i : ℕ) (d e : A) → i < length xs → get_or xs i d ≡ get_or xs i e
+same_read xs i d e inside = get_or_from_slice_get xs i (get_or xs i e) d (slice_get-get_or xs i e inside)
+
+pub plain_here : (selectors : List Selector) (i : ℕ) (one other : Selector) (rest : List Step) → ArePlain selectors → i < length selectors → rest ≡ (out-Selector (get_or selectors i other)).rest.items → IsPlain (out-Selector (get_or selectors i one)).first rest
+plain_here selectors i one other rest plain inside is =
+    subst (IsPlain (out-Selector (get_or selectors i one)).first) (sym (is ∙ ap (λ (x : Selector). (out-Selector x).rest.items) (same_read selectors i other one inside)))
+    (plain i (get_or selectors i one) (slice_get-get_or selectors i one inside))
+
+pub plain_next : (selectors : List Selector) (i : ℕ) (one other : Selector) (rest : List Step) → ((j : ℕ) (s : Selector) → j < i → slice_get selectors j ≡ Some s → IsPlain (out-Selector s).first (out-Selector s).rest.items) →
+    rest ≡ (out-Selector (get_or selectors i other)).rest.items → IsPlain (out-Selector (get_or selectors i one)).first rest → (j : ℕ) (s : Selector) → j < i + 1 → slice_get selectors j ≡ Some s → IsPlain (out-Selector s).first (out-Selector s).rest.items
+plain_next selectors i one other rest so_far is plain j s below at = elim (cases_lt j i) [
+  | inl less ↦ so_far j s less at
+  | inr past ↦
+      let same : j ≡ i = omega (arith, below, past) in
+      let here : slice_get selectors i ≡ Some s = ap (slice_get selectors) (sym same) ∙ at in
+      subst (λ (x : Selector). IsPlain (out-Selector x).first (out-Selector s).rest.items) (get_or_from_slice_get selectors i s one here)
+      (subst (IsPlain (out-Selector (get_or selectors i one)).first) (is ∙ ap (λ (x : Selector). (out-Selector x).rest.items) (get_or_from_slice_get selectors i s other here)) plain)
+]
+
+pub chains_next : (selectors : List Selector) (i : ℕ) (one other : Selector) (chains longer : List Chain) (chain : Chain) (rest : List Step) → i < length selectors → AreChainsOf (take i selectors) chains → longer ≡ chains ++ chain ∷ [] → IsPrepared chain →
+    first_in chain ≡ read_compound (out-Selector (get_or selectors i one)).first → steps_in chain ≡ map read_step rest → rest ≡ (out-Selector (get_or selectors i other)).rest.items → AreChainsOf (take (i + 1) selectors) longer
+chains_next selectors i one other chains longer chain rest inside are is prepared begins goes read =
+    let of : IsChainOf (get_or selectors i one) chain = record {
+      prepared = prepared;
+      first = begins;
+      steps = goes ∙ ap (λ (ss : List Step). map read_step ss) (read ∙ ap (λ (x : Selector). (out-Selector x).rest.items) (same_read selectors i other one inside));
+    } in
+    subst (λ (ss : List Selector). AreChainsOf ss longer) (sym (take_more selectors i one inside)) (subst (AreChainsOf (take i selectors ++ get_or selectors i one ∷ [])) (sym is) (chains_more (take i selectors) chains (get_or selectors i one) chain are of))
+
+-- one path less to follow
+pub following_set : (chains : List Chain) (paths : List Rows) (i : ℕ) (one : Chain) (rows : Rows) (forest caches new : Forest) → i < length chains → AreFollowing chains paths forest caches → IsFollowing (get_or chains i one) rows forest new → AreFollowing chains (set paths i rows) forest new
+following_set chains paths i one rows forest caches new inside all here = record {
+  long = length-set paths i rows ∙ all.long;
+  each = λ j chain r there read. elim (same_or_not j i) [
+    | inl same ↦
+        let known : i < length paths = let long = all.long in omega (arith, inside, long) in
+        let old : get_or chains i one ≡ chain = get_or_from_slice_get chains i chain one (ap (slice_get chains) (sym same) ∙ there) in
+        let written : rows ≡ r = sym (get_or-set_same paths i rows rows known) ∙ get_or_from_slice_get (set paths i rows) i r rows (ap (slice_get (set paths i rows)) (sym same) ∙ read) in
+        let both : IsTracked (get_or chains i one) rows × (rows.tree.now ≡ forest) = (here.tracked, here.tree) in
+        subst (λ (q : Rows). IsTracked chain q × (q.tree.now ≡ forest)) written (subst (λ (k : Chain). IsTracked k rows × (rows.tree.now ≡ forest)) old both)
+    | inr other ↦
+        let within : j < length paths = let w = slice_get_within (set paths i rows) j r read in let long = length-set paths i rows in omega (arith, w, long) in
+        let kept : get_or paths j r ≡ r = sym (get_or-set_other paths i j rows r other) ∙ get_or_from_slice_get (set paths i rows) j r r read in
+        all.each j chain r there (slice_get-get_or paths j r within ∙ ap (λ (q : Rows). Some q) kept)
+  ];
+  caches_are = here.caches_are;
+}
+
+pub following_one : (chains : List Chain) (paths : List Rows) (i : ℕ) (one : Chain) (rows : Rows) (forest caches : Forest) → i < length chains → rows ≡ get_or paths i rows → AreFollowing chains paths forest caches → IsFollowing (get_or chains i one) rows forest caches
+following_one chains paths i one rows forest caches inside read all =
+    let both = all.each i (get_or chains i one) rows (slice_get-get_or chains i one inside) (read_there paths i rows (let long = all.long in omega (arith, inside, long)) read) in
+    record { tracked = both.0; tree = both.1; caches_are = all.caches_are }
+
+either : (a b : Bool) (P Q : Type 0) → Decides a P → Decides b Q → Decides (a || b) (P ⊎ Q)
+either true b P Q p q = inl p
+either false true P Q p q = inr q
+either false false P Q p q = λ x. elim x [
+  | inl y ↦ p y
+  | inr y ↦ q y
+]
+
+pub any_more : (chains : List Chain) (i : ℕ) (one : Chain) (any b : Bool) (forest : Forest) (n : ℕ) → i < length chains → Decides any (SomeReaches (take i chains) forest n) → Decides b (Reaches (get_or chains i one) forest n) → Decides (any || b) (SomeReaches (take (i + 1) chains) forest n)
+any_more chains i one any b forest n inside before here =
+    let same = some_more (take i chains) (get_or chains i one) forest n in
+    subst (λ (cs : List Chain). Decides (any || b) (SomeReaches cs forest n)) (sym (take_more chains i one inside))
+    (decided_by (any || b) (SomeReaches (take i chains) forest n ⊎ Reaches (get_or chains i one) forest n) (SomeReaches (take i chains ++ get_or chains i one ∷ []) forest n) same.1 same.0 (either any b _ _ before here))

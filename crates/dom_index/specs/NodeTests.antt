@@ -1,6 +1,7 @@
 -- Tests of a compound that are prepared.
 use Rattle.std.specs.Prelude.{ℕ, ◌≡◌, true, List, Some, length, map, replicate, slice_get, IfSome}
 use Rattle.dom_selectors.specs.declared.syntax.Compound.{Compound}
+use Rattle.dom_selectors.specs.declared.syntax.Selector.{Selector, out-Selector}
 use Rattle.dom_selectors.specs.declared.syntax.Step.{Step}
 use Rattle.dom_selectors.specs.ListsAsTrees.{lists_of}
 use Rattle.dom_selectors.specs.ValuesAsTrees.{read_compound, read_nested, read_step}
@@ -23,3 +24,6 @@ pub record IsPlain (first : Compound) (steps : List Step) : Type 0 where
   pub first_bare : HasBareLists first
   pub bare : (i : ℕ) (s : Step) → slice_get steps i ≡ Some s → HasBareLists s.compound
   pub upward : AreUpward (map read_step steps)
+
+abbrev pub ArePlain : List Selector → Type 0
+ArePlain selectors = (i : ℕ) (s : Selector) → slice_get selectors i ≡ Some s → IsPlain (out-Selector s).first (out-Selector s).rest.items

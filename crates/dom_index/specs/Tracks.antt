@@ -1,8 +1,9 @@
 -- A selector in a traversal.
-use Rattle.std.specs.Prelude.{ℕ, ◌≡◌, ◌+◌, Bool, false, true, List, Option, Some, length, map, replicate, slice_get}
+use Rattle.std.specs.Prelude.{ℕ, ◌≡◌, ◌⊎◌, ◌+◌, Bool, false, true, List, [], ◌∷◌, Option, Some, length, map, replicate, slice_get}
 use Rattle.dom_links.specs.Forest.{Forest, parent}
 use Rattle.dom_links.specs.ListMoves.{element_at}
 use Rattle.dom_selectors.specs.declared.syntax.Combinator.{Combinator}
+use Rattle.dom_selectors.specs.declared.syntax.Selector.{Selector, out-Selector}
 use Rattle.dom_selectors.specs.Syntax.{CompoundSelector}
 use Rattle.dom_selectors.specs.ValuesAsTrees.{read_compound, read_step}
 use Rattle.dom_index.specs.declared.node_tests.NodeTest.{NodeTest}
@@ -49,6 +50,36 @@ pub record IsFollowing (chain : Chain) (rows : Rows) (forest : Forest) (caches :
   pub tree : rows.tree.now ≡ forest
   pub caches_are : caches ≡ forest
 
--- the node is an element that the selector matches
-abbrev pub IsReached : Chain → Forest → ℕ → Type 0
-IsReached chain forest n = (element_at forest n ≡ true) × Reaches chain forest n
+-- the paths of several selectors, one each
+abbrev pub ArePrepared : List Chain → Type 0
+ArePrepared chains = (i : ℕ) (chain : Chain) → slice_get chains i ≡ Some chain → IsPrepared chain
+
+pub record AreFollowing (chains : List Chain) (paths : List Rows) (forest : Forest) (caches : Forest) : Type 0 where
+  pub long : length paths ≡ length chains
+  pub each : (i : ℕ) (chain : Chain) (rows : Rows) → slice_get chains i ≡ Some chain → slice_get paths i ≡ Some rows → IsTracked chain rows × (rows.tree.now ≡ forest)
+  pub caches_are : caches ≡ forest
+
+-- so many empty paths
+pub record AreEmpty (forest : Forest) (count : ℕ) (paths : List Rows) : Type 0 where
+  pub long : length paths ≡ count
+  pub each : (i : ℕ) (rows : Rows) → slice_get paths i ≡ Some rows → (rows.tree.now ≡ forest) × (rows.path.items ≡ []) × (rows.flags.items ≡ [])
+
+-- one of the selectors matches the node
+abbrev pub SomeReaches : List Chain → Forest → ℕ → Type 0
+SomeReaches [] forest n = ⊥
+SomeReaches (chain ∷ chains) forest n = Reaches chain forest n ⊎ SomeReaches chains forest n
+
+-- and the node is an element
+abbrev pub IsReached : List Chain → Forest → ℕ → Type 0
+IsReached chains forest n = (element_at forest n ≡ true) × SomeReaches chains forest n
+
+-- the chain of a selector, and those of several
+pub record IsChainOf (s : Selector) (chain : Chain) : Type 0 where
+  pub prepared : IsPrepared chain
+  pub first : first_in chain ≡ read_compound (out-Selector s).first
+  pub steps : steps_in chain ≡ map read_step (out-Selector s).rest.items
+
+abbrev pub AreChainsOf : List Selector → List Chain → Type 0
+AreChainsOf [] chains = chains ≡ []
+AreChainsOf (s ∷ ss) [] = ⊥
+AreChainsOf (s ∷ ss) (chain ∷ chains) = IsChainOf s chain × AreChainsOf ss chains

@@ -5,12 +5,24 @@ ghost use Rattle.dom_selectors.specs.ListsAsTrees.{lists_of};
 ghost use Rattle.dom_selectors.specs.ValuesAsTrees.{read_list, read_nested};
 ghost use Rattle.dom_index.specs.BareLists.{AreBare, AreBareLists, IsBareList};
 ghost use Rattle.dom_index.specs.FlagRows.{IsUpward};
-ghost use Rattle.dom_index.specs.NodeTests.{IsPlain};
+ghost use Rattle.dom_index.specs.NodeTests.{ArePlain, IsPlain};
 
 use dom_selectors::syntax::{Combinator, Compound, Nested, Selector, Step};
 
+/// Whether the selectors are plain.
+pub(crate) fn are_plain(selectors: &[Selector]) -> bool
+    ensures { result ≡ true → ArePlain selectors.now }
+{
+    for i in 0..selectors.len() {
+        if !is_plain(&selectors[i].first, &selectors[i].rest) {
+            return false;
+        }
+    }
+    true
+}
+
 /// Whether the compounds with these steps between them are a plain selector.
-pub(crate) fn is_plain(first: &Compound, steps: &[Step]) -> bool
+fn is_plain(first: &Compound, steps: &[Step]) -> bool
     ensures { result ≡ true → IsPlain first.now steps.now }
 {
     if !lists_are_bare(&first.nested) {

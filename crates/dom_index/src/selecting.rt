@@ -7,7 +7,7 @@ ghost use Rattle.dom_index.specs.Index.{Finds};
 ghost use Rattle.dom_trees.specs.Views.{refs_to};
 
 use crate::index::TreeIndex;
-use crate::plain::is_plain;
+use crate::plain::are_plain;
 use crate::streaming::select_plain;
 use dom_nodes::fault::OutOfMemory;
 use dom_nodes::node_id::NodeId;
@@ -73,7 +73,7 @@ fn select_by_index(
     index.select_ids(matcher, roots)
 }
 
-/// The same below one root, for one selector with descendant and child combinators alone and nested
+/// The same below one root, for selectors with descendant and child combinators alone and nested
 /// lists of compounds alone: in one traversal. None for others.
 fn select_along_path(
     tree: &Tree,
@@ -86,13 +86,11 @@ fn select_along_path(
     let [root] = roots else {
         return Ok(None);
     };
-    let [selector] = matcher.selectors() else {
-        return Ok(None);
-    };
-    if !is_plain(&selector.first, &selector.rest) {
+    let selectors = matcher.selectors();
+    if !are_plain(selectors) {
         return Ok(None);
     }
-    let ids = select_plain(tree, root, selector)?;
+    let ids = select_plain(tree, root, selectors)?;
     Ok(Some(ids))
 }
 

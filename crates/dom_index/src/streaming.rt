@@ -7,16 +7,16 @@ ghost use Rattle.dom_links.specs.Forest.{Forest, parent};
 ghost use Rattle.dom_links.specs.Trees.{walk_below};
 ghost use Rattle.dom_links.specs.Walk.{IsWithin};
 ghost use Rattle.dom_selectors.specs.declared.syntax.Combinator.{Combinator};
-ghost use Rattle.dom_selectors.specs.declared.syntax.Selector.{out-Selector};
 ghost use Rattle.dom_selectors.specs.Spelling.{Decides};
 ghost use Rattle.dom_selectors.specs.Syntax.{CompoundSelector};
 ghost use Rattle.dom_selectors.specs.ValuesAsTrees.{read_list};
 ghost use Rattle.dom_select.specs.Selected.{FiltersTo, Selected};
 ghost use Rattle.dom_index.specs.FlagRows.{AreFlags, AreRows, PropagatesFrom, StepsReach, is_deep};
 ghost use Rattle.dom_index.specs.FlagRows.{reached_at, top};
-ghost use Rattle.dom_index.specs.NodeTests.{IsPlain};
+ghost use Rattle.dom_index.specs.NodeTests.{ArePlain, IsPlain};
+ghost use Rattle.dom_index.specs.Tracks.{AreChainsOf, AreEmpty, AreFollowing, ArePrepared};
 ghost use Rattle.dom_index.specs.Tracks.{FlagsBelow, IsFollowing, IsNextTo, IsPrepared, IsReached};
-ghost use Rattle.dom_index.specs.Tracks.{IsTracked, Reaches, first_in, steps_in};
+ghost use Rattle.dom_index.specs.Tracks.{IsTracked, Reaches, SomeReaches, first_in, steps_in};
 
 use crate::node_tests::{NodeTest, Visited};
 use crate::preorder::forest_laws;
@@ -306,19 +306,43 @@ fn visit(
     Ok(is_match)
 }
 
-/// Whether the node is an element that the selector matches.
+/// Whether one of the selectors matches the node. Each of the paths follows.
+#[inline(always)]
+fn visit_all(
+    chains: &[Chain<'_>],
+    rows: &mut Vec<Rows<'_>>,
+    visited: &Visited<'_>,
+    caches: &mut SelectorCaches<'_>,
+) -> Result<bool, OutOfMemory>
+    requires prepared { ArePrepared chains.now }
+    requires following { AreFollowing chains.now rows.old.items visited.now.tree.now caches.old }
+    ensures is { IfOk result
+        (λ b. Decides b (SomeReaches chains.now visited.now.tree.now visited.now.id)) }
+    ensures following { OnOk result
+        (AreFollowing chains.now rows.new.items visited.now.tree.now caches.new) }
+{
+    let mut any = false;
+    for i in 0..chains.len() {
+        let is_match = visit(&chains[i], &mut rows[i], visited, caches)?;
+        any = any | is_match;
+    }
+    Ok(any)
+}
+
+/// Whether the node is an element that one of the selectors matches.
 #[inline(always)]
 fn is_selected(
-    chain: &Chain<'_>,
-    rows: &mut Rows<'_>,
+    chains: &[Chain<'_>],
+    rows: &mut Vec<Rows<'_>>,
     tree: &Tree,
     id: NodeId,
     caches: &mut SelectorCaches<'_>,
 ) -> Result<bool, OutOfMemory>
-    requires prepared { IsPrepared chain.now }
-    requires following { IsFollowing chain.now rows.old tree.now caches.old }
-    ensures is { IfOk result (λ b. Decides b (IsReached chain.now tree.now id)) }
-    ensures following { OnOk result (IsFollowing chain.now rows.new tree.now caches.new) }
+    requires prepared { ArePrepared chains.now }
+    requires following { AreFollowing chains.now rows.old.items tree.now caches.old }
+    ensures is { IfOk result (λ b. Decides b (IsReached chains.now tree.now id)) }
+    ensures following { OnOk result
+        (AreFollowing chains.now rows.new.items tree.now caches.new) }
 {
     if id.value() >= tree.len() {
         return Ok(false);
@@ -327,25 +351,52 @@ fn is_selected(
     if !visited.is_element() {
         return Ok(false);
     }
-    visit(chain, rows, &visited, caches)
+    visit_all(chains, rows, &visited, caches)
 }
 
-/// The elements below the root that the selector matches.
-fn select_along(tree: &Tree, root: &NodeId, chain: &Chain<'_>) -> Result<Vec<NodeId>, OutOfMemory>
-    requires { IsPrepared chain.now }
-    ensures { IfOk result (λ ids. FiltersTo (IsReached chain.now tree.now)
+/// An empty path for each of so many selectors.
+fn empty_paths<'t>(tree: &'t Tree, count: usize) -> Result<Vec<Rows<'t>>, OutOfMemory>
+    ensures { IfOk result (λ all. AreEmpty tree.now count all.items) }
+{
+    let alloc = tree.allocator();
+    let mut all = Vec::new(alloc);
+    for _i in 0..count {
+        let rows = Rows {
+            tree,
+            path: Vec::new(alloc),
+            flags: Vec::new(alloc),
+            below: Vec::new(alloc),
+        };
+        push_rows(&mut all, rows)?;
+    }
+    Ok(all)
+}
+
+fn push_rows<'t>(all: &mut Vec<Rows<'t>>, rows: Rows<'t>) -> Result<(), OutOfMemory>
+    ensures { OnOk result (all.new.items ≡ all.old.items ++ rows.entry ∷ []) }
+{
+    match all.push(rows) {
+        Ok(()) => Ok(()),
+        Err(_) => Err(OutOfMemory),
+    }
+}
+
+/// The elements below the root that one of the selectors matches.
+#[tactic(auto, using(crate::proofs::PlainLemmas::empty_follow))]
+fn select_along(
+    tree: &Tree,
+    root: &NodeId,
+    chains: &[Chain<'_>],
+) -> Result<Vec<NodeId>, OutOfMemory>
+    requires { ArePrepared chains.now }
+    ensures { IfOk result (λ ids. FiltersTo (IsReached chains.now tree.now)
         (walk_below tree.now root.now) ids.items) }
 {
-    let mut rows = Rows {
-        tree,
-        path: Vec::new(tree.allocator()),
-        flags: Vec::new(tree.allocator()),
-        below: Vec::new(tree.allocator()),
-    };
+    let mut rows = empty_paths(tree, chains.len())?;
     let mut caches = SelectorCaches::new(tree);
     let mut matched = Vec::new(tree.allocator());
     for id in tree.descendant_ids_of_it(root) {
-        if !is_selected(chain, &mut rows, tree, id, &mut caches)? {
+        if !is_selected(chains, &mut rows, tree, id, &mut caches)? {
             continue;
         }
         matched.push(id)?;
@@ -389,17 +440,39 @@ fn prepare<'s>(
     })
 }
 
-/// The elements below the root that a plain selector matches.
+/// Prepares plain selectors for the nodes of a tree.
+fn prepare_all<'s>(selectors: &'s [Selector], tree: &Tree) -> Result<Vec<Chain<'s>>, OutOfMemory>
+    requires { ArePlain selectors.now }
+    ensures { IfOk result (λ chains. AreChainsOf selectors.now chains.items) }
+{
+    let mut chains = Vec::new(tree.allocator());
+    for i in 0..selectors.len() {
+        let chain = prepare(&selectors[i].first, &selectors[i].rest, tree)?;
+        push_chain(&mut chains, chain)?;
+    }
+    Ok(chains)
+}
+
+fn push_chain<'s>(chains: &mut Vec<Chain<'s>>, chain: Chain<'s>) -> Result<(), OutOfMemory>
+    ensures { OnOk result (chains.new.items ≡ chains.old.items ++ chain.entry ∷ []) }
+{
+    match chains.push(chain) {
+        Ok(()) => Ok(()),
+        Err(_) => Err(OutOfMemory),
+    }
+}
+
+/// The elements below the root that one of the plain selectors matches.
 pub(crate) fn select_plain(
     tree: &Tree,
     root: &NodeId,
-    selector: &Selector,
+    selectors: &[Selector],
 ) -> Result<Vec<NodeId>, OutOfMemory>
-    requires { IsPlain (out-Selector selector.now).first (out-Selector selector.now).rest.items }
+    requires { ArePlain selectors.now }
     ensures { IfOk result (λ ids. Selected tree.now (root.now ∷ [])
-        (read_list (selector.now ∷ [])) ids.items) }
+        (read_list selectors.now) ids.items) }
 {
     forest_laws(tree);
-    let chain = prepare(&selector.first, &selector.rest, tree)?;
-    select_along(tree, root, &chain)
+    let chains = prepare_all(selectors, tree)?;
+    select_along(tree, root, &chains)
 }

@@ -6,6 +6,6 @@ use Rattle.dom_index.proofs.streaming.select_along.Goals as goal
 
 pub returns : goal.returns
 returns c =
-    let P = IsReached c.args.chain.now c.args.tree.now in
+    let P = IsReached c.args.chains.now c.args.tree.now in
     subst (λ (ns : List ℕ). FiltersTo P (walk_below c.args.tree.now c.args.root.now) ns) (append-nil c.loop-id.matched.items)
     (c.loop-id.invariant.all [] (subst (λ (ns : List ℕ). FiltersTo P ns []) (sym c.in-None.ensures.steps.first.0) refl))
