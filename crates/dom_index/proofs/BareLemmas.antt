@@ -28,12 +28,12 @@ no_answers c forest n none =
     subst (λ (ls : NestedLists). AreAnswers ls forest n []) (sym is) refl
 
 -- a compound matches only where its lists do
-pub lists_needed : (c : Compound) (forest : Forest) (n : ℕ) → Holds (read_compound c) forest n → ListsHold (lists_of (map read_nested c.nested.items)) forest n
-lists_needed c forest n held =
+pub needed : (c : Compound) (forest : Forest) (n : ℕ) → Holds (read_compound c) forest n → ListsHold (lists_of (map read_nested c.nested.items)) forest n
+needed c forest n held =
     let all : Holds (compound c.parts.items (lists_of (map read_nested c.nested.items))) forest n = subst (λ k. Holds k forest n) (read_compound_is c) held in
     all.1
 
 -- where all lists match
-pub true_answers : (lists : List Nested) (forest : Forest) (n : ℕ) (answers : List Bool) → ListsHold (lists_of (map read_nested lists)) forest n → answers ≡ replicate (length lists) true → AreAnswers (lists_of (map read_nested lists)) forest n answers
-true_answers lists forest n answers hold all =
+pub answered : (lists : List Nested) (forest : Forest) (n : ℕ) (answers : List Bool) → ListsHold (lists_of (map read_nested lists)) forest n → answers ≡ replicate (length lists) true → AreAnswers (lists_of (map read_nested lists)) forest n answers
+answered lists forest n answers hold all =
     subst (AreAnswers (lists_of (map read_nested lists)) forest n) (ap (λ m. replicate m true) (length-map lists read_nested) ∙ sym all) (all_answered (map read_nested lists) forest n hold)

@@ -136,7 +136,7 @@ impl<'c> NodeTest<'c> {
     }
 
     /// The same, where the type doesn't decide it.
-    #[tactic(auto, using(crate::proofs::BareLemmas::lists_needed, crate::proofs::BareLemmas::true_answers))]
+    #[tactic(auto, using(crate::proofs::BareLemmas::needed, crate::proofs::BareLemmas::answered))]
     fn matches_whole(&self, visited: &Visited<'_>, caches: &mut SelectorCaches<'_>) -> bool
         requires ready { IsReady self.now }
         requires caches { caches.old ≡ visited.now.tree.now }
