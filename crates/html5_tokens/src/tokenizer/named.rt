@@ -32,8 +32,8 @@ impl Match {
         }
     }
 
-    /// What was read and this character, where a name goes on with it. Where none does, the value is
-    /// that of the longest name, whatever text follows.
+    /// What was read and this character, where a name goes on with both. Where none does, the value
+    /// is that of the longest name, whatever text follows.
     pub fn with(self, c: char) -> Option<Match>
         ensures { MatchOption result
             ((rest : List ℕ) → IsLongest (read_of self.names ++ c ∷ rest) self.value)
