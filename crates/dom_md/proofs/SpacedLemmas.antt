@@ -262,21 +262,13 @@ spaced-end old new [] row none whole = sym (append-nil new) ∙ ap (λ cs. new +
 spaced-end old new (b ∷ rest) row none whole = absurd (omega arith)
 
 -- a space before a character that isn't whitespace
-spaced-letter : (after more : List ℕ) (c : ℕ) → IsUtf8 after → after ≡ encode_utf8 c ++ more → is_whitespace c ≡ false → spaced_words (space ∷ after) ≡ space ∷ spaced_words after
+pub spaced-letter : (after more : List ℕ) (c : ℕ) → IsUtf8 after → after ≡ encode_utf8 c ++ more → is_whitespace c ≡ false → spaced_words (space ∷ after) ≡ space ∷ spaced_words after
 spaced-letter after more c utf8 is dark =
     let first : chars after ≡ c ∷ chars more = chars_past_char after more c utf8 is in
     ap (λ cs. encode_utf8_all (spaced_on false cs)) (chars-low space after (omega arith) ∙ ap (λ cs. space ∷ cs) first)
     ∙ ap encode_utf8_all (gap-dark c (chars more) dark ∙ ap (λ t. space ∷ t) (sym (spaced-dark c (chars more) dark)))
     ∙ one_byte space (spaced_on false (c ∷ chars more)) (omega arith)
     ∙ ap (λ cs. space ∷ encode_utf8_all (spaced_on false cs)) (sym first)
-
-pub push_single : (old new rest after more : List ℕ) (c : ℕ) → rest ≡ space ∷ after → IsUtf8 rest → after ≡ encode_utf8 c ++ more → is_whitespace c ≡ false → new ≡ old ++ encode_utf8 space →
-    new ++ spaced_words after ≡ old ++ spaced_words rest
-push_single old new rest after more c front whole is dark made =
-    let utf8 = IsUtf8-past_char rest after space whole (front ∙ ap (λ e. e ++ after) (sym (encode_ascii space (omega arith)))) in
-    ap (λ t. t ++ spaced_words after) (made ∙ ap (λ t. old ++ t) (encode_ascii space (omega arith)))
-    ∙ append_assoc old (space ∷ []) (spaced_words after)
-    ∙ ap (λ t. old ++ t) (sym (spaced-letter after more c utf8 is dark) ∙ ap spaced_words (sym front))
 
 -- ---- characters at the front of a text
 
@@ -287,11 +279,11 @@ pub record IsRead (text left : List ℕ) : Type 0 where
   pub same : spaced_words text ≡ front ++ spaced_words left
   pub utf8 : IsUtf8 left
 
-pub read_more : (text left after : List ℕ) (c : ℕ) → IsRead text left → left ≡ encode_utf8 c ++ after → is_whitespace c ≡ false → IsRead text after
-read_more text left after c read is dark = record {
+pub read_more : (text left after : List ℕ) (c : ℕ) → IsRead text left → left ≡ encode_utf8 c ++ after → spaced_words left ≡ encode_utf8 c ++ spaced_words after → IsRead text after
+read_more text left after c read is same = record {
   front = read.front ++ encode_utf8 c;
   whole = read.whole ∙ (ap (λ t. read.front ++ t) is ∙ sym (append_assoc read.front (encode_utf8 c) after));
-  same = read.same ∙ (ap (λ t. read.front ++ t) (spaced-char left after c read.utf8 is dark) ∙ sym (append_assoc read.front (encode_utf8 c) (spaced_words after)));
+  same = read.same ∙ (ap (λ t. read.front ++ t) same ∙ sym (append_assoc read.front (encode_utf8 c) (spaced_words after)));
   utf8 = IsUtf8-past_char left after c read.utf8 is;
 }
 

@@ -1,10 +1,10 @@
 //! The steps of formatting, each on the text so far.
 
-ghost use Rattle.std.specs.Prelude.{◌≡◌, ◌==◌, ◌<◌, ◌≤◌, ◌+◌, ◌-◌, ◌++◌, ℕ, IfOk, IfSome, OnOk};
-ghost use Rattle.std.specs.Prelude.{drop, encode_utf8, false, length, not, slice_index_or, string_bytes, take, true};
-ghost use Rattle.std.specs.Char.{is_whitespace};
+ghost use Rattle.std.specs.Prelude.{◌≡◌, ◌==◌, ◌<◌, ◌≤◌, ◌+◌, ◌-◌, ◌++◌, ◌∷◌, ℕ, IfOk, IfSome, OnOk};
+ghost use Rattle.std.specs.Prelude.{drop, encode_utf8, length, not, slice_index_or, string_bytes, take, true};
 ghost use Rattle.std.specs.List.{list_any};
 ghost use Rattle.std.specs.Str.{IsCharBoundary, IsUtf8, bytes_eq, trim_start};
+ghost use Rattle.dom_nodes.specs.Ascii.{space};
 ghost use Rattle.dom_nodes.specs.Words.{is_among};
 ghost use Rattle.dom_md.specs.Formatted.{block_names, cell_names, drop_spaces, ends_with};
 ghost use Rattle.dom_md.specs.Formatted.{ends_with_whitespace, is_fresh, is_parted};
@@ -121,8 +121,8 @@ fn push_next<'a>(text: &mut String, rest: &'a str) -> Result<&'a str, AllocError
     Ok(words)
 }
 
-/// Adds the characters beyond ASCII at the front, and a single space between them and more of them,
-/// and gives what stands behind.
+/// Adds the characters beyond ASCII at the front, with single spaces between them, and gives what
+/// stands behind them.
 fn push_letters<'a>(text: &mut String, rest: &'a str) -> Result<&'a str, AllocError>
     ensures words { IfOk result (λ after. string_bytes text.new ++ spaced_words after.now
         ≡ string_bytes text.old ++ spaced_words rest.now) }
@@ -130,44 +130,42 @@ fn push_letters<'a>(text: &mut String, rest: &'a str) -> Result<&'a str, AllocEr
 {
     let end = letters_len(rest);
     text.push_str(&rest[..end])?;
-    push_gap(text, &rest[end..])
+    Ok(&rest[end..])
 }
 
-/// How many bytes such characters at the front take.
+/// How many bytes they take.
 fn letters_len(text: &str) -> usize
     ensures boundary { IsCharBoundary text.now result }
     ensures same { spaced_words text.now
         ≡ take result text.now ++ spaced_words (drop result text.now) }
 {
     let mut left = text;
-    while let Some((_, after)) = cut_letter(left) {
+    while let Some((_, after)) = cut_same(left) {
         left = after;
     }
     text.len() - left.len()
 }
 
-/// Adds the space at the front where such a character follows it, and gives what stands behind.
-fn push_gap<'a>(text: &mut String, rest: &'a str) -> Result<&'a str, AllocError>
-    ensures words { IfOk result (λ after. string_bytes text.new ++ spaced_words after.now
-        ≡ string_bytes text.old ++ spaced_words rest.now) }
-    ensures shorter { IfOk result (λ after. length after.now ≤ length rest.now) }
+/// A letter at the front or a space before one, and what stands behind it.
+fn cut_same(text: &str) -> Option<(char, &str)>
+    ensures { IfSome result (λ cut. (text.now ≡ encode_utf8 cut.0 ++ cut.1.now)
+        × (spaced_words text.now ≡ encode_utf8 cut.0 ++ spaced_words cut.1.now)) }
 {
-    let Some(after) = rest.strip_prefix(' ') else {
-        return Ok(rest);
-    };
+    if let Some(letter) = cut_letter(text) {
+        return Some(letter);
+    }
+    let after = text.strip_prefix(' ')?;
     match cut_letter(after) {
-        Some(_) => {
-            text.push(' ')?;
-            Ok(after)
-        }
-        None => Ok(rest),
+        Some(_) => Some((' ', after)),
+        None => None,
     }
 }
 
-/// Such a character at the front, and what stands behind it.
+/// A character beyond ASCII at the front but whitespace, and what stands behind it.
 fn cut_letter(text: &str) -> Option<(char, &str)>
-    ensures { IfSome result (λ cut. (is_whitespace cut.0 ≡ false)
-        × (text.now ≡ encode_utf8 cut.0 ++ cut.1.now)) }
+    ensures { IfSome result (λ cut. (text.now ≡ encode_utf8 cut.0 ++ cut.1.now)
+        × (spaced_words text.now ≡ encode_utf8 cut.0 ++ spaced_words cut.1.now)
+        × (spaced_words (space ∷ text.now) ≡ space ∷ spaced_words text.now)) }
 {
     let mut chars = text.chars();
     let c = chars.next()?;
