@@ -1,7 +1,8 @@
 //! The steps of formatting, each on the text so far.
 
-ghost use Rattle.std.specs.Prelude.{◌≡◌, ◌==◌, ◌<◌, ◌≤◌, ◌+◌, ◌-◌, ◌++◌, ◌∷◌, ℕ, IfOk, IfSome, OnOk};
-ghost use Rattle.std.specs.Prelude.{drop, encode_utf8, length, not, slice_index_or, string_bytes, take, true};
+ghost use Rattle.std.specs.Prelude.{◌≡◌, ◌==◌, ◌<◌, ◌≤◌, ◌+◌, ◌-◌, ◌++◌, ◌∷◌, ℕ, IfOk, IfSome};
+ghost use Rattle.std.specs.Prelude.{OnOk, drop, encode_utf8, length, not, slice_index_or};
+ghost use Rattle.std.specs.Prelude.{string_bytes, take, true};
 ghost use Rattle.std.specs.List.{list_any};
 ghost use Rattle.std.specs.Str.{IsCharBoundary, IsUtf8, bytes_eq, trim_start};
 ghost use Rattle.dom_nodes.specs.Ascii.{space};

@@ -185,7 +185,8 @@ fn special(v: u8x16) -> u8x16
     either(brackets, either(quotes, signs))
 }
 
-/// 1 for each byte that is written as it is, whatever follows it: no whitespace, no mark and no `!`.
+/// 1 for each byte that is written as it is, whatever follows it: no whitespace, no mark and no
+/// `!`.
 #[rattlefmt::skip]
 static PLAIN: [u8; 256] = [
     1, 1, 1, 1, 1, 1, 1, 1, 1, 0, 0, 1, 0, 0, 1, 1, 1, 1, 1, 1, 1, 1, 1, 1, 1, 1, 1, 1, 1, 1, 1, 1,
