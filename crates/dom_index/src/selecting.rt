@@ -22,10 +22,9 @@ use dom_trees::tree::Tree;
 const STEPS_PER_NODE: u64 = 8;
 
 /// The numbers of the elements below the roots that match one of the matcher's selectors, each
-/// once, in the order of the traversals. Below one root, a selector with descendant and child
-/// combinators alone is matched as the traversal goes. Of others each candidate is tested where
-/// that takes few steps. Where it takes very many, and where `:has` has descendant or `~`
-/// combinators, an index is made.
+/// once, in the order of the traversals. Each candidate is tested where that takes few steps. Where
+/// it takes very many, flags along the path of one traversal state which compounds are reached, or
+/// an index is made. Where `:has` has descendant or `~` combinators, it is made at once.
 pub fn select_ids(
     tree: &Tree,
     roots: &[NodeId],
@@ -40,10 +39,22 @@ pub fn select_ids(
     if !needs_budget(selectors) {
         return select_by_node(tree, roots, matcher);
     }
-    if let Some(ids) = select_along_path(tree, roots, matcher)? {
-        return Ok(ids);
-    }
     match select_within(tree, roots, matcher, step_budget(tree))? {
+        Some(ids) => Ok(ids),
+        None => select_all_at_once(tree, roots, matcher),
+    }
+}
+
+/// The same as `select_ids`, with each compound tested at a node once at most: in one traversal, or
+/// by an index of the tree.
+fn select_all_at_once(
+    tree: &Tree,
+    roots: &[NodeId],
+    matcher: &Matcher,
+) -> Result<Vec<NodeId>, OutOfMemory>
+    ensures { IfOk result (λ ids. Selected tree.now roots.now matcher.now ids.items) }
+{
+    match select_along_path(tree, roots, matcher)? {
         Some(ids) => Ok(ids),
         None => select_by_index(tree, roots, matcher),
     }
