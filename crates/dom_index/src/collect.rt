@@ -42,8 +42,8 @@ fn collect_below(
 ) -> Result<(), OutOfMemory>
     requires { length table.old.items ≡ length preorder.now.tree.now.content }
     ensures long { length table.new.items ≡ length table.old.items }
-    ensures added { OnOk result (found.new.items ≡ found.old.items
-        ++ collected preorder.now.tree.now table.old.items (walk_below preorder.now.tree.now root)) }
+    ensures added { OnOk result (found.new.items ≡ found.old.items ++ collected
+        preorder.now.tree.now table.old.items (walk_below preorder.now.tree.now root)) }
     ensures left { OnOk result (table.new.items
         ≡ set_left preorder.now.tree.now table.old.items (walk_below preorder.now.tree.now root)) }
 {

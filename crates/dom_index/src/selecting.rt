@@ -21,6 +21,10 @@ use dom_trees::tree::Tree;
 /// How many steps of a match are worth an index, for each node of the tree.
 const STEPS_PER_NODE: u64 = 8;
 
+/// How many compounds a list may have to be selected in one traversal, which keeps for each node of
+/// the path a number for each selector and a flag for each combinator.
+const MOST_COMPOUNDS: usize = 32;
+
 /// The numbers of the elements below the roots that match one of the matcher's selectors, each
 /// once, in the order of the traversals. Each candidate is tested where that takes few steps. Where
 /// it takes very many, flags along the path of one traversal state which compounds are reached, or
@@ -84,8 +88,8 @@ fn select_by_index(
     index.select_ids(matcher, roots)
 }
 
-/// The same below one root, for selectors with descendant and child combinators alone and nested
-/// lists of compounds alone: in one traversal. None for others.
+/// The same below one root, for a few compounds with descendant and child combinators alone and
+/// nested lists of compounds alone: in one traversal. None for others.
 fn select_along_path(
     tree: &Tree,
     roots: &[NodeId],
@@ -98,11 +102,23 @@ fn select_along_path(
         return Ok(None);
     };
     let selectors = matcher.selectors();
+    if count_compounds(selectors) > MOST_COMPOUNDS {
+        return Ok(None);
+    }
     if !are_plain(selectors) {
         return Ok(None);
     }
     let ids = select_plain(tree, root, selectors)?;
     Ok(Some(ids))
+}
+
+/// How many compounds the selectors have, but for nested ones.
+fn count_compounds(selectors: &[Selector]) -> usize {
+    let mut count = selectors.len();
+    for selector in selectors {
+        count = count.saturating_add(selector.rest.len());
+    }
+    count
 }
 
 /// The same, by a test of each candidate.
