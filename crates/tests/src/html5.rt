@@ -3,6 +3,7 @@
 
 mod endings;
 mod shapes;
+mod tokens;
 
 use dom_html5::{
     Context, Options, PageFault, PageParser, parse_page, parse_page_bytes, parse_page_fragment,
