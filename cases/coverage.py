@@ -1,7 +1,7 @@
 """Which public functions of the libraries the tests and the programs reach, by names alone.
 
-A public function is a `pub fn` of a crate dom_*, or a method of a public trait there. It is reached where a test or a program
-(ROOTS) names it, or a function that is reached does. `x.name(..)` may be the method of any type that has one of that name;
+A public function is a `pub fn` of a library, or a method of a public trait there. It is reached where a test or a program (ROOTS)
+names it, or a function that is reached does. `x.name(..)` may be the method of any type that has one of that name;
 `Type::name` is that of the type or trait, and `name` a function. So this finds that a call of that name is made, and says
 nothing of its answer: the tests and the rows of cases/ compare these. Laws (laws.rt, laws/) are left out, as are the methods
 of the traits of std (`fmt`, `from`, `next`)."""
@@ -106,7 +106,8 @@ def reached_from(roots, known):
 def coverage():
     """Prints the public functions that nothing reaches, and returns how many are reached and how many aren't."""
     crates = ROOT / "crates"
-    known = [function for file in sorted(crates.glob("dom_*/src/**/*.rt")) for function in functions_of(file)]
+    libraries = sorted(folder for folder in crates.iterdir() if folder.name not in ROOTS)
+    known = [function for folder in libraries for file in sorted(folder.glob("src/**/*.rt")) for function in functions_of(file)]
     sources = [file for name in ROOTS for file in sorted((crates / name).glob("src/**/*.rt"))]
     roots = [function for file in sources for function in functions_of(file)]
     # A method of a trait is met where one of its implementations is.

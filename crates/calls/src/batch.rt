@@ -3,10 +3,9 @@
 
 use crate::words::cut;
 use dom_query::{
-    Attrs, Document, Element, Link, LocalName, Matcher, NodeData, NodeId, Text, Tree, TreeNode,
-    parse_selector_list, run,
+    Attrs, Document, Element, Link, LocalName, Matcher, NodeData, NodeId, QualName, Text, Tree,
+    TreeNode, parse_selector_list, run,
 };
-use dom_trees::names::html_name;
 use std::alloc::Global;
 use std::io::Read;
 use std::str;
@@ -127,7 +126,7 @@ fn data_of(alloc: Global, word: &str) -> Option<NodeData> {
             Some(NodeData::Text { contents })
         }
         _ => {
-            let name = html_name(LocalName::new(alloc, "b").ok()?);
+            let name = QualName::html(LocalName::new(alloc, "b").ok()?);
             let attrs = Attrs::new(alloc);
             Some(NodeData::Element(Element::new(name, attrs, named(word), false)))
         }

@@ -51,7 +51,7 @@ fn read_element(rt: &HostRuntime, node: &NodeRef<'_>) -> Option<()> {
     show_some(
         rt,
         "qual_name_ref",
-        node.qual_name_ref().map(|name| name.local.as_str()),
+        node.qual_name_ref().map(|name| name.local().as_str()),
     )?;
     show(rt, "attrs", node.attrs().len())?;
     show_some(rt, "class", node.class())?;

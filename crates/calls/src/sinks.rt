@@ -3,8 +3,8 @@
 use crate::printing::{show, show_answer, show_edit, show_some};
 use crate::words::{cut, node_of};
 use dom_query::{
-    Attr, Attrs, Document, EditFault, ElementFlags, LocalName, Namespace, NodeId, NodeOrText,
-    QualName, QuirksMode, Text, TreeSink,
+    Attr, Attrs, Document, EditFault, ElementFlags, LocalName, NameParts, Namespace, NodeId,
+    NodeOrText, QualName, QuirksMode, Text, TreeSink,
 };
 use std::alloc::Global;
 
@@ -56,11 +56,9 @@ fn local_of(written: &str) -> &str {
 
 /// The name in that namespace.
 fn named(alloc: Global, ns: Namespace, name: &str) -> Option<QualName> {
-    Some(QualName {
-        prefix: None,
-        ns,
-        local: LocalName::new(alloc, name).ok()?,
-    })
+    let local = LocalName::new(alloc, name).ok()?;
+    let prefix = None;
+    QualName::new(alloc, NameParts { prefix, ns, local }).ok()
 }
 
 /// The attributes that are written `name=value name=value`.
@@ -145,7 +143,7 @@ pub fn ask(rt: &HostRuntime, document: &Document, line: &str) -> Option<()> {
     let id = node_of(line)?;
     let root = document.get_document();
     show(rt, "same_node", document.same_node(&id, &root))?;
-    let name = document.elem_name(&id).map(|name| name.local.as_str());
+    let name = document.elem_name(&id).map(|name| name.local().as_str());
     show_some(rt, "elem_name", name)?;
     let contents = document.get_template_contents(&id);
     show_some(rt, "get_template_contents", contents.map(NodeId::value))?;

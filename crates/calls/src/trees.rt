@@ -2,8 +2,7 @@
 
 use crate::printing::{show, show_answer, show_edit, show_ids};
 use crate::words::{cut, node_of, nodes_of, words_of};
-use dom_query::{EditFault, LocalName, NodeData, NodeEdit, NodeId, Place, Text, Tree};
-use dom_trees::names::html_name;
+use dom_query::{EditFault, LocalName, NodeData, NodeEdit, NodeId, Place, QualName, Text, Tree};
 
 /// A move: `CALL N M`, or `CALL N`.
 pub fn move_nodes(rt: &HostRuntime, tree: &mut Tree, line: &str) -> Option<()> {
@@ -65,7 +64,7 @@ pub fn made(tree: &mut Tree, call: &str, text: &str) -> Option<Result<NodeId, Ed
         "new_element" => tree.new_element(text),
         "new_element_qualname" => {
             let local = LocalName::new(tree.allocator(), text).ok()?;
-            tree.new_element_qualname(html_name(local))
+            tree.new_element_qualname(QualName::html(local))
         }
         "new_text" => tree.new_text(text),
         "new_comment" => tree.new_comment(text),

@@ -107,7 +107,7 @@ fn ask(rt: &HostRuntime, tree: &Tree, id: &NodeId) -> Option<()> {
     show_some(
         rt,
         "get_name",
-        tree.get_name(id).map(|name| name.local.as_str()),
+        tree.get_name(id).map(|name| name.local().as_str()),
     )?;
     show(rt, "get", tree.get(id).is_some())?;
     let is_valid = TreeNodeOps::is_valid_node_id(tree.nodes(), id);

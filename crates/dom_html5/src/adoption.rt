@@ -182,7 +182,7 @@ impl TreeBuilder {
     /// Whether the local name of an element is that one, whatever the case.
     pub fn has_name(&self, id: NodeId, name: &str) -> bool {
         match self.document.elem_name(&id) {
-            Some(known) => known.local.as_str().eq_ignore_ascii_case(name),
+            Some(known) => known.local().as_str().eq_ignore_ascii_case(name),
             None => false,
         }
     }

@@ -4,7 +4,7 @@ use crate::adjusting::{mathml_attr, svg_attr, svg_tag};
 use crate::fault::PageFault;
 use crate::name::Name;
 use crate::stack::Ns;
-use dom_nodes::name::{Attr, LocalName, Namespace, QualName};
+use dom_nodes::name::{Attr, LocalName, NameParts, Namespace, QualName};
 use dom_nodes::node_data::Attrs;
 use dom_nodes::text::{RareText, Text};
 use html5_tokens::token::{Tag, TagAttr};
@@ -25,11 +25,16 @@ pub fn element_name(alloc: Global, ns: Ns, name: Name, tag: &Tag) -> Result<Qual
         Ns::Html if name == Name::Img => "img",
         _ => tag.name.as_str(),
     };
-    Ok(QualName {
-        prefix: None,
-        ns: namespace(ns),
-        local: LocalName::new(alloc, written)?,
-    })
+    let local = LocalName::new(alloc, written)?;
+    let name = QualName::new(
+        alloc,
+        NameParts {
+            prefix: None,
+            ns: namespace(ns),
+            local,
+        },
+    )?;
+    Ok(name)
 }
 
 /// Prefix, local name and namespace of an attribute that foreign content has in a namespace.
@@ -64,18 +69,14 @@ fn attr_name(alloc: Global, ns: Ns, name: &str) -> Result<QualName, PageFault> {
     {
         let prefix = prefix_of(alloc, prefix)?;
         let local = LocalName::new(alloc, local)?;
-        return Ok(QualName { prefix, ns, local });
+        return Ok(QualName::new(alloc, NameParts { prefix, ns, local })?);
     }
     let adjusted = match ns {
         Ns::Html => name,
         Ns::Svg => svg_attr(name),
         Ns::MathMl => mathml_attr(name),
     };
-    Ok(QualName {
-        prefix: None,
-        ns: Namespace::None,
-        local: LocalName::new(alloc, adjusted)?,
-    })
+    Ok(QualName::plain(LocalName::new(alloc, adjusted)?))
 }
 
 /// The attributes of a tag's element.

@@ -8,7 +8,7 @@ ghost use Rattle.dom_html5.specs.Shape.{has_parts, is_contents, is_html, is_page
 
 use crate::fault::PageFault;
 use dom_nodes::fault::EditFault;
-use dom_nodes::name::Namespace;
+use dom_nodes::name::NamespaceRef;
 use dom_nodes::node_id::NodeId;
 use dom_trees::node_ref::NodeRef;
 use dom_trees::tree::Tree;
@@ -19,10 +19,10 @@ fn is_html(tree: &Tree, id: NodeId, name: &str) -> bool
 {
     match tree.get_name(&id) {
         Some(known) => {
-            if !known.ns.is_same(&Namespace::Html) {
+            if !known.ns().is_same(&NamespaceRef::Html) {
                 return false;
             }
-            known.local.as_str() == name
+            known.local().as_str() == name
         }
         None => false,
     }

@@ -18,6 +18,11 @@ abbrev pub is_type_byte : NodeData → ℕ → Bool
 is_type_byte (Element element) byte = (byte == 254) || (nat_lt byte 247 && bytes_eq (known_name byte) element.name.local)
 is_type_byte _ byte = byte == 255
 
+-- n is a node, and the byte is its type byte
+pub record HasTypeByte (forest : Forest) (n byte : ℕ) : Type 0 where
+  pub known : n < length forest.content
+  pub named : (node : NodeData) → slice_get forest.content n ≡ Some node → is_type_byte node byte ≡ true
+
 -- an element with the known name of that number
 abbrev pub HasKnownName : ℕ → NodeData → Type 0
 HasKnownName number (Element element) = element.name.local ≡ known_name number

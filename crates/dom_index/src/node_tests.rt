@@ -14,7 +14,7 @@ ghost use Rattle.dom_index.specs.BareLists.{AreBare, AreBareLists, IsBareList};
 ghost use Rattle.dom_index.specs.NodeTests.{IsReady};
 ghost use Rattle.dom_index.specs.TypeBytes.{IsTypeFilterOf, is_type_byte, lists_in};
 
-use crate::type_filter::{NO_ELEMENT, TypeFilter, UNKNOWN, type_byte, type_filter_of};
+use crate::type_filter::{NO_ELEMENT, TypeFilter, decided, type_byte, type_filter_of};
 use dom_links::iters::node_at;
 use dom_nodes::fault::OutOfMemory;
 use dom_nodes::link::Link;
@@ -159,18 +159,7 @@ fn decided_at(visited: &Visited<'_>, wanted: Option<TypeFilter>) -> Option<bool>
     ensures { IfSome result (λ answer. (c : CompoundSelector) → IfSome wanted (IsTypeFilterOf c)
         → Decides answer (Holds c visited.now.tree.now visited.now.id)) }
 {
-    let wanted = wanted?;
-    let name = visited.byte;
-    if name == UNKNOWN {
-        return None;
-    }
-    if name != wanted.number {
-        return Some(false);
-    }
-    if !wanted.is_all {
-        return None;
-    }
-    Some(true)
+    decided(visited.byte, wanted)
 }
 
 /// Whether the node matches each of a compound's nested lists.

@@ -1,16 +1,17 @@
 //! One byte for the type of each node, and filters by it.
 
-ghost use Rattle.std.specs.Prelude.{◌≡◌, ◌<◌, length, true, IfSome};
+ghost use Rattle.std.specs.Prelude.{◌≡◌, ◌<◌, length, ℕ, true, IfSome};
 ghost use Rattle.dom_selectors.specs.Spelling.{Decides};
 ghost use Rattle.dom_selectors.specs.Syntax.{CompoundSelector};
 ghost use Rattle.dom_select.specs.Meaning.{Holds};
+ghost use Rattle.dom_links.specs.Forest.{Forest};
 ghost use Rattle.dom_links.specs.ListMoves.{element_at};
 ghost use Rattle.dom_selectors.specs.ValuesAsTrees.{read_compound};
 ghost use Rattle.dom_nodes.specs.KnownNames.{known_name};
 ghost use Rattle.dom_select.specs.Parts.{name_within};
 ghost use Rattle.dom_nodes.specs.declared.name.Namespace.{Namespace};
 ghost use Rattle.dom_index.specs.TypeBytes.{HaveKnownTypes, IsFilteredByType, IsTypeFilterOf};
-ghost use Rattle.dom_index.specs.TypeBytes.{is_type_byte};
+ghost use Rattle.dom_index.specs.TypeBytes.{HasTypeByte, is_type_byte};
 
 use crate::preorder::Preorder;
 use dom_nodes::node_data::NodeData;
@@ -30,7 +31,7 @@ pub(crate) fn type_byte(node: &NodeData) -> u8
     let NodeData::Element(element) = node else {
         return NO_ELEMENT;
     };
-    match element.name.local.number() {
+    match element.name.local().number() {
         Some(number) => number,
         None => UNKNOWN,
     }
@@ -110,7 +111,27 @@ pub(crate) fn have_known_types(table: &[bool], bytes: &[u8]) -> bool
     !unknown
 }
 
-/// Whether a compound with this type filter matches the node, where the type byte decides that.
+/// Whether a compound with this type filter matches a node, where its type byte decides that.
+#[inline(always)]
+pub(crate) fn decided(byte: u8, wanted: Option<TypeFilter>) -> Option<bool>
+    ensures { IfSome result (λ answer. (c : CompoundSelector) (forest : Forest) (n : ℕ)
+        → HasTypeByte forest n byte → IfSome wanted (IsTypeFilterOf c)
+        → Decides answer (Holds c forest n)) }
+{
+    let wanted = wanted?;
+    if byte == UNKNOWN {
+        return None;
+    }
+    if byte != wanted.number {
+        return Some(false);
+    }
+    if !wanted.is_all {
+        return None;
+    }
+    Some(true)
+}
+
+/// The same of the node of that number.
 pub(crate) fn decided_by_type(
     preorder: &Preorder<'_>,
     n: usize,
@@ -120,16 +141,5 @@ pub(crate) fn decided_by_type(
     ensures { IfSome result (λ answer. (c : CompoundSelector) → IfSome wanted (IsTypeFilterOf c)
         → Decides answer (Holds c preorder.now.tree.now n)) }
 {
-    let wanted = wanted?;
-    let name = preorder.type_bytes[n];
-    if name == UNKNOWN {
-        return None;
-    }
-    if name != wanted.number {
-        return Some(false);
-    }
-    if !wanted.is_all {
-        return None;
-    }
-    Some(true)
+    decided(preorder.type_bytes[n], wanted)
 }

@@ -4,7 +4,7 @@ use Rattle.std.specs.List.{flat_map}
 use Rattle.std.specs.Option.{option_map_or}
 use Rattle.std.specs.Str.{bytes_eq}
 use Rattle.dom_nodes.specs.declared.name.Attr.{Attr}
-use Rattle.dom_nodes.specs.declared.name.QualName.{QualName}
+use Rattle.dom_nodes.specs.declared.name.NameParts.{NameParts}
 use Rattle.dom_nodes.specs.declared.name.Namespace.{Namespace}
 use Rattle.dom_nodes.specs.declared.name.Namespace.TheVariants.{None as NoNamespace, Html, XLink, Xml, XmlNs}
 use Rattle.dom_nodes.specs.declared.node_data.Element.{Element}
@@ -32,7 +32,7 @@ abbrev pub is_raw : Element → Bool
 is_raw element = is_html element.name.ns && is_among element.name.local raw_names
 
 -- what stands before an attribute's local name
-abbrev pub prefix_text : QualName → List ℕ
+abbrev pub prefix_text : NameParts → List ℕ
 prefix_text name = prefix_in name.ns name.local
   where
     prefix_in : Namespace → List ℕ → List ℕ

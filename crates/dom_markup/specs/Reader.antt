@@ -6,7 +6,7 @@ use Rattle.dom_links.specs.Growth.{with_child, with_template}
 use Rattle.dom_nodes.specs.declared.fault.MarkupFaultKind.{MarkupFaultKind}
 use Rattle.dom_nodes.specs.declared.fault.MarkupFaultKind.TheVariants.{Memory}
 use Rattle.dom_nodes.specs.declared.name.Attr.{Attr}
-use Rattle.dom_nodes.specs.declared.name.QualName.{QualName}
+use Rattle.dom_nodes.specs.declared.name.NameParts.{NameParts}
 use Rattle.dom_nodes.specs.declared.node_data.NodeData.{NodeData}
 use Rattle.dom_nodes.specs.declared.node_data.NodeData.TheVariants.{Element}
 use Rattle.dom_trees.specs.NewNodes.{element_with, html_name}
@@ -57,7 +57,7 @@ pub record IsStarted (started : Started) (name : List ℕ) (attributes : List At
   pub attrs : started.attrs ≡ map read_attr attributes
 
 -- an element without contents
-abbrev pub plain_element : QualName → List Attr → NodeData
+abbrev pub plain_element : NameParts → List Attr → NodeData
 plain_element name attrs = Element (record { name = name; attrs = attrs; template_contents = None; mathml_annotation_xml_integration_point = false })
 
 -- a start tag that holds this stands at the front of the text, and then rest follows

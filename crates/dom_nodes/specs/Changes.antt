@@ -3,7 +3,7 @@ use Rattle.std.specs.Prelude.{ℕ, Bool, not, List, [], ◌∷◌, ◌++◌, Non
 use Rattle.std.specs.List.{list_any}
 use Rattle.std.specs.Str.{bytes_eq}
 use Rattle.dom_nodes.specs.declared.name.Attr.{Attr}
-use Rattle.dom_nodes.specs.declared.name.QualName.{QualName}
+use Rattle.dom_nodes.specs.declared.name.NameParts.{NameParts}
 use Rattle.dom_nodes.specs.declared.name.Namespace.TheVariants.{None as Nowhere}
 use Rattle.dom_nodes.specs.declared.node_data.Element.{Element}
 use Rattle.dom_nodes.specs.declared.node_data.NodeData.{NodeData}
@@ -21,7 +21,7 @@ abbrev pub is_named_in : List (List ℕ) → Attr → Bool
 is_named_in names attr = is_among attr.name.local names
 
 -- a local name without prefix and namespace
-abbrev pub plain_name : List ℕ → QualName
+abbrev pub plain_name : List ℕ → NameParts
 plain_name name = record { prefix = None; ns = Nowhere; local = name }
 
 -- an attribute without prefix and namespace
@@ -51,7 +51,7 @@ abbrev pub only_names : List (List ℕ) → List Attr → List Attr
 only_names names attrs = filter (is_named_in names) attrs
 
 -- an attribute of that name, with its prefix and namespace, stands among them
-abbrev pub has_attr_named : List Attr → QualName → Bool
+abbrev pub has_attr_named : List Attr → NameParts → Bool
 has_attr_named attrs name = list_any (λ attr. same_name attr.name name) attrs
 
 -- the attributes, and behind them those of others whose names none of them has

@@ -1,9 +1,22 @@
--- When two names are the same.
+-- Namespaces that are lent, and when two names are the same.
 use Rattle.std.specs.Prelude.{ℕ, Bool, true, false, ◌&&◌, List, Option, Some}
 use Rattle.std.specs.Str.{bytes_eq}
 use Rattle.dom_nodes.specs.declared.name.Namespace.{Namespace}
 use Rattle.dom_nodes.specs.declared.name.Namespace.TheVariants.{Html, Svg, MathMl, XLink, Xml, XmlNs, Other}
-use Rattle.dom_nodes.specs.declared.name.QualName.{QualName}
+use Rattle.dom_nodes.specs.declared.name.NamespaceRef.{NamespaceRef}
+use Rattle.dom_nodes.specs.declared.name.NamespaceRef.TheVariants.{Html as HtmlRef, Svg as SvgRef, MathMl as MathMlRef, XLink as XLinkRef, Xml as XmlRef, XmlNs as XmlNsRef, Other as OtherRef}
+use Rattle.dom_nodes.specs.declared.name.NameParts.{NameParts}
+
+-- the namespace that is lent
+abbrev pub namespace_of : NamespaceRef → Namespace
+namespace_of NamespaceRef.None = Namespace.None
+namespace_of HtmlRef = Html
+namespace_of SvgRef = Svg
+namespace_of MathMlRef = MathMl
+namespace_of XLinkRef = XLink
+namespace_of XmlRef = Xml
+namespace_of XmlNsRef = XmlNs
+namespace_of (OtherRef name) = Other name.now
 
 abbrev pub same_namespace : Namespace → Namespace → Bool
 same_namespace Namespace.None Namespace.None = true
@@ -22,5 +35,5 @@ same_prefix (Some prefix) (Some other) = bytes_eq prefix other
 same_prefix _ _ = false
 
 -- prefix, namespace and local name are the same
-abbrev pub same_name : QualName → QualName → Bool
+abbrev pub same_name : NameParts → NameParts → Bool
 same_name name other = same_prefix name.prefix other.prefix && same_namespace name.ns other.ns && bytes_eq name.local other.local

@@ -3,8 +3,10 @@
 ghost use Rattle.std.specs.Cmp.{partial_equiv_from_equiv};
 ghost use Rattle.std.specs.Cmp.Lexicographic.{nat_list_eq_equiv};
 ghost use Rattle.std.specs.Str.{bytes_eq};
+ghost use Rattle.dom_nodes.specs.Names.{same_name};
+ghost use Rattle.dom_nodes.specs.NameLaws.{same_name-equiv};
 
-use crate::name::LocalName;
+use crate::name::{LocalName, QualName};
 use crate::text::{RareText, Text};
 use std::fmt;
 
@@ -66,5 +68,30 @@ impl Eq for LocalName {
 impl fmt::Debug for LocalName {
     fn fmt<W: fmt::Write>(&self, f: &mut fmt::Formatter<W>) -> fmt::Result {
         fmt::Debug::fmt(&self.as_str(), f)
+    }
+}
+
+impl PartialEq for QualName {
+    ghost eq = { same_name };
+
+    ghost laws = { partial_equiv_from_equiv same_name-equiv };
+
+    fn eq(&self, other: &QualName) -> bool {
+        self.is_same(other)
+    }
+}
+
+impl Eq for QualName {
+    ghost laws = { same_name-equiv };
+}
+
+/// Prints the parts of the name.
+impl fmt::Debug for QualName {
+    fn fmt<W: fmt::Write>(&self, f: &mut fmt::Formatter<W>) -> fmt::Result {
+        f.debug_struct("QualName")
+            .field("prefix", &self.prefix())
+            .field("ns", &self.ns())
+            .field("local", self.local())
+            .finish()
     }
 }

@@ -3,7 +3,7 @@
 ghost use Rattle.std.specs.Prelude.{◌≡◌, ◌∷◌, ◌++◌, [], IfOk, IfSome, OnOk};
 
 use crate::fault::OutOfMemory;
-use crate::name::{Attr, Namespace, QualName};
+use crate::name::{Attr, NameParts, Namespace};
 use crate::node_data::{Attrs, Element, NodeData, TreeNode};
 use crate::text::{RareText, Text};
 
@@ -25,39 +25,15 @@ impl Namespace {
     }
 }
 
-impl QualName {
-    /// The same name, where it is known and has no prefix, in one of the common namespaces.
-    #[inline(always)]
-    fn plain(&self) -> Option<QualName>
-        ensures { IfSome result (λ made. made ≡ self.now) }
-    {
-        let None = &self.prefix else {
-            return None;
-        };
-        let ns = match &self.ns {
-            Namespace::None => Namespace::None,
-            Namespace::Html => Namespace::Html,
-            _ => return None,
-        };
-        let local = self.local.plain()?;
-        Some(QualName {
-            prefix: None,
-            ns,
-            local,
-        })
-    }
-
-    /// The same name.
-    pub fn try_clone(&self) -> Result<QualName, OutOfMemory>
+impl NameParts {
+    /// The same parts.
+    pub fn try_clone(&self) -> Result<NameParts, OutOfMemory>
         ensures { IfOk result (λ made. made ≡ self.now) }
     {
-        if let Some(name) = self.plain() {
-            return Ok(name);
-        }
         let prefix = copied(&self.prefix)?;
         let ns = self.ns.try_clone()?;
         let local = self.local.try_clone()?;
-        Ok(QualName { prefix, ns, local })
+        Ok(NameParts { prefix, ns, local })
     }
 }
 
@@ -134,7 +110,7 @@ impl NodeData {
         if !element.attrs.as_slice().is_empty() {
             return None;
         }
-        let name = element.name.plain()?;
+        let name = element.name.known_copy()?;
         let attrs = Attrs::new(element.attrs.allocator());
         Some(NodeData::Element(element.with(name, attrs)))
     }
@@ -224,7 +200,7 @@ fn push_element(
     requires { node.now.content ≡ NodeData.Element element.now }
     ensures { OnOk result (made.new.items ≡ made.old.items ++ node.now ∷ []) }
 {
-    let Some(name) = element.name.plain() else {
+    let Some(name) = element.name.known_copy() else {
         let element = element.try_clone()?;
         return push_with(made, node, NodeData::Element(element));
     };
@@ -259,7 +235,7 @@ fn push_with(
 fn push_attr(made: &mut Vec<Attr>, attr: &Attr) -> Result<(), OutOfMemory>
     ensures { OnOk result (made.new.items ≡ made.old.items ++ attr.now ∷ []) }
 {
-    let Some(name) = attr.name.plain() else {
+    let Some(name) = attr.name.known_copy() else {
         made.push(attr.try_clone()?)?;
         return Ok(());
     };

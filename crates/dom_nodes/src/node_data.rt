@@ -146,7 +146,7 @@ impl Element {
     pub fn node_name(&self) -> &str
         ensures { result.now ≡ self.now.name.local }
     {
-        self.name.local.as_str()
+        self.name.local().as_str()
     }
 
     /// The value of the first attribute of that local name.
@@ -156,7 +156,7 @@ impl Element {
         self.attrs
             .as_slice()
             .iter()
-            .find(|attr| attr.name.local.as_str() == name)
+            .find(|attr| attr.name.local().as_str() == name)
             .map(|attr| attr.value.as_str())
     }
 

@@ -23,7 +23,7 @@ use crate::matcher::texts::{has_text, is_empty, is_only_text};
 use dom_links::indexes::are_of_one_type;
 use dom_nodes::case_sensitivity::CaseSensitivity;
 use dom_nodes::fault::OutOfMemory;
-use dom_nodes::name::{Attr, Namespace};
+use dom_nodes::name::{Attr, Namespace, NamespaceRef};
 use dom_nodes::node_id::NodeId;
 use dom_selectors::comparisons::same_text;
 use dom_selectors::css::CssLocalName;
@@ -165,14 +165,14 @@ impl<'a> NodeSelect for NodeRef<'a> {
 
     fn has_namespace(&self, ns: &Namespace) -> bool {
         match self.qual_name_ref() {
-            Some(name) => name.ns.is_same(ns),
+            Some(name) => name.ns().is_same(&ns.by_ref()),
             None => false,
         }
     }
 
     fn is_html_element_in_html_document(&self) -> bool {
         match self.qual_name_ref() {
-            Some(name) => name.ns.is_same(&Namespace::Html),
+            Some(name) => name.ns().is_same(&NamespaceRef::Html),
             None => false,
         }
     }
@@ -196,7 +196,7 @@ fn has_id(attrs: &[Attr], case: CaseSensitivity, id: &str) -> bool
 fn is_id(attr: &Attr, case: CaseSensitivity, id: &str) -> bool
     ensures { result ≡ is_id case id.now attr.now }
 {
-    attr.name.local.as_str() == "id"
+    attr.name.local().as_str() == "id"
         && same_text(case, attr.value.as_str().as_bytes(), id.as_bytes())
 }
 

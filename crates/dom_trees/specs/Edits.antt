@@ -4,7 +4,7 @@ use Rattle.std.specs.Global.{Vec}
 use Rattle.dom_nodes.specs.Change.{changed}
 use Rattle.dom_nodes.specs.declared.fault.EditFault.{EditFault}
 use Rattle.dom_nodes.specs.declared.name.Attr.{Attr}
-use Rattle.dom_nodes.specs.declared.name.QualName.{QualName}
+use Rattle.dom_nodes.specs.declared.name.NameParts.{NameParts}
 use Rattle.dom_nodes.specs.declared.node_data.NodeData.{NodeData}
 use Rattle.dom_nodes.specs.declared.node_data.changing.Change.{Change}
 use Rattle.dom_links.specs.Contents.{with_content}
@@ -132,7 +132,7 @@ appending t content = record {
 }
 
 -- an element is made as the last child of t, and then the fragment that is its contents
-abbrev pub appending_template : ℕ → QualName → List Attr → TreeEdit
+abbrev pub appending_template : ℕ → NameParts → List Attr → TreeEdit
 appending_template t name attrs = record {
   after = λ forest. with_template t (element_with name attrs (length forest.content + 1)) forest;
   Allowed = λ forest. IsKnown t forest × (children_allowed_at forest t ≡ true);

@@ -4,7 +4,7 @@ use Rattle.dom_nodes.specs.Changes.{with_attrs, with_missing}
 use Rattle.dom_nodes.specs.declared.fault.EditFault.{EditFault}
 use Rattle.dom_nodes.specs.declared.fault.EditFault.TheVariants.{UnknownNode, NoChildrenHere, RootOrFragment, Memory}
 use Rattle.dom_nodes.specs.declared.name.Attr.{Attr}
-use Rattle.dom_nodes.specs.declared.name.QualName.{QualName}
+use Rattle.dom_nodes.specs.declared.name.NameParts.{NameParts}
 use Rattle.dom_nodes.specs.declared.node_data.NodeData.{NodeData}
 use Rattle.dom_nodes.specs.declared.node_data.NodeData.TheVariants.{Element}
 use Rattle.dom_links.specs.AddedTexts.{TextCause, with_text_at}
@@ -19,7 +19,7 @@ use Rattle.dom_trees.specs.Refusals.{LacksChildren, LacksSiblings}
 use Rattle.dom_trees.specs.declared.tree.growing.ElementFlags.{ElementFlags}
 
 -- the element of that name, these attributes and flags that is made as the next node; a template's contents are the node after it
-abbrev pub flagged_element : QualName → List Attr → ElementFlags → Forest → NodeData
+abbrev pub flagged_element : NameParts → List Attr → ElementFlags → Forest → NodeData
 flagged_element name attrs flags forest = Element (record {
   name = name;
   attrs = attrs;
@@ -28,7 +28,7 @@ flagged_element name attrs flags forest = Element (record {
 })
 
 -- the forest with that element, and with a template's contents behind it; both stand alone
-abbrev pub with_new_element : QualName → List Attr → ElementFlags → Forest → Forest
+abbrev pub with_new_element : NameParts → List Attr → ElementFlags → Forest → Forest
 with_new_element name attrs flags forest =
     if flags.template then with_lone_template (flagged_element name attrs flags forest) forest
     else with_node (flagged_element name attrs flags forest) forest
@@ -39,7 +39,7 @@ ElementCause true count fault = NoRoomForTwo count fault
 ElementCause false count fault = NoRoom count fault
 
 -- an element is made, which stands alone
-abbrev pub making_element : QualName → List Attr → ElementFlags → TreeEdit
+abbrev pub making_element : NameParts → List Attr → ElementFlags → TreeEdit
 making_element name attrs flags = record {
   after = with_new_element name attrs flags;
   Allowed = λ forest. Unit {0};

@@ -1,17 +1,17 @@
 -- What the nodes are that calls make.
 use Rattle.std.specs.Prelude.{ℕ, codes, false, List, [], None, Some}
 use Rattle.dom_nodes.specs.declared.name.Attr.{Attr}
-use Rattle.dom_nodes.specs.declared.name.QualName.{QualName}
+use Rattle.dom_nodes.specs.declared.name.NameParts.{NameParts}
 use Rattle.dom_nodes.specs.declared.name.Namespace.TheVariants.{Html}
 use Rattle.dom_nodes.specs.declared.node_data.NodeData.{NodeData}
 use Rattle.dom_nodes.specs.declared.node_data.NodeData.TheVariants.{Comment, Doctype, Element, ProcessingInstruction, Text}
 
 -- the HTML name of that local name, without prefix
-abbrev pub html_name : List ℕ → QualName
+abbrev pub html_name : List ℕ → NameParts
 html_name name = record { prefix = None; ns = Html; local = name }
 
 -- the element of that name, without attributes and contents
-abbrev pub bare_element : QualName → NodeData
+abbrev pub bare_element : NameParts → NodeData
 bare_element name = Element (record {
   name = name;
   attrs = [];
@@ -20,7 +20,7 @@ bare_element name = Element (record {
 })
 
 -- the element of that name and these attributes, with these contents
-abbrev pub element_with : QualName → List Attr → ℕ → NodeData
+abbrev pub element_with : NameParts → List Attr → ℕ → NodeData
 element_with name attrs contents = Element (record {
   name = name;
   attrs = attrs;

@@ -188,7 +188,7 @@ fn harmful(document: &Document, name: &str) -> Result<Vec<NodeId>, Fault> {
 fn is_harmful(node: &NodeRef<'_>, name: &str) -> Result<bool, Fault> {
     let alloc = node.tree.allocator();
     for attr in node.attrs() {
-        if attr.name.local.as_str() == name {
+        if attr.name.local().as_str() == name {
             if !is_harmless(alloc, attr.value.as_str())? {
                 return Ok(true);
             }

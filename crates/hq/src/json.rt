@@ -36,11 +36,11 @@ fn attrs_value(alloc: Global, attrs: &[Attr]) -> Result<Value, Fault> {
 /// A name as it is written: behind its prefix, if it has one.
 fn name_of(alloc: Global, name: &QualName) -> Result<String, Fault> {
     let mut written = String::new(alloc);
-    if let Some(prefix) = &name.prefix {
-        written.push_str(prefix.as_str())?;
+    if let Some(prefix) = name.prefix() {
+        written.push_str(prefix)?;
         written.push(':')?;
     }
-    written.push_str(name.local.as_str())?;
+    written.push_str(name.local().as_str())?;
     Ok(written)
 }
 

@@ -1,7 +1,7 @@
 //! A tree in the form of html5lib's tests of tree construction.
 
 use crate::faults::Fault;
-use dom_query::{Attr, Document, Element, Namespace, NodeData, NodeId, QualName};
+use dom_query::{Attr, Document, Element, NamespaceRef, NodeData, NodeId, QualName};
 use std::alloc::Global;
 use std::io::Write;
 
@@ -153,7 +153,7 @@ fn tag_line(name: &QualName) -> Line<'_> {
     Line {
         before: "<",
         name: prefix_of(name),
-        text: name.local.as_str(),
+        text: name.local().as_str(),
         after: ">",
     }
 }
@@ -176,7 +176,7 @@ struct Row<'a> {
 
 fn row_of(alloc: Global, attr: &Attr) -> Result<Row<'_>, Fault> {
     let mut name = String::from_str(alloc, prefix_of(&attr.name))?;
-    name.push_str(attr.name.local.as_str())?;
+    name.push_str(attr.name.local().as_str())?;
     Ok(Row {
         name,
         value: attr.value.as_str(),
@@ -185,12 +185,12 @@ fn row_of(alloc: Global, attr: &Attr) -> Result<Row<'_>, Fault> {
 
 /// What stands before a name that isn't one of HTML.
 fn prefix_of(name: &QualName) -> &str {
-    match &name.ns {
-        Namespace::Svg => "svg ",
-        Namespace::MathMl => "math ",
-        Namespace::XLink => "xlink ",
-        Namespace::Xml => "xml ",
-        Namespace::XmlNs if name.local.as_str() != "xmlns" => "xmlns ",
+    match name.ns() {
+        NamespaceRef::Svg => "svg ",
+        NamespaceRef::MathMl => "math ",
+        NamespaceRef::XLink => "xlink ",
+        NamespaceRef::Xml => "xml ",
+        NamespaceRef::XmlNs if name.local().as_str() != "xmlns" => "xmlns ",
         _ => "",
     }
 }

@@ -4,8 +4,8 @@
 
 use crate::fault::TourFault;
 use dom_query::{
-    Attr, Attrs, Document, ElementFlags, LocalName, Namespace, NodeId, NodeMarkup, NodeOrText,
-    OutOfMemory, QualName, Text, TreeSink,
+    Attr, Attrs, Document, ElementFlags, LocalName, NameParts, Namespace, NodeId, NodeMarkup,
+    NodeOrText, OutOfMemory, QualName, Text, TreeSink,
 };
 use std::alloc::Global;
 use std::io::Write;
@@ -81,11 +81,10 @@ fn attributes(alloc: Global, written: &str) -> Result<Attrs, TourFault> {
 }
 
 fn named(alloc: Global, ns: Namespace, name: &str) -> Result<QualName, TourFault> {
-    Ok(QualName {
-        prefix: None,
-        ns,
-        local: LocalName::new(alloc, name)?,
-    })
+    let local = LocalName::new(alloc, name)?;
+    let prefix = None;
+    let name = QualName::new(alloc, NameParts { prefix, ns, local })?;
+    Ok(name)
 }
 
 /// Prints what is read of a text, and what was wrong with it.

@@ -7,9 +7,8 @@ use crate::{lent, trees};
 use dom_links::gap::Gap;
 use dom_query::{
     Allow, Attrs, Document, EditFault, ElementFlags, LocalName, NodeData, NodeId, NodeOrText,
-    OutOfMemory, Place, Text, Tree, TreeNode, TreeSink, ValidateFault, sanitize,
+    OutOfMemory, Place, QualName, Text, Tree, TreeNode, TreeSink, ValidateFault, sanitize,
 };
-use dom_trees::names::html_name;
 use std::alloc::Global;
 
 const MARKUP: &str = "<div class=\"a a-word-that-is-longer-than-what-a-node-keeps\" \
@@ -82,7 +81,7 @@ fn edit(done: Result<(), OutOfMemory>) -> Result<(), EditFault> {
 fn change_tree(tree: &mut Tree, page: &Page, call: &str) -> Option<Result<(), EditFault>> {
     let (first, second) = (NodeId::new(1)?, NodeId::new(2)?);
     let other = &page.document.tree;
-    let name = html_name(LocalName::new(tree.allocator(), "b").ok()?);
+    let name = QualName::html(LocalName::new(tree.allocator(), "b").ok()?);
     let attrs = Attrs::new(tree.allocator());
     Some(match call {
         "new_instruction" => unit(tree.new_instruction("x", LONG)),
@@ -128,7 +127,7 @@ fn change_document(document: &mut Document, call: &str) -> Option<Result<(), Edi
 /// A template that the sink makes.
 fn create(document: &mut Document, call: &str) -> Option<Result<(), EditFault>> {
     let alloc = document.tree.allocator();
-    let name = html_name(LocalName::new(alloc, "template").ok()?);
+    let name = QualName::html(LocalName::new(alloc, "template").ok()?);
     let flags = ElementFlags {
         template: true,
         mathml_annotation_xml_integration_point: false,

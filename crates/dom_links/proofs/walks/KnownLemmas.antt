@@ -8,10 +8,11 @@ use Rattle.std.proofs.lemmas.List.Sums.{sum_by-cons}
 use Rattle.std.proofs.lemmas.Slice.Eq.{bytes_eq-Decides}
 use Rattle.std.proofs.lemmas.Bool.{cases_Bool, eqb-true, eq-eqb, true≢false}
 use Rattle.std.proofs.lemmas.Bool.{cases_lt}
-use Rattle.dom_nodes.specs.Names.{same_name, same_namespace, same_prefix}
+use Rattle.dom_nodes.specs.NameLaws.{same_name-equiv}
+use Rattle.dom_nodes.specs.Names.{same_name}
 use Rattle.dom_nodes.specs.declared.name.Namespace.{Namespace}
 use Rattle.dom_nodes.specs.declared.name.Namespace.TheVariants.{Html, Svg, MathMl, XLink, Xml, XmlNs, Other}
-use Rattle.dom_nodes.specs.declared.name.QualName.{QualName}
+use Rattle.dom_nodes.specs.declared.name.NameParts.{NameParts}
 use Rattle.dom_nodes.specs.declared.node_data.NodeData.{NodeData}
 use Rattle.dom_nodes.specs.declared.node_data.NodeData.TheVariants.{Element}
 use Rattle.dom_nodes.specs.declared.indexes.IndexKind.{IndexKind}
@@ -23,33 +24,8 @@ use Rattle.dom_links.proofs.walks.IndexLemmas.{Counting}
 
 -- names that are the same are so to every other name
 
-both_true : (a b : Bool) → (a && b) ≡ true → (a ≡ true) × (b ≡ true)
-both_true true b h = (refl, h)
-both_true false b h = absurd (true≢false (sym h))
-
-prefix_is : (a b : Option (List ℕ)) → same_prefix a b ≡ true → a ≡ b
-prefix_is None None h = refl
-prefix_is (Some a) (Some b) h = ap Some ((bytes_eq-Decides a b).0 h)
-prefix_is _ _ h = absurd (true≢false (sym h))
-
-namespace_is : (a b : Namespace) → same_namespace a b ≡ true → a ≡ b
-namespace_is Namespace.None Namespace.None h = refl
-namespace_is Html Html h = refl
-namespace_is Svg Svg h = refl
-namespace_is MathMl MathMl h = refl
-namespace_is XLink XLink h = refl
-namespace_is Xml Xml h = refl
-namespace_is XmlNs XmlNs h = refl
-namespace_is (Other a) (Other b) h = ap Other ((bytes_eq-Decides a b).0 h)
-namespace_is _ _ h = absurd (true≢false (sym h))
-
-name_alike : (a b c : QualName) → same_name a b ≡ true → same_name a c ≡ same_name b c
-name_alike a b c h =
-    let outer = both_true (same_prefix a.prefix b.prefix && same_namespace a.ns b.ns) (bytes_eq a.local b.local) h in
-    let inner = both_true (same_prefix a.prefix b.prefix) (same_namespace a.ns b.ns) outer.0 in
-    ap (λ p. same_prefix p c.prefix && same_namespace a.ns c.ns && bytes_eq a.local c.local) (prefix_is a.prefix b.prefix inner.0)
-    ∙ ap (λ n. same_prefix b.prefix c.prefix && same_namespace n c.ns && bytes_eq a.local c.local) (namespace_is a.ns b.ns inner.1)
-    ∙ ap (λ l. same_prefix b.prefix c.prefix && same_namespace b.ns c.ns && bytes_eq l c.local) ((bytes_eq-Decides a.local b.local).0 outer.1)
+name_alike : (a b c : NameParts) → same_name a b ≡ true → same_name a c ≡ same_name b c
+name_alike a b c h = same_name-equiv.congr a b c h
 
 abbrev typed : Option NodeData → Option NodeData → Bool
 typed a b = option_map_or (λ node. option_map_or (of_one_type node) b false) a false

@@ -13,7 +13,7 @@ use Rattle.dom_links.specs.Forest.{Forest}
 use Rattle.dom_nodes.specs.declared.node_data.NodeData.TheVariants.{Element as AnElement}
 use Rattle.dom_nodes.specs.declared.node_data.Element.{Element}
 use Rattle.dom_nodes.specs.declared.name.Attr.{Attr}
-use Rattle.dom_nodes.specs.declared.name.QualName.{QualName}
+use Rattle.dom_nodes.specs.declared.name.NameParts.{NameParts}
 use Rattle.dom_links.specs.Growth.{DataCause, with_child, with_template}
 use Rattle.dom_links.specs.Sound.{children_allowed_at}
 use Rattle.dom_trees.specs.Refusals.{TemplateCause}
@@ -115,11 +115,11 @@ start_read items old new before stack one name all h made kept pushed number nam
     (subst (λ (f : Forest). HasRead (items ++ start_tag name all ∷ []) f (map opened_by old.stack.items ++ record { number = children_place name old.tree; name = name } ∷ [])) (sym tree)
     (reads_start items old.tree (map opened_by old.stack.items) name all h open_one))
 
-abbrev pub of_parts : QualName → List Attr → Option ℕ → Element
+abbrev pub of_parts : NameParts → List Attr → Option ℕ → Element
 of_parts name attrs contents = record { name = name; attrs = attrs; template_contents = contents; mathml_annotation_xml_integration_point = false }
 
-parts_same : (name other : QualName) (attrs others : List Attr) (contents : Option ℕ) → name ≡ other → attrs ≡ others → of_parts name attrs contents ≡ of_parts other others contents
-parts_same name other attrs others contents e f = ap (λ (n : QualName). of_parts n attrs contents) e ∙ ap (λ (as' : List Attr). of_parts other as' contents) f
+parts_same : (name other : NameParts) (attrs others : List Attr) (contents : Option ℕ) → name ≡ other → attrs ≡ others → of_parts name attrs contents ≡ of_parts other others contents
+parts_same name other attrs others contents e f = ap (λ (n : NameParts). of_parts n attrs contents) e ∙ ap (λ (as' : List Attr). of_parts other as' contents) f
 
 -- an element without contents, and one with
 pub plain_made : (old new : Reader) (result : Result ℕ MarkupFaultKind) (started : Started) (element : Element) → is_template (folded started.written.now) ≡ false → element ≡ of_parts (html_name started.local) started.attrs None →

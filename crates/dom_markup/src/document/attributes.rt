@@ -14,7 +14,7 @@ ghost use Rattle.dom_markup.specs.ByteClasses.{attribute_of, PastAttributes};
 use crate::document::scan::{Written, attribute_at, estimate_attrs};
 use crate::references::decode;
 use dom_nodes::fault::OutOfMemory;
-use dom_nodes::name::{Attr, LocalName, Namespace, QualName};
+use dom_nodes::name::{Attr, LocalName, QualName};
 use dom_nodes::node_data::Attrs;
 use dom_nodes::text::Text;
 use std::alloc::Global;
@@ -36,7 +36,7 @@ pub fn folded_name(alloc: Global, name: &str) -> Result<Text, OutOfMemory>
 fn has_attr(attrs: &[Attr], name: &LocalName) -> bool
     ensures { result ≡ list_any (is_attr_named name.now) attrs.now }
 {
-    attrs.iter().any(|attr| attr.name.local.is_same(name))
+    attrs.iter().any(|attr| attr.name.local().is_same(name))
 }
 
 /// The attributes of a tag so far. The names of all but the last few stand in a set too, so that a
@@ -92,7 +92,7 @@ impl KeptAttrs {
         if attrs.len() - self.noted < RECENT {
             return Ok(());
         }
-        let name = String::from_str(alloc, attrs[self.noted].name.local.as_str())?;
+        let name = String::from_str(alloc, attrs[self.noted].name.local().as_str())?;
         self.insert_older(name)?;
         self.noted += 1;
         Ok(())
@@ -112,11 +112,7 @@ impl KeptAttrs {
             return Ok(());
         }
         let value = decode(alloc, written.value)?;
-        let name = QualName {
-            prefix: None,
-            ns: Namespace::None,
-            local,
-        };
+        let name = QualName::plain(local);
         self.attrs.push(Attr { name, value })?;
         self.note(alloc)
     }

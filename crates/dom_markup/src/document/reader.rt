@@ -3,7 +3,6 @@
 ghost use Rattle.std.specs.Prelude.{◌≡◌, ◌≢◌, ◌<◌, ◌+◌, ◌++◌, ◌⊎◌, [], List, ℕ, None, codes};
 ghost use Rattle.std.specs.Prelude.{IfErr, IfOk, MatchResult, length};
 ghost use Rattle.dom_links.specs.Growth.{with_child, with_template};
-ghost use Rattle.dom_trees.specs.NewNodes.{html_name};
 ghost use Rattle.dom_trees.specs.NewNodes.{element_with};
 ghost use Rattle.dom_markup.specs.Frames.{children_place};
 ghost use Rattle.dom_markup.specs.Front.{BeginsLetter};
@@ -25,24 +24,12 @@ use crate::document::within::{Within, within_named};
 use crate::names::is_void_name;
 use crate::references::decode;
 use dom_nodes::fault::{EditFault, MarkupFaultKind, OutOfMemory};
-use dom_nodes::name::{LocalName, Namespace, QualName};
+use dom_nodes::name::{LocalName, QualName};
 use dom_nodes::node_data::{Attrs, Element, NodeData};
 use dom_nodes::node_id::NodeId;
 use dom_nodes::text::{RareText, Text};
 use dom_trees::tree::Tree;
 use std::alloc::Global;
-
-/// The HTML name of that local name.
-#[inline(always)]
-fn html_name(local: LocalName) -> QualName
-    ensures { result ≡ html_name local }
-{
-    QualName {
-        prefix: None,
-        ns: Namespace::Html,
-        local,
-    }
-}
 
 /// What a start tag holds: the name as it is written, the element's local name, and its attributes.
 #[derive(Drop)]
@@ -219,7 +206,7 @@ impl<'a> Reader<'a> {
             (children_place (folded started.entry.written.now) self.old.tree)
             (with_started (parent_number self.old) started.entry self.old.tree) }
     {
-        let name = html_name(started.local);
+        let name = QualName::html(started.local);
         if !is_template(started.written) {
             let element = Element::new(name, started.attrs, None, false);
             return self.append(NodeData::Element(element));

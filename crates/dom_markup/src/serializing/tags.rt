@@ -10,7 +10,7 @@ ghost use Rattle.dom_markup.specs.Writing.{Writes};
 use crate::escaping::Escaper;
 use crate::names::{is_raw_name, is_void_name};
 use crate::writing::{PutText, put_parts};
-use dom_nodes::name::{Attr, Namespace, QualName};
+use dom_nodes::name::{Attr, NamespaceRef, QualName};
 use dom_nodes::node_data::{Element, NodeData};
 
 /// Puts what stands before what is below a node; a text as it is, where `raw` says so.
@@ -66,7 +66,7 @@ fn put_start_tag<P: PutText<W>, W>(
 fn put_attr<P: PutText<W>, W>(w: &mut W, escaper: &Escaper, attr: &Attr) -> Result<(), P::Fault>
     ensures { Writes (P.written w.old) (P.written w.new) result (attr_text attr.now) }
 {
-    let local = attr.name.local.as_str();
+    let local = attr.name.local().as_str();
     put_parts::<P, W>(w, &[" ", prefix(&attr.name), local, "=\""])?;
     escaper.put_value::<P, W>(w, attr.value.as_str())?;
     P::put(w, "\"")
@@ -76,12 +76,12 @@ fn put_attr<P: PutText<W>, W>(w: &mut W, escaper: &Escaper, attr: &Attr) -> Resu
 fn prefix(name: &QualName) -> &str
     ensures { result.now ≡ prefix_text name.now }
 {
-    match &name.ns {
-        Namespace::None => "",
-        Namespace::Xml => "xml:",
-        Namespace::XLink => "xlink:",
-        Namespace::XmlNs if name.local.as_str() == "xmlns" => "",
-        Namespace::XmlNs => "xmlns:",
+    match name.ns() {
+        NamespaceRef::None => "",
+        NamespaceRef::Xml => "xml:",
+        NamespaceRef::XLink => "xlink:",
+        NamespaceRef::XmlNs if name.local().as_str() == "xmlns" => "",
+        NamespaceRef::XmlNs => "xmlns:",
         _ => "unknown_namespace:",
     }
 }
@@ -90,8 +90,8 @@ fn prefix(name: &QualName) -> &str
 pub(super) fn is_void(element: &Element) -> bool
     ensures { result ≡ is_void element.now }
 {
-    match element.name.ns {
-        Namespace::Html => is_void_name(&element.name.local),
+    match element.name.ns() {
+        NamespaceRef::Html => is_void_name(element.name.local()),
         _ => false,
     }
 }
@@ -120,8 +120,8 @@ pub(super) fn keeps_texts(content: &NodeData) -> bool
 fn is_raw(element: &Element) -> bool
     ensures { result ≡ is_raw element.now }
 {
-    match element.name.ns {
-        Namespace::Html => is_raw_name(&element.name.local),
+    match element.name.ns() {
+        NamespaceRef::Html => is_raw_name(element.name.local()),
         _ => false,
     }
 }

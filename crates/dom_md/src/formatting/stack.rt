@@ -111,7 +111,7 @@ fn close_node(content: &NodeData, text: &mut String) -> Result<(), OutOfMemory>
         (close_events content.now) }
 {
     match content {
-        NodeData::Element(element) => Ok(close_element(text, &element.name.local)?),
+        NodeData::Element(element) => Ok(close_element(text, element.name.local())?),
         _ => Ok(()),
     }
 }
@@ -166,7 +166,7 @@ fn begin_node(
             push_open(nodes, first, ops)
         }
         NodeData::Element(element) => {
-            open_element(text, &element.name.local)?;
+            open_element(text, element.name.local())?;
             push_op(ops, FormatOp::Close { id })?;
             if element.node_name() == "pre" {
                 return keep_text(nodes, id, text);

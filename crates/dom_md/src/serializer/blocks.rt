@@ -47,7 +47,7 @@ impl<'a> Writer<'a> {
         };
         match &node.content {
             NodeData::Text { contents } => push_text(&mut self.text, contents.as_str(), opts),
-            NodeData::Element(element) => self.open_element(id, &element.name.local, opts),
+            NodeData::Element(element) => self.open_element(id, element.name.local(), opts),
             _ => Ok(()),
         }
     }

@@ -75,7 +75,7 @@ impl<'a> Writer<'a> {
             }
             match &child.content {
                 NodeData::Text { contents } => return as_word(contents.as_str()),
-                NodeData::Element(element) if self.is_plain(&element.name.local) => at = first,
+                NodeData::Element(element) if self.is_plain(element.name.local()) => at = first,
                 _ => return None,
             }
         }
@@ -215,7 +215,7 @@ fn language_of<'a>(node: &NodeRef<'a>) -> Option<&'a str> {
 /// The value of the first attribute that names a language.
 fn language_at<'a>(node: &NodeRef<'a>) -> Option<&'a str> {
     for attr in node.attrs() {
-        let name = attr.name.local.as_str();
+        let name = attr.name.local().as_str();
         if name == "data-lang" || name == "data-language" {
             return Some(attr.value.as_str());
         }

@@ -112,7 +112,7 @@ fn address_in(element: &Element) -> Option<&str>
         .attrs
         .as_slice()
         .iter()
-        .find(|attr| is_href(&attr.name.local))
+        .find(|attr| is_href(attr.name.local()))
         .map(|attr| attr.value.as_str())
 }
 
@@ -123,7 +123,7 @@ fn title_in(element: &Element) -> Option<&str>
         .attrs
         .as_slice()
         .iter()
-        .find(|attr| is_title(&attr.name.local))
+        .find(|attr| is_title(attr.name.local()))
         .map(|attr| attr.value.as_str())
 }
 

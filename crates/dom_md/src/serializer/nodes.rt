@@ -20,7 +20,7 @@ pub(super) fn tag(node: &NodeRef<'_>) -> Tag {
 /// The local name of an element.
 pub(super) fn local_name<'a>(node: &NodeRef<'a>) -> Option<&'a LocalName> {
     match &node.tree.tree_node(&node.id)?.content {
-        NodeData::Element(element) => Some(&element.name.local),
+        NodeData::Element(element) => Some(element.name.local()),
         _ => None,
     }
 }

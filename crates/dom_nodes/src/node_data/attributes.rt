@@ -5,7 +5,7 @@ ghost use Rattle.dom_nodes.specs.Changes.{is_attr_named, is_link_name, plain_att
 
 use super::{Attrs, Element};
 use crate::fault::OutOfMemory;
-use crate::name::{Attr, LocalName, Namespace, QualName};
+use crate::name::{Attr, LocalName, QualName};
 use crate::text::Text;
 use crate::words::is_one_of;
 use std::alloc::Global;
@@ -41,7 +41,7 @@ impl Attrs {
     pub fn remove(&mut self, name: &str)
         ensures { self.new ≡ without_name name.now self.old }
     {
-        self.items.retain(|attr| attr.name.local.as_str() != name);
+        self.items.retain(|attr| attr.name.local().as_str() != name);
     }
 
     /// Removes every attribute whose local name is one of the names.
@@ -49,7 +49,7 @@ impl Attrs {
         ensures { self.new ≡ without_names (map (λ name. name.now) names.now) self.old }
     {
         self.items
-            .retain(|attr| !is_one_of(attr.name.local.as_str(), names));
+            .retain(|attr| !is_one_of(attr.name.local().as_str(), names));
     }
 
     /// Removes every attribute whose local name is none of the names.
@@ -57,7 +57,7 @@ impl Attrs {
         ensures { self.new ≡ only_names (map (λ name. name.now) names.now) self.old }
     {
         self.items
-            .retain(|attr| is_one_of(attr.name.local.as_str(), names));
+            .retain(|attr| is_one_of(attr.name.local().as_str(), names));
     }
 
     /// Removes every attribute.
@@ -146,7 +146,7 @@ impl Element {
         ensures err { OnErr result (self.new ≡ self.old) }
     {
         let local = LocalName::new(self.attrs.allocator(), name)?;
-        self.name.local = local;
+        self.name.set_local(local);
         Ok(())
     }
 }
@@ -157,7 +157,7 @@ fn attr_position(attrs: &[Attr], name: &str) -> Option<usize>
 {
     attrs
         .iter()
-        .position(|attr| attr.name.local.as_str() == name)
+        .position(|attr| attr.name.local().as_str() == name)
 }
 
 /// An attribute without prefix and namespace.
@@ -165,12 +165,10 @@ fn plain_attr(alloc: Global, name: &str, value: Text) -> Result<Attr, OutOfMemor
     ensures { IfOk result (λ made. made ≡ plain_attr name.now value) }
 {
     let local = LocalName::new(alloc, name)?;
-    let name = QualName {
-        prefix: None,
-        ns: Namespace::None,
-        local,
-    };
-    Ok(Attr { name, value })
+    Ok(Attr {
+        name: QualName::plain(local),
+        value,
+    })
 }
 
 fn is_link_name(name: &str) -> bool

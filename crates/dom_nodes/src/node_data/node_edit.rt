@@ -2,10 +2,9 @@
 
 ghost use Rattle.std.specs.Prelude.{◌≡◌, []};
 ghost use Rattle.std.specs.Fn.{FnOnceReturnsAtMut};
-ghost use Rattle.dom_nodes.specs.Changes.{plain_name};
 
 use super::{Attrs, NodeData, TreeNode};
-use crate::name::{LocalName, Namespace, QualName};
+use crate::name::{LocalName, QualName};
 use crate::text::Text;
 use std::alloc::Global;
 use std::mem;
@@ -27,7 +26,7 @@ impl NodeEdit {
         ensures { result ≡ empty_edit }
     {
         NodeEdit {
-            name: empty_name(),
+            name: QualName::plain(LocalName::empty()),
             attrs: Attrs::new(alloc),
             contents: empty_text(alloc),
         }
@@ -113,14 +112,4 @@ fn empty_text(alloc: Global) -> Text
     ensures { result ≡ [] }
 {
     Text::from(String::new(alloc))
-}
-
-fn empty_name() -> QualName
-    ensures { result ≡ plain_name [] }
-{
-    QualName {
-        prefix: None,
-        ns: Namespace::None,
-        local: LocalName::empty(),
-    }
 }

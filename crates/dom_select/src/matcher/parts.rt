@@ -4,6 +4,7 @@ ghost use Rattle.std.specs.Prelude.{◌≡◌, ◌↔◌, ◌||◌, Some, slice_
 ghost use Rattle.std.specs.List.{list_any};
 ghost use Rattle.std.specs.Str.{bytes_eq};
 ghost use Rattle.dom_links.specs.ListMoves.{element_at};
+ghost use Rattle.dom_nodes.specs.Names.{namespace_of};
 ghost use Rattle.dom_select.specs.Meaning.{PartsHold};
 ghost use Rattle.dom_select.specs.Parts.{EachHolds, PartHolds, attr_passes, element_passes};
 ghost use Rattle.dom_select.specs.Parts.{is_attr, is_without, name_within, node_passes};
@@ -14,7 +15,7 @@ use crate::matcher::caches::SelectorCaches;
 use crate::matcher::joined::contains_joined;
 use crate::matcher::positions::has_position;
 use crate::matcher::texts::{has_text, is_empty, is_only_text};
-use dom_nodes::name::{Attr, LocalName, Namespace};
+use dom_nodes::name::{Attr, LocalName, NamespaceRef};
 use dom_nodes::node_data::{Element, NodeData};
 use dom_nodes::node_id::NodeId;
 use dom_selectors::comparisons::passes;
@@ -40,7 +41,7 @@ pub(crate) fn is_named_node(node: &NodeData, name: &SelectorName) -> bool
     ensures { result ≡ node_passes (Part.«Type» name.now) node.now }
 {
     match node {
-        NodeData::Element(element) => is_named(&element.name.ns, &element.name.local, name),
+        NodeData::Element(element) => is_named(element.name.ns(), element.name.local(), name),
         _ => false,
     }
 }
@@ -113,7 +114,7 @@ fn element_passes(part: &Part, element: &Element) -> bool
 {
     match part {
         Part::Universal => true,
-        Part::Type(name) => is_named(&element.name.ns, &element.name.local, name),
+        Part::Type(name) => is_named(element.name.ns(), element.name.local(), name),
         Part::Id(value) => has_attr(element.attrs.as_slice(), "id", value.as_str()),
         Part::Class(word) => element.has_class(word.as_str()),
         Part::Attribute(asked) => attrs_pass(asked, element),
@@ -130,11 +131,11 @@ fn element_passes(part: &Part, element: &Element) -> bool
 
 /// Whether a local name is a selector's name: with A to Z folded in HTML, as written elsewhere.
 #[inline(always)]
-fn is_named(ns: &Namespace, local: &LocalName, name: &SelectorName) -> bool
-    ensures { result ≡ bytes_eq local.now (name_within ns.now name.now) }
+fn is_named(ns: NamespaceRef<'_>, local: &LocalName, name: &SelectorName) -> bool
+    ensures { result ≡ bytes_eq local.now (name_within (namespace_of ns.entry) name.now) }
 {
     match ns {
-        Namespace::Html => is_folded(local, name.folded()),
+        NamespaceRef::Html => is_folded(local, name.folded()),
         _ => is_written(local, name),
     }
 }
@@ -178,14 +179,14 @@ fn has_attr(attrs: &[Attr], name: &str, value: &str) -> bool
 fn is_attr(attr: &Attr, name: &str, value: &str) -> bool
     ensures { result ≡ is_attr name.now value.now attr.now }
 {
-    attr.name.local.as_str() == name && attr.value.as_str() == value
+    attr.name.local().as_str() == name && attr.value.as_str() == value
 }
 
 /// Whether one of the element's attributes is as the part asks.
 fn attrs_pass(asked: &Attribute, element: &Element) -> bool
     ensures { result ≡ list_any (attr_passes element.now.name.ns asked.now) element.now.attrs }
 {
-    let ns = &element.name.ns;
+    let ns = element.name.ns();
     element
         .attrs
         .as_slice()
@@ -193,22 +194,22 @@ fn attrs_pass(asked: &Attribute, element: &Element) -> bool
         .any(|attr| attr_passes(ns, asked, attr))
 }
 
-fn attr_passes(ns: &Namespace, asked: &Attribute, attr: &Attr) -> bool
-    ensures { result ≡ attr_passes ns.now asked.now attr.now }
+fn attr_passes(ns: NamespaceRef<'_>, asked: &Attribute, attr: &Attr) -> bool
+    ensures { result ≡ attr_passes (namespace_of ns.entry) asked.now attr.now }
 {
-    if !is_without(&attr.name.ns) {
+    if !is_without(attr.name.ns()) {
         return false;
     }
-    if !is_named(ns, &attr.name.local, &asked.name) {
+    if !is_named(ns, attr.name.local(), &asked.name) {
         return false;
     }
     comparison_passes(&asked.comparison, attr.value.as_str())
 }
 
-fn is_without(ns: &Namespace) -> bool
-    ensures { result ≡ is_without ns.now }
+fn is_without(ns: NamespaceRef<'_>) -> bool
+    ensures { result ≡ is_without (namespace_of ns.entry) }
 {
-    matches!(ns, Namespace::None)
+    matches!(ns, NamespaceRef::None)
 }
 
 fn comparison_passes(comparison: &Option<Comparison>, value: &str) -> bool

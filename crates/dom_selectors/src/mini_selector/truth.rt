@@ -53,7 +53,7 @@ fn test_passes(operator: AttrOperator, wanted: &str, value: &str) -> bool
 fn attr_passes(key: &str, operator: AttrOperator, wanted: &str, attr: &Attr) -> bool
     ensures { result ≡ attr_passes key.now (operator, wanted.now) attr.now }
 {
-    attr.name.local.as_str() == key && test_passes(operator, wanted, attr.value.as_str())
+    attr.name.local().as_str() == key && test_passes(operator, wanted, attr.value.as_str())
 }
 
 /// Whether one of the attributes has that local name and passes the test.

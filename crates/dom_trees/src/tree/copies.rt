@@ -6,11 +6,10 @@ ghost use Rattle.dom_links.specs.Copies.{FragmentCause, fragment_of};
 ghost use Rattle.dom_trees.specs.Edits.{Copies};
 ghost use Rattle.dom_trees.specs.NewNodes.{html_root_element};
 
-use crate::names::html_name;
 use crate::tree::Tree;
 use dom_links::ops::copies;
 use dom_nodes::fault::{EditFault, OutOfMemory};
-use dom_nodes::name::LocalName;
+use dom_nodes::name::{LocalName, QualName};
 use dom_nodes::node_data::{Attrs, Element, NodeData, TreeNode};
 use dom_nodes::node_id::NodeId;
 use std::alloc::Global;
@@ -82,7 +81,7 @@ fn html_root_element(alloc: Global) -> Result<NodeData, EditFault>
 {
     match LocalName::new(alloc, "html") {
         Ok(local) => Ok(NodeData::Element(Element::new(
-            html_name(local),
+            QualName::html(local),
             Attrs::new(alloc),
             None,
             false,

@@ -6,7 +6,6 @@ ghost use Rattle.dom_trees.specs.Edits.{Makes, appending, making};
 ghost use Rattle.dom_trees.specs.NewNodes.{bare_element, html_name, text_node};
 
 use crate::checks::check_room;
-use crate::names::html_name;
 use crate::tree::Tree;
 use dom_links::ops::TreeNodeOps;
 use dom_nodes::fault::EditFault;
@@ -56,7 +55,7 @@ impl Tree {
     {
         check_room(&self.nodes)?;
         let local = local_name(self.allocator(), name)?;
-        self.new_element_qualname(html_name(local))
+        self.new_element_qualname(QualName::html(local))
     }
 
     /// Makes an element of that name without attributes. It stands alone. Refused as

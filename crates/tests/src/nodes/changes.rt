@@ -2,7 +2,7 @@
 
 use dom_nodes::case_sensitivity::CaseSensitivity;
 use dom_nodes::link::Link;
-use dom_nodes::name::{Attr, LocalName, Namespace, QualName};
+use dom_nodes::name::{Attr, LocalName, QualName};
 use dom_nodes::node_data::{Attrs, Element, NodeData, NodeEdit, TreeNode};
 use dom_nodes::node_id::NodeId;
 use dom_nodes::text::Text;
@@ -11,11 +11,7 @@ use std::process::Abort;
 use std::test::Fail;
 
 fn name(alloc: Global, local: &str) -> Result<QualName, Fail> {
-    Ok(QualName {
-        prefix: None,
-        ns: Namespace::Html,
-        local: LocalName::new(alloc, local)?,
-    })
+    Ok(QualName::html(LocalName::new(alloc, local)?))
 }
 
 /// One attribute.

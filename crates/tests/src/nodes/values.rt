@@ -2,7 +2,7 @@
 
 use dom_nodes::fault::{EditFault, MarkupFault, MarkupFaultKind, OutOfMemory};
 use dom_nodes::link::Link;
-use dom_nodes::name::{Attr, LocalName, Namespace, QualName};
+use dom_nodes::name::{Attr, LocalName, NameParts, Namespace, QualName};
 use dom_nodes::node_data::{Attrs, Element, NodeData};
 use dom_nodes::node_id::NodeId;
 use dom_nodes::text::{RareText, Text};
@@ -12,11 +12,7 @@ use std::process::Abort;
 use std::test::Fail;
 
 fn html_name(alloc: Global, local: &str) -> Result<QualName, Fail> {
-    Ok(QualName {
-        prefix: None,
-        ns: Namespace::Html,
-        local: LocalName::new(alloc, local)?,
-    })
+    Ok(QualName::html(LocalName::new(alloc, local)?))
 }
 
 fn attr(alloc: Global, local: &str, value: &str) -> Result<Attr, Fail> {
@@ -126,19 +122,14 @@ fn comment(alloc: Global, said: &str) -> Result<NodeData, Fail> {
 
 fn rare_name(alloc: Global, ns: Namespace) -> Result<QualName, Fail> {
     let local = LocalName::new(alloc, "rare-name")?;
-    Ok(QualName {
-        prefix: None,
-        ns,
-        local,
-    })
+    let prefix = None;
+    Ok(QualName::new(alloc, NameParts { prefix, ns, local })?)
 }
 
 fn prefixed_name(alloc: Global) -> Result<QualName, Fail> {
-    Ok(QualName {
-        prefix: Some(RareText::new(alloc, "xlink")?),
-        ns: Namespace::XLink,
-        local: LocalName::new(alloc, "href")?,
-    })
+    let prefix = Some(RareText::new(alloc, "xlink")?);
+    let (ns, local) = (Namespace::XLink, LocalName::new(alloc, "href")?);
+    Ok(QualName::new(alloc, NameParts { prefix, ns, local })?)
 }
 
 fn add_name(names: &mut Vec<QualName>, alloc: Global, ns: Namespace) -> Result<(), Fail> {
@@ -191,6 +182,33 @@ fn names_differ_by_each_part(rt: HostRuntime) -> Result<(), Fail> {
         shows_same(&rt, name.try_clone()?, name);
     }
     shows_different(&rt, &names);
+    Ok(())
+}
+
+/// Shows a name's prefix and local name, and that it is in this namespace.
+fn shows_parts(rt: &impl Abort, name: &QualName, ns: &Namespace, parts: (Option<&str>, &str)) {
+    assert!(rt; name.prefix() == parts.0);
+    assert!(rt; name.ns().is_same(&ns.by_ref()));
+    assert_eq!(rt; name.local().as_str(), parts.1);
+}
+
+#[test]
+fn names_lend_their_parts(rt: HostRuntime) -> Result<(), Fail> {
+    let alloc = rt.alloc();
+    let mut name = prefixed_name(alloc)?;
+    shows_parts(&rt, &name, &Namespace::XLink, (Some("xlink"), "href"));
+    name.set_local(LocalName::new(alloc, "rare-name")?);
+    shows_parts(&rt, &name, &Namespace::XLink, (Some("xlink"), "rare-name"));
+    let other = Namespace::Other(RareText::new(alloc, "urn:x")?);
+    let parts = NameParts {
+        prefix: None,
+        ns: other.try_clone()?,
+        local: LocalName::empty(),
+    };
+    let name = QualName::new(alloc, parts.try_clone()?)?;
+    shows_parts(&rt, &name, &other, (None, ""));
+    let name = QualName::plain(LocalName::new(alloc, "id")?);
+    shows_parts(&rt, &name, &Namespace::None, (None, "id"));
     Ok(())
 }
 

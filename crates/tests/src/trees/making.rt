@@ -4,14 +4,13 @@ use dom_nodes::fault::EditFault;
 use dom_nodes::name::{LocalName, QualName};
 use dom_nodes::node_data::{Attrs, Element, NodeData};
 use dom_nodes::node_id::NodeId;
-use dom_trees::names::html_name;
 use dom_trees::tree::Tree;
 use std::alloc::Global;
 use std::process::Abort;
 use std::test::Fail;
 
 fn name(alloc: Global) -> Result<QualName, Fail> {
-    Ok(html_name(LocalName::new(alloc, "template")?))
+    Ok(QualName::html(LocalName::new(alloc, "template")?))
 }
 
 fn template(alloc: Global, contents: Option<NodeId>) -> Result<NodeData, Fail> {

@@ -1,10 +1,9 @@
 //! Raw nodes that are a forest's, and raw nodes that are none and come back.
 
 use dom_nodes::link::Link;
-use dom_nodes::name::LocalName;
+use dom_nodes::name::{LocalName, QualName};
 use dom_nodes::node_data::{Attrs, Element, NodeData, TreeNode};
 use dom_nodes::node_id::NodeId;
-use dom_trees::names::html_name;
 use dom_trees::tree::Tree;
 use std::alloc::Global;
 use std::process::Abort;
@@ -42,7 +41,7 @@ fn data(alloc: Global, kind: Kind) -> Result<NodeData, Fail> {
         Kind::Document => Ok(NodeData::Document),
         Kind::Fragment => Ok(NodeData::Fragment),
         Kind::Element(contents) => {
-            let name = html_name(LocalName::new(alloc, "b")?);
+            let name = QualName::html(LocalName::new(alloc, "b")?);
             let contents = NodeId::new(contents);
             Ok(NodeData::Element(Element::new(name, Attrs::new(alloc), contents, false)))
         }

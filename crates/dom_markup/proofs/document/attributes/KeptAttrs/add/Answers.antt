@@ -2,6 +2,7 @@ use Rattle.std.proofs.Common.{◌≡◌, ◌∷◌, ◌++◌, ℕ, List, Bool, [
 use Rattle.std.specs.List.{list_any}
 use Rattle.std.proofs.lemmas.Result.{on_ok_weaker}
 use Rattle.dom_nodes.specs.declared.name.Attr.{Attr}
+use Rattle.dom_nodes.specs.declared.name.NameParts.{NameParts}
 use Rattle.dom_nodes.specs.declared.name.Namespace.TheVariants.{None as NoNamespace}
 use Rattle.dom_nodes.specs.Changes.{is_attr_named}
 use Rattle.dom_markup.specs.Bytes.{folded}
@@ -16,6 +17,9 @@ tested : (attrs : List Attr) (name local folds : List ℕ) (found answer : Bool)
     found ≡ list_any (is_attr_named name) attrs → found ≡ answer → list_any (is_attr_named folds) attrs ≡ answer
 tested attrs name local folds found answer f g h i =
     ap (λ (n : List ℕ). list_any (is_attr_named n) attrs) (sym (f ∙ g)) ∙ sym h ∙ i
+
+abbrev with_value : NameParts → List ℕ → Attr
+with_value name value = record { name = name; value = value }
 
 abbrev of : List ℕ → List ℕ → Attr
 of local value = record { name = record { prefix = None; ns = NoNamespace; local = local }; value = value }
@@ -32,6 +36,8 @@ pub returns-clause-added : goal.returns-clause-added
 returns-clause-added c =
     let new = tested _ _ _ _ _ _ refl c.in_ok-local.ensures c.has.ensures c.if-has.false in
     let attr = attr_of_read c.in_ok-local.local c.in_ok-value.value c.args.written.name.now c.args.written.value.now c.in_ok-local.ensures c.in_ok-value.ensures in
-    let grown = c.in_ok-push.ensures.ok ∙ ap (λ (a : Attr). c.args.self.now.attrs ++ a ∷ []) attr in
+    let made : Attr = record { name = c.plain-name.result; value = c.in_ok-value.value } in
+    let named : made ≡ of c.in_ok-local.local c.in_ok-value.value = ap (λ (name : NameParts). with_value name c.in_ok-value.value) c.plain-name.ensures in
+    let grown = c.in_ok-push.ensures.ok ∙ ap (λ (a : Attr). c.args.self.now.attrs ++ a ∷ []) named ∙ ap (λ (a : Attr). c.args.self.now.attrs ++ a ∷ []) attr in
     on_ok_weaker c.note.result (λ _ kept e. c.note.ensures.attrs ∙ grown
     ∙ added c.args.self.now.attrs (attribute_of c.args.written.name.now c.args.written.value.now) new kept e) c.note.ensures.noted

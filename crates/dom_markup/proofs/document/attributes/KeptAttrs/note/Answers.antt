@@ -12,5 +12,5 @@ returns-clause-noted c =
       within = omega (arith, within);
       names = λ name. one_more c.args.self.now.attrs c.args.self.now.noted c.index-attrs-self.result _ name _ _ within
           (c.index-attrs-self.is ∙ ap (λ attrs. get_or attrs c.args.self.now.noted c.index-attrs-self.result) c.as_slice-attrs.ensures)
-          (c.in_ok-name.ensures.ok ∙ c.as_str.ensures ∙ ap (λ attr. attr.name.local) (sym c.index-attrs-self.is)) (c.requires.names name) (c.in_ok-insert_older.ensures.names name);
+          (c.in_ok-name.ensures.ok ∙ c.as_str.ensures ∙ c.local.ensures ∙ ap (λ attr. attr.name.local) (sym c.index-attrs-self.is)) (c.requires.names name) (c.in_ok-insert_older.ensures.names name);
     })
