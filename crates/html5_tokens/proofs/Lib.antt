@@ -1,3 +1,4 @@
 mod AttributeLemmas
 mod NameLemmas
 mod SortedNames
+mod TagLemmas

@@ -1,6 +1,6 @@
 //! The attributes of the tag that is being read.
 
-ghost use Rattle.std.specs.Prelude.{◌≡◌, ◌<◌, ◌≤◌, ◌∷◌, ◌++◌, [], ℕ, List, true};
+ghost use Rattle.std.specs.Prelude.{◌≡◌, ◌<◌, ◌≤◌, ◌∷◌, ◌++◌, ◌↔◌, [], ℕ, List, true};
 ghost use Rattle.std.specs.Prelude.{length, take, string_bytes, OnErr, OnOk};
 ghost use Rattle.std.specs.List.{list_any};
 ghost use Rattle.std.specs.BTreeSet.{contains_text, IsUnchanged};
@@ -68,7 +68,9 @@ pub struct Attributes {
 
 impl Attributes {
     /// No attributes.
-    pub fn new(alloc: Global) -> Attributes {
+    pub fn new(alloc: Global) -> Attributes
+        ensures { result.kept.items ≡ [] }
+    {
         Attributes {
             kept: Vec::new(alloc),
             noted: 0,
@@ -78,7 +80,9 @@ impl Attributes {
     }
 
     /// Whether there is none.
-    pub fn is_empty(&self) -> bool {
+    pub fn is_empty(&self) -> bool
+        ensures { result ≡ true ↔ self.now.kept.items ≡ [] }
+    {
         self.kept.is_empty()
     }
 
@@ -150,7 +154,8 @@ impl Attributes {
 
     /// Takes all attributes out.
     pub fn take(&mut self, alloc: Global) -> Vec<TagAttr>
-        ensures { are_distinct result.items ≡ true }
+        ensures distinct { are_distinct result.items ≡ true }
+        ensures all { result.items ≡ self.old.kept.items }
     {
         let taken = mem::replace(self, Attributes::new(alloc));
         taken.kept
@@ -158,7 +163,8 @@ impl Attributes {
 
     /// Puts all attributes there, in place of those of an earlier tag.
     pub fn exchange(&mut self, alloc: Global, attrs: &mut Vec<TagAttr>)
-        ensures { are_distinct attrs.new.items ≡ true }
+        ensures distinct { are_distinct attrs.new.items ≡ true }
+        ensures all { attrs.new.items ≡ self.old.kept.items }
     {
         if self.noted > 0 {
             self.older = BTreeSet::new(alloc);

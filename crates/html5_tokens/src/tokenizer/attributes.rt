@@ -1,5 +1,7 @@
 //! Attributes.
 
+ghost use Rattle.std.specs.Prelude.{◌≡◌, [], string_bytes};
+
 use super::state::{AttrState, Quote, TagState};
 use super::{Progress, REPLACEMENT, State, Tokenizer, is_space};
 use crate::parse_error::ParseError;
@@ -162,7 +164,10 @@ impl Tokenizer {
     }
 
     /// The attribute that was read is the tag's, unless one of that name is.
-    pub(super) fn finish_attr(&mut self) -> Result<(), AllocError> {
+    pub(super) fn finish_attr(&mut self) -> Result<(), AllocError>
+        ensures only_tag { self.new ≡ record self.old { tag = self.new.tag } }
+        ensures none { string_bytes self.old.tag.attr_name ≡ [] → self.new ≡ self.old }
+    {
         self.tag.finish_attr(self.alloc)
     }
 }

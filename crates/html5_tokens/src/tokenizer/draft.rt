@@ -1,6 +1,7 @@
 //! The tag that is being read.
 
-ghost use Rattle.std.specs.Prelude.{◌≡◌, ◌<◌, length, map, string_bytes};
+ghost use Rattle.std.specs.Prelude.{◌≡◌, ◌<◌, [], true, false, length, map, string_bytes};
+ghost use Rattle.std.specs.Option.{IsSomeAnd};
 ghost use Rattle.std.specs.Char.{to_ascii_lowercase};
 
 use crate::attributes::Attributes;
@@ -21,6 +22,8 @@ pub struct TagDraft {
 }
 
 impl TagDraft {
+    ghost use Rattle.html5_tokens.specs.Drafts.{IsTagOf};
+
     /// No tag.
     pub fn new(alloc: Global) -> TagDraft {
         TagDraft {
@@ -34,7 +37,13 @@ impl TagDraft {
     }
 
     /// Begins a tag.
-    pub fn begin(&mut self, alloc: Global, kind: TagKind) {
+    pub fn begin(&mut self, alloc: Global, kind: TagKind)
+        ensures kind { self.new.kind ≡ kind }
+        ensures self_closing { self.new.self_closing ≡ false }
+        ensures name { string_bytes self.new.name ≡ [] }
+        ensures attrs { self.new.attrs.kept.items ≡ [] }
+        ensures attr_name { string_bytes self.new.attr_name ≡ [] }
+    {
         self.kind = kind;
         self.name.clear();
         self.self_closing = false;
@@ -53,7 +62,9 @@ impl TagDraft {
     }
 
     /// Ends the attribute that is being read, which is dropped where an earlier one has its name.
-    pub fn finish_attr(&mut self, alloc: Global) -> Result<(), AllocError> {
+    pub fn finish_attr(&mut self, alloc: Global) -> Result<(), AllocError>
+        ensures { string_bytes self.old.attr_name ≡ [] → self.new ≡ self.old }
+    {
         if self.attr_name.is_empty() {
             return Ok(());
         }
@@ -73,7 +84,10 @@ impl TagDraft {
 
     /// Puts the tag that was begun there, if one was, and returns whether one was. None is begun
     /// then. The memory of the tag that was there serves for those to come.
-    pub fn finish(&mut self, alloc: Global, ended: &mut Option<Tag>) -> bool {
+    pub fn finish(&mut self, alloc: Global, ended: &mut Option<Tag>) -> bool
+        ensures { 0 < length (string_bytes self.old.name) →
+            (result ≡ true) × IsSomeAnd ended.new (IsTagOf self.old) }
+    {
         if self.name.is_empty() {
             return false;
         }
@@ -90,6 +104,7 @@ impl TagDraft {
         requires some { 0 < length (string_bytes self.old.name) }
         requires folded { map to_ascii_lowercase (string_bytes self.old.name)
             ≡ string_bytes self.old.name }
+        ensures { IsTagOf self.old tag.new }
     {
         mem::swap(&mut self.name, &mut tag.name);
         self.name.clear();
@@ -103,6 +118,7 @@ impl TagDraft {
         requires some { 0 < length (string_bytes self.old.name) }
         requires folded { map to_ascii_lowercase (string_bytes self.old.name)
             ≡ string_bytes self.old.name }
+        ensures { IsTagOf self.old result }
     {
         Tag {
             kind: self.kind,

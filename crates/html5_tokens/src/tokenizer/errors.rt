@@ -45,7 +45,9 @@ impl Tokenizer {
     }
 
     /// Notes a parse error at the character that is being read.
-    pub(super) fn error(&mut self, error: ParseError) -> Result<(), AllocError> {
+    pub(super) fn error(&mut self, error: ParseError) -> Result<(), AllocError>
+        ensures { self.old.errors ≡ None → self.new ≡ self.old }
+    {
         let offset = self.offset;
         if let Some(errors) = &mut self.errors {
             errors.push(ErrorAt { offset, error })?;

@@ -1,6 +1,11 @@
 //! Tags and references as they are mostly written, read in one go: without nulls, carriage returns,
 //! and in a tag without references. What isn't written so is left to the reading by characters.
 
+ghost use Rattle.std.specs.Prelude.{◌≡◌, ◌<◌, ◌∷◌, ◌++◌, List, ℕ, get_or, true, false};
+ghost use Rattle.std.specs.Prelude.{IfOk};
+ghost use Rattle.std.specs.Option.{IsSomeAnd};
+ghost use Rattle.html5_tokens.specs.Tags.{IsPlainName, written_before};
+
 use super::runs::{Run, attr_name_len, run_len, tag_name_len, value_len};
 use super::state::{AttrState, Quote, TagState};
 use super::{State, Tokenizer};
@@ -18,7 +23,9 @@ const REFERENCES: [(&str, &str); 5] = [
 
 /// The first byte of a text; a null, which nothing plain begins with, where it is empty.
 #[inline(always)]
-fn first_byte(text: &str) -> u8 {
+pub fn first_byte(text: &str) -> u8
+    ensures { result ≡ get_or text.now 0 0 }
+{
     match text.as_bytes() {
         [first, ..] => *first,
         [] => 0,
@@ -27,7 +34,10 @@ fn first_byte(text: &str) -> u8 {
 
 /// What follows a byte at the front of a text.
 #[inline(always)]
-fn behind(byte: u8, text: &str) -> Option<&str> {
+fn behind(byte: u8, text: &str) -> Option<&str>
+    ensures { (rest : List ℕ) → byte < 128 → text.now ≡ byte ∷ rest →
+        IsSomeAnd result (λ left. left.now ≡ rest) }
+{
     if first_byte(text) == byte {
         text.get(1..)
     } else {
@@ -117,7 +127,11 @@ fn plain_attr(text: &str) -> Option<PlainAttr<'_>> {
 
 /// The kind of a tag, and the text from its name on, where a letter follows `<` or `</`.
 #[inline(always)]
-fn tag_begins(text: &str) -> Option<(TagKind, &str)> {
+fn tag_begins(text: &str) -> Option<(TagKind, &str)>
+    ensures { (kind : TagKind) (name rest : List ℕ) → IsPlainName name →
+        text.now ≡ written_before kind name rest → IsSomeAnd result (λ found.
+        (found.0 ≡ kind) × (found.1.now ≡ name ++ 62 ∷ rest)) }
+{
     let after = behind(b'<', text)?;
     if first_byte(after).is_ascii_alphabetic() {
         return Some((TagKind::Start, after));
@@ -142,9 +156,14 @@ fn plain_reference(text: &str) -> Option<(&'static str, &str)> {
 }
 
 impl Tokenizer {
+    ghost use Rattle.html5_tokens.specs.Reading.{IsInText};
+    ghost use Rattle.html5_tokens.specs.Tags.{EndsTag, ReadsPlainTag};
+
     /// Whether a tag may be read in one go here.
     #[inline(always)]
-    fn is_plain(&self) -> bool {
+    fn is_plain(&self) -> bool
+        ensures { IsInText self.now → self.now.errors ≡ None → result ≡ true }
+    {
         self.errors.is_none() && !self.after_return && !self.is_in_reference()
     }
 
@@ -155,7 +174,10 @@ impl Tokenizer {
         &mut self,
         text: &'a str,
         read: &mut Option<TokenKind>,
-    ) -> Result<&'a str, AllocError> {
+    ) -> Result<&'a str, AllocError>
+        ensures { IsInText self.old → self.old.errors ≡ None → IfOk result (λ rest.
+            ReadsPlainTag self.old self.new text.now read.new rest.now) }
+    {
         if !self.is_plain() {
             return Ok(text);
         }
@@ -192,10 +214,19 @@ impl Tokenizer {
         kind: TagKind,
         text: &'a str,
         read: &mut Option<TokenKind>,
-    ) -> Result<&'a str, AllocError> {
+    ) -> Result<&'a str, AllocError>
+        ensures { (name rest : List ℕ) → IsInText self.old → self.old.errors ≡ None →
+            IsPlainName name → text.now ≡ name ++ 62 ∷ rest → IfOk result (λ left.
+            (left.now ≡ rest) × (read.new ≡ Some TokenKind.Tag)
+            × EndsTag kind name self.old self.new) }
+    {
         let (name, rest) = text.split_at(tag_name_len(text));
         self.tag.begin(self.alloc, kind);
         self.tag.name.push_str(name)?;
+        if let Some(after) = behind(b'>', rest) {
+            *read = self.emit_tag()?;
+            return Ok(after);
+        }
         if matches!(first_byte(rest), 0 | b'\r') {
             self.state = State::Tag(TagState::Name);
             return Ok(rest);

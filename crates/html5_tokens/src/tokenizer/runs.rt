@@ -2,8 +2,9 @@
 
 ghost use Rattle.std.specs.Prelude.{◌≡◌, ◌<◌, ◌≤◌, true, [], IfOk, IfSome, OnOk, length};
 ghost use Rattle.std.specs.Str.{IsCharBoundary};
-ghost use Rattle.html5_tokens.specs.Runs.{ends_text, IsRun};
+ghost use Rattle.html5_tokens.specs.Runs.{ends_text, ends_tag_name, tag_name_len_of, IsRun};
 
+use super::plain::first_byte;
 use super::state::{
     AttrState, CdataState, CommentState, DoctypeState, DoubleState, Id, Quote, ScriptState,
     TagState,
@@ -67,7 +68,8 @@ fn ends_text(byte: u8) -> bool
 /// Whether a byte ends the name of a tag.
 #[inline(always)]
 fn ends_tag_name(byte: u8) -> bool
-    ensures { result ≡ true → byte < 128 }
+    ensures ascii { result ≡ true → byte < 128 }
+    ensures value { result ≡ ends_tag_name byte }
 {
     byte <= b'>' && matches!(byte, 0 | b'\t' | b'\n' | 0xc | b'\r' | b' ' | b'/' | b'>')
 }
@@ -161,10 +163,12 @@ fn text_len(text: &str) -> usize
 
 /// How many bytes stand before the first that ends the name of a tag.
 pub fn tag_name_len(text: &str) -> usize
-    ensures { IsCharBoundary text.now result }
+    ensures boundary { IsCharBoundary text.now result }
+    ensures len { result ≡ tag_name_len_of text.now }
 {
-    for (index, byte) in text.as_bytes().iter().enumerate() {
-        if ends_tag_name(*byte) {
+    let bytes = text.as_bytes();
+    for index in 0..bytes.len() {
+        if ends_tag_name(bytes[index]) {
             return index;
         }
     }
@@ -234,6 +238,7 @@ fn split_char(text: &str) -> Option<(char, &str)>
 
 impl Tokenizer {
     ghost use Rattle.html5_tokens.specs.Reading.{IsInText, AddsText};
+    ghost use Rattle.html5_tokens.specs.Tags.{ReadsPlainTag};
 
     /// Reads a stretch of a page: a part of it in which [`MARKS`] stands nowhere but at the end, as
     /// `split_inclusive` cuts it. Hands out the token that ends there, if one does. Errors where
@@ -276,12 +281,35 @@ impl Tokenizer {
         ensures text { IsInText self.old → self.old.errors ≡ None → IsRun text.now → IfOk result
             (λ rest. (rest.now ≡ []) × (kind.new ≡ kind.old)
             × AddsText self.old self.new text.now) }
+        ensures plain_tag { IsInText self.old → self.old.errors ≡ None → IfOk result (λ rest.
+            ReadsPlainTag self.old self.new text.now kind.new rest.now) }
     {
         if self.errors.is_some() {
             return self.read_first(text, kind);
         }
+        if first_byte(text) == b'<' {
+            return self.read_mark(text, kind);
+        }
         let rest = self.read_run(text)?;
         if rest.is_empty() {
+            return Ok(rest);
+        }
+        self.read_mark(rest, kind)
+    }
+
+    /// Reads a text up to the end of a token, without looking for a run at its front.
+    fn read_mark<'a>(
+        &mut self,
+        text: &'a str,
+        kind: &mut Option<TokenKind>,
+    ) -> Result<&'a str, AllocError>
+        ensures { IsInText self.old → self.old.errors ≡ None → IfOk result (λ rest.
+            ReadsPlainTag self.old self.new text.now kind.new rest.now) }
+    {
+        let mut made = None;
+        let rest = self.read_front(text, &mut made)?;
+        if made.is_some() {
+            *kind = made;
             return Ok(rest);
         }
         self.read_to_token(rest, kind)
@@ -326,12 +354,12 @@ impl Tokenizer {
             if rest.is_empty() {
                 break;
             }
-            rest = self.read_to_token(rest, &mut kind)?;
+            rest = self.read_mark(rest, &mut kind)?;
         }
         Ok(kind)
     }
 
-    /// Reads such a text up to the end of a token, if one ends in it; a character at least.
+    /// Reads a text up to the end of a token, if one ends in it.
     fn read_to_token<'a>(
         &mut self,
         text: &'a str,
@@ -340,25 +368,36 @@ impl Tokenizer {
         let mut made = None;
         let mut rest = text;
         for _ in 0..text.len() {
-            let front = self.read_plain(rest, &mut made)?;
-            self.offset = self
-                .offset
-                .saturating_add(rest.len().saturating_sub(front.len()));
-            rest = if front.len() < rest.len() {
-                front
-            } else {
-                self.read_char(rest, &mut made)?
-            };
-            if made.is_some() {
-                *kind = made;
-                break;
-            }
             rest = self.read_run(rest)?;
             if rest.is_empty() {
                 break;
             }
+            rest = self.read_front(rest, &mut made)?;
+            if made.is_some() {
+                *kind = made;
+                break;
+            }
         }
         Ok(rest)
+    }
+
+    /// Reads what is plain at the front of a text, or else a character.
+    fn read_front<'a>(
+        &mut self,
+        text: &'a str,
+        kind: &mut Option<TokenKind>,
+    ) -> Result<&'a str, AllocError>
+        ensures { IsInText self.old → self.old.errors ≡ None → IfOk result (λ rest.
+            ReadsPlainTag self.old self.new text.now kind.new rest.now) }
+    {
+        let rest = self.read_plain(text, kind)?;
+        if rest.len() < text.len() {
+            self.offset = self
+                .offset
+                .saturating_add(text.len().saturating_sub(rest.len()));
+            return Ok(rest);
+        }
+        self.read_char(text, kind)
     }
 
     /// Reads a character.

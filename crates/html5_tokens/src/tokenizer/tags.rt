@@ -1,5 +1,7 @@
 //! Tags, outside their attributes.
 
+ghost use Rattle.std.specs.Prelude.{◌≡◌, IfOk};
+
 use super::state::{AttrState, CommentState, Seen, TagState};
 use super::{Progress, REPLACEMENT, State, Tokenizer, is_space};
 use crate::parse_error::ParseError;
@@ -7,6 +9,8 @@ use crate::token::{TagKind, TokenKind};
 use std::alloc::AllocError;
 
 impl Tokenizer {
+    ghost use Rattle.html5_tokens.specs.Drafts.{IsReadyDraft, IsEmitted};
+
     pub(super) fn in_tag(&mut self, state: TagState, c: char) -> Progress {
         match state {
             TagState::Open => self.tag_open(c),
@@ -98,7 +102,10 @@ impl Tokenizer {
     }
 
     /// Hands out the tag that was read. What follows it is data until a caller switches.
-    pub(super) fn emit_tag(&mut self) -> Progress {
+    pub(super) fn emit_tag(&mut self) -> Progress
+        ensures { IsReadyDraft self.old → IfOk result (λ kind.
+            (kind ≡ Some TokenKind.Tag) × IsEmitted self.old self.new) }
+    {
         self.finish_attr()?;
         self.state = State::Data;
         self.check_end_tag()?;
@@ -110,7 +117,9 @@ impl Tokenizer {
     }
 
     /// Notes what an end tag may not have.
-    fn check_end_tag(&mut self) -> Result<(), AllocError> {
+    fn check_end_tag(&mut self) -> Result<(), AllocError>
+        ensures { self.old.errors ≡ None → self.new ≡ self.old }
+    {
         if self.tag.kind == TagKind::Start {
             return Ok(());
         }
@@ -124,7 +133,9 @@ impl Tokenizer {
     }
 
     /// Keeps the name of a start tag: raw text ends at an end tag of that name.
-    fn note_start(&mut self) -> Result<(), AllocError> {
+    fn note_start(&mut self) -> Result<(), AllocError>
+        ensures { self.new ≡ record self.old { last_start = self.new.last_start } }
+    {
         if let Some(tag) = &self.ended
             && tag.kind == TagKind::Start
         {
