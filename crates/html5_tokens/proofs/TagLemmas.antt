@@ -9,10 +9,14 @@ use Rattle.std.proofs.lemmas.Bool.{and_parts}
 use Rattle.std.proofs.lemmas.Str.{IsCharBoundary-after_ascii, IsCharBoundary-end}
 use Rattle.std.proofs.lemmas.List.Sums.{prefix_len_is}
 use Rattle.html5_tokens.specs.Runs.{ends_tag_name, tag_name_len_of}
-use Rattle.html5_tokens.specs.Tags.{is_plain_letter, IsPlainName, IsBareTag}
+use Rattle.html5_tokens.specs.Tags.{is_plain_letter, IsPlainName, IsBareTag, IsBareTagToken}
 use Rattle.html5_tokens.specs.Drafts.{IsTagOf}
 use Rattle.html5_tokens.specs.declared.token.Tag.{Tag}
 use Rattle.html5_tokens.specs.declared.token.TagKind.{TagKind}
+use Rattle.html5_tokens.specs.declared.token.Token.{Token}
+use Rattle.html5_tokens.specs.declared.token.Token.TheVariants.{Tag as TheTag}
+use Rattle.html5_tokens.specs.declared.tokenizer.Tokenizer.{Tokenizer}
+use Rattle.html5_tokens.specs.Reading.{IsInText, text_of}
 use Rattle.html5_tokens.specs.declared.tokenizer.draft.TagDraft.{TagDraft}
 
 -- no byte before n ends a tag name, and that at n does, if there is one
@@ -97,3 +101,14 @@ begins_name [] rest plain = absurd (cc)
 begins_name (b ∷ name) rest plain =
     let lower : is_ascii_lowercase b ≡ true = (and_parts (is_ascii_lowercase b) (list_all is_plain_letter name) plain).0 in
     letter_begins b lower
+
+-- the tag that ended last is the token that is taken out
+pub taken_of : (kind : TagKind) (name : List ℕ) (old mid new : Tokenizer) (token : Option Token) (ended : Option Tag) → mid.ended ≡ ended →
+    IsSomeAnd ended (IsBareTag kind name) →
+    ((tag : Tag) → mid.ended ≡ Some tag → (token ≡ Some (TheTag tag)) × (new ≡ record mid { ended = None })) → IsInText mid → text_of mid ≡ text_of old →
+    IsSomeAnd token (IsBareTagToken kind name) × IsInText new × (text_of new ≡ text_of old)
+taken_of kind name old mid new token None is tag put in_text text = absurd tag
+taken_of kind name old mid new token (Some ended) is tag put in_text text =
+    let p = put ended is in
+    let in_new : IsInText (record mid { ended = None }) = record { state = in_text.state; reference = in_text.reference; after_return = in_text.after_return } in
+    (subst (λ (t : Option Token). IsSomeAnd t (IsBareTagToken kind name)) (sym p.0) tag, subst IsInText (sym p.1) in_new, ap text_of p.1 ∙ text)

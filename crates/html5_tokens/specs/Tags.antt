@@ -6,6 +6,8 @@ use Rattle.std.specs.Option.{IsSomeAnd}
 use Rattle.html5_tokens.specs.declared.token.Tag.{Tag as TagToken}
 use Rattle.html5_tokens.specs.declared.token.TagKind.{TagKind}
 use Rattle.html5_tokens.specs.declared.token.TagKind.TheVariants.{Start, End}
+use Rattle.html5_tokens.specs.declared.token.Token.{Token}
+use Rattle.html5_tokens.specs.declared.token.Token.TheVariants.{Tag as TheTag, Comment, Doctype}
 use Rattle.html5_tokens.specs.declared.token.TokenKind.{TokenKind}
 use Rattle.html5_tokens.specs.declared.token.TokenKind.TheVariants.{Tag}
 use Rattle.html5_tokens.specs.declared.tokenizer.Tokenizer.{Tokenizer}
@@ -51,3 +53,14 @@ pub record EndsTag (kind : TagKind) (name : List ℕ) (old new : Tokenizer) : Ty
 abbrev pub ReadsPlainTag : Tokenizer → Tokenizer → List ℕ → Option TokenKind → List ℕ → Type 0
 ReadsPlainTag old new text token left = (kind : TagKind) (name rest : List ℕ) → IsPlainName name → text ≡ written_before kind name rest →
     (left ≡ rest) × (token ≡ Some Tag) × EndsTag kind name old new
+
+-- the token is such a tag
+abbrev pub IsBareTagToken : TagKind → List ℕ → Token → Type 0
+IsBareTagToken kind name (TheTag tag) = IsBareTag kind name tag
+IsBareTagToken kind name (Comment comment) = ⊥
+IsBareTagToken kind name (Doctype doctype) = ⊥
+
+-- the same where the token is taken out of the tokenizer
+abbrev pub TakesPlainTag : Tokenizer → Tokenizer → List ℕ → Option Token → List ℕ → Type 0
+TakesPlainTag old new text token left = (kind : TagKind) (name rest : List ℕ) → IsPlainName name → text ≡ written_before kind name rest →
+    (left ≡ rest) × IsSomeAnd token (IsBareTagToken kind name) × IsInText new × (text_of new ≡ text_of old)

@@ -149,7 +149,9 @@ impl Tokenizer {
 
     /// Takes the token of that kind that ended last, if there is one.
     fn take_token(&mut self, kind: Option<TokenKind>) -> Option<Token>
-        ensures { kind ≡ None → (result ≡ None) × (self.new ≡ self.old) }
+        ensures none { kind ≡ None → (result ≡ None) × (self.new ≡ self.old) }
+        ensures tag { (tag : Tag) → kind ≡ Some TokenKind.Tag → self.old.ended ≡ Some tag →
+            (result ≡ Some (Token.Tag tag)) × (self.new ≡ record self.old { ended = None }) }
     {
         match kind? {
             TokenKind::Tag => Some(Token::Tag(self.ended.take()?)),
@@ -162,6 +164,19 @@ impl Tokenizer {
                 Some(Token::Doctype(doctype))
             }
         }
+    }
+
+    /// Puts the token of that kind that ended last there, if there is one.
+    fn put_token(&mut self, kind: Option<TokenKind>, token: &mut Option<Token>)
+        ensures none { kind ≡ None → (token.new ≡ token.old) × (self.new ≡ self.old) }
+        ensures tag { (tag : Tag) → kind ≡ Some TokenKind.Tag → self.old.ended ≡ Some tag →
+            (token.new ≡ Some (Token.Tag tag)) × (self.new ≡ record self.old { ended = None }) }
+    {
+        if kind.is_none() {
+            return;
+        }
+        let made = self.take_token(kind);
+        drop(mem::replace(token, made));
     }
 
     /// Switches to the state in which what follows a start tag is read.

@@ -238,7 +238,7 @@ fn split_char(text: &str) -> Option<(char, &str)>
 
 impl Tokenizer {
     ghost use Rattle.html5_tokens.specs.Reading.{IsInText, AddsText};
-    ghost use Rattle.html5_tokens.specs.Tags.{ReadsPlainTag};
+    ghost use Rattle.html5_tokens.specs.Tags.{ReadsPlainTag, TakesPlainTag};
 
     /// Reads a stretch of a page: a part of it in which [`MARKS`] stands nowhere but at the end, as
     /// `split_inclusive` cuts it. Hands out the token that ends there, if one does. Errors where
@@ -261,12 +261,12 @@ impl Tokenizer {
         ensures text { IsInText self.old → self.old.errors ≡ None → IsRun text.now → IfOk result
             (λ rest. (rest.now ≡ []) × (token.new ≡ token.old)
             × AddsText self.old self.new text.now) }
+        ensures plain_tag { IsInText self.old → self.old.errors ≡ None → IfOk result (λ rest.
+            TakesPlainTag self.old self.new text.now token.new rest.now) }
     {
         let mut kind = None;
         let rest = self.read_kind(text, &mut kind)?;
-        if kind.is_some() {
-            *token = self.take_token(kind);
-        }
+        self.put_token(kind, token);
         Ok(rest)
     }
 
