@@ -5,12 +5,13 @@ use Rattle.dom_nodes.specs.Change.{changed}
 use Rattle.dom_nodes.specs.declared.fault.EditFault.{EditFault}
 use Rattle.dom_nodes.specs.declared.name.Attr.{Attr}
 use Rattle.dom_nodes.specs.declared.name.NameParts.{NameParts}
-use Rattle.dom_nodes.specs.declared.node_data.NodeData.{NodeData}
 use Rattle.dom_nodes.specs.declared.node_data.changing.Change.{Change}
+-- an edit, and the edits that make a node
+pub use Rattle.dom_links.specs.ArenaEdits.{TreeEdit, making, appending}
 use Rattle.dom_links.specs.Contents.{with_content}
 use Rattle.dom_links.specs.Copies.{CopyCause, MayCopy, copied, copy_numbers}
 use Rattle.dom_links.specs.Forest.{Forest, children_of}
-use Rattle.dom_links.specs.Growth.{DataCause, HasFreeContents, MayAppend, NodeCause, with_child, with_node, with_template}
+use Rattle.dom_links.specs.Growth.{with_template}
 use Rattle.dom_links.specs.declared.gap.Place.{Place}
 use Rattle.dom_links.specs.Insertions.{MayInsert, inserted}
 use Rattle.dom_links.specs.ListMoves.{AllowedList, MayReparent, MayWrap, moved_nodes, moving_id, reparented, replaced, unwrapped, wrapped}
@@ -24,12 +25,6 @@ use Rattle.dom_links.specs.declared.gap.Moving.{Moving}
 use Rattle.dom_links.specs.declared.gap.Moving.TheVariants.{Node}
 use Rattle.dom_trees.specs.NewNodes.{element_with}
 use Rattle.dom_trees.specs.Refusals.{ChangeCause, InsertCause, KnownCause, JoinCause, MoveCause, ReparentCause, SetCause, TemplateCause, WrapCause}
-
--- An edit: the forest that it leaves, when it is allowed, and the cause that a fault states of its refusal
-pub record TreeEdit : Type 1 where
-  pub after : Forest → Forest
-  pub Allowed : Forest → Type 0
-  pub Cause : Forest → EditFault → Type 0
 
 -- The edit is made, and was allowed; or it is refused with its cause, and nothing changes
 pub record Edits {A : Type 0} (result : Result A EditFault) (old new : Forest) (edit : TreeEdit) : Type 0 where
@@ -113,22 +108,6 @@ changing x change = record {
   after = with_content x (changed change);
   Allowed = IsKnown x;
   Cause = ChangeCause x change;
-}
-
--- a node is made, which stands alone
-abbrev pub making : NodeData → TreeEdit
-making content = record {
-  after = with_node content;
-  Allowed = λ forest. HasFreeContents forest content;
-  Cause = λ forest fault. NodeCause forest content fault;
-}
-
--- a node is made as the last child of t
-abbrev pub appending : ℕ → NodeData → TreeEdit
-appending t content = record {
-  after = with_child t content;
-  Allowed = λ forest. MayAppend forest t content;
-  Cause = λ forest fault. DataCause forest t content fault;
 }
 
 -- an element is made as the last child of t, and then the fragment that is its contents

@@ -12,7 +12,7 @@ use Rattle.dom_links.specs.Contents.{with_content}
 use Rattle.dom_links.specs.Forest.{Forest}
 use Rattle.dom_links.specs.Growth.{NoRoom, NoRoomForTwo, with_lone_template, with_node}
 use Rattle.dom_links.specs.ListMoves.{element_at}
-use Rattle.dom_links.specs.Sound.{is_open, target}
+use Rattle.dom_links.specs.Sound.{IsOpenGap, target}
 use Rattle.dom_links.specs.declared.gap.Gap.{Gap}
 use Rattle.dom_trees.specs.Edits.{IsKnown, TreeEdit}
 use Rattle.dom_trees.specs.Refusals.{LacksChildren, LacksSiblings}
@@ -45,10 +45,6 @@ making_element name attrs flags = record {
   Allowed = λ forest. Unit {0};
   Cause = λ forest fault. ElementCause flags.template (length forest.content) fault;
 }
-
--- the gap is there, and open
-abbrev pub IsOpenGap : Gap → Forest → Type 0
-IsOpenGap gap forest = IsKnown (target gap) forest × (is_open gap forest ≡ true)
 
 -- why no text could come to a gap
 abbrev pub AddTextCause : Gap → Forest → EditFault → Type 0

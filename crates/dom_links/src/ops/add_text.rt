@@ -1,13 +1,14 @@
 //! A text comes to a gap: the text that stands right before it grows, or a new one is put there.
 
-ghost use Rattle.std.specs.Prelude.{◌≡◌, ◌<◌, IfErr, OnErr, OnOk, None, Some, length, true};
+ghost use Rattle.std.specs.Prelude.{◌≡◌, ◌<◌, IfErr, OnErr, OnOk, None, Some, length};
 ghost use Rattle.dom_nodes.specs.declared.fault.EditFault.TheVariants.{Memory};
 ghost use Rattle.dom_links.specs.AddedTexts.{TextCause, lengthened, text_before, with_text_at};
+ghost use Rattle.dom_links.specs.ArenaEdits.{Becomes};
 ghost use Rattle.dom_links.specs.Contents.{Changed};
 ghost use Rattle.dom_links.specs.Forest.{forest_of};
 ghost use Rattle.dom_links.specs.ListMoves.{moved_nodes};
 ghost use Rattle.dom_links.specs.Moves.{moved_to};
-ghost use Rattle.dom_links.specs.Sound.{Allowed, IsSoundArena, is_open, target};
+ghost use Rattle.dom_links.specs.Sound.{Allowed, IsOpenGap, IsSoundArena, target};
 ghost use Rattle.dom_links.specs.declared.gap.Moving.TheVariants.{Node};
 
 use crate::gap::{Gap, Moving};
@@ -22,13 +23,8 @@ use dom_nodes::node_id::NodeId;
 /// `Memory`, and as `TooManyNodes` where a new one is to be put; then nothing changes.
 pub fn add_text(nodes: &mut Vec<TreeNode>, gap: Gap, text: &str) -> Result<(), EditFault>
     requires sound { IsSoundArena nodes.old.items }
-    requires target_known { target gap < length (forest_of nodes.old.items).content }
-    requires open_here { is_open gap (forest_of nodes.old.items) ≡ true }
-    ensures made { OnOk result
-        (forest_of nodes.new.items ≡ with_text_at gap text.now (forest_of nodes.old.items)) }
-    ensures err { OnErr result (nodes.new.items ≡ nodes.old.items) }
-    ensures cause { IfErr result (TextCause gap (forest_of nodes.old.items)) }
-    ensures sound { IsSoundArena nodes.new.items }
+    requires open { IsOpenGap gap (forest_of nodes.old.items) }
+    ensures { Becomes result nodes.old nodes.new (with_text_at gap text.now) (TextCause gap) }
 {
     let Some(before) = text_before(nodes, &gap) else {
         return put_new_text(nodes, gap, text);
@@ -84,14 +80,9 @@ fn lengthen_node(node: &mut TreeNode, more: &str) -> Result<(), OutOfMemory>
 /// Makes a text and puts it at the gap.
 fn put_new_text(nodes: &mut Vec<TreeNode>, gap: Gap, text: &str) -> Result<(), EditFault>
     requires sound { IsSoundArena nodes.old.items }
-    requires target_known { target gap < length (forest_of nodes.old.items).content }
-    requires open_here { is_open gap (forest_of nodes.old.items) ≡ true }
+    requires open { IsOpenGap gap (forest_of nodes.old.items) }
     requires alone { text_before gap (forest_of nodes.old.items) ≡ None }
-    ensures made { OnOk result
-        (forest_of nodes.new.items ≡ with_text_at gap text.now (forest_of nodes.old.items)) }
-    ensures err { OnErr result (nodes.new.items ≡ nodes.old.items) }
-    ensures cause { IfErr result (TextCause gap (forest_of nodes.old.items)) }
-    ensures sound { IsSoundArena nodes.new.items }
+    ensures { Becomes result nodes.old nodes.new (with_text_at gap text.now) (TextCause gap) }
 {
     let contents = owned_text(*nodes.allocator(), text)?;
     let made = TreeNodeOps::create_node(nodes, NodeData::Text { contents })?;

@@ -5,10 +5,10 @@ ghost use Rattle.std.specs.Prelude.{OnErr, OnOk, length, vec_len};
 ghost use Rattle.dom_nodes.specs.Kinds.{contents_named};
 ghost use Rattle.dom_nodes.specs.declared.fault.EditFault.TheVariants.{Memory};
 ghost use Rattle.dom_nodes.specs.declared.node_data.TreeNode.{TreeNode};
+ghost use Rattle.dom_links.specs.ArenaEdits.{AddsNodes, MakesNode, appending, making};
 ghost use Rattle.dom_links.specs.Forest.{IsArenaOf, forest_of};
 ghost use Rattle.dom_links.specs.Growth.{Appended, Created, DataCause, HasFreeContents, Limit};
-ghost use Rattle.dom_links.specs.Growth.{MayAppend, NoRoom, NodeCause, lone, new_node, with_child};
-ghost use Rattle.dom_links.specs.Growth.{with_node};
+ghost use Rattle.dom_links.specs.Growth.{MayAppend, NoRoom, NodeCause, lone, new_node};
 ghost use Rattle.dom_links.specs.Sound.{IsSoundArena};
 
 use crate::ops::TreeNodeOps;
@@ -24,16 +24,8 @@ impl TreeNodeOps {
     /// Makes a node that stands alone. Refused as `BadContents`, `TooManyNodes` or `Memory`.
     pub fn create_node(nodes: &mut Vec<TreeNode>, content: NodeData) -> Result<NodeId, EditFault>
         requires { IsSoundArena nodes.old.items }
-        ensures made { OnOk result
-            (forest_of nodes.new.items ≡ with_node content (forest_of nodes.old.items)) }
-        ensures number { IfOk result (λ id. id ≡ vec_len nodes.old) }
-        ensures allowed { OnOk result (HasFreeContents (forest_of nodes.old.items) content) }
-        ensures err { OnErr result (nodes.new.items ≡ nodes.old.items) }
-        ensures cause { IfErr result
-            (λ fault. NodeCause (forest_of nodes.old.items) content fault) }
-        ensures plain { contents_named content ≡ None
-            → IfErr result (λ fault. Limit (vec_len nodes.old) fault) }
-        ensures sound { IsSoundArena nodes.new.items }
+        ensures makes { MakesNode result nodes.old nodes.new (making content) }
+        ensures plain { contents_named content ≡ None → IfErr result (Limit (vec_len nodes.old)) }
     {
         check_contents(nodes, &content)?;
         let id = push_alone(nodes, content)?;
@@ -49,14 +41,7 @@ impl TreeNodeOps {
         content: NodeData,
     ) -> Result<NodeId, EditFault>
         requires { IsSoundArena nodes.old.items }
-        ensures made { OnOk result
-            (forest_of nodes.new.items ≡ with_child t content (forest_of nodes.old.items)) }
-        ensures number { IfOk result (λ id. id ≡ vec_len nodes.old) }
-        ensures allowed { OnOk result (MayAppend (forest_of nodes.old.items) t content) }
-        ensures err { OnErr result (nodes.new.items ≡ nodes.old.items) }
-        ensures cause { IfErr result
-            (λ fault. DataCause (forest_of nodes.old.items) t content fault) }
-        ensures sound { IsSoundArena nodes.new.items }
+        ensures { MakesNode result nodes.old nodes.new (appending t content) }
     {
         check_data(nodes, t, &content)?;
         add_child(nodes, t, content)
@@ -69,12 +54,9 @@ impl TreeNodeOps {
 pub(crate) fn push_alone(nodes: &mut Vec<TreeNode>, content: NodeData) -> Result<NodeId, EditFault>
     requires linked { IsArenaOf (forest_of nodes.old.items) nodes.old.items }
     ensures ok { OnOk result (Created nodes.old.items nodes.new.items content) }
-    ensures number { IfOk result (λ id. id ≡ vec_len nodes.old) }
-    ensures grown { OnOk result (vec_len nodes.new ≡ vec_len nodes.old + 1) }
+    ensures adds { AddsNodes result nodes.old nodes.new 1 NoRoom }
     ensures pushed { OnOk result
         ((node : TreeNode) × (nodes.new.items ≡ nodes.old.items ++ node ∷ [])) }
-    ensures err { OnErr result (nodes.new.items ≡ nodes.old.items) }
-    ensures cause { IfErr result (λ fault. NoRoom (vec_len nodes.old) fault) }
 {
     push_new(nodes, None, None, content)
 }
@@ -90,10 +72,7 @@ pub(crate) fn add_child(
     requires linked { IsArenaOf (forest_of nodes.old.items) nodes.old.items }
     requires target_known { t < vec_len nodes.old }
     ensures ok { OnOk result (Appended nodes.old.items nodes.new.items t content) }
-    ensures number { IfOk result (λ id. id ≡ vec_len nodes.old) }
-    ensures grown { OnOk result (vec_len nodes.new ≡ vec_len nodes.old + 1) }
-    ensures err { OnErr result (nodes.new.items ≡ nodes.old.items) }
-    ensures cause { IfErr result (λ fault. NoRoom (vec_len nodes.old) fault) }
+    ensures adds { AddsNodes result nodes.old nodes.new 1 NoRoom }
 {
     let left = nodes[t.value()].last_child.get();
     let before = left;
@@ -112,10 +91,7 @@ fn push_new(
 ) -> Result<NodeId, EditFault>
     ensures ok { let node = new_node (length nodes.old.items) parent prev content in
         OnOk result (nodes.new.items ≡ nodes.old.items ++ node ∷ []) }
-    ensures number { IfOk result (λ id. id ≡ vec_len nodes.old) }
-    ensures grown { OnOk result (vec_len nodes.new ≡ vec_len nodes.old + 1) }
-    ensures err { OnErr result (nodes.new.items ≡ nodes.old.items) }
-    ensures cause { IfErr result (λ fault. NoRoom (vec_len nodes.old) fault) }
+    ensures adds { AddsNodes result nodes.old nodes.new 1 NoRoom }
 {
     let Some(id) = NodeId::new(nodes.as_slice().len()) else {
         return Err(EditFault::TooManyNodes);

@@ -1,7 +1,8 @@
 //! The text of a node is set.
 
-ghost use Rattle.std.specs.Prelude.{◌≡◌, IfErr, MatchResult, OnErr, OnOk, true};
+ghost use Rattle.std.specs.Prelude.{◌≡◌, MatchResult, true};
 ghost use Rattle.dom_nodes.specs.declared.fault.EditFault.TheVariants.{Memory};
+ghost use Rattle.dom_links.specs.ArenaEdits.{Becomes};
 ghost use Rattle.dom_links.specs.Contents.{Changed};
 ghost use Rattle.dom_links.specs.Forest.{forest_of};
 ghost use Rattle.dom_links.specs.ListMoves.{element_at};
@@ -26,12 +27,8 @@ impl TreeNodeOps {
     /// as `Memory` of an element or a text; then nothing changes.
     pub fn set_text(nodes: &mut Vec<TreeNode>, id: NodeId, text: &str) -> Result<(), EditFault>
         requires { IsSoundArena nodes.old.items }
-        ensures made { OnOk result
-            (forest_of nodes.new.items
-            ≡ with_text_content id text.now (forest_of nodes.old.items)) }
-        ensures err { OnErr result (nodes.new.items ≡ nodes.old.items) }
-        ensures cause { IfErr result (SetTextCause id (forest_of nodes.old.items)) }
-        ensures sound { IsSoundArena nodes.new.items }
+        ensures { Becomes result nodes.old nodes.new (with_text_content id text.now)
+            (SetTextCause id) }
     {
         if is_element_at(nodes, id) {
             return replace_children(nodes, id, text);
@@ -72,11 +69,7 @@ pub(crate) fn owned_text(alloc: Global, text: &str) -> Result<Text, EditFault>
 fn replace_children(nodes: &mut Vec<TreeNode>, x: NodeId, text: &str) -> Result<(), EditFault>
     requires sound { IsSoundArena nodes.old.items }
     requires element { element_at (forest_of nodes.old.items) x ≡ true }
-    ensures made { OnOk result
-        (forest_of nodes.new.items ≡ with_text_content x text.now (forest_of nodes.old.items)) }
-    ensures err { OnErr result (nodes.new.items ≡ nodes.old.items) }
-    ensures cause { IfErr result (SetTextCause x (forest_of nodes.old.items)) }
-    ensures sound { IsSoundArena nodes.new.items }
+    ensures { Becomes result nodes.old nodes.new (with_text_content x text.now) (SetTextCause x) }
 {
     let contents = owned_text(*nodes.allocator(), text)?;
     let child = TreeNodeOps::create_node(nodes, NodeData::Text { contents })?;

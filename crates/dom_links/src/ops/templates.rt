@@ -1,8 +1,9 @@
 //! New elements with contents.
 
-ghost use Rattle.std.specs.Prelude.{◌≡◌, ◌<◌, ◌+◌, ◌∷◌, ◌++◌, [], List, IfErr, IfOk, OnErr, OnOk};
+ghost use Rattle.std.specs.Prelude.{◌≡◌, ◌<◌, ◌+◌, ◌∷◌, ◌++◌, [], List, IfErr, OnErr, OnOk};
 ghost use Rattle.std.specs.Prelude.{vec_len};
 ghost use Rattle.dom_nodes.specs.declared.node_data.TreeNode.{TreeNode};
+ghost use Rattle.dom_links.specs.ArenaEdits.{AddsNodes};
 ghost use Rattle.dom_links.specs.Forest.{IsArenaOf, forest_of};
 ghost use Rattle.dom_links.specs.Growth.{AppendedTemplate, Created, CreatedTemplate};
 ghost use Rattle.dom_links.specs.Growth.{NoRoom, NoRoomForTwo};
@@ -45,10 +46,7 @@ fn create_fragment(nodes: &mut Vec<TreeNode>) -> Result<(), EditFault>
 pub fn create_template(nodes: &mut Vec<TreeNode>, content: NodeData) -> Result<NodeId, EditFault>
     requires linked { IsArenaOf (forest_of nodes.old.items) nodes.old.items }
     ensures ok { OnOk result (CreatedTemplate nodes.old.items nodes.new.items content) }
-    ensures number { IfOk result (λ id. id ≡ vec_len nodes.old) }
-    ensures grown { OnOk result (vec_len nodes.new ≡ vec_len nodes.old + 2) }
-    ensures err { OnErr result (nodes.new.items ≡ nodes.old.items) }
-    ensures cause { IfErr result (λ fault. NoRoomForTwo (vec_len nodes.old) fault) }
+    ensures adds { AddsNodes result nodes.old nodes.new 2 NoRoomForTwo }
 {
     let id = push_alone(nodes, content)?;
     create_fragment(nodes)?;
@@ -65,10 +63,7 @@ pub fn append_template_of(
     requires linked { IsArenaOf (forest_of nodes.old.items) nodes.old.items }
     requires target_known { t < vec_len nodes.old }
     ensures ok { OnOk result (AppendedTemplate nodes.old.items nodes.new.items t content) }
-    ensures number { IfOk result (λ id. id ≡ vec_len nodes.old) }
-    ensures grown { OnOk result (vec_len nodes.new ≡ vec_len nodes.old + 2) }
-    ensures err { OnErr result (nodes.new.items ≡ nodes.old.items) }
-    ensures cause { IfErr result (λ fault. NoRoomForTwo (vec_len nodes.old) fault) }
+    ensures adds { AddsNodes result nodes.old nodes.new 2 NoRoomForTwo }
 {
     let id = push_alone(nodes, content)?;
     create_fragment(nodes)?;

@@ -18,7 +18,7 @@ returns-clause-ok c =
     let long : length c.link_last.new.nodes ≡ c.push_new.new.nodes.len = same ∙ c.deref_mut.ensures.len in
     let known : c.args.t < length c.args.nodes.now.items = omega (arith, c.requires.target_known) in
     let left = c.get-left.ensures ∙ last_was c.args.nodes.now.items c.args.t _ _ c.requires.linked known c.value.ensures.number c.index.ensures in
-    let number : c.in_ok-id.id ≡ length c.args.nodes.now.items = omega (arith, c.in_ok-id.ensures.number) in
+    let number : c.in_ok-id.id ≡ length c.args.nodes.now.items = omega (arith, c.in_ok-id.ensures.adds.number) in
     subst (λ (nodes : List TreeNode). Appended c.args.nodes.now.items nodes c.args.t c.args.content) (sym (with_items_is c.push_new.new.nodes c.link_last.new.nodes long))
     (linked_there c.args.nodes.now.items c.push_new.new.nodes.items c.link_last.new.nodes c.args.t c.in_ok-id.id _ c.args.content c.requires.linked known left number c.in_ok-id.ensures.ok
     (subst (λ (nodes : List TreeNode). LinkedLast nodes c.link_last.new.nodes c.args.t c.get-left.result c.in_ok-id.id) c.deref_mut.ensures.value c.link_last.ensures))

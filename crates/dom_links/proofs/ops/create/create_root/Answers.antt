@@ -16,5 +16,5 @@ returns-clause-sound c =
     record {
       arena = linked;
       forest = subst IsForest (sym made) (lone_forest c.args.content c.requires (subst StandsOnce made linked.once));
-      numbered = omega (arith, c.in_ok-push_alone.ensures.grown, c.new-nodes.ensures.len);
+      numbered = omega (arith, c.in_ok-push_alone.ensures.adds.grown, c.new-nodes.ensures.len);
     }

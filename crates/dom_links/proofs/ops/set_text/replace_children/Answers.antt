@@ -8,5 +8,5 @@ pub set_only_child-requires-clause-allowed : goal.set_only_child-requires-clause
 set_only_child-requires-clause-allowed c =
     let forest = forest_of c.args.nodes.now.items in
     let long = length-contents forest c.args.nodes.now.items c.requires.sound.arena.links in
-    let number : c.in_ok-child.child ≡ length forest.content = omega (arith, long, c.in_ok-child.ensures.number) in
-    allowed_in forest _ c.args.x c.in_ok-child.child _ c.requires.sound.forest c.requires.element (ap forest_of c.deref_mut.ensures.value ∙ c.in_ok-child.ensures.made) number
+    let number : c.in_ok-child.child ≡ length forest.content = omega (arith, long, c.in_ok-child.ensures.makes.number) in
+    allowed_in forest _ c.args.x c.in_ok-child.child _ c.requires.sound.forest c.requires.element (ap forest_of c.deref_mut.ensures.value ∙ c.in_ok-child.ensures.makes.made) number

@@ -12,7 +12,7 @@ pub returns-clause-ok : goal.returns-clause-ok
 returns-clause-ok c =
     let same : length c.append_child_of.new.nodes ≡ length c.deref_mut.result.now = omega arith in
     let long : length c.append_child_of.new.nodes ≡ c.create_fragment.new.nodes.len = same ∙ c.deref_mut.ensures.len in
-    let number : c.in_ok-id.id ≡ length c.args.nodes.now.items = omega (arith, c.in_ok-id.ensures.number) in
+    let number : c.in_ok-id.id ≡ length c.args.nodes.now.items = omega (arith, c.in_ok-id.ensures.adds.number) in
     let known : c.args.t < length c.args.nodes.now.items = omega (arith, c.requires.target_known) in
     subst (λ (nodes : List TreeNode). AppendedTemplate c.args.nodes.now.items nodes c.args.t c.args.content) (sym (with_items_is c.create_fragment.new.nodes c.append_child_of.new.nodes long))
     (appended_template c.args.nodes.now.items c.push_alone.new.nodes.items c.create_fragment.new.nodes.items c.append_child_of.new.nodes c.args.t c.in_ok-id.id c.args.content c.requires.linked number known c.in_ok-id.ensures.ok c.in_ok-create_fragment.ensures.ok

@@ -1,0 +1,55 @@
+-- Edits of an arena that may be refused.
+use Rattle.std.specs.Prelude.{ℕ, ◌≡◌, ◌+◌, Result, IfErr, IfOk, OnErr, OnOk, vec_len}
+use Rattle.std.specs.Global.{Vec}
+use Rattle.dom_nodes.specs.declared.fault.EditFault.{EditFault}
+use Rattle.dom_nodes.specs.declared.node_data.NodeData.{NodeData}
+use Rattle.dom_nodes.specs.declared.node_data.TreeNode.{TreeNode}
+use Rattle.dom_links.specs.Forest.{Forest, forest_of}
+use Rattle.dom_links.specs.Growth.{DataCause, HasFreeContents, MayAppend, NodeCause, with_child, with_node}
+use Rattle.dom_links.specs.Sound.{IsSoundArena}
+
+-- An edit: the forest that it leaves, when it is allowed, and the cause that a fault states of its refusal
+pub record TreeEdit : Type 1 where
+  pub after : Forest → Forest
+  pub Allowed : Forest → Type 0
+  pub Cause : Forest → EditFault → Type 0
+
+-- a node is made, which stands alone
+abbrev pub making : NodeData → TreeEdit
+making content = record {
+  after = with_node content;
+  Allowed = λ forest. HasFreeContents forest content;
+  Cause = λ forest fault. NodeCause forest content fault;
+}
+
+-- a node is made as the last child of t
+abbrev pub appending : ℕ → NodeData → TreeEdit
+appending t content = record {
+  after = with_child t content;
+  Allowed = λ forest. MayAppend forest t content;
+  Cause = λ forest fault. DataCause forest t content fault;
+}
+
+-- the arena becomes that of another forest; or this is refused for a cause, and nothing changes
+pub record Becomes (result : Result Unit EditFault) (old new : Vec TreeNode) (after : Forest → Forest) (Cause : Forest → EditFault → Type 0) : Type 0 where
+  pub made : OnOk result (forest_of new.items ≡ after (forest_of old.items))
+  pub err : OnErr result (new.items ≡ old.items)
+  pub cause : IfErr result (Cause (forest_of old.items))
+  pub sound : IsSoundArena new.items
+
+-- an edit makes a node, and returns the next number; or it is refused with its cause, and nothing changes
+pub record MakesNode (result : Result ℕ EditFault) (old new : Vec TreeNode) (edit : TreeEdit) : Type 0 where
+  pub made : OnOk result (forest_of new.items ≡ edit.after (forest_of old.items))
+  pub number : IfOk result (λ id. id ≡ vec_len old)
+  pub allowed : OnOk result (edit.Allowed (forest_of old.items))
+  pub err : OnErr result (new.items ≡ old.items)
+  pub cause : IfErr result (edit.Cause (forest_of old.items))
+  pub sound : IsSoundArena new.items
+
+-- So many nodes come to the end of the arena, and the number of the first is returned; or they lack room, and nothing changes.
+-- The cause that a fault states of that depends on how many nodes there were
+pub record AddsNodes (result : Result ℕ EditFault) (old new : Vec TreeNode) (count : ℕ) (LacksRoom : ℕ → EditFault → Type 0) : Type 0 where
+  pub number : IfOk result (λ id. id ≡ vec_len old)
+  pub grown : OnOk result (vec_len new ≡ vec_len old + count)
+  pub err : OnErr result (new.items ≡ old.items)
+  pub cause : IfErr result (LacksRoom (vec_len old))
