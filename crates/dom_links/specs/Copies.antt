@@ -96,23 +96,22 @@ CopyCause source ns forest TooManyNodes = 4294967295 < length (copied source ns 
 CopyCause source ns forest Memory = Unit {0}
 CopyCause source ns forest fault = CheckCause source ns fault
 
--- nodes of a source were copied into an arena, and their copies' numbers are returned; or nothing has changed
-pub record Copied (result : Result (Vec ℕ) EditFault) (source : Forest) (old new : List TreeNode) (ns : List ℕ) : Type 0 where
+-- nodes of a source are copied into an arena, and what is returned names their copies; or nothing changes
+pub record CopiesNodes {A : Type 0} (named : A → List ℕ) (result : Result A EditFault) (source : Forest) (old new : List TreeNode) (ns : List ℕ) : Type 0 where
   pub made : OnOk result (forest_of new ≡ copied source ns (forest_of old))
-  pub numbers : IfOk result (λ made. made.items ≡ copy_numbers source ns (forest_of old))
+  pub numbers : IfOk result (λ made. named made ≡ copy_numbers source ns (forest_of old))
   pub allowed : OnOk result (MayCopy source ns)
   pub err : OnErr result (forest_of new ≡ forest_of old)
   pub cause : IfErr result (CopyCause source ns (forest_of old))
   pub sound : IsSoundArena new
 
--- the same of one node, whose copy's number is returned alone
-pub record CopiedOne (result : Result ℕ EditFault) (source : Forest) (old new : List TreeNode) (ns : List ℕ) : Type 0 where
-  pub made : OnOk result (forest_of new ≡ copied source ns (forest_of old))
-  pub numbers : IfOk result (λ made. made ∷ [] ≡ copy_numbers source ns (forest_of old))
-  pub allowed : OnOk result (MayCopy source ns)
-  pub err : OnErr result (forest_of new ≡ forest_of old)
-  pub cause : IfErr result (CopyCause source ns (forest_of old))
-  pub sound : IsSoundArena new
+-- the copies' numbers are returned
+abbrev pub Copied : Result (Vec ℕ) EditFault → Forest → List TreeNode → List TreeNode → List ℕ → Type 0
+Copied result source old new ns = CopiesNodes (λ made. made.items) result source old new ns
+
+-- the number of the one copy is returned
+abbrev pub CopiedOne : Result ℕ EditFault → Forest → List TreeNode → List TreeNode → List ℕ → Type 0
+CopiedOne result source old new ns = CopiesNodes (λ made. made ∷ []) result source old new ns
 
 -- a fragment: its root, the element below that, and copies of some nodes of a source below the element
 abbrev pub fragment_of : NodeData → Forest → List ℕ → Forest

@@ -1,5 +1,6 @@
 -- Copies that are being made: what is read, and what is still to be copied.
-use Rattle.std.specs.Prelude.{ℕ, ◌≡◌, ◌≢◌, ◌<◌, ◌≤◌, ◌+◌, ◌⊎◌, false, List, [], ◌∷◌, Option, Some, None, length}
+use Rattle.std.specs.Prelude.{ℕ, ◌≡◌, ◌≢◌, ◌<◌, ◌≤◌, ◌+◌, ◌⊎◌, false, List, [], ◌∷◌, Option, Some, None, Result, IfErr, IfOk, OnOk, length, vec_len}
+use Rattle.std.specs.Global.{Vec}
 use Rattle.std.specs.List.{AllByRecursion}
 use Rattle.std.specs.Borrow.{Bor}
 use Rattle.dom_nodes.specs.declared.fault.EditFault.{EditFault}
@@ -7,7 +8,7 @@ use Rattle.dom_nodes.specs.declared.fault.EditFault.TheVariants.{TooManyNodes, M
 use Rattle.dom_nodes.specs.declared.node_data.NodeData.{NodeData}
 use Rattle.dom_nodes.specs.declared.node_data.TreeNode.{TreeNode}
 use Rattle.dom_nodes.specs.Kinds.{contents_named}
-use Rattle.dom_links.specs.Copies.{Extends, with_copies}
+use Rattle.dom_links.specs.Copies.{Extends, copied_data, data_at, with_copies, with_node_below}
 use Rattle.dom_links.specs.Forest.{Forest, IsArenaOf, forest_of}
 use Rattle.dom_links.specs.Sound.{IsForest}
 use Rattle.dom_links.specs.Trees.{trees}
@@ -76,6 +77,33 @@ abbrev pub IsTooLarge : Forest → EditFault → Type 0
 IsTooLarge forest TooManyNodes = 4294967295 < length forest.content
 IsTooLarge forest Memory = Unit {0}
 IsTooLarge forest _ = ⊥
+
+-- a copy of the node can be put there
+pub record CanGoBelow (copying : Copying) (count : ℕ) (n : ℕ) (parent : Option ℕ) : Type 0 where
+  pub known : n < length copying.source.content
+  pub place : IsPlaceFor copying count parent
+
+-- a node is copied alone, below a copy or to stand alone, and its copy's number is returned
+pub record CopiesAlone (copying : Copying) (other : Option (Bor (List TreeNode))) (result : Result ℕ EditFault) (old new : Vec TreeNode) (n : ℕ) (parent : Option ℕ) : Type 0 where
+  pub under_way : IsUnderWay copying other new.items
+  pub made : OnOk result (forest_of new.items ≡ with_node_below parent (copied_data (vec_len old) (data_at copying.source n)) (forest_of old.items))
+  pub number : IfOk result (λ made. made ≡ vec_len old)
+  pub grown : OnOk result (vec_len new ≡ vec_len old + 1)
+  pub cause : IfErr result (LacksRoom (vec_len old) (data_at copying.source n))
+
+-- copies are made, of which some are still to come: those of the nodes of rows that are noted
+pub record CopiesAndNotes {A : Type 0} (copying : Copying) (other : Option (Bor (List TreeNode))) (result : Result A EditFault) (old new : Vec TreeNode) (rows noted : List Row) (after : Forest → Forest) : Type 0 where
+  pub under_way : IsUnderWay copying other new.items
+  pub are_rows : OnOk result (AreRows copying (vec_len new) noted)
+  pub made : OnOk result (with_rows copying.source noted (forest_of new.items) ≡ with_rows copying.source rows (after (forest_of old.items)))
+  pub grown : OnOk result (vec_len old < vec_len new)
+  pub cause : IfErr result (IsTooLarge (after (forest_of old.items)))
+
+-- copies are made, and the forest is then this one; or it is too large, or there was no memory
+pub record CopiesAll {A : Type 0} (copying : Copying) (other : Option (Bor (List TreeNode))) (result : Result A EditFault) (old new : Vec TreeNode) (after : Forest → Forest) : Type 0 where
+  pub under_way : IsUnderWay copying other new.items
+  pub made : OnOk result (forest_of new.items ≡ after (forest_of old.items))
+  pub cause : IfErr result (IsTooLarge (after (forest_of old.items)))
 
 -- each of the nodes is the forest's
 abbrev pub AreNodesOf : Forest → List ℕ → Type 0

@@ -3,7 +3,8 @@ use Rattle.std.proofs.Common.{ℕ, zero, suc, ◌≡◌, ◌<◌, ◌≤◌, ◌
 use Rattle.std.specs.Prelude.{◌==◌, slice_get, option_and_then}
 use Rattle.std.specs.Option.{option_map_or, IfSome}
 use Rattle.std.specs.Borrow.{Bor}
-use Rattle.std.specs.Prelude.{Result, Err, IfErr, MatchResult}
+use Rattle.std.specs.Global.{Vec}
+use Rattle.std.specs.Prelude.{Result, Err, IfErr, IfOk, MatchResult, OnOk, vec_len}
 use Rattle.std.proofs.lemmas.Bool.{cases_eq, ne_eqb, true≢false}
 use Rattle.std.proofs.lemmas.List.{drop_more, length_push}
 use Rattle.dom_nodes.specs.declared.fault.EditFault.{EditFault}
@@ -13,7 +14,7 @@ use Rattle.dom_nodes.specs.declared.node_data.NodeData.TheVariants.{Document, Fr
 use Rattle.dom_nodes.specs.declared.node_data.TreeNode.{TreeNode}
 use Rattle.dom_nodes.specs.Kinds.{contents_named, is_fragment}
 use Rattle.dom_links.specs.Copies.{Extends, copied_below, copied_data, copy_numbers, data_at, root_numbers, node_count, with_copies, with_node_below}
-use Rattle.dom_links.specs.Copying.{AreNodesOf, AreRows, Copying, IsPlaceFor, IsRow, IsTooLarge, IsUnderWay, LacksRoom, read_nodes, row_from, with_row, with_rows}
+use Rattle.dom_links.specs.Copying.{AreNodesOf, AreRows, CopiesAll, CopiesAlone, CopiesAndNotes, Copying, IsPlaceFor, IsRow, IsTooLarge, IsUnderWay, LacksRoom, read_nodes, row_from, with_row, with_rows}
 use Rattle.dom_links.specs.declared.ops.copies.Row.{Row}
 use Rattle.dom_links.specs.Lists.{stands_in, first, after, before}
 use Rattle.dom_links.specs.Forest.{Forest, StandsOnce, IsArenaOf, children_of, run_of, parent, siblings, arena_ids, forest_of}
@@ -308,6 +309,37 @@ lent_node at other nodes lent n node same way known reads = reads at (subst (λ 
 -- the exit of a `?`
 pub fault_passed : {T : Type 0} (r : Result T EditFault) (e : EditFault) (F : EditFault → Type 0) → (y : EditFault) × (r ≡ Err y) × (y ≡ e) → F e → IfErr r F
 fault_passed r e F p h = subst (λ x. IfErr x F) (sym p.1) (subst F (sym p.2) h)
+
+no_ok : {T : Type 0} (r : Result T EditFault) (e : EditFault) (P : Type 0) → (y : EditFault) × (r ≡ Err y) × (y ≡ e) → OnOk r P
+no_ok r e P p = subst (λ x. OnOk x P) (sym p.1) tt
+
+pub all_refused : {T : Type 0} (at : Copying) (other : Option (Bor (List TreeNode))) (r : Result T EditFault) (e : EditFault) (old new : Vec TreeNode) (after : Forest → Forest) → (y : EditFault) × (r ≡ Err y) × (y ≡ e) →
+    IsUnderWay at other new.items → IsTooLarge (after (forest_of old.items)) e → CopiesAll at other r old new after
+all_refused at other r e old new after p way h = record {
+  under_way = way;
+  made = no_ok r e (forest_of new.items ≡ after (forest_of old.items)) p;
+  cause = fault_passed r e (IsTooLarge (after (forest_of old.items))) p h;
+}
+
+pub notes_refused : {T : Type 0} (at : Copying) (other : Option (Bor (List TreeNode))) (r : Result T EditFault) (e : EditFault) (old new : Vec TreeNode) (rows noted : List Row) (after : Forest → Forest) → (y : EditFault) × (r ≡ Err y) × (y ≡ e) →
+    IsUnderWay at other new.items → IsTooLarge (after (forest_of old.items)) e → CopiesAndNotes at other r old new rows noted after
+notes_refused at other r e old new rows noted after p way h = record {
+  under_way = way;
+  are_rows = no_ok r e (AreRows at (vec_len new) noted) p;
+  made = no_ok r e (with_rows at.source noted (forest_of new.items) ≡ with_rows at.source rows (after (forest_of old.items))) p;
+  grown = no_ok r e (vec_len old < vec_len new) p;
+  cause = fault_passed r e (IsTooLarge (after (forest_of old.items))) p h;
+}
+
+pub alone_refused : (at : Copying) (other : Option (Bor (List TreeNode))) (r : Result ℕ EditFault) (e : EditFault) (old new : Vec TreeNode) (n : ℕ) (parent : Option ℕ) → (y : EditFault) × (r ≡ Err y) × (y ≡ e) →
+    IsUnderWay at other new.items → LacksRoom (vec_len old) (data_at at.source n) e → CopiesAlone at other r old new n parent
+alone_refused at other r e old new n parent p way h = record {
+  under_way = way;
+  made = no_ok r e (forest_of new.items ≡ with_node_below parent (copied_data (vec_len old) (data_at at.source n)) (forest_of old.items)) p;
+  number = subst (λ x. IfOk x (λ made. made ≡ vec_len old)) (sym p.1) tt;
+  grown = no_ok r e (vec_len new ≡ vec_len old + 1) p;
+  cause = fault_passed r e (LacksRoom (vec_len old) (data_at at.source n)) p h;
+}
 
 pub passed_on : {T : Type 0} (r : Result T EditFault) (e : EditFault) (P : T → Type 0) (F : EditFault → Type 0) → (y : EditFault) × (r ≡ Err y) × (y ≡ e) → F e → MatchResult r P F
 passed_on r e P F p h = rw p.1 (rw p.2 h)

@@ -4,12 +4,14 @@ use Rattle.std.specs.Prelude.{◌==◌, slice_get}
 use Rattle.std.specs.Option.{option_map, option_map_or}
 use Rattle.std.proofs.lemmas.Bool.{cases_Bool, eqb-true, eq-eqb, or_right}
 use Rattle.std.proofs.lemmas.List.{length_push}
+use Rattle.dom_nodes.specs.declared.fault.EditFault.{EditFault}
+use Rattle.dom_nodes.specs.declared.fault.EditFault.TheVariants.{TooManyNodes, Memory, UnknownNode, NoChildrenHere, RootOrFragment, Cycle, BadContents, Markup}
 use Rattle.dom_nodes.specs.declared.node_data.NodeData.{NodeData}
 use Rattle.dom_nodes.specs.declared.node_data.NodeData.TheVariants.{Document, Fragment, Doctype, Text, Comment, Element, ProcessingInstruction}
 use Rattle.dom_nodes.specs.Kinds.{contents_named, is_element, is_fragment, is_top, children_allowed}
 use Rattle.dom_nodes.specs.declared.node_data.TreeNode.{TreeNode}
-use Rattle.dom_links.specs.Copying.{AreNodesOf}
-use Rattle.dom_links.specs.Copies.{Extends, MayCopy, fragment_of, copied_data, data_at, with_copies, with_node_below}
+use Rattle.dom_links.specs.Copying.{AreNodesOf, IsTooLarge}
+use Rattle.dom_links.specs.Copies.{CopyCause, Extends, MayCopy, copied, fragment_of, copied_data, data_at, with_copies, with_node_below}
 use Rattle.dom_links.specs.Lists.{stands_in}
 use Rattle.dom_links.specs.Forest.{Forest, IsArenaOf, children_of, forest_of}
 use Rattle.dom_links.specs.Growth.{lone, with_child, with_node}
@@ -324,6 +326,17 @@ stands_here (m ∷ ns) (suc i) n h e = later_stands m n ns (stands_here ns i n (
 pub all_may : (source : Forest) (ns : List ℕ) → MayCopy source ns → AreNodesOf source ns
 all_may source [] may = tt
 all_may source (n ∷ ns) may = (may.0.known, all_may source ns may.1)
+
+-- copies that are too large are refused for that cause
+pub too_large : (source : Forest) (ns : List ℕ) (forest : Forest) (fault : EditFault) → IsTooLarge (copied source ns forest) fault → CopyCause source ns forest fault
+too_large source ns forest TooManyNodes h = h
+too_large source ns forest Memory h = h
+too_large source ns forest UnknownNode h = absurd h
+too_large source ns forest NoChildrenHere h = absurd h
+too_large source ns forest RootOrFragment h = absurd h
+too_large source ns forest Cycle h = absurd h
+too_large source ns forest BadContents h = absurd h
+too_large source ns forest (Markup f) h = absurd h
 
 -- ---- fragments
 

@@ -4,19 +4,18 @@
 ghost use Rattle.std.specs.Prelude.{◌≡◌, ◌<◌, ◌≤◌, ◌+◌, ◌∷◌, ◌++◌, [], None, Some, length, vec_len};
 ghost use Rattle.std.specs.Prelude.{IfErr, IfOk, IfSome, MatchResult, OnErr, OnOk};
 ghost use Rattle.dom_nodes.specs.declared.fault.EditFault.TheVariants.{Memory};
-ghost use Rattle.dom_links.specs.Copies.{CheckCause, Copied, CopiedOne, MayCopyOne, OneCause};
-ghost use Rattle.dom_links.specs.Copies.{copied, copied_below};
-ghost use Rattle.dom_links.specs.Copies.{FragmentCause, IsPlainElement, fragment_of};
-ghost use Rattle.dom_links.specs.Copies.{copied_data, copy_numbers, data_at};
-ghost use Rattle.dom_links.specs.Copies.{MayCopy, with_contents, with_copies, with_node_below};
-ghost use Rattle.dom_links.specs.Copying.{AreRows, Copying, IsPlaceFor, IsRow, IsTooLarge};
-ghost use Rattle.dom_links.specs.Copying.{AreNodesOf, IsUnderWay, LacksRoom};
-ghost use Rattle.dom_links.specs.Copying.{read_nodes, row_from, with_row, with_rows};
+ghost use Rattle.dom_links.specs.ArenaEdits.{AddsNodes};
+ghost use Rattle.dom_links.specs.Copies.{CheckCause, Copied, CopiedOne, MayCopy, MayCopyOne};
+ghost use Rattle.dom_links.specs.Copies.{FragmentCause, IsPlainElement, OneCause, fragment_of};
+ghost use Rattle.dom_links.specs.Copies.{copied_below, copied_data, copy_numbers};
+ghost use Rattle.dom_links.specs.Copies.{with_contents, with_node_below};
+ghost use Rattle.dom_links.specs.Copying.{AreNodesOf, AreRows, CanGoBelow, CopiesAll, CopiesAlone};
+ghost use Rattle.dom_links.specs.Copying.{CopiesAndNotes, Copying, IsPlaceFor, IsRow, IsUnderWay};
+ghost use Rattle.dom_links.specs.Copying.{LacksRoom, read_nodes, row_from, with_row, with_rows};
 ghost use Rattle.dom_links.specs.Forest.{IsArenaOf, children_of, forest_of};
 ghost use Rattle.dom_links.specs.Growth.{NoRoom};
 ghost use Rattle.dom_links.specs.Lists.{first};
 ghost use Rattle.dom_links.specs.Sound.{IsSoundArena};
-ghost use Rattle.dom_links.specs.Trees.{trees};
 ghost use Rattle.dom_links.specs.Walk.{IsNodeOf};
 
 mod rows;
@@ -138,15 +137,8 @@ fn copy_all(
     requires sound { IsSoundArena nodes.old.items }
     requires under_way { IsUnderWay at other nodes.old.items }
     requires base { at.base ≡ forest_of nodes.old.items }
-    requires known { AreNodesOf at.source ids.now }
-    ensures made { OnOk result (forest_of nodes.new.items
-        ≡ copied at.source ids.now (forest_of nodes.old.items)) }
-    ensures numbers { IfOk result (λ made. made.items
-        ≡ copy_numbers at.source ids.now (forest_of nodes.old.items)) }
-    ensures err { OnErr result (forest_of nodes.new.items ≡ forest_of nodes.old.items) }
-    ensures cause { IfErr result
-        (λ fault. IsTooLarge (copied at.source ids.now (forest_of nodes.old.items)) fault) }
-    ensures sound { IsSoundArena nodes.new.items }
+    requires allowed { MayCopy at.source ids.now }
+    ensures { Copied result at.source nodes.old.items nodes.new.items ids.now }
 {
     let count = nodes.len();
     match copy_each(nodes, other, ids, &None) {
@@ -168,15 +160,8 @@ fn copy_one(
     requires sound { IsSoundArena nodes.old.items }
     requires under_way { IsUnderWay at other nodes.old.items }
     requires base { at.base ≡ forest_of nodes.old.items }
-    requires known { AreNodesOf at.source (id ∷ []) }
-    ensures made { OnOk result (forest_of nodes.new.items
-        ≡ copied at.source (id ∷ []) (forest_of nodes.old.items)) }
-    ensures numbers { IfOk result (λ made. made ∷ []
-        ≡ copy_numbers at.source (id ∷ []) (forest_of nodes.old.items)) }
-    ensures err { OnErr result (forest_of nodes.new.items ≡ forest_of nodes.old.items) }
-    ensures cause { IfErr result
-        (λ fault. IsTooLarge (copied at.source (id ∷ []) (forest_of nodes.old.items)) fault) }
-    ensures sound { IsSoundArena nodes.new.items }
+    requires allowed { MayCopy at.source (id ∷ []) }
+    ensures { CopiedOne result at.source nodes.old.items nodes.new.items (id ∷ []) }
 {
     let count = nodes.len();
     match copy_tree(nodes, other, id, None) {
@@ -199,13 +184,10 @@ fn copy_each(
     requires under_way { IsUnderWay at other nodes.old.items }
     requires known { AreNodesOf at.source ids.now }
     requires below { IsPlaceFor at (vec_len nodes.old) parent.now }
-    ensures under_way { IsUnderWay at other.entry nodes.new.items }
-    ensures made { OnOk result (forest_of nodes.new.items
-        ≡ copied_below at.source parent.now ids.now (forest_of nodes.old.items)) }
+    ensures copies { let after = copied_below at.source parent.now ids.now
+        in CopiesAll at other.entry result nodes.old nodes.new after }
     ensures numbers { IfOk result (λ made. made.items
         ≡ copy_numbers at.source ids.now (forest_of nodes.old.items)) }
-    ensures cause { IfErr result (λ fault. IsTooLarge
-        (copied_below at.source parent.now ids.now (forest_of nodes.old.items)) fault) }
 {
     let mut numbers = Vec::new(*nodes.allocator());
     for id in ids {
@@ -234,15 +216,10 @@ fn copy_tree(
 ) -> Result<NodeId, EditFault>
     ghost at: { Copying }
     requires under_way { IsUnderWay at other nodes.old.items }
-    requires known { id < length at.source.content }
-    requires below { IsPlaceFor at (vec_len nodes.old) parent }
-    ensures under_way { IsUnderWay at other.entry nodes.new.items }
-    ensures made { OnOk result (forest_of nodes.new.items
-        ≡ copied_below at.source parent (id ∷ []) (forest_of nodes.old.items)) }
+    requires below { CanGoBelow at (vec_len nodes.old) id parent }
+    ensures copies { let after = copied_below at.source parent (id ∷ [])
+        in CopiesAll at other.entry result nodes.old nodes.new after }
     ensures number { IfOk result (λ made. made ≡ vec_len nodes.old) }
-    ensures cause { let copied = copied_below at.source parent (id ∷ [])
-        (forest_of nodes.old.items)
-        in IfErr result (λ fault. IsTooLarge copied fault) }
 {
     let mut rows = Rows::new(*nodes.allocator());
     let made = copy_node(nodes, other, &mut rows, id, parent)?;
@@ -259,11 +236,7 @@ fn copy_rows(
     ghost at: { Copying }
     requires under_way { IsUnderWay at other nodes.old.items }
     requires rows { AreRows at (vec_len nodes.old) rows }
-    ensures under_way { IsUnderWay at other.entry nodes.new.items }
-    ensures made { OnOk result (forest_of nodes.new.items
-        ≡ with_rows at.source rows (forest_of nodes.old.items)) }
-    ensures cause { let copied = with_rows at.source rows (forest_of nodes.old.items)
-        in IfErr result (λ fault. IsTooLarge copied fault) }
+    ensures { CopiesAll at other.entry result nodes.old nodes.new (with_rows at.source rows) }
 {
     while let Some(row) = rows.pop() {
         copy_row(nodes, other, &mut rows, row)?;
@@ -282,14 +255,8 @@ fn copy_row(
     requires under_way { IsUnderWay at other nodes.old.items }
     requires row { IsRow at (vec_len nodes.old) row }
     requires rows { AreRows at (vec_len nodes.old) rows.old }
-    ensures under_way { IsUnderWay at other.entry nodes.new.items }
-    ensures rows { OnOk result (AreRows at (vec_len nodes.new) rows.new) }
-    ensures made { let copied = with_row at.source row (forest_of nodes.old.items)
-        in OnOk result (with_rows at.source rows.new (forest_of nodes.new.items)
-        ≡ with_rows at.source rows.old copied) }
-    ensures grown { OnOk result (vec_len nodes.old < vec_len nodes.new) }
-    ensures cause { IfErr result
-        (λ fault. IsTooLarge (with_row at.source row (forest_of nodes.old.items)) fault) }
+    ensures { let after = with_row at.source row
+        in CopiesAndNotes at other.entry result nodes.old nodes.new rows.old rows.new after }
 {
     let next = source_node(other, nodes, row.first).next_sibling.get();
     push_row(rows, next, row.parent)?;
@@ -307,20 +274,11 @@ fn copy_node(
 ) -> Result<NodeId, EditFault>
     ghost at: { Copying }
     requires under_way { IsUnderWay at other nodes.old.items }
-    requires known { id < length at.source.content }
-    requires below { IsPlaceFor at (vec_len nodes.old) parent }
+    requires below { CanGoBelow at (vec_len nodes.old) id parent }
     requires rows { AreRows at (vec_len nodes.old) rows.old }
-    ensures under_way { IsUnderWay at other.entry nodes.new.items }
-    ensures rows { OnOk result (AreRows at (vec_len nodes.new) rows.new) }
-    ensures made { let copied = with_copies at.source parent (trees at.source (id ∷ []))
-        (forest_of nodes.old.items)
-        in OnOk result (with_rows at.source rows.new (forest_of nodes.new.items)
-        ≡ with_rows at.source rows.old copied) }
+    ensures copies { let after = copied_below at.source parent (id ∷ [])
+        in CopiesAndNotes at other.entry result nodes.old nodes.new rows.old rows.new after }
     ensures number { IfOk result (λ made. made ≡ vec_len nodes.old) }
-    ensures grown { OnOk result (vec_len nodes.old < vec_len nodes.new) }
-    ensures cause { let copied = with_copies at.source parent (trees at.source (id ∷ []))
-        (forest_of nodes.old.items)
-        in IfErr result (λ fault. IsTooLarge copied fault) }
 {
     let held = source_node(other, nodes, id).content.template_contents();
     let made = copy_alone(nodes, other, rows, id, parent)?;
@@ -340,18 +298,10 @@ fn copy_alone(
 ) -> Result<NodeId, EditFault>
     ghost at: { Copying }
     requires under_way { IsUnderWay at other nodes.old.items }
-    requires known { id < length at.source.content }
-    requires below { IsPlaceFor at (vec_len nodes.old) parent }
-    ensures under_way { IsUnderWay at other.entry nodes.new.items }
-    ensures made { let number = vec_len nodes.old in OnOk result (forest_of nodes.new.items
-        ≡ with_node_below parent (copied_data number (data_at at.source id))
-        (forest_of nodes.old.items)) }
+    requires below { CanGoBelow at (vec_len nodes.old) id parent }
+    ensures copies { CopiesAlone at other.entry result nodes.old nodes.new id parent }
     ensures rows { let children = first (children_of at.source id) in
         OnOk result (rows.new ≡ rows.old ++ row_from children (vec_len nodes.old)) }
-    ensures number { IfOk result (λ made. made ≡ vec_len nodes.old) }
-    ensures grown { OnOk result (vec_len nodes.new ≡ vec_len nodes.old + 1) }
-    ensures cause { IfErr result
-        (λ fault. LacksRoom (vec_len nodes.old) (data_at at.source id) fault) }
 {
     let first = source_node(other, nodes, id).first_child.get();
     let made = add_copy(nodes, other, id, parent)?;
@@ -370,16 +320,8 @@ fn add_copy(
 ) -> Result<NodeId, EditFault>
     ghost at: { Copying }
     requires under_way { IsUnderWay at other nodes.old.items }
-    requires known { id < length at.source.content }
-    requires below { IsPlaceFor at (vec_len nodes.old) parent }
-    ensures under_way { IsUnderWay at other.entry nodes.new.items }
-    ensures made { let number = vec_len nodes.old in OnOk result (forest_of nodes.new.items
-        ≡ with_node_below parent (copied_data number (data_at at.source id))
-        (forest_of nodes.old.items)) }
-    ensures number { IfOk result (λ made. made ≡ vec_len nodes.old) }
-    ensures grown { OnOk result (vec_len nodes.new ≡ vec_len nodes.old + 1) }
-    ensures cause { IfErr result
-        (λ fault. LacksRoom (vec_len nodes.old) (data_at at.source id) fault) }
+    requires below { CanGoBelow at (vec_len nodes.old) id parent }
+    ensures { CopiesAlone at other.entry result nodes.old nodes.new id parent }
 {
     let node = source_node(other, nodes, id);
     let number = nodes.len();
@@ -478,10 +420,7 @@ fn add_below(
     ensures made { OnOk result (forest_of nodes.new.items
         ≡ with_node_below parent content (forest_of nodes.old.items)) }
     ensures linked { IsArenaOf (forest_of nodes.new.items) nodes.new.items }
-    ensures number { IfOk result (λ id. id ≡ vec_len nodes.old) }
-    ensures grown { OnOk result (vec_len nodes.new ≡ vec_len nodes.old + 1) }
-    ensures err { OnErr result (nodes.new.items ≡ nodes.old.items) }
-    ensures cause { IfErr result (λ fault. NoRoom (vec_len nodes.old) fault) }
+    ensures adds { AddsNodes result nodes.old nodes.new 1 NoRoom }
 {
     match parent {
         Some(p) => add_child(nodes, p, content),

@@ -15,9 +15,9 @@ returns-clause-sound c =
     let first = c.in_ok-nodes.ensures in
     let count : c.in_ok-top.top ≡ 1 = omega (arith, c.in_ok-top.ensures.number, length-contents (forest_of c.in_ok-nodes.nodes.items) c.in_ok-nodes.nodes.items first.sound.arena.links, ap (λ (f : Forest). length f.content) first.made) in
     let framed : forest_of c.append_child_data_of.new.nodes.items ≡ frame = c.in_ok-top.ensures.made ∙ ap (λ k. with_child k c.args.html (forest_of c.in_ok-nodes.nodes.items)) c.root.ensures ∙ ap (with_child 0 c.args.html) first.made in
-    let whole : forest_of c.copy_each.new.nodes.items ≡ fragment_of c.args.html source c.args.ids.now = c.in_ok-copy_each.ensures.made ∙ ap (λ (k : ℕ). copied_below source (Some k) c.args.ids.now (forest_of c.append_child_data_of.new.nodes.items)) count ∙ ap (copied_below source (Some 1) c.args.ids.now) framed in
+    let whole : forest_of c.copy_each.new.nodes.items ≡ fragment_of c.args.html source c.args.ids.now = c.in_ok-copy_each.ensures.copies.made ∙ ap (λ (k : ℕ). copied_below source (Some k) c.args.ids.now (forest_of c.append_child_data_of.new.nodes.items)) count ∙ ap (copied_below source (Some 1) c.args.ids.now) framed in
     record {
-      arena = c.copy_each.ensures.under_way.linked;
+      arena = c.copy_each.ensures.copies.under_way.linked;
       forest = subst IsForest (sym whole) (fragment_kept source c.args.ids.now c.args.html c.requires.other.forest c.in_ok-check_copies.ensures c.requires.html.element (subst IsForest framed c.append_child_data_of.ensures.sound.forest));
-      numbered = c.copy_each.ensures.under_way.numbered;
+      numbered = c.copy_each.ensures.copies.under_way.numbered;
     }
