@@ -48,8 +48,8 @@ pub record MakesNode (result : Result ℕ EditFault) (old new : Vec TreeNode) (e
 
 -- So many nodes come to the end of the arena, and the number of the first is returned; or they lack room, and nothing changes.
 -- The cause that a fault states of that depends on how many nodes there were
-pub record AddsNodes (result : Result ℕ EditFault) (old new : Vec TreeNode) (count : ℕ) (LacksRoom : ℕ → EditFault → Type 0) : Type 0 where
+pub record AddsNodes (result : Result ℕ EditFault) (old new : Vec TreeNode) (count : ℕ) (Cause : ℕ → EditFault → Type 0) : Type 0 where
   pub number : IfOk result (λ id. id ≡ vec_len old)
   pub grown : OnOk result (vec_len new ≡ vec_len old + count)
   pub err : OnErr result (new.items ≡ old.items)
-  pub cause : IfErr result (LacksRoom (vec_len old))
+  pub cause : IfErr result (Cause (vec_len old))

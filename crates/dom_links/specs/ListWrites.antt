@@ -5,6 +5,7 @@ use Rattle.dom_nodes.specs.declared.node_data.TreeNode.{TreeNode}
 use Rattle.dom_links.specs.Lists.{stands_in, last}
 use Rattle.dom_links.specs.Forest.{parent_link, prev_link, next_link, first_link, last_link, contents_of, arena_ids, chain}
 use Rattle.dom_links.specs.Writes.{Joined}
+use Rattle.dom_links.specs.declared.ops.moves.InsertionPoint.{InsertionPoint}
 
 -- a node and all that follow it by next links
 abbrev pub next_chain : List TreeNode → ℕ → List ℕ
@@ -13,6 +14,12 @@ next_chain nodes x = chain (next_link nodes) (length nodes) (Some x)
 -- next links name nodes of the arena
 abbrev pub NextsKnown : List TreeNode → Type 0
 NextsKnown nodes = (n : ℕ) → n < length nodes → IfSome (next_link nodes n) (λ m. m < length nodes)
+
+-- what the point names is below the number of nodes
+pub record IsPointIn (count : ℕ) (point : InsertionPoint) : Type 0 where
+  pub owner : IfSome point.owner (λ n. n < count)
+  pub left : IfSome point.left (λ n. n < count)
+  pub right : IfSome point.right (λ n. n < count)
 
 -- the nodes now name this parent
 pub record ParentsSet (old new : List TreeNode) (moved : List ℕ) (owner : Option ℕ) : Type 0 where

@@ -7,9 +7,8 @@ ghost use Rattle.dom_links.specs.Lists.{IsDistinct};
 ghost use Rattle.dom_links.specs.Sound.{IsSoundArena};
 ghost use Rattle.dom_links.specs.Trees.{ancestors, in_order, limited, walk_below};
 ghost use Rattle.dom_links.specs.Walk.{IsNodeOf, leaves_among};
-ghost use Rattle.dom_links.specs.Validation.{IsRefused, IsFirstFault};
 ghost use Rattle.dom_links.specs.declared.validation.ValidateFault.TheVariants.{Memory, NoRoot};
-ghost use Rattle.dom_trees.specs.Refusals.{RootCause};
+ghost use Rattle.dom_trees.specs.Refusals.{ComeBack, RootCause};
 ghost use Rattle.dom_trees.specs.Views.{ListsNumbers};
 
 use dom_links::iters::{AncestorNodes, ChildNodes, DescendantNodes, find_node};
@@ -83,9 +82,7 @@ impl Tree {
     pub fn from_nodes(nodes: Vec<TreeNode>) -> Result<Tree, (Vec<TreeNode>, ValidateFault)>
         ensures sound { IfOk result (λ _. IsSoundArena nodes.items) }
         ensures ok { IfOk result (λ tree. tree ≡ forest_of nodes.items) }
-        ensures back { IfErr result (λ refused. refused.0 ≡ nodes) }
-        ensures err { IfErr result (λ refused. IsRefused nodes.items refused.1) }
-        ensures cause { IfErr result (λ refused. IsFirstFault nodes.items refused.1) }
+        ensures back { IfErr result (λ refused. ComeBack nodes refused.0 refused.1) }
         ensures empty { nodes.items ≡ [] → IsErrAnd result (λ refused. refused.1 ≡ NoRoot) }
     {
         match TreeNodeOps::validate(*nodes.allocator(), &nodes) {

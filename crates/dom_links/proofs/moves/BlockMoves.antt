@@ -114,6 +114,12 @@ run_put forest old new (after_node t) x owner left right arena run h out o l r a
     (put-after forest moved t arena.once (run_alone forest x arena.once run) out known parts) run.starts
     (l ∙ sym (last-append parts.front (t ∷ []))) (r ∙ ap (λ ns. after ns t) parts.is ∙ after_here parts.front parts.back t parts.not_front) (rw o at attached)
 
+pub start_known : (forest : Forest) (nodes : List TreeNode) (x : ℕ) → IsArenaOf forest nodes → StartsRun forest x → x < length nodes
+start_known forest nodes x arena run =
+    let long = length-contents forest nodes arena.links in
+    let inside = (arena.once.in_run x x (first-stands (run_of forest x) x run.starts)).0 in
+    omega (arith, inside)
+
 -- what a gap names is in the forest
 
 pub owner_known : (forest : Forest) (nodes : List TreeNode) (gap : Gap) (o : Option ℕ) → IsArenaOf forest nodes → target gap < length nodes → o ≡ owner_at gap forest → IfSome o (λ m. m < length nodes)

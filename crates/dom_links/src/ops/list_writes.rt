@@ -1,9 +1,11 @@
 //! The writing steps that the moves of lists are made of.
 
-ghost use Rattle.std.specs.Prelude.{◌≡◌, ◌<◌, length, IfSome, Some};
+ghost use Rattle.std.specs.Prelude.{◌≡◌, ◌<◌, length, Some};
 ghost use Rattle.dom_links.specs.Lists.{last};
-ghost use Rattle.dom_links.specs.ListWrites.{NextsKnown, ParentsSet, RunAttached, next_chain};
+ghost use Rattle.dom_links.specs.ListWrites.{IsPointIn, NextsKnown, ParentsSet, RunAttached};
+ghost use Rattle.dom_links.specs.ListWrites.{next_chain};
 
+use crate::ops::moves::InsertionPoint;
 use crate::ops::writes::join;
 use dom_nodes::link::Link;
 use dom_nodes::node_data::TreeNode;
@@ -33,23 +35,13 @@ pub(crate) fn set_parents(nodes: &mut [TreeNode], x: NodeId, owner: Option<NodeI
 }
 
 /// Puts a node and all that follow it between two neighbours below an owner.
-pub(crate) fn attach_run(
-    nodes: &mut [TreeNode],
-    x: NodeId,
-    owner: Option<NodeId>,
-    left: Option<NodeId>,
-    right: Option<NodeId>,
-)
+pub(crate) fn attach_run(nodes: &mut [TreeNode], x: NodeId, point: &InsertionPoint)
     requires known { x < length nodes.old }
     requires nexts_known { NextsKnown nodes.old }
-    requires owner_known { IfSome owner (λ n. n < length nodes.old) }
-    requires left_known { IfSome left (λ n. n < length nodes.old) }
-    requires right_known { IfSome right (λ n. n < length nodes.old) }
-    ensures { RunAttached nodes.old nodes.new x owner left right }
+    requires point_known { IsPointIn (length nodes.old) point.now }
+    ensures { RunAttached nodes.old nodes.new x point.now.owner point.now.left point.now.right }
 {
-    let above = owner;
-    let end = set_parents(nodes, x, above);
-    let above = owner;
-    join(nodes, above, left, Some(x));
-    join(nodes, owner, Some(end), right);
+    let end = set_parents(nodes, x, point.owner);
+    join(nodes, point.owner, point.left, Some(x));
+    join(nodes, point.owner, Some(end), point.right);
 }

@@ -209,11 +209,10 @@ pub(crate) fn insertion_point_at(nodes: &[TreeNode], gap: Gap) -> InsertionPoint
 pub(crate) fn put_at(nodes: &mut [TreeNode], gap: Gap, x: NodeId)
     requires linked { IsArenaOf (forest_of nodes.old) nodes.old }
     requires target_known { target gap < length nodes.old }
-    requires known { x < length nodes.old }
     requires run { StartsRun (forest_of nodes.old) x }
     requires apart { stands_in (target gap) (run_of (forest_of nodes.old) x) ≡ false }
     ensures { IsArenaOf (put gap (run_of (forest_of nodes.old) x) (forest_of nodes.old)) nodes.new }
 {
     let room = insertion_point_at(nodes, gap);
-    attach_run(nodes, x, room.owner, room.left, room.right);
+    attach_run(nodes, x, &room);
 }

@@ -57,11 +57,11 @@ returns-clause-copies g c =
             cause = tt;
           }))
       | in_default w ↦ rw (w.nodes-is, w.rows-is) (record {
-          under_way = one.under_way;
-          are_rows = noted;
-          made = plain_made g.at.source c.args.rows.now c.copy_alone.new.rows c.args.id (vec_len c.args.nodes.now) c.args.parent (forest_of c.args.nodes.now.items) (forest_of c.copy_alone.new.nodes.items) way.good c.requires.1.0.known (held ∙ w.in_default.is) count
-              c.in_ok-made.ensures.rows one.made;
-          grown = omega (arith, one.grown);
-          cause = tt;
-        })
+        under_way = one.under_way;
+        are_rows = noted;
+        made = plain_made g.at.source c.args.rows.now c.copy_alone.new.rows c.args.id (vec_len c.args.nodes.now) c.args.parent (forest_of c.args.nodes.now.items) (forest_of c.copy_alone.new.nodes.items) way.good c.requires.1.0.known (held ∙ w.in_default.is) count
+            c.in_ok-made.ensures.rows one.made;
+        grown = omega (arith, one.grown);
+        cause = tt;
+      })
     ]

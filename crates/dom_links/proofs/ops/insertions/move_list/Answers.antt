@@ -1,10 +1,7 @@
-use Rattle.std.proofs.Common.{◌∙◌, ap, arith, sym}
-use Rattle.dom_links.specs.Forest.{forest_of}
+use Rattle.std.proofs.Common.{◌∙◌, ap, sym}
 use Rattle.dom_links.specs.Lists.{stands_in}
 use Rattle.dom_links.specs.Sound.{target}
-use Rattle.dom_links.proofs.moves.Cuts.{length-contents}
 use Rattle.dom_links.proofs.copies.Gathering.{IsRun, is_run, none_moved, run_moved}
-use Rattle.dom_links.proofs.forest.Neighbours.{first-stands}
 use Rattle.dom_links.proofs.ops.insertions.move_list.Goals as goal
 
 pub returns-in_default : goal.returns-in_default
@@ -13,12 +10,6 @@ returns-in_default c = none_moved c.args.nodes.now c.gather.new.nodes c.args.gap
 pub put_at-requires-clause-linked : goal.put_at-requires-clause-linked
 put_at-requires-clause-linked c =
     IsRun.linked (is_run c.args.nodes.now c.gather.new.nodes c.args.moved.now c.in-Some.start c.requires.linked c.requires.moved c.gather.ensures.arena (sym c.gather.ensures.start ∙ c.in-Some.is))
-
-pub put_at-requires-clause-known : goal.put_at-requires-clause-known
-put_at-requires-clause-known c =
-    let long = length-contents (forest_of c.args.nodes.now) c.args.nodes.now c.requires.linked.links in
-    let known = c.requires.moved.known c.in-Some.start (first-stands c.args.moved.now c.in-Some.start (sym c.gather.ensures.start ∙ c.in-Some.is)) in
-    omega (arith, long, known, c.gather.auto.nodes)
 
 pub put_at-requires-clause-run : goal.put_at-requires-clause-run
 put_at-requires-clause-run c =
