@@ -6,7 +6,7 @@ use Rattle.dom_nodes.specs.Kinds.{is_element}
 use Rattle.dom_links.specs.declared.gap.Moving.{Moving}
 use Rattle.dom_links.specs.declared.gap.Moving.TheVariants.{Node, WithLater, WholeList}
 use Rattle.dom_links.specs.Lists.{IsDistinct, stands_in}
-use Rattle.dom_links.specs.Forest.{Forest, forest_of, children_of, parent, run_of, siblings}
+use Rattle.dom_links.specs.Forest.{Forest, IsArenaOf, forest_of, children_of, parent, run_of, siblings}
 use Rattle.dom_links.specs.Moves.{Gap, end_of, before_node, cut, moved_to}
 use Rattle.dom_links.specs.Sound.{Allowed, AtOrBelow, Edited, MayPlace, children_allowed_at, is_open, stays, target}
 use Rattle.dom_links.specs.Walk.{later}
@@ -54,6 +54,13 @@ pub record AllowedList (forest : Forest) (gap : Gap) (moved : List ℕ) : Type 0
   pub target_known : target gap < length forest.content
   pub open_here : is_open gap forest ≡ true
   pub may : EachOf moved (MayPlace forest (target gap))
+
+-- what is moved can be put at a gap: the nodes that name it and the gap are known, and the gap's is not among those moved
+pub record CanMove (nodes : List TreeNode) (gap : Gap) (moving : Moving) : Type 0 where
+  pub linked : IsArenaOf (forest_of nodes) nodes
+  pub target_known : target gap < length nodes
+  pub known : moving_id moving < length nodes
+  pub apart : stands_in (target gap) (moved_nodes (forest_of nodes) moving) ≡ false
 
 -- nodes were moved: cut out, and put at the gap in their order
 abbrev pub MovedList : List TreeNode → List TreeNode → Gap → List ℕ → Type 0

@@ -1,5 +1,5 @@
 -- What the check of raw nodes looks at, and what its faults state.
-use Rattle.std.specs.Prelude.{ℕ, ◌≡◌, ◌≢◌, ◌<◌, ◌≤◌, ◌⊎◌, ◌==◌, ◌||◌, true, false, List, [], Option, Some, None, length, slice_get, slice_index_or, option_and_then, IfSome, EachIndex, SomeIndex}
+use Rattle.std.specs.Prelude.{ℕ, ◌≡◌, ◌≢◌, ◌<◌, ◌≤◌, ◌⊎◌, ◌==◌, ◌||◌, true, false, List, [], Option, Some, None, length, slice_get, slice_index_or, option_and_then, Bool, IfSome, MatchBool, EachIndex, SomeIndex}
 use Rattle.std.specs.Option.{option_map_or, option_or}
 use Rattle.dom_nodes.specs.declared.node_data.TreeNode.{TreeNode}
 use Rattle.dom_nodes.specs.Kinds.{contents_named, is_fragment, is_top, children_allowed}
@@ -58,6 +58,31 @@ pub record LinksKnown (nodes : List TreeNode) (n : ℕ) : Type 0 where
   pub first_known : IsLinkKnown nodes (first_link nodes n)
   pub last_known : IsLinkKnown nodes (last_link nodes n)
 
+-- all links name nodes
+abbrev pub AreLinksKnown : List TreeNode → Type 0
+AreLinksKnown nodes = EachIndex nodes (λ n. LinksKnown nodes n)
+
+-- each node passes a test, or some node does not
+abbrev pub TestsEach : Bool → List TreeNode → (ℕ → Type 0) → Type 0
+TestsEach passed nodes P = MatchBool passed (EachIndex nodes P) (SomeIndex nodes (λ n. P n → ⊥))
+
+-- a cycle of links is found, or all links come to an end
+abbrev pub FindsCycle : Bool → (ℕ → Option ℕ) → Type 0
+FindsCycle found link = MatchBool found (HasCycle link) ((n : ℕ) → Ends link n)
+
+-- the number of n is its place
+abbrev pub HasOwnId : List TreeNode → ℕ → Type 0
+HasOwnId nodes n = slice_get (arena_ids nodes) n ≡ Some n
+
+-- who stands before n, if any, has the same parent
+abbrev pub SharesParent : List TreeNode → ℕ → Type 0
+SharesParent nodes n = IfSome (prev_link nodes n) (λ m. parent_link nodes m ≡ parent_link nodes n)
+
+-- where n is at an end of its list, its parent, if any, names it there
+abbrev pub IsNamedAtEnds : List TreeNode → ℕ → Type 0
+IsNamedAtEnds nodes n = IfSome (parent_link nodes n) (λ p.
+    (prev_link nodes n ≡ None → first_link nodes p ≡ Some n) × (next_link nodes n ≡ None → last_link nodes p ≡ Some n))
+
 -- the neighbours of n name it as theirs
 pub record Agrees (nodes : List TreeNode) (n : ℕ) : Type 0 where
   pub with_prev : IfSome (prev_link nodes n) (λ m. next_link nodes m ≡ Some n)
@@ -66,7 +91,7 @@ pub record Agrees (nodes : List TreeNode) (n : ℕ) : Type 0 where
 -- who stands before n has the same parent, the children that n names have it as their parent, and where n is at an
 -- end of its list, its parent names it there
 pub record IsLinked (nodes : List TreeNode) (n : ℕ) : Type 0 where
-  pub beside : IfSome (prev_link nodes n) (λ m. parent_link nodes m ≡ parent_link nodes n)
+  pub beside : SharesParent nodes n
   pub first_here : IfSome (first_link nodes n) (λ c. parent_link nodes c ≡ Some n)
   pub last_here : IfSome (last_link nodes n) (λ c. parent_link nodes c ≡ Some n)
   pub at_front : IfSome (parent_link nodes n) (λ p. prev_link nodes n ≡ None → first_link nodes p ≡ Some n)
@@ -104,8 +129,8 @@ HostsContents nodes hosts n = IfSome (contents_link nodes n) (λ c.
 pub record LinksHold (nodes : List TreeNode) : Type 0 where
   pub rooted : 0 < length nodes
   pub unplaced : parent_link nodes 0 ≡ None
-  pub ids : EachIndex nodes (λ n. slice_get (arena_ids nodes) n ≡ Some n)
-  pub known : EachIndex nodes (λ n. LinksKnown nodes n)
+  pub ids : EachIndex nodes (λ n. HasOwnId nodes n)
+  pub known : AreLinksKnown nodes
   pub agree : EachIndex nodes (λ n. Agrees nodes n)
 
 -- what the checks of the nodes' kinds establish
@@ -139,7 +164,7 @@ HostsAlone nodes n = IfSome (contents_link nodes n) (λ c. (c ≢ 0)
 abbrev pub HasFault : List TreeNode → ValidateFault → Type 0
 HasFault nodes NoRoot = nodes ≡ []
 HasFault nodes RootPlaced = (p : ℕ) × (parent_link nodes 0 ≡ Some p)
-HasFault nodes BadId = SomeIndex nodes (λ n. slice_get (arena_ids nodes) n ≢ Some n)
+HasFault nodes BadId = SomeIndex nodes (λ n. HasOwnId nodes n → ⊥)
 HasFault nodes UnknownLink = SomeIndex nodes (λ n. LinksAstray nodes n)
 HasFault nodes BadLink = SomeIndex nodes (λ n. Agrees nodes n → ⊥)
 HasFault nodes Cycle = (n : ℕ) × Climbs nodes n n
@@ -156,8 +181,8 @@ HasFault nodes Memory = Unit {0}
 abbrev pub PassesCheck : List TreeNode → ValidateFault → Type 0
 PassesCheck nodes NoRoot = 0 < length nodes
 PassesCheck nodes RootPlaced = parent_link nodes 0 ≡ None
-PassesCheck nodes BadId = EachIndex nodes (λ n. slice_get (arena_ids nodes) n ≡ Some n)
-PassesCheck nodes UnknownLink = EachIndex nodes (λ n. LinksKnown nodes n)
+PassesCheck nodes BadId = EachIndex nodes (λ n. HasOwnId nodes n)
+PassesCheck nodes UnknownLink = AreLinksKnown nodes
 PassesCheck nodes BadLink = EachIndex nodes (λ n. Agrees nodes n)
 PassesCheck nodes Cycle = (hosts : List (Option ℕ)) × AreHosts nodes hosts × ((n : ℕ) → Ends (parent_or_host nodes hosts) n)
 PassesCheck nodes NotLinked = EachIndex nodes (λ n. IsLinked nodes n)

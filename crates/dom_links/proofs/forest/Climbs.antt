@@ -9,7 +9,7 @@ use Rattle.dom_nodes.specs.declared.node_data.NodeData.TheVariants.{Document, Fr
 use Rattle.dom_nodes.specs.declared.node_data.TreeNode.{TreeNode}
 use Rattle.dom_nodes.specs.Kinds.{contents_named, is_fragment, is_top}
 use Rattle.dom_links.specs.Lists.{stands_in, IsDistinct, first}
-use Rattle.dom_links.specs.Forest.{Forest, IsArenaOf, StandsOnce, children_of, siblings, parent, contents_of, arena_ids}
+use Rattle.dom_links.specs.Forest.{Forest, IsArenaOf, StandsOnce, children_of, parent, contents_of, arena_ids}
 use Rattle.dom_links.specs.Sound.{IsParentOrHost, IsHostAncestor, one_step, then_step, contents_at, IsForest, AtOrBelow}
 use Rattle.dom_links.proofs.moves.Cuts.{length-contents, parent_known}
 use Rattle.dom_links.proofs.forest.Chains.{length_below}

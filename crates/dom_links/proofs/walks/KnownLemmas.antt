@@ -1,17 +1,13 @@
 -- Counting siblings as far as one whose index is known.
 use Rattle.std.proofs.Common.{ℕ, ◌≡◌, ◌<◌, ◌≤◌, ◌+◌, Bool, true, false, List, [], ◌∷◌, Option, Some, None, inl, inr, refl, sym, ap, ◌∙◌, subst, arith, cond, length, slice_get, get_or-set_same, get_or-set_other}
-use Rattle.std.specs.Prelude.{◌==◌, ◌&&◌, count_by, slice_set}
+use Rattle.std.specs.Prelude.{◌==◌, count_by, slice_set}
 use Rattle.std.specs.Option.{option_map_or}
-use Rattle.std.specs.Str.{bytes_eq}
 use Rattle.std.proofs.lemmas.List.{set_past}
 use Rattle.std.proofs.lemmas.List.Sums.{sum_by-cons}
-use Rattle.std.proofs.lemmas.Slice.Eq.{bytes_eq-Decides}
 use Rattle.std.proofs.lemmas.Bool.{cases_Bool, eqb-true, eq-eqb, true≢false}
 use Rattle.std.proofs.lemmas.Bool.{cases_lt}
 use Rattle.dom_nodes.specs.NameLaws.{same_name-equiv}
 use Rattle.dom_nodes.specs.Names.{same_name}
-use Rattle.dom_nodes.specs.declared.name.Namespace.{Namespace}
-use Rattle.dom_nodes.specs.declared.name.Namespace.TheVariants.{Html, Svg, MathMl, XLink, Xml, XmlNs, Other}
 use Rattle.dom_nodes.specs.declared.name.NameParts.{NameParts}
 use Rattle.dom_nodes.specs.declared.node_data.NodeData.{NodeData}
 use Rattle.dom_nodes.specs.declared.node_data.NodeData.TheVariants.{Element}

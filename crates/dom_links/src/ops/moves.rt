@@ -1,8 +1,8 @@
 //! The moves. They take no memory.
 
-ghost use Rattle.std.specs.Prelude.{◌≡◌, ◌≢◌, ◌<◌, [], ◌∷◌, false, length, Some};
-ghost use Rattle.dom_links.specs.Forest.{IsArenaOf, forest_of, run_of, siblings};
-ghost use Rattle.dom_links.specs.ListMoves.{Moves, moved_nodes, moving_id, with_later};
+ghost use Rattle.std.specs.Prelude.{◌≡◌, ◌<◌, [], ◌∷◌, false, length, Some};
+ghost use Rattle.dom_links.specs.Forest.{IsArenaOf, forest_of, run_of};
+ghost use Rattle.dom_links.specs.ListMoves.{CanMove, Moves, moved_nodes, moving_id};
 ghost use Rattle.dom_links.specs.Lists.{first, stands_in};
 ghost use Rattle.dom_links.specs.Moves.{StartsRun, after_node, before_node, cut, end_of, front_of};
 ghost use Rattle.dom_links.specs.Moves.{before_gap, owner_at, put, after_gap};
@@ -36,10 +36,7 @@ impl TreeNodeOps {
 
     /// Moves nodes to a gap.
     pub fn move_to(nodes: &mut [TreeNode], gap: Gap, moving: Moving)
-        requires linked { IsArenaOf (forest_of nodes.old) nodes.old }
-        requires target_known { target gap < length nodes.old }
-        requires known { moving_id moving < length nodes.old }
-        requires apart { stands_in (target gap) (moved_nodes (forest_of nodes.old) moving) ≡ false }
+        requires { CanMove nodes.old gap moving }
         ensures { Moves nodes.old nodes.new gap moving }
     {
         let start = cut_out(nodes, moving);
@@ -47,48 +44,32 @@ impl TreeNodeOps {
     }
 
     /// Moves a node to the end of the children of another.
-    #[tactic(auto, using(crate::proofs::moves::BlockMoves::no_other))]
     pub fn append_child_of(nodes: &mut [TreeNode], t: NodeId, x: NodeId)
-        requires linked { IsArenaOf (forest_of nodes.old) nodes.old }
-        requires target_known { t < length nodes.old }
-        requires known { x < length nodes.old }
-        requires apart { x ≢ t }
+        requires { CanMove nodes.old (end_of t) (Node x) }
         ensures { Moves nodes.old nodes.new (end_of t) (Node x) }
     {
         TreeNodeOps::move_to(nodes, Gap::EndOf(t), Moving::Node(x));
     }
 
     /// Moves a node to the front of the children of another.
-    #[tactic(auto, using(crate::proofs::moves::BlockMoves::no_other))]
     pub fn prepend_child_of(nodes: &mut [TreeNode], t: NodeId, x: NodeId)
-        requires linked { IsArenaOf (forest_of nodes.old) nodes.old }
-        requires target_known { t < length nodes.old }
-        requires known { x < length nodes.old }
-        requires apart { x ≢ t }
+        requires { CanMove nodes.old (front_of t) (Node x) }
         ensures { Moves nodes.old nodes.new (front_of t) (Node x) }
     {
         TreeNodeOps::move_to(nodes, Gap::FrontOf(t), Moving::Node(x));
     }
 
     /// Moves a node to the place right before another.
-    #[tactic(auto, using(crate::proofs::moves::BlockMoves::no_other))]
     pub fn insert_before_of(nodes: &mut [TreeNode], t: NodeId, x: NodeId)
-        requires linked { IsArenaOf (forest_of nodes.old) nodes.old }
-        requires target_known { t < length nodes.old }
-        requires known { x < length nodes.old }
-        requires apart { x ≢ t }
+        requires { CanMove nodes.old (before_node t) (Node x) }
         ensures { Moves nodes.old nodes.new (before_node t) (Node x) }
     {
         TreeNodeOps::move_to(nodes, Gap::Before(t), Moving::Node(x));
     }
 
     /// Moves a node to the place right after another.
-    #[tactic(auto, using(crate::proofs::moves::BlockMoves::no_other))]
     pub fn insert_after_of(nodes: &mut [TreeNode], t: NodeId, x: NodeId)
-        requires linked { IsArenaOf (forest_of nodes.old) nodes.old }
-        requires target_known { t < length nodes.old }
-        requires known { x < length nodes.old }
-        requires apart { x ≢ t }
+        requires { CanMove nodes.old (after_node t) (Node x) }
         ensures { Moves nodes.old nodes.new (after_node t) (Node x) }
     {
         TreeNodeOps::move_to(nodes, Gap::After(t), Moving::Node(x));
@@ -96,10 +77,7 @@ impl TreeNodeOps {
 
     /// Moves a node and its later siblings to the end of the children of another.
     pub fn append_children_of(nodes: &mut [TreeNode], t: NodeId, x: NodeId)
-        requires linked { IsArenaOf (forest_of nodes.old) nodes.old }
-        requires target_known { t < length nodes.old }
-        requires known { x < length nodes.old }
-        requires apart { stands_in t (with_later (forest_of nodes.old) x) ≡ false }
+        requires { CanMove nodes.old (end_of t) (WithLater x) }
         ensures { Moves nodes.old nodes.new (end_of t) (WithLater x) }
     {
         TreeNodeOps::move_to(nodes, Gap::EndOf(t), Moving::WithLater(x));
@@ -108,10 +86,7 @@ impl TreeNodeOps {
     /// Moves the whole list of a node, it and all its siblings, to the front of the children of
     /// another.
     pub fn prepend_children_of(nodes: &mut [TreeNode], t: NodeId, x: NodeId)
-        requires linked { IsArenaOf (forest_of nodes.old) nodes.old }
-        requires target_known { t < length nodes.old }
-        requires known { x < length nodes.old }
-        requires apart { stands_in t (siblings (forest_of nodes.old) x) ≡ false }
+        requires { CanMove nodes.old (front_of t) (WholeList x) }
         ensures { Moves nodes.old nodes.new (front_of t) (WholeList x) }
     {
         TreeNodeOps::move_to(nodes, Gap::FrontOf(t), Moving::WholeList(x));
@@ -119,10 +94,7 @@ impl TreeNodeOps {
 
     /// Moves a node and its later siblings to the place right before another.
     pub fn insert_siblings_before(nodes: &mut [TreeNode], t: NodeId, x: NodeId)
-        requires linked { IsArenaOf (forest_of nodes.old) nodes.old }
-        requires target_known { t < length nodes.old }
-        requires known { x < length nodes.old }
-        requires apart { stands_in t (with_later (forest_of nodes.old) x) ≡ false }
+        requires { CanMove nodes.old (before_node t) (WithLater x) }
         ensures { Moves nodes.old nodes.new (before_node t) (WithLater x) }
     {
         TreeNodeOps::move_to(nodes, Gap::Before(t), Moving::WithLater(x));
@@ -130,10 +102,7 @@ impl TreeNodeOps {
 
     /// Moves a node and its later siblings to the place right after another.
     pub fn insert_siblings_after(nodes: &mut [TreeNode], t: NodeId, x: NodeId)
-        requires linked { IsArenaOf (forest_of nodes.old) nodes.old }
-        requires target_known { t < length nodes.old }
-        requires known { x < length nodes.old }
-        requires apart { stands_in t (with_later (forest_of nodes.old) x) ≡ false }
+        requires { CanMove nodes.old (after_node t) (WithLater x) }
         ensures { Moves nodes.old nodes.new (after_node t) (WithLater x) }
     {
         TreeNodeOps::move_to(nodes, Gap::After(t), Moving::WithLater(x));

@@ -1,11 +1,10 @@
 //! The checks of what each node is.
 
-ghost use Rattle.std.specs.Prelude.{◌≡◌, ◌<◌, EachIndex, IfErr, IfOk, MatchBool, MatchResult, Some};
-ghost use Rattle.std.specs.Prelude.{SomeIndex, length, slice_get};
-ghost use Rattle.dom_links.specs.Forest.{arena_ids};
-ghost use Rattle.dom_links.specs.Validation.{AreHosts, ContentsHold, HostsContents, IsAlone};
-ghost use Rattle.dom_links.specs.Validation.{ParentAllowsChildren, IsRefused, LinksKnown};
-ghost use Rattle.dom_links.specs.Validation.{PassesEarlierChecks, IsFirstFault};
+ghost use Rattle.std.specs.Prelude.{◌<◌, EachIndex, IfErr, IfOk, MatchBool, MatchResult, Some};
+ghost use Rattle.std.specs.Prelude.{length};
+ghost use Rattle.dom_links.specs.Validation.{AreHosts, AreLinksKnown, ContentsHold, HasOwnId};
+ghost use Rattle.dom_links.specs.Validation.{HostsContents, IsAlone, IsFirstFault, IsRefused};
+ghost use Rattle.dom_links.specs.Validation.{ParentAllowsChildren, PassesEarlierChecks, TestsEach};
 ghost use Rattle.dom_links.specs.declared.validation.ValidateFault.TheVariants.{NoChildrenHere};
 
 use crate::validation::ValidateFault;
@@ -19,7 +18,7 @@ pub(crate) fn check_contents(
     nodes: &[TreeNode],
     hosts: &[Option<NodeId>],
 ) -> Result<(), ValidateFault>
-    requires known { EachIndex nodes.now (λ n. LinksKnown nodes.now n) }
+    requires known { AreLinksKnown nodes.now }
     requires hosts { AreHosts nodes.now hosts.now }
     requires before { PassesEarlierChecks nodes.now NoChildrenHere }
     ensures sound { MatchResult result (λ _. ContentsHold nodes.now hosts.now)
@@ -43,7 +42,7 @@ pub(crate) fn check_contents(
 
 /// For each node, one that names it as its contents.
 pub(crate) fn hosts_of(alloc: Global, nodes: &[TreeNode]) -> Result<Vec<Option<NodeId>>, AllocError>
-    requires { EachIndex nodes.now (λ n. slice_get (arena_ids nodes.now) n ≡ Some n) }
+    requires { EachIndex nodes.now (HasOwnId nodes.now) }
     ensures { IfOk result (λ hosts. AreHosts nodes.now hosts.items) }
 {
     let mut hosts = vec![in alloc; None; nodes.len()]?;
@@ -59,7 +58,7 @@ pub(crate) fn hosts_of(alloc: Global, nodes: &[TreeNode]) -> Result<Vec<Option<N
 
 /// Whether the parent of a node may have children.
 fn parent_allows_children(nodes: &[TreeNode], n: usize) -> bool
-    requires known { EachIndex nodes.now (λ n. LinksKnown nodes.now n) }
+    requires known { AreLinksKnown nodes.now }
     requires here { n < length nodes.now }
     ensures { MatchBool result (ParentAllowsChildren nodes.now n)
         (ParentAllowsChildren nodes.now n → ⊥) }
@@ -72,9 +71,8 @@ fn parent_allows_children(nodes: &[TreeNode], n: usize) -> bool
 
 /// Whether all parents may have children.
 pub(crate) fn parents_allow_children(nodes: &[TreeNode]) -> bool
-    requires { EachIndex nodes.now (λ n. LinksKnown nodes.now n) }
-    ensures { MatchBool result (EachIndex nodes.now (λ n. ParentAllowsChildren nodes.now n))
-        (SomeIndex nodes.now (λ n. ParentAllowsChildren nodes.now n → ⊥)) }
+    requires { AreLinksKnown nodes.now }
+    ensures { TestsEach result nodes.now (ParentAllowsChildren nodes.now) }
 {
     for n in 0..nodes.len() {
         if !parent_allows_children(nodes, n) {
@@ -104,8 +102,7 @@ fn stays_alone(nodes: &[TreeNode], n: usize) -> bool
 
 /// Whether the root, the documents and the fragments stand alone.
 pub(crate) fn stay_alone(nodes: &[TreeNode]) -> bool
-    ensures { MatchBool result (EachIndex nodes.now (λ n. IsAlone nodes.now n))
-        (SomeIndex nodes.now (λ n. IsAlone nodes.now n → ⊥)) }
+    ensures { TestsEach result nodes.now (IsAlone nodes.now) }
 {
     for n in 0..nodes.len() {
         if !stays_alone(nodes, n) {
@@ -138,8 +135,7 @@ fn hosts_contents(nodes: &[TreeNode], hosts: &[Option<NodeId>], n: usize) -> boo
 /// Whether all contents are fragments with one host.
 pub(crate) fn host_contents(nodes: &[TreeNode], hosts: &[Option<NodeId>]) -> bool
     requires { AreHosts nodes.now hosts.now }
-    ensures { MatchBool result (EachIndex nodes.now (λ n. HostsContents nodes.now hosts.now n))
-        (SomeIndex nodes.now (λ n. HostsContents nodes.now hosts.now n → ⊥)) }
+    ensures { TestsEach result nodes.now (HostsContents nodes.now hosts.now) }
 {
     for n in 0..nodes.len() {
         if !hosts_contents(nodes, hosts, n) {

@@ -1,9 +1,9 @@
 //! Cycles of links.
 
-ghost use Rattle.std.specs.Prelude.{ℕ, ◌≡◌, ◌<◌, ◌+◌, EachIndex, IfOk, IfSome, MatchBool, length};
+ghost use Rattle.std.specs.Prelude.{◌≡◌, ◌<◌, ◌+◌, IfOk, IfSome, MatchBool, length, ℕ};
 ghost use Rattle.dom_links.specs.Forest.{prev_link};
-ghost use Rattle.dom_links.specs.Validation.{AreHosts, AreLinksBy, AreMarks, Ends, HasCycle};
-ghost use Rattle.dom_links.specs.Validation.{LinksKnown, link_at, parent_or_host};
+ghost use Rattle.dom_links.specs.Validation.{AreHosts, AreLinksBy, AreLinksKnown, AreMarks};
+ghost use Rattle.dom_links.specs.Validation.{FindsCycle, HasCycle, link_at, parent_or_host};
 
 use dom_nodes::node_data::TreeNode;
 use dom_nodes::node_id::NodeId;
@@ -32,9 +32,7 @@ fn closes_cycle(links: &[Option<NodeId>], marks: &mut [usize], start: usize) -> 
 /// Whether some number leads back to itself. Each number is reached once.
 fn has_cycle(alloc: Global, links: &[Option<NodeId>]) -> Result<bool, AllocError>
     requires { (n : ℕ) → IfSome (link_at links.now n) (λ m. m < length links.now) }
-    ensures { IfOk result
-        (λ ring. MatchBool ring (HasCycle (link_at links.now))
-        ((n : ℕ) → Ends (link_at links.now) n)) }
+    ensures { IfOk result (λ ring. FindsCycle ring (link_at links.now)) }
 {
     let mut marks = vec![in alloc; 0; links.len()]?;
     for start in 0..links.len() {
@@ -68,11 +66,9 @@ pub(crate) fn has_ancestor_cycle(
     nodes: &[TreeNode],
     hosts: &[Option<NodeId>],
 ) -> Result<bool, AllocError>
-    requires known { EachIndex nodes.now (λ n. LinksKnown nodes.now n) }
+    requires known { AreLinksKnown nodes.now }
     requires hosts { AreHosts nodes.now hosts.now }
-    ensures { IfOk result
-        (λ ring. MatchBool ring (HasCycle (parent_or_host nodes.now hosts.now))
-        ((n : ℕ) → Ends (parent_or_host nodes.now hosts.now) n)) }
+    ensures { IfOk result (λ ring. FindsCycle ring (parent_or_host nodes.now hosts.now)) }
 {
     let ups = parents_or_hosts(alloc, nodes, hosts)?;
     has_cycle(alloc, &ups)
@@ -92,10 +88,8 @@ fn siblings_before(alloc: Global, nodes: &[TreeNode]) -> Result<Vec<Option<NodeI
 
 /// Whether a node is reached again by steps to the sibling before.
 pub(crate) fn has_sibling_cycle(alloc: Global, nodes: &[TreeNode]) -> Result<bool, AllocError>
-    requires { EachIndex nodes.now (λ n. LinksKnown nodes.now n) }
-    ensures { IfOk result
-        (λ ring. MatchBool ring (HasCycle (prev_link nodes.now))
-        ((n : ℕ) → Ends (prev_link nodes.now) n)) }
+    requires { AreLinksKnown nodes.now }
+    ensures { IfOk result (λ ring. FindsCycle ring (prev_link nodes.now)) }
 {
     let prevs = siblings_before(alloc, nodes)?;
     has_cycle(alloc, &prevs)

@@ -1,13 +1,13 @@
 //! The checks of each node's number and links.
 
-ghost use Rattle.std.specs.Prelude.{◌≡◌, ◌<◌, ◌≤◌, [], EachIndex, Err, IfErr, IfSome, IsSomeAnd};
-ghost use Rattle.std.specs.Prelude.{MatchBool, MatchResult, None, Some, SomeIndex, length};
-ghost use Rattle.std.specs.Prelude.{slice_get};
-ghost use Rattle.dom_links.specs.Forest.{arena_ids, first_link, last_link, next_link, parent_link};
-ghost use Rattle.dom_links.specs.Forest.{prev_link};
+ghost use Rattle.std.specs.Prelude.{◌≡◌, ◌<◌, ◌≤◌, [], Err, IfErr, IfSome, IsSomeAnd, MatchBool};
+ghost use Rattle.std.specs.Prelude.{MatchResult, None, Some, SomeIndex, length};
+ghost use Rattle.dom_links.specs.Forest.{parent_link};
 ghost use Rattle.dom_links.specs.Lists.{names};
-ghost use Rattle.dom_links.specs.Validation.{Agrees, IsLinkKnown, IsLinked, IsRefused, LinksAstray};
-ghost use Rattle.dom_links.specs.Validation.{LinksHold, LinksKnown, IsFirstFault};
+ghost use Rattle.dom_links.specs.Validation.{Agrees, AreLinksKnown, HasOwnId, IsFirstFault};
+ghost use Rattle.dom_links.specs.Validation.{IsLinkKnown, IsLinked, IsNamedAtEnds, IsRefused};
+ghost use Rattle.dom_links.specs.Validation.{LinksAstray, LinksHold, LinksKnown, SharesParent};
+ghost use Rattle.dom_links.specs.Validation.{TestsEach};
 ghost use Rattle.dom_links.specs.declared.validation.ValidateFault.TheVariants.{NoRoot};
 
 use crate::validation::ValidateFault;
@@ -41,9 +41,7 @@ pub(crate) fn check_links(nodes: &[TreeNode]) -> Result<(), ValidateFault>
 
 /// Whether each node's number is its place.
 pub(crate) fn ids_are_indexes(nodes: &[TreeNode]) -> bool
-    ensures { MatchBool result
-        (EachIndex nodes.now (λ n. slice_get (arena_ids nodes.now) n ≡ Some n))
-        (SomeIndex nodes.now (λ n. slice_get (arena_ids nodes.now) n ≡ Some n → ⊥)) }
+    ensures { TestsEach result nodes.now (HasOwnId nodes.now) }
 {
     for n in 0..nodes.len() {
         if nodes[n].id.value() != n {
@@ -89,8 +87,8 @@ fn knows(nodes: &[TreeNode], n: usize) -> bool
 
 /// Whether each link names a node.
 pub(crate) fn are_known(nodes: &[TreeNode]) -> bool
-    ensures { MatchBool result (EachIndex nodes.now (λ n. LinksKnown nodes.now n))
-        (SomeIndex nodes.now (λ n. LinksAstray nodes.now n)) }
+    ensures { MatchBool result (AreLinksKnown nodes.now)
+        (SomeIndex nodes.now (LinksAstray nodes.now)) }
 {
     for n in 0..nodes.len() {
         if !knows(nodes, n) {
@@ -112,7 +110,7 @@ pub(crate) fn links_to(link: Option<NodeId>, n: usize) -> bool
 
 /// Whether the neighbours of a node name it as theirs.
 fn agrees(nodes: &[TreeNode], n: usize) -> bool
-    requires known { EachIndex nodes.now (λ n. LinksKnown nodes.now n) }
+    requires known { AreLinksKnown nodes.now }
     requires here { n < length nodes.now }
     ensures { MatchBool result (Agrees nodes.now n) (Agrees nodes.now n → ⊥) }
 {
@@ -132,9 +130,8 @@ fn agrees(nodes: &[TreeNode], n: usize) -> bool
 
 /// Whether neighbours name each other.
 pub(crate) fn agree(nodes: &[TreeNode]) -> bool
-    requires { EachIndex nodes.now (λ n. LinksKnown nodes.now n) }
-    ensures { MatchBool result (EachIndex nodes.now (λ n. Agrees nodes.now n))
-        (SomeIndex nodes.now (λ n. Agrees nodes.now n → ⊥)) }
+    requires { AreLinksKnown nodes.now }
+    ensures { TestsEach result nodes.now (Agrees nodes.now) }
 {
     for n in 0..nodes.len() {
         if !agrees(nodes, n) {
@@ -146,12 +143,9 @@ pub(crate) fn agree(nodes: &[TreeNode]) -> bool
 
 /// Whether who stands before a node has the same parent.
 fn shares_parent(nodes: &[TreeNode], n: usize) -> bool
-    requires known { EachIndex nodes.now (λ n. LinksKnown nodes.now n) }
+    requires known { AreLinksKnown nodes.now }
     requires here { n < length nodes.now }
-    ensures { MatchBool result
-        (IfSome (prev_link nodes.now n) (λ m. parent_link nodes.now m ≡ parent_link nodes.now n))
-        (IfSome (prev_link nodes.now n) (λ m. parent_link nodes.now m ≡ parent_link nodes.now n)
-        → ⊥) }
+    ensures { MatchBool result (SharesParent nodes.now n) (SharesParent nodes.now n → ⊥) }
 {
     let node = &nodes[n];
     let Some(prev) = node.prev_sibling.get() else {
@@ -174,15 +168,9 @@ fn is_child(nodes: &[TreeNode], link: Option<NodeId>, n: usize) -> bool
 
 /// Whether a node that is first or last in its list is so named by its parent.
 fn is_named(nodes: &[TreeNode], n: usize) -> bool
-    requires known { EachIndex nodes.now (λ n. LinksKnown nodes.now n) }
+    requires known { AreLinksKnown nodes.now }
     requires here { n < length nodes.now }
-    ensures { MatchBool result
-        (IfSome (parent_link nodes.now n)
-        (λ p. (prev_link nodes.now n ≡ None → first_link nodes.now p ≡ Some n)
-        × (next_link nodes.now n ≡ None → last_link nodes.now p ≡ Some n)))
-        (IfSome (parent_link nodes.now n)
-        (λ p. (prev_link nodes.now n ≡ None → first_link nodes.now p ≡ Some n)
-        × (next_link nodes.now n ≡ None → last_link nodes.now p ≡ Some n)) → ⊥) }
+    ensures { MatchBool result (IsNamedAtEnds nodes.now n) (IsNamedAtEnds nodes.now n → ⊥) }
 {
     let node = &nodes[n];
     let Some(parent) = node.parent.get() else {
@@ -200,7 +188,7 @@ fn is_named(nodes: &[TreeNode], n: usize) -> bool
 
 /// Whether a node and its parent name each other.
 fn is_linked(nodes: &[TreeNode], n: usize) -> bool
-    requires known { EachIndex nodes.now (λ n. LinksKnown nodes.now n) }
+    requires known { AreLinksKnown nodes.now }
     requires here { n < length nodes.now }
     ensures { MatchBool result (IsLinked nodes.now n) (IsLinked nodes.now n → ⊥) }
 {
@@ -218,9 +206,8 @@ fn is_linked(nodes: &[TreeNode], n: usize) -> bool
 
 /// Whether nodes and their parents name each other.
 pub(crate) fn are_linked(nodes: &[TreeNode]) -> bool
-    requires { EachIndex nodes.now (λ n. LinksKnown nodes.now n) }
-    ensures { MatchBool result (EachIndex nodes.now (λ n. IsLinked nodes.now n))
-        (SomeIndex nodes.now (λ n. IsLinked nodes.now n → ⊥)) }
+    requires { AreLinksKnown nodes.now }
+    ensures { TestsEach result nodes.now (IsLinked nodes.now) }
 {
     for n in 0..nodes.len() {
         if !is_linked(nodes, n) {

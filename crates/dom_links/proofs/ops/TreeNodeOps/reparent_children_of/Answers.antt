@@ -1,4 +1,5 @@
-use Rattle.std.proofs.Common.{◌∙◌, ap, subst, ◌≡◌, false}
+use Rattle.std.proofs.Common.{◌∙◌, ap, arith, length, subst, ◌<◌, ◌≡◌, false}
+use Rattle.std.proofs.lemmas.Grind.{common_steps}
 use Rattle.std.specs.Option.{IfSome}
 use Rattle.dom_links.specs.Lists.{stands_in}
 use Rattle.dom_links.specs.Forest.{forest_of, children_of}
@@ -12,10 +13,15 @@ returns-in_default-first_child_of c =
     reparents_to c.args.nodes.now c.args.nodes.now c.args.x c.in-Some.t c.args.parent c.in-Some.is
     (no_children_moved c.args.nodes.now c.args.x (end_of c.in-Some.t) c.requires.linked c.in_default-first_child_of.ensures.all)
 
-pub append_children_of-requires-clause-apart : goal.append_children_of-requires-clause-apart
-append_children_of-requires-clause-apart c =
+pub append_children_of-requires : goal.append_children_of-requires
+append_children_of-requires c =
     let out : stands_in c.in-Some.t (children_of (forest_of c.args.nodes.now) c.args.x) ≡ false = subst (λ o. IfSome o (λ t. stands_in t (children_of (forest_of c.args.nodes.now) c.args.x) ≡ false)) c.in-Some.is c.requires.apart in
-    ap (stands_in c.in-Some.t) c.in-Some-first_child_of.ensures.all ∙ out
+    record {
+      linked = c.requires.linked;
+      target_known = subst (λ o. IfSome o (λ t. t < length c.args.nodes.now)) c.in-Some.is c.requires.target_known;
+      known = grind (arith, common_steps);
+      apart = ap (stands_in c.in-Some.t) c.in-Some-first_child_of.ensures.all ∙ out;
+    }
 
 pub returns : goal.returns
 returns c =

@@ -1,7 +1,7 @@
 use Rattle.std.proofs.Common.{◌≡◌, ◌≤◌, ◌∙◌, arith, length, sym, ap, subst, vec_len}
 use Rattle.std.proofs.lemmas.Result.{err_from_is_err_and}
 use Rattle.dom_nodes.specs.declared.node_data.NodeData.{NodeData}
-use Rattle.dom_links.specs.Copies.{copied_data, data_at, with_node_below}
+use Rattle.dom_links.specs.Copies.{copied_data, with_node_below}
 use Rattle.dom_links.specs.Copying.{LacksRoom}
 use Rattle.dom_links.specs.Forest.{forest_of}
 use Rattle.dom_links.proofs.copies.Copied.{alone_refused, data_read, lent_node, way_on}

@@ -9,17 +9,17 @@ use Rattle.dom_links.proofs.forest.Places.{siblings_child}
 use Rattle.dom_links.proofs.moves.TwoSteps.{IsWrapper, unwraps, wrapper_apart, wrapper_is}
 use Rattle.dom_links.proofs.ops.lists.unwrap_node.Goals as goal
 
-pub move_to-requires-clause-target_known : goal.move_to-requires-clause-target_known
-move_to-requires-clause-target_known c =
+pub move_to-requires : goal.move_to-requires
+move_to-requires c =
     let long = length-contents (forest_of c.args.nodes.now) c.args.nodes.now c.requires.linked.links in
     let is = wrapper_is (forest_of c.args.nodes.now) c.args.x c.in-Some.parent (sym c.wrapper_of.ensures ∙ c.in-Some.is) in
     let known = parent_inside (forest_of c.args.nodes.now) c.args.x c.in-Some.parent c.requires.forest (IsWrapper.parent_is is) in
-    omega arith
-
-pub move_to-requires-clause-apart : goal.move_to-requires-clause-apart
-move_to-requires-clause-apart c =
-    let is = wrapper_is (forest_of c.args.nodes.now) c.args.x c.in-Some.parent (sym c.wrapper_of.ensures ∙ c.in-Some.is) in
-    ap (stands_in c.in-Some.parent) (siblings_child (forest_of c.args.nodes.now) c.args.x c.in-Some.parent (IsWrapper.parent_is is)) ∙ wrapper_apart (forest_of c.args.nodes.now) c.in-Some.parent c.requires.forest
+    record {
+      linked = c.requires.linked;
+      target_known = omega arith;
+      known = c.requires.known;
+      apart = ap (stands_in c.in-Some.parent) (siblings_child (forest_of c.args.nodes.now) c.args.x c.in-Some.parent (IsWrapper.parent_is is)) ∙ wrapper_apart (forest_of c.args.nodes.now) c.in-Some.parent c.requires.forest;
+    }
 
 pub remove_from_parent-requires-clause-known : goal.remove_from_parent-requires-clause-known
 remove_from_parent-requires-clause-known c =
