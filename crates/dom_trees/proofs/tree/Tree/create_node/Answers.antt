@@ -7,7 +7,7 @@ pub returns : goal.returns
 returns c = record {
   ok = search rules;
   number = grind (arith, common_steps);
-  allowed = subst (λ forest. OnOk c.create_node.result (HasFreeContents forest c.args.content)) c.self.view_is c.create_node.ensures.allowed;
+  allowed = subst (λ forest. OnOk c.create_node.result (HasFreeContents forest c.args.content)) c.self.view_is c.create_node.ensures.makes.allowed;
   err = search rules;
   cause = search rules;
 }
