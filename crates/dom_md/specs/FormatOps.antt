@@ -1,5 +1,5 @@
 -- The stack of what is still to be formatted, the last entry first.
-use Rattle.std.specs.Prelude.{◌≡◌, ℕ, ◌+◌, ◌<◌, false, List, [], ◌++◌, ◌∷◌, length, Option, Some, OnOk, Result, slice_get, codes, if◌then◌else◌}
+use Rattle.std.specs.Prelude.{◌≡◌, ℕ, ◌+◌, ◌<◌, ◌≤◌, false, List, [], ◌++◌, ◌∷◌, length, Option, Some, OnOk, Result, slice_get, codes, if◌then◌else◌}
 use Rattle.std.specs.Str.{IsUtf8, bytes_eq}
 use Rattle.std.specs.Option.{option_map_or}
 use Rattle.dom_nodes.specs.declared.node_data.NodeData.{NodeData}
@@ -83,3 +83,14 @@ Formats old new result es = OnOk result (IsFolded old new es)
 -- some of the events that were to come were added, and the others are still to come
 abbrev pub FormatsSome : {T E : Type 0} → (old new : List ℕ) → Result T E → (before after : List Event) → Type 0
 FormatsSome old new result before after = OnOk result (IsPartFolded old new before after)
+
+-- entries for these events, which take at most so many steps, were pushed on a stack, and all nodes named on it are known
+pub record PushesEvents {T E : Type 0} (result : Result T E) (forest : Forest) (old new : List FormatOp) (es : List Event) (steps : ℕ) : Type 0 where
+  pub rest : OnOk result (ops_events forest new ≡ es ++ ops_events forest old)
+  pub all_within : OnOk result (AreWithin forest new)
+  pub fewer : OnOk result (weight forest new ≤ steps + weight forest old)
+
+-- less than so many steps are left on a stack, and all nodes named on it are known
+pub record LeavesFewer {T E : Type 0} (result : Result T E) (forest : Forest) (ops : List FormatOp) (steps : ℕ) : Type 0 where
+  pub all_within : OnOk result (AreWithin forest ops)
+  pub fewer : OnOk result (weight forest ops < steps)

@@ -1,7 +1,7 @@
 //! The walk that formats a tree, by a stack of what is still to be formatted. Each node is pushed
 //! and popped once.
 
-ghost use Rattle.std.specs.Prelude.{◌≡◌, ◌<◌, ◌≤◌, ◌+◌, ◌++◌, [], ◌∷◌};
+ghost use Rattle.std.specs.Prelude.{◌≡◌, ◌+◌, ◌++◌, [], ◌∷◌};
 ghost use Rattle.std.specs.Prelude.{IfOk, OnErr, OnOk, Some, string_bytes};
 ghost use Rattle.std.specs.Str.{IsUtf8};
 ghost use Rattle.dom_links.specs.Forest.{forest_of};
@@ -11,7 +11,7 @@ ghost use Rattle.dom_links.specs.Walk.{IsNodeOf, IsWithin};
 ghost use Rattle.dom_links.specs.Weights.{row_weight, weight_below};
 ghost use Rattle.dom_md.specs.Formatted.{events_below, formatted_node};
 ghost use Rattle.dom_md.specs.FormatOps.{AreWithin, Formats, FormatsSome, IsFolded};
-ghost use Rattle.dom_md.specs.FormatOps.{IsOpWithin, first_events};
+ghost use Rattle.dom_md.specs.FormatOps.{IsOpWithin, LeavesFewer, PushesEvents, first_events};
 ghost use Rattle.dom_md.specs.FormatOps.{close_events, op_events, op_weight, ops_events};
 ghost use Rattle.dom_md.specs.FormatOps.{rest_events, row_events, weight};
 
@@ -95,9 +95,8 @@ fn format_op(
     ensures text { FormatsSome (string_bytes text.old) (string_bytes text.new) result
         (op_events (forest_of nodes.now) op ++ ops_events (forest_of nodes.now) ops.old.items)
         (ops_events (forest_of nodes.now) ops.new.items) }
-    ensures all_within { OnOk result (AreWithin (forest_of nodes.now) ops.new.items) }
-    ensures weight { OnOk result (weight (forest_of nodes.now) ops.new.items
-        < op_weight (forest_of nodes.now) op + weight (forest_of nodes.now) ops.old.items) }
+    ensures left { LeavesFewer result (forest_of nodes.now) ops.new.items
+        (op_weight (forest_of nodes.now) op + weight (forest_of nodes.now) ops.old.items) }
 {
     match op {
         FormatOp::Open { id } => open_node(nodes, id, ops, text),
@@ -130,9 +129,8 @@ fn open_node(
         (row_events (forest_of nodes.now) (Some id)
         ++ ops_events (forest_of nodes.now) ops.old.items)
         (ops_events (forest_of nodes.now) ops.new.items) }
-    ensures all_within { OnOk result (AreWithin (forest_of nodes.now) ops.new.items) }
-    ensures weight { OnOk result (weight (forest_of nodes.now) ops.new.items
-        < row_weight (forest_of nodes.now) (Some id) + weight (forest_of nodes.now) ops.old.items) }
+    ensures left { LeavesFewer result (forest_of nodes.now) ops.new.items
+        (row_weight (forest_of nodes.now) (Some id) + weight (forest_of nodes.now) ops.old.items) }
 {
     let node = node_at(nodes, id);
     push_open(nodes, node.next_sibling.get(), ops)?;
@@ -152,12 +150,9 @@ fn begin_node(
     requires all_within { AreWithin (forest_of nodes.now) ops.old.items }
     ensures text { Formats (string_bytes text.old) (string_bytes text.new) result
         (first_events (forest_of nodes.now) id node.now.content) }
-    ensures rest { OnOk result (ops_events (forest_of nodes.now) ops.new.items
-        ≡ rest_events (forest_of nodes.now) id node.now.content
-        ++ ops_events (forest_of nodes.now) ops.old.items) }
-    ensures all_within { OnOk result (AreWithin (forest_of nodes.now) ops.new.items) }
-    ensures weight { OnOk result (weight (forest_of nodes.now) ops.new.items
-        ≤ 1 + weight_below (forest_of nodes.now) id + weight (forest_of nodes.now) ops.old.items) }
+    ensures pushes { let forest = forest_of nodes.now
+        in PushesEvents result forest ops.old.items ops.new.items
+        (rest_events forest id node.now.content) (1 + weight_below forest id) }
 {
     let first = node.first_child.get();
     match &node.content {

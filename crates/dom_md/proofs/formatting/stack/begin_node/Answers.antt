@@ -10,25 +10,17 @@ use Rattle.dom_md.specs.FormatOps.{ops_events, row_events, weight}
 use Rattle.dom_md.proofs.StackLemmas.{other-node, other-rest, other-weight, pushed, pre-rest, children-rest, children-weight, children-within, on_ok-any}
 use Rattle.dom_md.proofs.formatting.stack.begin_node.Goals as goal
 
-pub returns-then-eq-clause-rest : goal.returns-then-eq-clause-rest
-returns-then-eq-clause-rest c =
+pub returns-then-eq-clause-pushes : goal.returns-then-eq-clause-pushes
+returns-then-eq-clause-pushes c =
     let forest = forest_of c.args.nodes.now in
     let p = pushed forest c.args.ops.now.items c.push_op.new.ops.items (Close c.args.id) (slice_get_within _ c.args.id _ c.requires.node.content_is) c.requires.all_within c.in_ok-push_op-in-Element.ensures.ok in
     let pre : bytes_eq c.in-Element.element.name.local (codes "pre") ≡ true = ap (λ t. bytes_eq t (codes "pre")) (sym c.node_name.ensures) ∙ (sym c.eq.ensures ∙ c.if-eq.true) in
-    on_ok-any c.keep_text.result (pre-rest forest c.args.id c.args.node.now.content c.in-Element.element c.requires.node.content_is c.in-Element.is pre _ _ p.rest)
-
-pub returns-then-eq-clause-all_within : goal.returns-then-eq-clause-all_within
-returns-then-eq-clause-all_within c =
-    let forest = forest_of c.args.nodes.now in
-    let p = pushed forest c.args.ops.now.items c.push_op.new.ops.items (Close c.args.id) (slice_get_within _ c.args.id _ c.requires.node.content_is) c.requires.all_within c.in_ok-push_op-in-Element.ensures.ok in
-    on_ok-any c.keep_text.result p.all_within
-
-pub returns-then-eq-clause-weight : goal.returns-then-eq-clause-weight
-returns-then-eq-clause-weight c =
-    let forest = forest_of c.args.nodes.now in
-    let p = pushed forest c.args.ops.now.items c.push_op.new.ops.items (Close c.args.id) (slice_get_within _ c.args.id _ c.requires.node.content_is) c.requires.all_within c.in_ok-push_op-in-Element.ensures.ok in
     let w = p.weight in
-    on_ok-any c.keep_text.result (omega arith)
+    record {
+      rest = on_ok-any c.keep_text.result (pre-rest forest c.args.id c.args.node.now.content c.in-Element.element c.requires.node.content_is c.in-Element.is pre _ _ p.rest);
+      all_within = on_ok-any c.keep_text.result p.all_within;
+      fewer = on_ok-any c.keep_text.result (omega arith);
+    }
 
 pub push_open-requires-in-Element-clause-within : goal.push_open-requires-in-Element-clause-within
 push_open-requires-in-Element-clause-within c = rw c.get-first.ensures (children-within (forest_of c.args.nodes.now) c.requires.sound.forest c.args.id c.args.node.now c.requires.node)
@@ -37,31 +29,30 @@ pub push_open-requires-in-Element-clause-all_within : goal.push_open-requires-in
 push_open-requires-in-Element-clause-all_within c =
     (pushed (forest_of c.args.nodes.now) c.args.ops.now.items c.push_op.new.ops.items (Close c.args.id) (slice_get_within _ c.args.id _ c.requires.node.content_is) c.requires.all_within c.in_ok-push_op-in-Element.ensures.ok).all_within
 
-pub returns-else-eq-clause-rest : goal.returns-else-eq-clause-rest
-returns-else-eq-clause-rest c =
+pub returns-else-eq-clause-pushes : goal.returns-else-eq-clause-pushes
+returns-else-eq-clause-pushes c =
     let forest = forest_of c.args.nodes.now in
     let p = pushed forest c.args.ops.now.items c.push_op.new.ops.items (Close c.args.id) (slice_get_within _ c.args.id _ c.requires.node.content_is) c.requires.all_within c.in_ok-push_op-in-Element.ensures.ok in
     let other : bytes_eq c.in-Element.element.name.local (codes "pre") ≡ false = ap (λ t. bytes_eq t (codes "pre")) (sym c.node_name.ensures) ∙ (sym c.eq.ensures ∙ c.if-eq.false) in
-    on_ok_weaker c.push_open-in-Element.result (λ more. children-rest forest c.requires.sound.forest c.args.id c.args.node.now c.in-Element.element c.requires.node c.in-Element.is other _ _ _ p.rest (more ∙ ap (λ at. row_events forest at ++ ops_events forest c.push_op.new.ops.items) c.get-first.ensures)) c.push_open-in-Element.ensures.rest
-
-pub returns-else-eq-clause-weight : goal.returns-else-eq-clause-weight
-returns-else-eq-clause-weight c =
-    let forest = forest_of c.args.nodes.now in
-    let p = pushed forest c.args.ops.now.items c.push_op.new.ops.items (Close c.args.id) (slice_get_within _ c.args.id _ c.requires.node.content_is) c.requires.all_within c.in_ok-push_op-in-Element.ensures.ok in
-    on_ok_weaker c.push_open-in-Element.result (λ more. children-weight forest c.requires.sound.forest c.args.id c.args.node.now c.requires.node _ _ _ p.weight (more ∙ ap (λ at. row_weight forest at + weight forest c.push_op.new.ops.items) c.get-first.ensures)) c.push_open-in-Element.ensures.weight
+    let open' = c.push_open-in-Element.ensures in
+    record {
+      rest = on_ok_weaker c.push_open-in-Element.result (λ more. children-rest forest c.requires.sound.forest c.args.id c.args.node.now c.in-Element.element c.requires.node c.in-Element.is other _ _ _ p.rest (more ∙ ap (λ at. row_events forest at ++ ops_events forest c.push_op.new.ops.items) c.get-first.ensures)) open'.rest;
+      all_within = on_ok-any c.push_open-in-Element.result open'.all_within;
+      fewer = on_ok_weaker c.push_open-in-Element.result (λ more. children-weight forest c.requires.sound.forest c.args.id c.args.node.now c.requires.node _ _ _ p.weight (more ∙ ap (λ at. row_weight forest at + weight forest c.push_op.new.ops.items) c.get-first.ensures)) open'.weight;
+    }
 
 pub push_open-requires-clause-within : goal.push_open-requires-clause-within
 push_open-requires-clause-within c = rw c.get-first.ensures (children-within (forest_of c.args.nodes.now) c.requires.sound.forest c.args.id c.args.node.now c.requires.node)
 
-pub returns-in_ok-add_text-in-Text-clause-rest : goal.returns-in_ok-add_text-in-Text-clause-rest
-returns-in_ok-add_text-in-Text-clause-rest c =
+pub returns-in_ok-add_text-in-Text-clause-pushes : goal.returns-in_ok-add_text-in-Text-clause-pushes
+returns-in_ok-add_text-in-Text-clause-pushes c =
     let forest = forest_of c.args.nodes.now in
-    on_ok_weaker c.push_open.result (λ more. other-rest forest c.requires.sound.forest c.args.id c.args.node.now c.requires.node (rw c.in-Text.is refl) _ _ (more ∙ ap (λ at. row_events forest at ++ ops_events forest c.args.ops.now.items) c.get-first.ensures)) c.push_open.ensures.rest
-
-pub returns-in_ok-add_text-in-Text-clause-weight : goal.returns-in_ok-add_text-in-Text-clause-weight
-returns-in_ok-add_text-in-Text-clause-weight c =
-    let forest = forest_of c.args.nodes.now in
-    on_ok_weaker c.push_open.result (λ more. other-weight forest c.requires.sound.forest c.args.id c.args.node.now c.requires.node _ _ (more ∙ ap (λ at. row_weight forest at + weight forest c.args.ops.now.items) c.get-first.ensures)) c.push_open.ensures.weight
+    let open' = c.push_open.ensures in
+    record {
+      rest = on_ok_weaker c.push_open.result (λ more. other-rest forest c.requires.sound.forest c.args.id c.args.node.now c.requires.node (rw c.in-Text.is refl) _ _ (more ∙ ap (λ at. row_events forest at ++ ops_events forest c.args.ops.now.items) c.get-first.ensures)) open'.rest;
+      all_within = on_ok-any c.push_open.result open'.all_within;
+      fewer = on_ok_weaker c.push_open.result (λ more. other-weight forest c.requires.sound.forest c.args.id c.args.node.now c.requires.node _ _ (more ∙ ap (λ at. row_weight forest at + weight forest c.args.ops.now.items) c.get-first.ensures)) open'.weight;
+    }
 
 pub push_open-requires-in_default-clause-within : goal.push_open-requires-in_default-clause-within
 push_open-requires-in_default-clause-within c = rw c.get-first.ensures (children-within (forest_of c.args.nodes.now) c.requires.sound.forest c.args.id c.args.node.now c.requires.node)
@@ -70,13 +61,13 @@ pub returns-in_default-clause-text : goal.returns-in_default-clause-text
 returns-in_default-clause-text c =
     on_ok-any c.push_open-in_default.result (other-node (forest_of c.args.nodes.now) c.args.id (string_bytes c.args.text.now) c.args.node.now.content c.in_default.not-Text c.in_default.not-Element).first
 
-pub returns-in_default-clause-rest : goal.returns-in_default-clause-rest
-returns-in_default-clause-rest c =
+pub returns-in_default-clause-pushes : goal.returns-in_default-clause-pushes
+returns-in_default-clause-pushes c =
     let forest = forest_of c.args.nodes.now in
     let other = other-node forest c.args.id (string_bytes c.args.text.now) c.args.node.now.content c.in_default.not-Text c.in_default.not-Element in
-    on_ok_weaker c.push_open-in_default.result (λ more. other-rest forest c.requires.sound.forest c.args.id c.args.node.now c.requires.node other.rest _ _ (more ∙ ap (λ at. row_events forest at ++ ops_events forest c.args.ops.now.items) c.get-first.ensures)) c.push_open-in_default.ensures.rest
-
-pub returns-in_default-clause-weight : goal.returns-in_default-clause-weight
-returns-in_default-clause-weight c =
-    let forest = forest_of c.args.nodes.now in
-    on_ok_weaker c.push_open-in_default.result (λ more. other-weight forest c.requires.sound.forest c.args.id c.args.node.now c.requires.node _ _ (more ∙ ap (λ at. row_weight forest at + weight forest c.args.ops.now.items) c.get-first.ensures)) c.push_open-in_default.ensures.weight
+    let open' = c.push_open-in_default.ensures in
+    record {
+      rest = on_ok_weaker c.push_open-in_default.result (λ more. other-rest forest c.requires.sound.forest c.args.id c.args.node.now c.requires.node other.rest _ _ (more ∙ ap (λ at. row_events forest at ++ ops_events forest c.args.ops.now.items) c.get-first.ensures)) open'.rest;
+      all_within = on_ok-any c.push_open-in_default.result open'.all_within;
+      fewer = on_ok_weaker c.push_open-in_default.result (λ more. other-weight forest c.requires.sound.forest c.args.id c.args.node.now c.requires.node _ _ (more ∙ ap (λ at. row_weight forest at + weight forest c.args.ops.now.items) c.get-first.ensures)) open'.weight;
+    }

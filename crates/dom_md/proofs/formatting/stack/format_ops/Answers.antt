@@ -13,14 +13,14 @@ format_op-requires-clause-all_within c = (popped (forest_of c.args.nodes.now) c.
 pub loop-op-smaller : goal.loop-op-smaller
 loop-op-smaller c =
     let p = popped (forest_of c.args.nodes.now) c.loop-op.ops.items c.pop.new.self.items c.in-Some.op c.in-Some.ensures.items c.loop-op.invariant.all_within in
-    omega (arith, p.weight, c.in_ok-format_op.ensures.weight)
+    omega (arith, p.weight, c.in_ok-format_op.ensures.left.fewer)
 
 pub loop-op-preserved : goal.loop-op-preserved
 loop-op-preserved c =
     let p = popped (forest_of c.args.nodes.now) c.loop-op.ops.items c.pop.new.self.items c.in-Some.op c.in-Some.ensures.items c.loop-op.invariant.all_within in
     record {
       whole = stepped (forest_of c.args.nodes.now) c.loop-op.ops.items c.pop.new.self.items c.format_op.new.ops.items c.in-Some.op (string_bytes c.args.text.now) (string_bytes c.loop-op.text) (string_bytes c.format_op.new.text) (ops_events (forest_of c.args.nodes.now) c.args.ops.items) p c.in_ok-format_op.ensures.text c.loop-op.invariant.whole;
-      all_within = c.in_ok-format_op.ensures.all_within;
+      all_within = c.in_ok-format_op.ensures.left.all_within;
     }
 
 pub loop-op-init : goal.loop-op-init
