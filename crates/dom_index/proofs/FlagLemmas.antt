@@ -2,7 +2,7 @@
 use Rattle.std.proofs.Common.{◌≡◌, ◌↔◌, ◌⊎◌, ◌<◌, ℕ, zero, suc, List, [], ◌∷◌, ◌++◌, Bool, true, false, true≢false, Option, Some, None, inl, inr, refl, sym, ap, ◌∙◌, subst, length, slice_get, take, map, add-one, arith}
 use Rattle.std.specs.Prelude.{◌&&◌, slice_index_or}
 use Rattle.std.specs.Option.{option_map}
-use Rattle.std.proofs.lemmas.List.{take_all, take_more}
+use Rattle.std.proofs.lemmas.List.{nil_from_length, take_all, take_more}
 use Rattle.std.proofs.Math.ListN.{get_or}
 use Rattle.std.proofs.lemmas.Option.{none-some, same_Some, slice_get_within, slice_get-map, slice_get-get_or, get_or_from_slice_get}
 use Rattle.dom_selectors.specs.declared.syntax.Step.{Step}
@@ -95,6 +95,10 @@ pub both_ways : (b : Bool) (P : Type 0) → Decides b P → (b ≡ true → P) �
 both_ways true P h = (λ e. h, λ p. refl)
 both_ways false P h = (λ e. absurd (true≢false (sym e)), λ p. absurd (h p))
 
+pub decided_from : (b : Bool) (P : Type 0) → (b ≡ true → P) → (P → b ≡ true) → Decides b P
+decided_from true P f g = f refl
+decided_from false P f g = λ p. true≢false (sym (g p))
+
 -- the flag below a node, by that at it
 flag_next : (forest : Forest) (k : Combinator) → IsUpward k → (Q : ℕ → Type 0) (n : ℕ) (flag : Bool) → Decides flag (HasLeft forest k Q n) → (b : Bool) → ((b ≡ true) ↔ (Q n ⊎ ((is_deep k ≡ true) × (flag ≡ true)))) → Decides b (Propagates forest k Q n)
 flag_next forest Descendant up Q n flag left true same = elim (same.0 refl) [
@@ -131,6 +135,12 @@ module _ (forest : Forest) (good : IsForest forest) (lines : AreLines forest) (f
   subject_needed i e c at r =
       let whole : take i steps ≡ steps = take_all i steps (omega (arith, e)) in
       compound_needed i c at (subst (λ (ss : Chain). StepsReach forest first ss n) (sym whole) r)
+
+-- a compound without steps
+pub alone_reaches : (forest : Forest) (first : CompoundSelector) (steps : Chain) (n i : ℕ) → length steps ≡ 0 → i ≡ 0 → (c : CompoundSelector) → compound_at first steps i ≡ Some c → Holds c forest n → StepsReach forest first steps n
+alone_reaches forest first steps n i none zeroth c at h =
+    let same : first ≡ c = same_Some first c (sym (ap (compound_at first steps) zeroth) ∙ at) in
+    subst (λ (ss : Chain). StepsReach forest first ss n) (sym (nil_from_length steps none)) (n, subst (λ d. Holds d forest n) (sym same) h, refl)
 
 module _ (forest : Forest) (good : IsForest forest) (lines : AreLines forest) (first : CompoundSelector) (steps : Chain) (upward : AreUpward steps) (n : ℕ) (flags : List Bool) (given : AreFlags forest first steps (parent forest n) flags) where
   -- the flag of a step at n

@@ -1,14 +1,11 @@
 -- Plain selectors: their tests, and what they mean.
-use Rattle.std.proofs.Common.{◌≡◌, ◌↔◌, ◌⊎◌, ◌<◌, ◌+◌, ℕ, zero, suc, List, [], ◌∷◌, ◌++◌, Some, Bool, true, false, inl, inr, refl, sym, ap, ◌∙◌, subst, length, slice_get, set, take, map, arith}
+use Rattle.std.proofs.Common.{◌≡◌, ◌↔◌, ◌⊎◌, ◌<◌, ◌+◌, ℕ, zero, suc, List, [], ◌∷◌, ◌++◌, Some, false, inl, inr, refl, sym, ap, ◌∙◌, subst, length, slice_get, set, take, map, replicate, arith}
 use Rattle.std.specs.Option.{option_map}
-use Rattle.std.specs.Prelude.{◌||◌}
-use Rattle.dom_selectors.specs.Spelling.{Decides}
-use Rattle.dom_index.proofs.ForwardLemmas.{decided_by}
 use Rattle.dom_index.proofs.PlaceLemmas.{same_or_not}
 use Rattle.std.proofs.Math.ListN.{get_or}
 use Rattle.std.proofs.lemmas.Option.{none-some, same_Some, slice_get-map, slice_get-get_or, slice_get_cases, slice_get_past, slice_get_within, get_or_from_slice_get}
 use Rattle.std.proofs.lemmas.Bool.{cases_lt}
-use Rattle.std.proofs.lemmas.List.{get_or-set_other, get_or-set_same, length-append, length-set, nil_from_length, take_more}
+use Rattle.std.proofs.lemmas.List.{get_or-set_other, get_or-set_same, length-map, length-set, nil_from_length, take_more}
 use Rattle.dom_selectors.specs.declared.syntax.Nested.{Nested}
 use Rattle.dom_links.specs.Forest.{Forest}
 use Rattle.dom_selectors.specs.declared.syntax.Combinator.{Combinator}
@@ -21,14 +18,15 @@ use Rattle.dom_selectors.specs.ValuesAsTrees.{read_compound, read_list, read_nes
 use Rattle.dom_selectors.proofs.Layers.{read_compound_is, read_selector_is, read_step_is}
 use Rattle.dom_select.specs.Meaning.{Holds, Means, StepsMatch}
 use Rattle.dom_index.specs.declared.node_tests.NodeTest.{NodeTest}
-use Rattle.dom_index.specs.declared.streaming.Chain.{Chain}
+use Rattle.dom_index.specs.declared.chains.Chain.{Chain}
 use Rattle.dom_index.specs.declared.streaming.Rows.{Rows}
-use Rattle.dom_index.specs.Tracks.{AreChainsOf, AreEmpty, AreFollowing, ArePrepared, IsChainOf, IsFollowing, IsPrepared, IsTracked, Reaches, SomeReaches, first_in, steps_in}
+use Rattle.dom_index.specs.Tracks.{AreChainsOf, AreFollowing, ArePrepared, AreTracked, IsChainOf, IsFollowing, IsPrepared, IsTracked, Reaches, SomeReaches, first_in, steps_in}
 use Rattle.dom_index.specs.BareLists.{IsBare}
 use Rattle.dom_index.specs.TypeBytes.{lists_in}
 use Rattle.dom_index.specs.FlagRows.{IsUpward, StepsReach, compound_at}
 use Rattle.dom_index.specs.NodeTests.{ArePlain, HasBareLists, IsPlain, IsReady}
 use Rattle.dom_index.proofs.FlagLemmas.{read_there}
+use Rattle.dom_index.proofs.RowStackLemmas.{rows_none}
 
 -- an element of a list with one more at its end
 pub old_or_last : {A : Type 0} (xs : List A) (y : A) (j : ℕ) (x : A) → slice_get (xs ++ y ∷ []) j ≡ Some x → (slice_get xs j ≡ Some x) ⊎ ((j ≡ length xs) × (y ≡ x))
@@ -165,28 +163,19 @@ some_more (c ∷ cs) chain forest n =
       ],
     )
 
--- empty paths follow
-pub empty_follow : (forest : Forest) (chains : List Chain) (paths : List Rows) (caches : Forest) → AreEmpty forest (length chains) paths → caches ≡ forest → AreFollowing chains paths forest caches
-empty_follow forest chains paths caches empty same = record {
-  long = empty.long;
-  each = λ i chain rows one other. let none = empty.each i rows other in ((0, (none.1, none.2)), none.0);
-  caches_are = same;
-}
+-- an empty path more
+pub tracked_more : (chains : List Chain) (forest : Forest) (all longer : List Rows) (rows : Rows) (i : ℕ) (one : Chain) → i < length chains → one ≡ get_or chains i one → length all ≡ i → longer ≡ all ++ rows ∷ [] →
+    rows.path.items ≡ [] → rows.flags.items ≡ replicate (length one.steps.now) false → AreTracked chains forest all → AreTracked chains forest longer
+tracked_more chains forest all longer rows i one inside read long is path flags so_far = λ j chain r there at. elim (old_or_last all rows j r (ap (λ (rs : List Rows). slice_get rs j) (sym is) ∙ at)) [
+  | inl old ↦ so_far j chain r there old
+  | inr last ↦
+      let same : one ≡ chain = same_Some one chain (sym (read_there chains i one inside read) ∙ (ap (slice_get chains) (sym (last.0 ∙ long)) ∙ there)) in
+      let empty : IsTracked one forest rows.path.items rows.flags.items = rows_none forest (first_in one) (steps_in one) rows.path.items rows.flags.items path (flags ∙ ap (λ k. replicate k false) (sym (length-map one.steps.now read_step))) in
+      subst (λ (q : Rows). IsTracked chain forest q.path.items q.flags.items) last.1 (subst (λ (k : Chain). IsTracked k forest rows.path.items rows.flags.items) same empty)
+]
 
-pub empty_more : (forest : Forest) (count : ℕ) (paths longer : List Rows) (rows : Rows) → AreEmpty forest count paths → longer ≡ paths ++ rows ∷ [] → rows.tree.now ≡ forest → rows.path.items ≡ [] → rows.flags.items ≡ [] → AreEmpty forest (count + 1) longer
-empty_more forest count paths longer rows empty is at path flags = record {
-  long = ap length is ∙ (length-append paths (rows ∷ []) ∙ ap (λ k. k + 1) empty.long);
-  each = λ i r read. elim (old_or_last paths rows i r (ap (λ (ps : List Rows). slice_get ps i) (sym is) ∙ read)) [
-    | inl old ↦ empty.each i r old
-    | inr last ↦ subst (λ (q : Rows). (q.tree.now ≡ forest) × (q.path.items ≡ []) × (q.flags.items ≡ [])) last.1 (at, path, flags)
-  ];
-}
-
-pub empty_none : (forest : Forest) (paths : List Rows) → paths ≡ [] → AreEmpty forest 0 paths
-empty_none forest paths is = record {
-  long = ap length is;
-  each = λ i r read. absurd (none-some r (sym (ap (λ (ps : List Rows). slice_get ps i) is ∙ slice_get_past [] i (omega arith)) ∙ read));
-}
+pub tracked_none : (chains : List Chain) (forest : Forest) (all : List Rows) → all ≡ [] → AreTracked chains forest all
+tracked_none chains forest all is = λ i chain rows there at. absurd (none-some rows (sym (ap (λ (rs : List Rows). slice_get rs i) is ∙ slice_get_past [] i (omega arith)) ∙ at))
 
 -- what is read with another default is the same
 same_read : {A : Type 0} (xs : List A) (i : ℕ) (d e : A) → i < length xs → get_or xs i d ≡ get_or xs i e
@@ -219,39 +208,50 @@ chains_next selectors i one other chains longer chain rest inside are is prepare
     subst (λ (ss : List Selector). AreChainsOf ss longer) (sym (take_more selectors i one inside)) (subst (AreChainsOf (take i selectors ++ get_or selectors i one ∷ [])) (sym is) (chains_more (take i selectors) chains (get_or selectors i one) chain are of))
 
 -- one path less to follow
-pub following_set : (chains : List Chain) (paths : List Rows) (i : ℕ) (one : Chain) (rows : Rows) (forest caches new : Forest) → i < length chains → AreFollowing chains paths forest caches → IsFollowing (get_or chains i one) rows forest new → AreFollowing chains (set paths i rows) forest new
-following_set chains paths i one rows forest caches new inside all here = record {
-  long = length-set paths i rows ∙ all.long;
-  each = λ j chain r there read. elim (same_or_not j i) [
+pub following_set : (chains : List Chain) (all : List Rows) (i : ℕ) (one : Chain) (rows : Rows) (forest caches new : Forest) → i < length chains → AreFollowing chains all forest caches → IsFollowing (get_or chains i one) rows forest new → AreFollowing chains (set all i rows) forest new
+following_set chains all i one rows forest caches new inside following here = record {
+  prepared = following.prepared;
+  long = length-set all i rows ∙ following.long;
+  tracked = λ j chain r there read. elim (same_or_not j i) [
     | inl same ↦
-        let known : i < length paths = let long = all.long in omega (arith, inside, long) in
+        let known : i < length all = let long = following.long in omega (arith, inside, long) in
         let old : get_or chains i one ≡ chain = get_or_from_slice_get chains i chain one (ap (slice_get chains) (sym same) ∙ there) in
-        let written : rows ≡ r = sym (get_or-set_same paths i rows rows known) ∙ get_or_from_slice_get (set paths i rows) i r rows (ap (slice_get (set paths i rows)) (sym same) ∙ read) in
-        let both : IsTracked (get_or chains i one) rows × (rows.tree.now ≡ forest) = (here.tracked, here.tree) in
-        subst (λ (q : Rows). IsTracked chain q × (q.tree.now ≡ forest)) written (subst (λ (k : Chain). IsTracked k rows × (rows.tree.now ≡ forest)) old both)
+        let written : rows ≡ r = sym (get_or-set_same all i rows rows known) ∙ get_or_from_slice_get (set all i rows) i r rows (ap (slice_get (set all i rows)) (sym same) ∙ read) in
+        subst (λ (q : Rows). IsTracked chain forest q.path.items q.flags.items) written (subst (λ (k : Chain). IsTracked k forest rows.path.items rows.flags.items) old here.tracked)
     | inr other ↦
-        let within : j < length paths = let w = slice_get_within (set paths i rows) j r read in let long = length-set paths i rows in omega (arith, w, long) in
-        let kept : get_or paths j r ≡ r = sym (get_or-set_other paths i j rows r other) ∙ get_or_from_slice_get (set paths i rows) j r r read in
-        all.each j chain r there (slice_get-get_or paths j r within ∙ ap (λ (q : Rows). Some q) kept)
+        let within : j < length all = let w = slice_get_within (set all i rows) j r read in let long = length-set all i rows in omega (arith, w, long) in
+        let kept : get_or all j r ≡ r = sym (get_or-set_other all i j rows r other) ∙ get_or_from_slice_get (set all i rows) j r r read in
+        following.tracked j chain r there (slice_get-get_or all j r within ∙ ap (λ (q : Rows). Some q) kept)
   ];
   caches_are = here.caches_are;
 }
 
-pub following_one : (chains : List Chain) (paths : List Rows) (i : ℕ) (one : Chain) (rows : Rows) (forest caches : Forest) → i < length chains → rows ≡ get_or paths i rows → AreFollowing chains paths forest caches → IsFollowing (get_or chains i one) rows forest caches
-following_one chains paths i one rows forest caches inside read all =
-    let both = all.each i (get_or chains i one) rows (slice_get-get_or chains i one inside) (read_there paths i rows (let long = all.long in omega (arith, inside, long)) read) in
-    record { tracked = both.0; tree = both.1; caches_are = all.caches_are }
+pub following_one : (chains : List Chain) (all : List Rows) (i : ℕ) (one : Chain) (rows : Rows) (forest caches : Forest) → i < length chains → rows ≡ get_or all i rows → AreFollowing chains all forest caches → IsFollowing (get_or chains i one) rows forest caches
+following_one chains all i one rows forest caches inside read following = record {
+  prepared = following.prepared i (get_or chains i one) (slice_get-get_or chains i one inside);
+  tracked = following.tracked i (get_or chains i one) rows (slice_get-get_or chains i one inside) (read_there all i rows (let long = following.long in omega (arith, inside, long)) read);
+  caches_are = following.caches_are;
+}
 
-either : (a b : Bool) (P Q : Type 0) → Decides a P → Decides b Q → Decides (a || b) (P ⊎ Q)
-either true b P Q p q = inl p
-either false true P Q p q = inr q
-either false false P Q p q = λ x. elim x [
-  | inl y ↦ p y
-  | inr y ↦ q y
+-- one of the first selectors is one of them all
+pub some_taken : (k : ℕ) (chains : List Chain) (forest : Forest) (n : ℕ) → SomeReaches (take k chains) forest n → SomeReaches chains forest n
+some_taken zero chains forest n h = absurd h
+some_taken (suc k) [] forest n h = absurd h
+some_taken (suc k) (chain ∷ chains) forest n h = elim h [
+  | inl here ↦ inl here
+  | inr later ↦ inr (some_taken k chains forest n later)
 ]
 
-pub any_more : (chains : List Chain) (i : ℕ) (one : Chain) (any b : Bool) (forest : Forest) (n : ℕ) → i < length chains → Decides any (SomeReaches (take i chains) forest n) → Decides b (Reaches (get_or chains i one) forest n) → Decides (any || b) (SomeReaches (take (i + 1) chains) forest n)
-any_more chains i one any b forest n inside before here =
-    let same = some_more (take i chains) (get_or chains i one) forest n in
-    subst (λ (cs : List Chain). Decides (any || b) (SomeReaches cs forest n)) (sym (take_more chains i one inside))
-    (decided_by (any || b) (SomeReaches (take i chains) forest n ⊎ Reaches (get_or chains i one) forest n) (SomeReaches (take i chains ++ get_or chains i one ∷ []) forest n) same.1 same.0 (either any b _ _ before here))
+-- one selector more
+module _ (chains : List Chain) (i : ℕ) (one : Chain) (forest : Forest) (n : ℕ) (inside : i < length chains) where
+  next_taken : SomeReaches (take (i + 1) chains) forest n ↔ (SomeReaches (take i chains) forest n ⊎ Reaches (get_or chains i one) forest n)
+  next_taken = subst (λ (cs : List Chain). SomeReaches cs forest n ↔ (SomeReaches (take i chains) forest n ⊎ Reaches (get_or chains i one) forest n)) (sym (take_more chains i one inside)) (some_more (take i chains) (get_or chains i one) forest n)
+
+  pub some_here : Reaches (get_or chains i one) forest n → SomeReaches chains forest n
+  some_here h = some_taken (i + 1) chains forest n (next_taken.1 (inr h))
+
+  pub none_here : (SomeReaches (take i chains) forest n → ⊥) → (Reaches (get_or chains i one) forest n → ⊥) → SomeReaches (take (i + 1) chains) forest n → ⊥
+  none_here before here h = elim (next_taken.0 h) [
+    | inl some ↦ before some
+    | inr one ↦ here one
+  ]

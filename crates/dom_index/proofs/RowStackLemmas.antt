@@ -1,25 +1,22 @@
 -- Rows of flags, one for each node of a path.
-use Rattle.std.proofs.Common.{◌≡◌, ◌<◌, ◌+◌, ◌-◌, ℕ, zero, suc, List, [], ◌∷◌, ◌++◌, Bool, false, true≢false, Option, Some, None, inl, inr, refl, sym, ap, ◌∙◌, subst, length, slice_get, take, drop, replicate, map, add-one, arith}
+use Rattle.std.proofs.Common.{◌≡◌, ◌<◌, ◌≤◌, ◌+◌, ◌-◌, ℕ, zero, suc, List, [], ◌∷◌, ◌++◌, Bool, false, true≢false, Option, Some, None, inl, inr, refl, sym, ap, ◌∙◌, subst, length, slice_get, take, drop, replicate, append_assoc, append-nil, get_or, arith}
 use Rattle.std.specs.Prelude.{slice_index_or, option_to_list, IsSome}
 use Rattle.std.proofs.Math.Seq.{take-append_seam, drop-append_seam, get_or-append_seam}
-use Rattle.std.proofs.lemmas.List.{length-append, length-map, length-replicate, get_or-replicate, get_or_append_left}
+use Rattle.std.proofs.lemmas.List.{length-append, length-replicate, get_or-replicate, get_or_append_left, take_more}
 use Rattle.std.proofs.lemmas.Bool.{cases_lt}
 use Rattle.std.proofs.lemmas.Option.{none-some, same_Some, slice_get-get_or, slice_get_past, slice_get_within}
-use Rattle.std.proofs.Math.ListN.{get_or}
 use Rattle.dom_links.specs.Forest.{Forest, parent}
 use Rattle.dom_links.specs.Laws.{AreLines}
 use Rattle.dom_links.specs.Sound.{IsForest}
 use Rattle.dom_links.specs.Trees.{ancestors}
-use Rattle.dom_links.specs.Walk.{IsWithin}
+use Rattle.dom_links.specs.Lists.{first as first_of}
 use Rattle.dom_links.proofs.forest.Depth.{parent_inside}
 use Rattle.dom_select.proofs.RowLemmas.{parent_first}
-use Rattle.dom_selectors.specs.declared.syntax.Step.{Step}
-use Rattle.dom_selectors.specs.ValuesAsTrees.{read_step}
-use Rattle.dom_index.proofs.FlagLemmas.{read_there}
 use Rattle.dom_selectors.specs.declared.syntax.Combinator.{Combinator}
 use Rattle.dom_selectors.specs.Spelling.{Decides}
 use Rattle.dom_selectors.specs.Syntax.{CompoundSelector}
 use Rattle.dom_index.specs.FlagRows.{AreFlags, AreRows, AreRowsTo, PropagatesFrom, StepsReach, top}
+use Rattle.dom_index.specs.Tracks.{IsOnWay}
 
 -- the last of a list
 pub top_last : (ns : List ℕ) (n : ℕ) → top (ns ++ n ∷ []) ≡ Some n
@@ -27,6 +24,22 @@ top_last ns n =
     let long = length-append ns (n ∷ []) in
     let at : length (ns ++ n ∷ []) - 1 ≡ length ns = omega (arith, long) in
     ap (slice_get (ns ++ n ∷ [])) at ∙ (slice_get-get_or (ns ++ n ∷ []) (length ns) n (omega (arith, long)) ∙ ap (λ m. Some m) (get_or-append_seam ns n [] n))
+
+-- the last of the first nodes
+pub top_taken : (ns : List ℕ) (k n : ℕ) → k < length ns → n ≡ get_or ns k n → top (take (k + 1) ns) ≡ Some n
+top_taken ns k n inside read = ap top (take_more ns k n inside) ∙ (top_last (take k ns) (get_or ns k n) ∙ ap (λ m. Some m) (sym read))
+
+take_front : (k : ℕ) (xs ys : List ℕ) → k ≤ length xs → take k (xs ++ ys) ≡ take k xs
+take_front zero xs ys within = refl
+take_front (suc k) [] ys within = absurd (omega (arith, within))
+take_front (suc k) (x ∷ xs) ys within = ap (λ ns. x ∷ ns) (take_front k xs ys (omega (arith, within)))
+
+-- the first nodes stay where a later one is removed
+pub front_kept : (k : ℕ) (ns front : List ℕ) (o : Option ℕ) → ns ≡ front ++ option_to_list o → k < length ns → take k front ≡ take k ns
+front_kept k ns front None is long = let same : ns ≡ front = is ∙ append-nil front in ap (take k) (sym same)
+front_kept k ns front (Some n) is long =
+    let counted = ap length is ∙ length-append front (n ∷ []) in
+    sym (ap (take k) is ∙ take_front k front (n ∷ []) (omega (arith, counted, long)))
 
 not_empty : {A : Type 0} (xs : List A) (x : A) → xs ++ x ∷ [] ≡ [] → ⊥
 not_empty xs x e = let long = sym (length-append xs (x ∷ [])) ∙ ap length e in omega (arith, long)
@@ -46,6 +59,9 @@ module _ (forest : Forest) (first : CompoundSelector) (steps : List (Combinator 
         subst (λ b. Decides b (PropagatesFrom forest s.0 (StepsReach forest first (take j steps)) None)) (sym off) (λ h. h);
   }
 
+  pub rows_none : (ns : List ℕ) (flags : List Bool) → ns ≡ [] → flags ≡ replicate (length steps) false → AreRows forest first steps ns flags
+  rows_none ns flags none off = (0, (none, flags_none flags off))
+
   pub rows_push : (ns : List ℕ) (flags row : List Bool) (n : ℕ) → AreRows forest first steps ns flags → AreFlags forest first steps (Some n) row → AreRows forest first steps (ns ++ n ∷ []) (flags ++ row)
   rows_push ns flags row n rows here = (suc rows.0, (ns, n, flags, row, refl, refl, here, rows.1))
 
@@ -59,9 +75,12 @@ module _ (forest : Forest) (first : CompoundSelector) (steps : List (Combinator 
       (depth, subst (λ (ms : List ℕ). AreRowsTo forest first steps depth ms (take (length flags - length steps) flags)) fronts (subst (AreRowsTo forest first steps depth old) (sym kept) rest))
 
   -- the row at the end is that of the last node
-  pub rows_top : (ns : List ℕ) (flags : List Bool) → 0 < length ns → AreRows forest first steps ns flags → AreFlags forest first steps (top ns) (drop (length flags - length steps) flags)
-  rows_top ns flags some (zero, rows) = absurd (let none = ap length rows.0 in omega (arith, none))
-  rows_top ns flags some (suc depth, (old, m, before, row, split, cut, here, rest)) =
+  pub rows_top : (ns : List ℕ) (flags : List Bool) → AreRows forest first steps ns flags → AreFlags forest first steps (top ns) (drop (length flags - length steps) flags)
+  rows_top ns flags (zero, (none, off)) =
+      let at : length flags - length steps ≡ 0 = let w = off.long in omega (arith, w) in
+      let last : top ns ≡ None = ap top none ∙ slice_get_past [] 0 (omega arith) in
+      subst (λ (o : Option ℕ). AreFlags forest first steps o (drop (length flags - length steps) flags)) (sym last) (subst (λ (k : ℕ). AreFlags forest first steps None (drop k flags)) (sym at) off)
+  rows_top ns flags (suc depth, (old, m, before, row, split, cut, here, rest)) =
       let long = ap length cut ∙ length-append before row in
       let at : length flags - length steps ≡ length before = let w = here.long in omega (arith, long, w) in
       let same : drop (length flags - length steps) flags ≡ row = ap (λ k. drop k flags) at ∙ (ap (drop (length before)) cut ∙ drop-append_seam before row) in
@@ -69,19 +88,16 @@ module _ (forest : Forest) (first : CompoundSelector) (steps : List (Combinator 
       subst (λ (o : Option ℕ). AreFlags forest first steps o (drop (length flags - length steps) flags)) (sym last) (subst (AreFlags forest first steps (Some m)) (sym same) here)
 
   -- the last row, as it was read
-  pub last_flags : (other : Forest) (ns seen : List ℕ) (flags read none row : List Bool) (above : Option ℕ) → other ≡ forest → seen ≡ ns → read ≡ flags → none ≡ replicate (length steps) false → top ns ≡ above →
-      ((f : Forest) (c : CompoundSelector) (ss : List (Combinator × CompoundSelector)) → none ≡ replicate (length ss) false → AreRows f c ss seen read → AreFlags f c ss (top seen) row) →
-      AreRows forest first steps ns flags → AreFlags other first steps above row
-  last_flags other ns seen flags read none row above same nodes cells off at given rows =
-      let there : AreRows forest first steps seen read = subst (λ (ms : List ℕ). AreRows forest first steps ms read) (sym nodes) (subst (AreRows forest first steps ns) (sym cells) rows) in
-      subst (λ (f : Forest). AreFlags f first steps above row) (sym same) (subst (λ (o : Option ℕ). AreFlags forest first steps o row) (ap top nodes ∙ at) (given forest first steps off there))
+  pub last_flags : (ns : List ℕ) (flags read row : List Bool) (above : Option ℕ) → read ≡ flags → top ns ≡ above → ((f : Forest) (ms : List ℕ) → AreRows f first steps ms read → AreFlags f first steps (top ms) row) →
+      AreRows forest first steps ns flags → AreFlags forest first steps above row
+  last_flags ns flags read row above cells at given rows =
+      subst (λ (o : Option ℕ). AreFlags forest first steps o row) at (given forest ns (subst (AreRows forest first steps ns) (sym cells) rows))
 
   -- one row more, as it was written
-  pub rows_entered : (other : Forest) (ns longer : List ℕ) (flags wider row read : List Bool) (n : ℕ) → other ≡ forest → longer ≡ ns ++ n ∷ [] → wider ≡ flags ++ read → read ≡ row →
-      AreRows forest first steps ns flags → AreFlags other first steps (Some n) row → AreRows forest first steps longer wider
-  rows_entered other ns longer flags wider row read n same nodes cells is rows here =
-      let added = rows_push ns flags row n rows (subst (λ (f : Forest). AreFlags f first steps (Some n) row) same here) in
-      subst (λ (ms : List ℕ). AreRows forest first steps ms wider) (sym nodes) (subst (AreRows forest first steps (ns ++ n ∷ [])) (sym (cells ∙ ap (λ r. flags ++ r) is)) added)
+  pub rows_entered : (ns longer : List ℕ) (flags wider row read : List Bool) (n : ℕ) → longer ≡ ns ++ n ∷ [] → wider ≡ flags ++ read → read ≡ row →
+      AreRows forest first steps ns flags → AreFlags forest first steps (Some n) row → AreRows forest first steps longer wider
+  rows_entered ns longer flags wider row read n nodes cells is rows here =
+      subst (λ (ms : List ℕ). AreRows forest first steps ms wider) (sym nodes) (subst (AreRows forest first steps (ns ++ n ∷ [])) (sym (cells ∙ ap (λ r. flags ++ r) is)) (rows_push ns flags row n rows here))
 
   -- one row less
   pub rows_left : (ns front : List ℕ) (o : Option ℕ) (flags cut : List Bool) (left : ℕ) → ns ≡ front ++ option_to_list o → IsSome o → cut ≡ take left flags → left ≡ length flags - length steps →
@@ -115,9 +131,13 @@ module _ (forest : Forest) (first : CompoundSelector) (steps : List (Combinator 
   pub filling_all : (above : Option ℕ) (flags : List Bool) → Filling above (length steps) flags → AreFlags forest first steps above flags
   filling_all above flags full = record { long = full.long; each = λ i s at. full.each i s (slice_get_within steps i s at) at }
 
--- as many false flags as there are steps
-pub none_for : (steps : List Step) (none : List Bool) → none ≡ replicate (length steps) false → none ≡ replicate (length (map read_step steps)) false
-none_for steps none is = is ∙ ap (λ m. replicate m false) (sym (length-map steps read_step))
+get_seam : (xs : List ℕ) (a : ℕ) (rest : List ℕ) → slice_get (xs ++ a ∷ rest) (length xs) ≡ Some a
+get_seam [] a rest = refl
+get_seam (x ∷ xs) a rest = get_seam xs a rest
+
+get_past_seam : (xs : List ℕ) (a : ℕ) (rest : List ℕ) → slice_get (xs ++ a ∷ rest) (suc (length xs)) ≡ slice_get rest 0
+get_past_seam [] a rest = refl
+get_past_seam (x ∷ xs) a rest = get_past_seam xs a rest
 
 -- what stands at a place among the ancestors, and what stands next to it
 module _ (forest : Forest) (good : IsForest forest) (lines : AreLines forest) where
@@ -145,18 +165,34 @@ module _ (forest : Forest) (good : IsForest forest) (lines : AreLines forest) wh
       let rest : ancestors forest m ≡ ms = cc in
       above_at ms m rest j a is
 
-  -- the ancestors, read from the last to the first
-  module _ (n : ℕ) (above : List ℕ) (whole : above ≡ ancestors forest n) (i k a : ℕ) (before : i < length above) (at : k ≡ length above - 1 - i) (read : a ≡ get_or above k a) where
-    pub read_back : slice_get above (length above - (i + 1)) ≡ Some a
-    read_back = ap (slice_get above) {x = length above - (i + 1)} (omega (arith, before, at)) ∙ read_there above k a (omega (arith, before, at)) read
+  first_read : (ns : List ℕ) → slice_get ns 0 ≡ first_of ns
+  first_read [] = slice_get_past [] 0 (omega arith)
+  first_read (n ∷ ns) = refl
 
-    pub back_known : a < length forest.content
-    back_known = (above_at above n (sym whole) k a (read_there above k a (omega (arith, before, at)) read)).0
+  -- what stands after some of the ancestors
+  above_after : (n a : ℕ) (xs rest : List ℕ) → ancestors forest n ≡ xs ++ a ∷ rest → (a < length forest.content) × (parent forest a ≡ first_of rest)
+  above_after n a xs rest whole =
+      let here : slice_get (ancestors forest n) (length xs) ≡ Some a = ap (λ (ns : List ℕ). slice_get ns (length xs)) whole ∙ get_seam xs a rest in
+      let both = above_at (ancestors forest n) n refl (length xs) a here in
+      let next : slice_get (ancestors forest n) (suc (length xs)) ≡ first_of rest = ap (λ (ns : List ℕ). slice_get ns (suc (length xs))) whole ∙ (get_past_seam xs a rest ∙ first_read rest) in
+      (both.0, both.1 ∙ next)
 
-    pub back_parent : parent forest a ≡ slice_get above (length above - i)
-    back_parent = (above_at above n (sym whole) k a (read_there above k a (omega (arith, before, at)) read)).1 ∙ ap (slice_get above) (let next = add-one k in omega (arith, before, at, next))
+  -- the last of the missing ancestors comes next, and then the others are missing
+  module _ (n a : ℕ) (path missing left : List ℕ) (way : IsOnWay forest n path missing) (is : missing ≡ left ++ a ∷ []) where
+    whole_after : ancestors forest n ≡ left ++ a ∷ way.0
+    whole_after = way.1 ∙ (ap (λ (ns : List ℕ). ns ++ way.0) is ∙ append_assoc left (a ∷ []) way.0)
 
--- the parent of a node is one of the forest's
-pub parent_within : (forest other : Forest) → IsForest forest → (n : ℕ) (above : Option ℕ) → other ≡ forest → above ≡ parent forest n → IsWithin other above
-parent_within forest other good n None same is = tt
-parent_within forest other good n (Some p) same is = subst (λ (f : Forest). p < length f.content) (sym same) (parent_inside forest n p good (sym is))
+    pub way_known : a < length forest.content
+    way_known = (above_after n a left way.0 whole_after).0
+
+    pub way_parent : top path ≡ parent forest a
+    way_parent = way.2 ∙ sym (above_after n a left way.0 whole_after).1
+
+    pub way_more : (longer : List ℕ) → top longer ≡ Some a → IsOnWay forest n longer left
+    way_more longer last = (a ∷ way.0, whole_after, last)
+
+  -- none is missing
+  pub way_whole : (n : ℕ) (path missing : List ℕ) → IsOnWay forest n path missing → missing ≡ [] → top path ≡ parent forest n
+  way_whole n path missing way none =
+      let whole : ancestors forest n ≡ way.0 = way.1 ∙ ap (λ (ns : List ℕ). ns ++ way.0) none in
+      way.2 ∙ (ap first_of (sym whole) ∙ (sym (first_read (ancestors forest n)) ∙ sym (parent_above n)))

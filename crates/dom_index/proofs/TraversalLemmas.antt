@@ -16,7 +16,7 @@ use Rattle.dom_links.specs.Walk.{IsWithin, later, row_on}
 use Rattle.dom_links.proofs.forest.Depth.{parent_inside}
 use Rattle.dom_index.specs.TypeBytes.{AreTypeBytes, byte_at, is_type_byte}
 use Rattle.dom_index.specs.declared.preorder.Traversal.{Traversal}
-use Rattle.dom_index.specs.Orders.{AreSubtreeEnds, ArePlaces, AreSpans, IsOrder, IsTraversed, number_at}
+use Rattle.dom_index.specs.Orders.{AreSubtreeEnds, ArePlaces, AreSpans, HasVisitedTo, IsOrder, IsTraversed, number_at}
 use Rattle.dom_index.specs.Preorder.{above_it, preorder, preorder_to, run_on, run_past, starts_run, walk_from}
 use Rattle.dom_index.proofs.OrderLemmas.{are_spans, from_is}
 use Rattle.dom_index.proofs.PlaceLemmas.{distinct_places, found_at, front_stays, in_place, placed_more, same_or_not}
@@ -196,10 +196,17 @@ order_grows forest n (suc k) m e =
     (before.0 ++ run, ap (preorder_to forest) next ∙ (ap (λ ns. ns ++ run) before.1 ∙ append_assoc (preorder_to forest n) before.0 run))
 
 -- a node that starts no run adds nothing to the order
-pub none_started : (forest : Forest) (n : ℕ) → starts_run forest n ≡ false → preorder_to forest (n + 1) ≡ preorder_to forest n
+none_started : (forest : Forest) (n : ℕ) → starts_run forest n ≡ false → preorder_to forest (n + 1) ≡ preorder_to forest n
 none_started forest n none =
     let next : n + 1 ≡ suc n = omega arith in
     ap (preorder_to forest) next ∙ (ap (λ b. preorder_to forest n ++ cond b (walk_from forest n) []) none ∙ append-nil (preorder_to forest n))
+
+pub none_more : (forest : Forest) (n : ℕ) (traversal : Traversal) → starts_run forest n ≡ false → HasVisitedTo forest n traversal → HasVisitedTo forest (n + 1) traversal
+none_more forest n traversal none before = record {
+  visited = before.visited ∙ ap length (sym (none_started forest n none));
+  traversed = before.traversed;
+  ended = before.ended;
+}
 
 one_started : (forest : Forest) (n : ℕ) → starts_run forest n ≡ true → preorder_to forest (n + 1) ≡ preorder_to forest n ++ walk_from forest n
 one_started forest n starts =

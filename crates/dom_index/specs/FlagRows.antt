@@ -50,9 +50,9 @@ pub record AreFlags (forest : Forest) (first : CompoundSelector) (steps : List (
   pub long : length flags ≡ length steps
   pub each : (j : ℕ) (s : Combinator × CompoundSelector) → slice_get steps j ≡ Some s → Decides (slice_index_or flags j false) (PropagatesFrom forest s.0 (StepsReach forest first (take j steps)) above)
 
--- the flags at the children of each of so many nodes, one row after the other
+-- the flags at a node without a parent, and at the children of each of so many nodes, one row after the other
 abbrev pub AreRowsTo : Forest → CompoundSelector → List (Combinator × CompoundSelector) → ℕ → List ℕ → List Bool → Type 0
-AreRowsTo forest first steps zero ns flags = (ns ≡ []) × (flags ≡ [])
+AreRowsTo forest first steps zero ns flags = (ns ≡ []) × AreFlags forest first steps None flags
 AreRowsTo forest first steps (suc depth) ns flags =
     (front : List ℕ) × (n : ℕ) × (before : List Bool) × (row : List Bool) × (ns ≡ front ++ n ∷ []) × (flags ≡ before ++ row) × AreFlags forest first steps (Some n) row × AreRowsTo forest first steps depth front before
 

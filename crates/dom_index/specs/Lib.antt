@@ -11,3 +11,4 @@ pub mod FlagRows
 pub mod BareLists
 pub mod NodeTests
 pub mod Tracks
+pub mod PreparedCompounds

@@ -1,12 +1,13 @@
 -- The preorder as it is written in an index.
-use Rattle.std.specs.Prelude.{ℕ, ◌≡◌, ◌≢◌, ◌<◌, ◌+◌, Bool, false, true, List, ◌∷◌, Some, None, length, slice_get, slice_index_or, slice_range}
+use Rattle.std.specs.Prelude.{ℕ, ◌≡◌, ◌≢◌, ◌<◌, ◌+◌, Bool, false, true, List, [], ◌∷◌, Option, Some, None, length, slice_get, slice_index_or, slice_range}
 use Rattle.dom_nodes.specs.declared.node_data.NodeData.{NodeData}
 use Rattle.dom_links.specs.Forest.{Forest, parent, siblings}
 use Rattle.dom_links.specs.Lists.{before, stands_in}
 use Rattle.dom_links.specs.Trees.{ancestors, walk_below}
+use Rattle.dom_links.specs.Walk.{IsWithin}
 use Rattle.dom_index.specs.declared.preorder.Traversal.{Traversal}
 use Rattle.dom_index.specs.TypeBytes.{byte_at, is_type_byte}
-use Rattle.dom_index.specs.Preorder.{preorder, run_past}
+use Rattle.dom_index.specs.Preorder.{above_it, preorder, preorder_to, run_on, run_past}
 use Rattle.dom_index.specs.NodeSets.{in_set}
 
 abbrev pub number_at : List ℕ → ℕ → ℕ
@@ -31,6 +32,25 @@ pub record AreSubtreeEnds (forest : Forest) (path : List ℕ) (visited ahead : �
   pub long : length subtree_ends ≡ length forest.content
   pub begun : (n : ℕ) → stands_in n path ≡ true → (i : ℕ) × (i < visited) × (number_at (preorder forest) i ≡ n) × (i + 1 + length (walk_below forest n) + length (run_past forest (n ∷ ancestors forest n)) ≡ visited + ahead)
   pub answer : (i : ℕ) → i < visited → stands_in (number_at (preorder forest) i) path ≡ false → number_at subtree_ends (number_at (preorder forest) i) ≡ i + length (walk_below forest (number_at (preorder forest) i))
+
+-- `next` is the next node of a run, if there is one, and the subtree ends are those before it is visited
+pub record AreEndsBefore (forest : Forest) (next : Option ℕ) (visited : ℕ) (subtree_ends : List ℕ) : Type 0 where
+  pub within : IsWithin forest next
+  pub ended : AreSubtreeEnds forest (above_it forest next) visited (length (run_on forest next)) subtree_ends
+
+-- n is a node, and the next one in preorder that the traversal visits
+pub record IsAt (forest : Forest) (n : ℕ) (traversal : Traversal) : Type 0 where
+  pub known : n < length forest.content
+  pub room : traversal.visited < length forest.content
+  pub next : number_at (preorder forest) traversal.visited ≡ n
+  pub traversed : IsTraversed forest traversal
+  pub ended : AreSubtreeEnds forest (ancestors forest n) traversal.visited (length (run_on forest (Some n))) traversal.subtree_ends.items
+
+-- the runs were visited whose first nodes have numbers below n
+pub record HasVisitedTo (forest : Forest) (n : ℕ) (traversal : Traversal) : Type 0 where
+  pub visited : traversal.visited ≡ length (preorder_to forest n)
+  pub traversed : IsTraversed forest traversal
+  pub ended : AreSubtreeEnds forest [] traversal.visited 0 traversal.subtree_ends.items
 
 -- the number at each position of the preorder has that position
 abbrev pub ArePlaces : Forest → List ℕ → List ℕ → Type 0

@@ -1,6 +1,7 @@
 //! An index of a tree's nodes in preorder, and selection by sets of nodes.
 #![tactic(auto)]
 
+mod chains;
 mod collect;
 mod combinators;
 mod evaluation;

@@ -1,16 +1,16 @@
 //! Sets of nodes as one flag for each node, and their operations.
 
-ghost use Rattle.std.specs.Prelude.{◌≡◌, ◌<◌, ◌≤◌, ◌+◌, ◌^◌, ℕ, true, length, map, IfOk, IfSome};
+ghost use Rattle.std.specs.Prelude.{◌≡◌, ◌<◌, ◌≤◌, ◌+◌, ℕ, true, length, map, IfOk};
 ghost use Rattle.dom_selectors.specs.declared.syntax.Combinator.TheVariants.{Sibling};
 ghost use Rattle.dom_selectors.specs.ListsAsTrees.{lists_of};
 ghost use Rattle.dom_selectors.specs.Syntax.{no_lists};
 ghost use Rattle.dom_selectors.specs.ValuesAsTrees.{read_compound, read_nested};
 ghost use Rattle.dom_links.specs.ListMoves.{element_at};
 ghost use Rattle.dom_selectors.specs.Spelling.{Decides};
-ghost use Rattle.dom_select.specs.Answers.{AreAnswers};
 ghost use Rattle.dom_select.specs.Meaning.{Holds, ListsHold};
 ghost use Rattle.dom_index.specs.TestCounts.{IsFilteredByCompound, AddsTests, cardinality};
-ghost use Rattle.dom_index.specs.TypeBytes.{AreElements, IsTypeFilterOf, lists_in};
+ghost use Rattle.dom_index.specs.TypeBytes.{AreElements, lists_in};
+ghost use Rattle.dom_index.specs.PreparedCompounds.{IsPreparedAt};
 ghost use Rattle.dom_index.specs.NodeSets.{AllHold, AreOperands, IsComplement, IsIntersection};
 ghost use Rattle.dom_index.specs.NodeSets.{IsPrefiltered, IsSetOf, IsUnion, in_set};
 
@@ -48,15 +48,15 @@ pub(crate) fn filter_by_compound(
         answers: vec![in preorder.tree.allocator(); true; compound.nested.len()]?,
     };
     let mut caches = SelectorCaches::new(preorder.tree);
+    let asked = member_count(&wanted);
     let mut table = wanted;
-    let mut asked = 0;
     for n in 0..table.len() {
         if !table[n] {
             continue;
         }
-        table[n] = compound_holds(preorder, &prepared, n, &mut caches, &mut asked);
+        table[n] = compound_holds(preorder, &prepared, n, &mut caches);
     }
-    *tests = tests.saturating_add(asked);
+    *tests = tests.saturating_add(asked as u128);
     Ok(table)
 }
 
@@ -68,33 +68,32 @@ struct PreparedCompound<'c> {
     answers: Vec<bool>,
 }
 
-/// Whether the node matches the compound; its type alone may decide that. It adds one to `asked`.
+/// Whether the node matches the compound; its type alone may decide that.
 fn compound_holds(
     preorder: &Preorder<'_>,
     prepared: &PreparedCompound<'_>,
     n: usize,
     caches: &mut SelectorCaches<'_>,
-    asked: &mut u128,
 ) -> bool
     requires known { n < length preorder.now.tree.now.content }
-    requires name { IfSome prepared.now.name
-        (IsTypeFilterOf (read_compound prepared.now.compound.now)) }
-    requires answers { AreAnswers
-        (lists_of (map read_nested prepared.now.compound.now.nested.items))
-        preorder.now.tree.now n prepared.now.answers.items }
+    requires prepared { IsPreparedAt preorder.now.tree.now n prepared.now }
     requires caches { caches.old ≡ preorder.now.tree.now }
-    requires room { asked.old + 1 < 2 ^ 128 }
     ensures is { Decides result (Holds (read_compound prepared.now.compound.now)
         preorder.now.tree.now n) }
     ensures kept { caches.new ≡ caches.old }
-    ensures counted { asked.new ≡ asked.old + 1 }
 {
     if let Some(answer) = decided_by_type(preorder, n, prepared.name) {
-        *asked += 1;
         return answer;
     }
     let node = NodeRef::new(numbered(preorder.tree, n), preorder.tree);
-    test_compound(prepared.compound, &node, &prepared.answers, caches, asked)
+    let mut tests = 0;
+    test_compound(
+        prepared.compound,
+        &node,
+        &prepared.answers,
+        caches,
+        &mut tests,
+    )
 }
 
 /// The elements.

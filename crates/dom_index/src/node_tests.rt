@@ -3,7 +3,6 @@
 ghost use Rattle.std.specs.Prelude.{◌≡◌, ◌<◌, length, map, slice_get, true, IfOk, IfSome};
 ghost use Rattle.std.specs.Prelude.{Some};
 ghost use Rattle.dom_nodes.specs.declared.node_data.NodeData.{NodeData};
-ghost use Rattle.dom_links.specs.Forest.{parent};
 ghost use Rattle.dom_links.specs.ListMoves.{element_at};
 ghost use Rattle.dom_selectors.specs.ListsAsTrees.{lists_of};
 ghost use Rattle.dom_selectors.specs.Spelling.{Decides};
@@ -17,8 +16,6 @@ ghost use Rattle.dom_index.specs.TypeBytes.{IsTypeFilterOf, is_type_byte, lists_
 use crate::type_filter::{NO_ELEMENT, TypeFilter, decided, type_byte, type_filter_of};
 use dom_links::iters::node_at;
 use dom_nodes::fault::OutOfMemory;
-use dom_nodes::link::Link;
-use dom_nodes::node_data::TreeNode;
 use dom_nodes::node_id::NodeId;
 use dom_select::matcher::caches::SelectorCaches;
 use dom_select::matcher::compounds::test_compound;
@@ -26,19 +23,15 @@ use dom_selectors::syntax::{Compound, Nested, Selector};
 use dom_trees::node_ref::NodeRef;
 use dom_trees::tree::Tree;
 
-/// A node of a tree with its type byte and its parent, and whether there is more below it than a
-/// text.
+/// A node of a tree with its type byte.
 #[derive(Drop)]
 pub(crate) struct Visited<'t> {
     pub(crate) tree: &'t Tree,
     pub(crate) id: NodeId,
     pub(crate) byte: u8,
-    pub(crate) above: Link,
-    pub(crate) is_inner: bool,
     ghost known: { id < length tree.now.content },
     ghost named: { (node : NodeData) → slice_get tree.now.content id ≡ Some node
         → is_type_byte node byte ≡ true },
-    ghost parent_given: { above ≡ parent tree.now id },
 }
 
 impl<'t> Visited<'t> {
@@ -49,14 +42,8 @@ impl<'t> Visited<'t> {
         ensures tree { result.tree ≡ tree.entry }
         ensures id { result.id ≡ id }
     {
-        let node = node_at(tree.nodes(), id);
-        Visited {
-            tree,
-            id,
-            byte: type_byte(&node.content),
-            above: node.parent,
-            is_inner: is_inner(tree, node),
-        }
+        let byte = type_byte(&node_at(tree.nodes(), id).content);
+        Visited { tree, id, byte }
     }
 
     /// Whether the node is an element.
@@ -65,21 +52,6 @@ impl<'t> Visited<'t> {
         ensures { result ≡ element_at self.now.tree.now self.now.id }
     {
         self.byte != NO_ELEMENT
-    }
-}
-
-/// Whether the node has children other than one text.
-#[inline(always)]
-fn is_inner(tree: &Tree, node: &TreeNode) -> bool {
-    let Some(first) = node.first_child.get() else {
-        return false;
-    };
-    if node.first_child != node.last_child {
-        return true;
-    }
-    match tree.tree_node(&first) {
-        Some(child) => !child.is_text(),
-        None => false,
     }
 }
 
@@ -105,19 +77,6 @@ impl<'c> NodeTest<'c> {
             name: type_filter_of(compound),
             answers,
         })
-    }
-
-    /// Whether the compound fails at the node by its type.
-    #[inline(always)]
-    pub(crate) fn fails_type(&self, visited: &Visited<'_>) -> bool
-        requires { IsReady self.now }
-        ensures { result ≡ true
-            → Holds (read_compound self.now.compound.now) visited.now.tree.now visited.now.id → ⊥ }
-    {
-        match decided_at(visited, self.name) {
-            Some(answer) => !answer,
-            None => false,
-        }
     }
 
     /// Whether the compound matches the node. The caches are the tree's.

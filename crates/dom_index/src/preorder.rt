@@ -7,11 +7,10 @@ ghost use Rattle.dom_links.specs.Laws.{AreLines, AreTrees};
 ghost use Rattle.dom_links.specs.Lists.{IsDistinct, first, stands_in};
 ghost use Rattle.dom_links.specs.Sound.{IsForest};
 ghost use Rattle.dom_links.specs.Trees.{ancestors, walk_below};
-ghost use Rattle.dom_links.specs.Walk.{IsWithin};
 ghost use Rattle.dom_index.specs.TypeBytes.{AreTypeBytes};
-ghost use Rattle.dom_index.specs.Orders.{AreSubtreeEnds, ArePlaces, AreSpans, IsOrder, IsTraversed};
-ghost use Rattle.dom_index.specs.Orders.{number_at};
-ghost use Rattle.dom_index.specs.Preorder.{above_it, preorder, preorder_to, run_on, run_past};
+ghost use Rattle.dom_index.specs.Orders.{AreEndsBefore, AreSubtreeEnds, ArePlaces, AreSpans};
+ghost use Rattle.dom_index.specs.Orders.{HasVisitedTo, IsAt, IsOrder, IsTraversed};
+ghost use Rattle.dom_index.specs.Preorder.{preorder, preorder_to, run_on, run_past};
 ghost use Rattle.dom_index.specs.Preorder.{starts_run};
 
 use crate::type_filter::{NO_ELEMENT, type_byte};
@@ -77,10 +76,7 @@ const NOT_VISITED: u8 = 253;
 impl Traversal {
     /// A traversal that has visited no node of the tree.
     fn new(tree: &Tree) -> Result<Traversal, OutOfMemory>
-        ensures none { IfOk result (λ traversal. traversal.visited ≡ 0) }
-        ensures traversed { IfOk result (IsTraversed tree.now) }
-        ensures ended { IfOk result (λ traversal.
-            AreSubtreeEnds tree.now [] 0 0 traversal.subtree_ends.items) }
+        ensures { IfOk result (HasVisitedTo tree.now 0) }
     {
         let alloc = tree.allocator();
         let count = tree.len();
@@ -97,10 +93,7 @@ impl Traversal {
     /// Visits the node that is next in preorder. Its first child.
     #[inline(always)]
     fn visit(&mut self, tree: &Tree, id: NodeId) -> Option<NodeId>
-        requires known { id < length tree.now.content }
-        requires room { self.old.visited < length tree.now.content }
-        requires next { number_at (preorder tree.now) self.old.visited ≡ id }
-        requires traversed { IsTraversed tree.now self.old }
+        requires { IsAt tree.now id self.old }
         ensures first { result ≡ first (children_of tree.now id) }
         ensures visited { self.new.visited ≡ self.old.visited + 1 }
         ensures traversed { IsTraversed tree.now self.new }
@@ -127,10 +120,8 @@ fn end_subtrees(tree: &Tree, id: NodeId, last: u32, subtree_ends: &mut Vec<u32>)
     requires visited { last < length tree.now.content }
     requires ended { AreSubtreeEnds tree.now (id ∷ ancestors tree.now id) (last + 1) (length
         (run_past tree.now (id ∷ ancestors tree.now id))) subtree_ends.old.items }
-    ensures within { IsWithin tree.now result }
     ensures next { run_past tree.now (id ∷ ancestors tree.now id) ≡ run_on tree.now result }
-    ensures ended { AreSubtreeEnds tree.now (above_it tree.now result) (last + 1) (length
-        (run_on tree.now result)) subtree_ends.new.items }
+    ensures ends { AreEndsBefore tree.now result (last + 1) subtree_ends.new.items }
 {
     order_laws(tree);
     forest_laws(tree);
@@ -150,10 +141,7 @@ fn end_subtrees(tree: &Tree, id: NodeId, last: u32, subtree_ends: &mut Vec<u32>)
 /// The traversal of all nodes in preorder. A visited node starts no run, so each is looked at once,
 /// but for those of a run that come before its first node by number.
 fn visit_tree(tree: &Tree) -> Result<Traversal, OutOfMemory>
-    ensures all { IfOk result (λ traversal. traversal.visited ≡ length tree.now.content) }
-    ensures traversed { IfOk result (IsTraversed tree.now) }
-    ensures ended { IfOk result (λ traversal.
-        AreSubtreeEnds tree.now [] traversal.visited 0 traversal.subtree_ends.items) }
+    ensures { IfOk result (HasVisitedTo tree.now (length tree.now.content)) }
 {
     started_laws(tree);
     order_laws(tree);
@@ -196,18 +184,12 @@ pub(crate) fn numbered(tree: &Tree, n: usize) -> NodeId
 /// Visits a node, and writes the subtree ends that are known with it. The next node of the run.
 #[inline(always)]
 fn visit_next(tree: &Tree, id: NodeId, traversal: &mut Traversal) -> Option<NodeId>
-    requires known { id < length tree.now.content }
-    requires room { traversal.old.visited < length tree.now.content }
-    requires next { number_at (preorder tree.now) traversal.old.visited ≡ id }
-    requires traversed { IsTraversed tree.now traversal.old }
-    requires ended { AreSubtreeEnds tree.now (ancestors tree.now id) traversal.old.visited (length
-        (run_on tree.now (Some id))) traversal.old.subtree_ends.items }
-    ensures within { IsWithin tree.now result }
+    requires { IsAt tree.now id traversal.old }
     ensures steps { run_on tree.now (Some id) ≡ id ∷ run_on tree.now result }
     ensures visited { traversal.new.visited ≡ traversal.old.visited + 1 }
     ensures traversed { IsTraversed tree.now traversal.new }
-    ensures ended { AreSubtreeEnds tree.now (above_it tree.now result) traversal.new.visited (length
-        (run_on tree.now result)) traversal.new.subtree_ends.items }
+    ensures ends { AreEndsBefore tree.now result traversal.new.visited
+        traversal.new.subtree_ends.items }
 {
     order_laws(tree);
     forest_laws(tree);
@@ -223,14 +205,8 @@ fn visit_next(tree: &Tree, id: NodeId, traversal: &mut Traversal) -> Option<Node
 fn visit_run(tree: &Tree, first: NodeId, traversal: &mut Traversal)
     requires known { first < length tree.now.content }
     requires starts { starts_run tree.now first ≡ true }
-    requires visited { traversal.old.visited ≡ length (preorder_to tree.now first) }
-    requires traversed { IsTraversed tree.now traversal.old }
-    requires ended { AreSubtreeEnds tree.now [] traversal.old.visited 0
-        traversal.old.subtree_ends.items }
-    ensures visited { traversal.new.visited ≡ length (preorder_to tree.now (first + 1)) }
-    ensures traversed { IsTraversed tree.now traversal.new }
-    ensures ended { AreSubtreeEnds tree.now [] traversal.new.visited 0
-        traversal.new.subtree_ends.items }
+    requires before { HasVisitedTo tree.now first traversal.old }
+    ensures { HasVisitedTo tree.now (first + 1) traversal.new }
 {
     order_laws(tree);
     forest_laws(tree);

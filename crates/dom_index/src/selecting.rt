@@ -27,8 +27,9 @@ const MOST_COMPOUNDS: usize = 32;
 
 /// The numbers of the elements below the roots that match one of the matcher's selectors, each
 /// once, in the order of the traversals. Each candidate is tested where that takes few steps. Where
-/// it takes very many, flags along the path of one traversal state which compounds are reached, or
-/// an index is made. Where `:has` has descendant or `~` combinators, it is made at once.
+/// descendant combinators may take more, flags along the path of one traversal state which
+/// compounds are reached; with other combinators, or `:has`, an index is made once very many steps
+/// were taken. Where `:has` has descendant or `~` combinators, it is made at once.
 pub fn select_ids(
     tree: &Tree,
     roots: &[NodeId],
@@ -43,22 +44,22 @@ pub fn select_ids(
     if !needs_budget(selectors) {
         return select_by_node(tree, roots, matcher);
     }
-    match select_within(tree, roots, matcher, step_budget(tree))? {
+    match select_along_path(tree, roots, matcher)? {
         Some(ids) => Ok(ids),
-        None => select_all_at_once(tree, roots, matcher),
+        None => select_within_budget(tree, roots, matcher),
     }
 }
 
-/// The same as `select_ids`, with each compound tested at a node once at most: in one traversal, or
-/// by an index of the tree.
-fn select_all_at_once(
+/// The same as `select_ids`: by a test of each candidate, or by an index of the tree where that
+/// takes very many steps.
+fn select_within_budget(
     tree: &Tree,
     roots: &[NodeId],
     matcher: &Matcher,
 ) -> Result<Vec<NodeId>, OutOfMemory>
     ensures { IfOk result (λ ids. Selected tree.now roots.now matcher.now ids.items) }
 {
-    match select_along_path(tree, roots, matcher)? {
+    match select_within(tree, roots, matcher, step_budget(tree))? {
         Some(ids) => Ok(ids),
         None => select_by_index(tree, roots, matcher),
     }

@@ -1,50 +1,47 @@
-//! Selection below a node in one traversal: for each node of the path to it, the flags of the steps
-//! at its children.
+//! Selection below a node in one traversal. A node that the last compound of a selector matches
+//! asks for flags: for each node of the path to it, whether the steps are reached at its children.
 
-ghost use Rattle.std.specs.Prelude.{◌≡◌, ◌<◌, ◌+◌, ◌∷◌, ◌++◌, [], List, length, replicate};
-ghost use Rattle.std.specs.Prelude.{slice_get, take, true, false, IfOk, OnOk, Some};
+ghost use Rattle.std.specs.Prelude.{◌≡◌, ◌<◌, ◌+◌, ◌∷◌, ◌++◌, ℕ, [], List, length, take};
+ghost use Rattle.std.specs.Prelude.{slice_get, true, IfOk, IfSome, OnOk, Some};
 ghost use Rattle.dom_links.specs.Forest.{Forest, parent};
 ghost use Rattle.dom_links.specs.Trees.{walk_below};
-ghost use Rattle.dom_links.specs.Walk.{IsWithin};
 ghost use Rattle.dom_selectors.specs.declared.syntax.Combinator.{Combinator};
 ghost use Rattle.dom_selectors.specs.Spelling.{Decides};
 ghost use Rattle.dom_selectors.specs.Syntax.{CompoundSelector};
 ghost use Rattle.dom_selectors.specs.ValuesAsTrees.{read_list};
 ghost use Rattle.dom_select.specs.Selected.{FiltersTo, Selected};
-ghost use Rattle.dom_index.specs.FlagRows.{AreFlags, AreRows, PropagatesFrom, StepsReach, is_deep};
-ghost use Rattle.dom_index.specs.FlagRows.{reached_at, top};
-ghost use Rattle.dom_index.specs.NodeTests.{ArePlain, IsPlain};
-ghost use Rattle.dom_index.specs.Tracks.{AreChainsOf, AreEmpty, AreFollowing, ArePrepared};
-ghost use Rattle.dom_index.specs.Tracks.{FlagsBelow, IsFollowing, IsNextTo, IsPrepared, IsReached};
-ghost use Rattle.dom_index.specs.Tracks.{IsTracked, Reaches, SomeReaches, first_in, steps_in};
+ghost use Rattle.dom_index.specs.FlagRows.{PropagatesFrom, StepsReach, is_deep, reached_at, top};
+ghost use Rattle.dom_index.specs.NodeTests.{ArePlain};
+ghost use Rattle.dom_index.specs.Tracks.{AreFlagsAt, AreFollowing, ArePrepared, AreTracked, FlagsBelow};
+ghost use Rattle.dom_index.specs.Tracks.{IsFollowing, IsOnWay, IsReached, IsTracked, Reaches};
+ghost use Rattle.dom_index.specs.Tracks.{SomeReaches, first_in, steps_in};
 
-use crate::node_tests::{NodeTest, Visited};
+use crate::chains::{Chain, prepare_all};
+use crate::node_tests::Visited;
 use crate::preorder::forest_laws;
 use dom_nodes::fault::OutOfMemory;
-use dom_nodes::link::Link;
 use dom_nodes::node_id::NodeId;
 use dom_select::matcher::caches::SelectorCaches;
-use dom_selectors::syntax::{Combinator, Compound, Selector, Step};
+use dom_selectors::syntax::{Combinator, Selector};
 use dom_trees::tree::Tree;
 
-/// A selector whose combinators are descendant and child ones, with a test for each of its
-/// compounds, and as many false flags as it has steps.
+/// The path to a node from the ancestor that has no parent, and a row of flags for each node of it:
+/// the flags of a selector's steps at its children. The flags begin with those at a node that has
+/// no parent. `row` is room for the next row.
 #[derive(Drop)]
-struct Chain<'s> {
-    first: &'s Compound,
-    steps: &'s [Step],
-    tests: Vec<NodeTest<'s>>,
-    none: Vec<bool>,
-}
-
-/// A path of nodes of a tree, each the parent of the next, and for each of them the flags of the
-/// steps at its children. `below` is room for the next of these rows.
-#[derive(Drop)]
-struct Rows<'t> {
-    tree: &'t Tree,
+struct Rows {
     path: Vec<NodeId>,
     flags: Vec<bool>,
-    below: Vec<bool>,
+    row: Vec<bool>,
+}
+
+/// What the selectors of a traversal share: sibling indexes, by number the place on the path at
+/// which a node was added last, and room for nodes that are still to be added.
+#[derive(Drop)]
+struct Shared<'t> {
+    caches: SelectorCaches<'t>,
+    places: Vec<u32>,
+    missing: Vec<NodeId>,
 }
 
 /// Whether all nodes above are left operands of the combinator.
@@ -80,11 +77,8 @@ fn step_flag(
     visited: &Visited<'_>,
     caches: &mut SelectorCaches<'_>,
 ) -> bool
-    requires prepared { IsPrepared chain.now }
     requires step { i < length chain.now.steps.now }
-    requires caches { caches.old ≡ visited.now.tree.now }
-    requires flags { FlagsBelow chain.now visited.now.tree.now
-        (parent visited.now.tree.now visited.now.id) flags.now }
+    requires at { AreFlagsAt chain.now visited.now.tree.now visited.now.id flags.now caches.old }
     ensures is { (s : Combinator × CompoundSelector) → slice_get (steps_in chain.now) i ≡ Some s
         → Decides result (PropagatesFrom visited.now.tree.now s.0 (StepsReach visited.now.tree.now
         (first_in chain.now) (take i (steps_in chain.now))) (Some visited.now.id)) }
@@ -108,241 +102,207 @@ fn fill_row(
     flags: &[bool],
     visited: &Visited<'_>,
     caches: &mut SelectorCaches<'_>,
-    below: &mut Vec<bool>,
+    row: &mut Vec<bool>,
 ) -> Result<(), OutOfMemory>
-    requires prepared { IsPrepared chain.now }
-    requires caches { caches.old ≡ visited.now.tree.now }
-    requires flags { FlagsBelow chain.now visited.now.tree.now
-        (parent visited.now.tree.now visited.now.id) flags.now }
+    requires { AreFlagsAt chain.now visited.now.tree.now visited.now.id flags.now caches.old }
     ensures flags { OnOk result (FlagsBelow chain.now visited.now.tree.now (Some visited.now.id)
-        below.new.items) }
+        row.new.items) }
     ensures kept { caches.new ≡ caches.old }
 {
-    below.clear();
+    row.clear();
     for i in 0..chain.steps.len() {
         let flag = step_flag(chain, i, flags, visited, caches);
-        below.push(flag)?;
+        row.push(flag)?;
     }
     Ok(())
 }
 
-/// The last row, that of the last node of the path; without one the flags at a node that has no
-/// parent.
+/// The last row: the flags at a child of the path's last node, or at a node that has no parent.
 #[inline(always)]
-fn last_row<'r>(none: &'r [bool], path: &[NodeId], flags: &'r [bool]) -> &'r [bool]
-    ensures { (forest : Forest) (first : CompoundSelector)
-        (steps : List (Combinator × CompoundSelector)) → none.now ≡ replicate (length steps) false
-        → AreRows forest first steps path.now flags.now
-        → AreFlags forest first steps (top path.now) result.now }
+fn last_row<'r>(chain: &Chain<'_>, flags: &'r [bool]) -> &'r [bool]
+    ensures { (forest : Forest) (path : List ℕ) → IsTracked chain.now forest path flags.now
+        → FlagsBelow chain.now forest (top path) result.now }
 {
-    if path.is_empty() {
-        return none;
-    }
-    let start = flags.len().saturating_sub(none.len());
+    let start = flags.len().saturating_sub(chain.steps.len());
     &flags[start..]
-}
-
-/// Whether the selector matches the node, whose parent is the last of the path.
-#[inline(always)]
-fn subject_matches(
-    chain: &Chain<'_>,
-    rows: &Rows<'_>,
-    visited: &Visited<'_>,
-    caches: &mut SelectorCaches<'_>,
-) -> bool
-    requires prepared { IsPrepared chain.now }
-    requires tracked { IsTracked chain.now rows.now }
-    requires at { IsNextTo rows.now visited.now }
-    requires caches { caches.old ≡ visited.now.tree.now }
-    ensures is { Decides result (Reaches chain.now visited.now.tree.now visited.now.id) }
-    ensures kept { caches.new ≡ caches.old }
-{
-    forest_laws(visited.tree);
-    let flags = last_row(&chain.none, &rows.path, &rows.flags);
-    let last = chain.steps.len();
-    if !reached_at(flags, last) {
-        return false;
-    }
-    chain.tests[last].matches(visited, caches)
 }
 
 /// Adds a node, whose parent is the last of the path, to the path.
 fn enter(
     chain: &Chain<'_>,
-    rows: &mut Rows<'_>,
+    rows: &mut Rows,
     visited: &Visited<'_>,
     caches: &mut SelectorCaches<'_>,
+    places: &mut Vec<u32>,
 ) -> Result<(), OutOfMemory>
-    requires prepared { IsPrepared chain.now }
-    requires tracked { IsTracked chain.now rows.old }
-    requires at { IsNextTo rows.old visited.now }
-    requires caches { caches.old ≡ visited.now.tree.now }
-    ensures tracked { OnOk result (IsTracked chain.now rows.new) }
+    requires following { IsFollowing chain.now rows.old visited.now.tree.now caches.old }
+    requires at { top rows.old.path.items ≡ parent visited.now.tree.now visited.now.id }
+    ensures following { OnOk result
+        (IsFollowing chain.now rows.new visited.now.tree.now caches.new) }
     ensures last { OnOk result (top rows.new.path.items ≡ Some visited.now.id) }
-    ensures tree { rows.new.tree ≡ rows.old.tree }
-    ensures kept { caches.new ≡ caches.old }
 {
-    let flags = last_row(&chain.none, &rows.path, &rows.flags);
-    fill_row(chain, flags, visited, caches, &mut rows.below)?;
-    rows.flags.extend_from_slice(&rows.below)?;
+    let flags = last_row(chain, &rows.flags);
+    fill_row(chain, flags, visited, caches, &mut rows.row)?;
+    rows.flags.extend_from_slice(&rows.row)?;
+    note_place(places, visited.id, rows.path.len());
     rows.path.push(visited.id)?;
     Ok(())
 }
 
-/// Removes nodes from the end of the path up to this one. Whether it stands there.
+/// Notes the place of a node on a path.
+fn note_place(places: &mut Vec<u32>, id: NodeId, place: usize) {
+    let n = id.value();
+    if n >= places.len() {
+        return;
+    }
+    if place > 4_294_967_295 {
+        return;
+    }
+    places[n] = place as u32;
+}
+
+/// How many nodes the path has down to that one, if it stands there: its place was noted.
 #[inline(always)]
-fn unwind(chain: &Chain<'_>, rows: &mut Rows<'_>, id: NodeId) -> bool
-    requires prepared { IsPrepared chain.now }
-    requires tracked { IsTracked chain.now rows.old }
-    ensures tracked { IsTracked chain.now rows.new }
-    ensures tree { rows.new.tree ≡ rows.old.tree }
-    ensures last { result ≡ true → top rows.new.path.items ≡ Some id }
+fn depth_of(path: &[NodeId], places: &[u32], id: NodeId) -> Option<usize>
+    ensures { IfSome result (λ depth. top (take depth path.now) ≡ Some id) }
 {
-    while let Some(last) = rows.path.last() {
-        if *last == id {
-            return true;
+    let n = id.value();
+    if n >= places.len() {
+        return None;
+    }
+    let place = places[n] as usize;
+    if place >= path.len() {
+        return None;
+    }
+    if path[place] != id {
+        return None;
+    }
+    Some(place + 1)
+}
+
+/// Lists the ancestors of the node that aren't on the path, from its parent on. How many nodes the
+/// path has down to the next ancestor, 0 without one.
+#[inline(always)]
+fn find_missing(
+    path: &[NodeId],
+    places: &[u32],
+    visited: &Visited<'_>,
+    missing: &mut Vec<NodeId>,
+) -> Result<usize, OutOfMemory>
+    ensures { IfOk result (λ depth. IsOnWay visited.now.tree.now visited.now.id
+        (take depth path.now) missing.new.items) }
+{
+    missing.clear();
+    for id in visited.tree.ancestor_ids_of_it(&visited.id, None) {
+        if let Some(depth) = depth_of(path, places, id) {
+            return Ok(depth);
         }
+        missing.push(id)?;
+    }
+    Ok(0)
+}
+
+/// Removes nodes and their rows from the end of the path, until it has no more than so many.
+#[inline(always)]
+fn cut(chain: &Chain<'_>, rows: &mut Rows, depth: usize)
+    ensures path { rows.new.path.items ≡ take depth rows.old.path.items }
+    ensures tracked { (forest : Forest)
+        → IsTracked chain.now forest rows.old.path.items rows.old.flags.items
+        → IsTracked chain.now forest rows.new.path.items rows.new.flags.items }
+{
+    while rows.path.len() > depth {
         let _passed = rows.path.pop();
-        let left = rows.flags.len().saturating_sub(chain.none.len());
+        let left = rows.flags.len().saturating_sub(chain.steps.len());
         rows.flags.truncate(left);
     }
-    false
 }
 
-/// Makes the path that of a node, from the ancestor without a parent on.
-fn build(
+/// Makes the path end with the node's parent, or empty without one.
+fn follow(
     chain: &Chain<'_>,
-    rows: &mut Rows<'_>,
-    id: NodeId,
-    caches: &mut SelectorCaches<'_>,
+    rows: &mut Rows,
+    visited: &Visited<'_>,
+    shared: &mut Shared<'_>,
 ) -> Result<(), OutOfMemory>
-    requires prepared { IsPrepared chain.now }
-    requires known { id < length rows.old.tree.now.content }
-    requires caches { caches.old ≡ rows.old.tree.now }
-    ensures tracked { OnOk result (IsTracked chain.now rows.new) }
-    ensures last { OnOk result (top rows.new.path.items ≡ Some id) }
-    ensures tree { rows.new.tree ≡ rows.old.tree }
-    ensures kept { caches.new ≡ caches.old }
+    requires { IsFollowing chain.now rows.old visited.now.tree.now shared.old.caches }
+    ensures following { OnOk result
+        (IsFollowing chain.now rows.new visited.now.tree.now shared.new.caches) }
+    ensures last { OnOk result
+        (top rows.new.path.items ≡ parent visited.now.tree.now visited.now.id) }
 {
-    let tree = rows.tree;
+    let tree = visited.tree;
     forest_laws(tree);
-    let above = tree.ancestor_ids_of(&id, None)?;
-    rows.path.clear();
-    rows.flags.clear();
-    for i in 0..above.len() {
-        let visited = Visited::new(tree, above[above.len() - 1 - i]);
-        enter(chain, rows, &visited, caches)?;
+    let depth = find_missing(&rows.path, &shared.places, visited, &mut shared.missing)?;
+    cut(chain, rows, depth);
+    while let Some(id) = shared.missing.pop() {
+        let above = Visited::new(tree, id);
+        enter(chain, rows, &above, &mut shared.caches, &mut shared.places)?;
     }
-    let visited = Visited::new(tree, id);
-    enter(chain, rows, &visited, caches)
+    Ok(())
 }
 
-/// Makes the path end with that node, or empty without one.
-fn go_to(
-    chain: &Chain<'_>,
-    rows: &mut Rows<'_>,
-    above: Link,
-    caches: &mut SelectorCaches<'_>,
-) -> Result<(), OutOfMemory>
-    requires prepared { IsPrepared chain.now }
-    requires tracked { IsTracked chain.now rows.old }
-    requires known { IsWithin rows.old.tree.now above }
-    requires caches { caches.old ≡ rows.old.tree.now }
-    ensures tracked { OnOk result (IsTracked chain.now rows.new) }
-    ensures last { OnOk result (top rows.new.path.items ≡ above) }
-    ensures tree { rows.new.tree ≡ rows.old.tree }
-    ensures kept { caches.new ≡ caches.old }
-{
-    let Some(parent) = above.get() else {
-        rows.path.clear();
-        rows.flags.clear();
-        return Ok(());
-    };
-    if unwind(chain, rows, parent) {
-        return Ok(());
-    }
-    build(chain, rows, parent, caches)
-}
-
-/// Whether the last compound fails at the node by its type.
-#[inline(always)]
-fn subject_fails(chain: &Chain<'_>, visited: &Visited<'_>) -> bool
-    requires { IsPrepared chain.now }
-    ensures { result ≡ true → Reaches chain.now visited.now.tree.now visited.now.id → ⊥ }
-{
-    forest_laws(visited.tree);
-    chain.tests[chain.steps.len()].fails_type(visited)
-}
-
-/// Whether the selector matches the node. A node with more below it than a text is added to the
-/// path.
+/// Whether the selector matches the node. The path is asked for only where the last compound does.
 #[inline(always)]
 fn visit(
     chain: &Chain<'_>,
-    rows: &mut Rows<'_>,
+    rows: &mut Rows,
     visited: &Visited<'_>,
-    caches: &mut SelectorCaches<'_>,
+    shared: &mut Shared<'_>,
 ) -> Result<bool, OutOfMemory>
-    requires prepared { IsPrepared chain.now }
-    requires following { IsFollowing chain.now rows.old visited.now.tree.now caches.old }
+    requires { IsFollowing chain.now rows.old visited.now.tree.now shared.old.caches }
     ensures is { IfOk result
         (λ b. Decides b (Reaches chain.now visited.now.tree.now visited.now.id)) }
     ensures following { OnOk result
-        (IsFollowing chain.now rows.new visited.now.tree.now caches.new) }
+        (IsFollowing chain.now rows.new visited.now.tree.now shared.new.caches) }
 {
     forest_laws(visited.tree);
-    if subject_fails(chain, visited) {
-        if visited.is_inner {
-            go_to(chain, rows, visited.above, caches)?;
-            enter(chain, rows, visited, caches)?;
-        }
+    let last = chain.steps.len();
+    if !chain.tests[last].matches(visited, &mut shared.caches) {
         return Ok(false);
     }
-    go_to(chain, rows, visited.above, caches)?;
-    let is_match = subject_matches(chain, rows, visited, caches);
-    if visited.is_inner {
-        enter(chain, rows, visited, caches)?;
+    if last == 0 {
+        return Ok(true);
     }
-    Ok(is_match)
+    follow(chain, rows, visited, shared)?;
+    let flags = last_row(chain, &rows.flags);
+    Ok(reached_at(flags, last))
 }
 
-/// Whether one of the selectors matches the node. Each of the paths follows.
+/// Whether one of the selectors matches the node.
 #[inline(always)]
 fn visit_all(
     chains: &[Chain<'_>],
-    rows: &mut Vec<Rows<'_>>,
+    rows: &mut Vec<Rows>,
     visited: &Visited<'_>,
-    caches: &mut SelectorCaches<'_>,
+    shared: &mut Shared<'_>,
 ) -> Result<bool, OutOfMemory>
-    requires prepared { ArePrepared chains.now }
-    requires following { AreFollowing chains.now rows.old.items visited.now.tree.now caches.old }
+    requires { AreFollowing chains.now rows.old.items visited.now.tree.now shared.old.caches }
     ensures is { IfOk result
         (λ b. Decides b (SomeReaches chains.now visited.now.tree.now visited.now.id)) }
     ensures following { OnOk result
-        (AreFollowing chains.now rows.new.items visited.now.tree.now caches.new) }
+        (AreFollowing chains.now rows.new.items visited.now.tree.now shared.new.caches) }
 {
-    let mut any = false;
     for i in 0..chains.len() {
-        let is_match = visit(&chains[i], &mut rows[i], visited, caches)?;
-        any = any | is_match;
+        if visit(&chains[i], &mut rows[i], visited, shared)? {
+            return Ok(true);
+        }
     }
-    Ok(any)
+    Ok(false)
 }
 
 /// Whether the node is an element that one of the selectors matches.
 #[inline(always)]
 fn is_selected(
     chains: &[Chain<'_>],
-    rows: &mut Vec<Rows<'_>>,
+    rows: &mut Vec<Rows>,
     tree: &Tree,
     id: NodeId,
-    caches: &mut SelectorCaches<'_>,
+    shared: &mut Shared<'_>,
 ) -> Result<bool, OutOfMemory>
-    requires prepared { ArePrepared chains.now }
-    requires following { AreFollowing chains.now rows.old.items tree.now caches.old }
+    requires { AreFollowing chains.now rows.old.items tree.now shared.old.caches }
     ensures is { IfOk result (λ b. Decides b (IsReached chains.now tree.now id)) }
     ensures following { OnOk result
-        (AreFollowing chains.now rows.new.items tree.now caches.new) }
+        (AreFollowing chains.now rows.new.items tree.now shared.new.caches) }
 {
     if id.value() >= tree.len() {
         return Ok(false);
@@ -351,29 +311,29 @@ fn is_selected(
     if !visited.is_element() {
         return Ok(false);
     }
-    visit_all(chains, rows, &visited, caches)
+    visit_all(chains, rows, &visited, shared)
 }
 
-/// An empty path for each of so many selectors.
-fn empty_paths<'t>(tree: &'t Tree, count: usize) -> Result<Vec<Rows<'t>>, OutOfMemory>
-    ensures { IfOk result (λ all. AreEmpty tree.now count all.items) }
+/// An empty path for each of the selectors.
+fn empty_paths(tree: &Tree, chains: &[Chain<'_>]) -> Result<Vec<Rows>, OutOfMemory>
+    ensures long { IfOk result (λ all. length all.items ≡ length chains.now) }
+    ensures tracked { IfOk result (λ all. AreTracked chains.now tree.now all.items) }
 {
     let alloc = tree.allocator();
     let mut all = Vec::new(alloc);
-    for _i in 0..count {
+    for i in 0..chains.len() {
         let rows = Rows {
-            tree,
             path: Vec::new(alloc),
-            flags: Vec::new(alloc),
-            below: Vec::new(alloc),
+            flags: vec![in alloc; false; chains[i].steps.len()]?,
+            row: Vec::new(alloc),
         };
         push_rows(&mut all, rows)?;
     }
     Ok(all)
 }
 
-fn push_rows<'t>(all: &mut Vec<Rows<'t>>, rows: Rows<'t>) -> Result<(), OutOfMemory>
-    ensures { OnOk result (all.new.items ≡ all.old.items ++ rows.entry ∷ []) }
+fn push_rows(all: &mut Vec<Rows>, rows: Rows) -> Result<(), OutOfMemory>
+    ensures { OnOk result (all.new.items ≡ all.old.items ++ rows ∷ []) }
 {
     match all.push(rows) {
         Ok(()) => Ok(()),
@@ -382,7 +342,6 @@ fn push_rows<'t>(all: &mut Vec<Rows<'t>>, rows: Rows<'t>) -> Result<(), OutOfMem
 }
 
 /// The elements below the root that one of the selectors matches.
-#[tactic(auto, using(crate::proofs::PlainLemmas::empty_follow))]
 fn select_along(
     tree: &Tree,
     root: &NodeId,
@@ -392,74 +351,20 @@ fn select_along(
     ensures { IfOk result (λ ids. FiltersTo (IsReached chains.now tree.now)
         (walk_below tree.now root.now) ids.items) }
 {
-    let mut rows = empty_paths(tree, chains.len())?;
-    let mut caches = SelectorCaches::new(tree);
+    let mut rows = empty_paths(tree, chains)?;
+    let mut shared = Shared {
+        caches: SelectorCaches::new(tree),
+        places: vec![in tree.allocator(); 0; tree.len()]?,
+        missing: Vec::new(tree.allocator()),
+    };
     let mut matched = Vec::new(tree.allocator());
     for id in tree.descendant_ids_of_it(root) {
-        if !is_selected(chains, &mut rows, tree, id, &mut caches)? {
+        if !is_selected(chains, &mut rows, tree, id, &mut shared)? {
             continue;
         }
         matched.push(id)?;
     }
     Ok(matched)
-}
-
-/// Adds a test.
-fn push_test<'s>(tests: &mut Vec<NodeTest<'s>>, test: NodeTest<'s>) -> Result<(), OutOfMemory>
-    ensures { OnOk result (tests.new.items ≡ tests.old.items ++ test.entry ∷ []) }
-{
-    match tests.push(test) {
-        Ok(()) => Ok(()),
-        Err(_) => Err(OutOfMemory),
-    }
-}
-
-/// Prepares a selector for the nodes of a tree.
-fn prepare<'s>(
-    first: &'s Compound,
-    steps: &'s [Step],
-    tree: &Tree,
-) -> Result<Chain<'s>, OutOfMemory>
-    requires { IsPlain first.now steps.now }
-    ensures prepared { IfOk result IsPrepared }
-    ensures first { IfOk result (λ chain. chain.first ≡ first.entry) }
-    ensures steps { IfOk result (λ chain. chain.steps ≡ steps.entry) }
-{
-    let mut tests = Vec::new(tree.allocator());
-    push_test(&mut tests, NodeTest::new(first, tree)?)?;
-    for i in 0..steps.len() {
-        let test = NodeTest::new(&steps[i].compound, tree)?;
-        push_test(&mut tests, test)?;
-    }
-    let none = vec![in tree.allocator(); false; steps.len()]?;
-    Ok(Chain {
-        first,
-        steps,
-        tests,
-        none,
-    })
-}
-
-/// Prepares plain selectors for the nodes of a tree.
-fn prepare_all<'s>(selectors: &'s [Selector], tree: &Tree) -> Result<Vec<Chain<'s>>, OutOfMemory>
-    requires { ArePlain selectors.now }
-    ensures { IfOk result (λ chains. AreChainsOf selectors.now chains.items) }
-{
-    let mut chains = Vec::new(tree.allocator());
-    for i in 0..selectors.len() {
-        let chain = prepare(&selectors[i].first, &selectors[i].rest, tree)?;
-        push_chain(&mut chains, chain)?;
-    }
-    Ok(chains)
-}
-
-fn push_chain<'s>(chains: &mut Vec<Chain<'s>>, chain: Chain<'s>) -> Result<(), OutOfMemory>
-    ensures { OnOk result (chains.new.items ≡ chains.old.items ++ chain.entry ∷ []) }
-{
-    match chains.push(chain) {
-        Ok(()) => Ok(()),
-        Err(_) => Err(OutOfMemory),
-    }
 }
 
 /// The elements below the root that one of the plain selectors matches.

@@ -8,13 +8,6 @@ use Rattle.dom_index.specs.Preorder.{above_it, run_on, run_past}
 use Rattle.dom_index.proofs.TraversalLemmas.{aside, ended_now, ended_same, past_last, path_from, up_path, up_within}
 use Rattle.dom_index.proofs.preorder.end_subtrees.Goals as goal
 
-pub returns-then-is_some-clause-within : goal.returns-then-is_some-clause-within
-returns-then-is_some-clause-within c =
-    let forest = c.args.tree.now in
-    let k = c.forest_laws.ensures in
-    let link = c.get-next.ensures ∙ (c.node_at-node.ensures.next_is ∙ ap (λ f. after (siblings f c.in-Some.at) c.in-Some.at) c.nodes.ensures.value) in
-    (aside forest k.forest k.lines k.trees c.in-Some.at c.get-next.result link (sym c.if-is_some.ensures)).0
-
 pub returns-then-is_some-clause-next : goal.returns-then-is_some-clause-next
 returns-then-is_some-clause-next c =
     let forest = c.args.tree.now in
@@ -22,8 +15,8 @@ returns-then-is_some-clause-next c =
     let link = c.get-next.ensures ∙ (c.node_at-node.ensures.next_is ∙ ap (λ f. after (siblings f c.in-Some.at) c.in-Some.at) c.nodes.ensures.value) in
     c.loop-ended.invariant.past ∙ (ap (λ o. run_past forest (path_from forest o)) c.in-Some.is ∙ (aside forest k.forest k.lines k.trees c.in-Some.at c.get-next.result link (sym c.if-is_some.ensures)).2)
 
-pub returns-then-is_some-clause-ended : goal.returns-then-is_some-clause-ended
-returns-then-is_some-clause-ended c =
+pub returns-then-is_some-clause-ends : goal.returns-then-is_some-clause-ends
+returns-then-is_some-clause-ends c =
     let forest = c.args.tree.now in
     let k = c.forest_laws.ensures in
     let at = c.in-Some.at in
@@ -34,8 +27,11 @@ returns-then-is_some-clause-ended c =
     let known = subst (IsWithin forest) c.in-Some.is c.loop-ended.invariant.within in
     let ended = subst (λ o. AreSubtreeEnds forest (path_from forest o) (last + 1) (length (run_past forest (path_from forest o))) subtree_ends) c.in-Some.is c.loop-ended.invariant.ended in
     let written = ended_now forest c.order_laws.ensures.once c.order_laws.ensures.long (last + 1) subtree_ends at last refl (omega arith) known ended in
-    subst (λ n. AreSubtreeEnds forest (above_it forest c.get-next.result) (last + 1) (length (run_on forest c.get-next.result)) (set subtree_ends n last)) (sym c.value.ensures.number)
-    (ended_same forest (ancestors forest at) (above_it forest c.get-next.result) (last + 1) _ _ (set subtree_ends at last) (sym step.1) (ap length step.2) written)
+    record {
+      within = step.0;
+      ended = subst (λ n. AreSubtreeEnds forest (above_it forest c.get-next.result) (last + 1) (length (run_on forest c.get-next.result)) (set subtree_ends n last)) (sym c.value.ensures.number)
+          (ended_same forest (ancestors forest at) (above_it forest c.get-next.result) (last + 1) _ _ (set subtree_ends at last) (sym step.1) (ap length step.2) written);
+    }
 
 pub loop-ended-preserved : goal.loop-ended-preserved
 loop-ended-preserved c =

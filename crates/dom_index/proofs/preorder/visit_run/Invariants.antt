@@ -1,17 +1,15 @@
 use Rattle.std.proofs.Common.{◌≡◌, ◌+◌, ◌++◌, ℕ, List, length, drop}
-use Rattle.dom_links.specs.Walk.{IsWithin}
-use Rattle.dom_index.specs.Orders.{AreSubtreeEnds, IsTraversed}
-use Rattle.dom_index.specs.Preorder.{above_it, preorder, preorder_to, run_on}
+use Rattle.dom_index.specs.Orders.{AreEndsBefore, IsTraversed}
+use Rattle.dom_index.specs.Preorder.{preorder, preorder_to, run_on}
 use Rattle.dom_index.proofs.preorder.visit_run.Given as goal
 
 -- what is left of the order is what the run still gives, and more
 abbrev pub invariant-loop-next : goal.invariant-loop-next
 invariant-loop-next l = record {
-  within : IsWithin l.tree l.next;
   left : (rest : List ℕ) × (drop l.traversal.visited (preorder l.tree) ≡ run_on l.tree l.next ++ rest);
   counted : l.traversal.visited + length (run_on l.tree l.next) ≡ length (preorder_to l.tree (l.fn.first + 1));
   traversed : IsTraversed l.tree l.traversal;
-  ended : AreSubtreeEnds l.tree (above_it l.tree l.next) l.traversal.visited (length (run_on l.tree l.next)) l.traversal.subtree_ends.items;
+  ends : AreEndsBefore l.tree l.next l.traversal.visited l.traversal.subtree_ends.items;
 }
 
 abbrev pub decreases-loop-next : goal.decreases-loop-next

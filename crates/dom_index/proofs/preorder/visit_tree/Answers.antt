@@ -1,9 +1,8 @@
-use Rattle.std.proofs.Common.{◌≡◌, ◌<◌, ◌+◌, ◌∙◌, [], false, ap, sym, subst, length, arith}
+use Rattle.std.proofs.Common.{◌≡◌, ◌<◌, ◌+◌, ◌∙◌, false, ap, sym, subst, length, arith}
 use Rattle.std.proofs.lemmas.List.{get_or_read}
-use Rattle.dom_index.specs.declared.preorder.Traversal.{Traversal}
-use Rattle.dom_index.specs.Orders.{AreSubtreeEnds, IsTraversed}
-use Rattle.dom_index.specs.Preorder.{preorder_to, starts_run}
-use Rattle.dom_index.proofs.TraversalLemmas.{met_before, none_started}
+use Rattle.dom_index.specs.Orders.{HasVisitedTo}
+use Rattle.dom_index.specs.Preorder.{starts_run}
+use Rattle.dom_index.proofs.TraversalLemmas.{met_before, none_more}
 use Rattle.dom_index.proofs.preorder.visit_tree.Goals as goal
 use Rattle.dom_index.proofs.preorder.visit_tree.Goals.{then-starts_run+else-traversal-len, else-starts_run}
 
@@ -17,26 +16,14 @@ loop-n-preserved-then-index c =
     let known : n < length forest.content = omega arith in
     let before = traversed.unvisited n known (λ e. omega (arith, byte, c.if-index.true)) in
     let none : starts_run forest n ≡ false = c.started_laws.ensures n known (met_before forest n before.0 known (subst (λ m. before.0 < m) c.loop-n.invariant.visited before.1) before.2) in
-    record {
-      visited = c.loop-n.invariant.visited ∙ ap length (sym (none_started forest n none));
-      traversed = traversed;
-      ended = c.loop-n.invariant.ended;
-    }
+    none_more forest n traversal none c.loop-n.invariant
 
 pub loop-n-preserved : goal.loop-n-preserved
 loop-n-preserved c =
     let forest = c.args.tree.now in
     let n = c.loop-n.n in
     elim c.if-starts_run.branch [
-      | then-starts_run+else-traversal-len w ↦ record {
-        visited = ap (λ v. v.visited) w.traversal-is ∙ (w.visit_run.ensures.visited ∙ ap (λ m. length (preorder_to forest (m + 1))) c.numbered-id.ensures);
-        traversed = subst (IsTraversed forest) (sym w.traversal-is) w.visit_run.ensures.traversed;
-        ended = subst (λ (v : Traversal). AreSubtreeEnds forest [] v.visited 0 v.subtree_ends.items) (sym w.traversal-is) w.visit_run.ensures.ended;
-      }
+      | then-starts_run+else-traversal-len w ↦ subst (λ m. HasVisitedTo forest (m + 1) c.if-starts_run.traversal) c.numbered-id.ensures (subst (HasVisitedTo forest (c.numbered-id.result + 1)) (sym w.traversal-is) w.visit_run.ensures)
       | else-starts_run w ↦ (let none : starts_run forest n ≡ false = ap (starts_run forest) (sym c.numbered-id.ensures) ∙ (sym c.starts_run.ensures ∙ w.if-starts_run.false) in
-          record {
-            visited = ap (λ v. v.visited) w.traversal-is ∙ (c.loop-n.invariant.visited ∙ ap length (sym (none_started forest n none)));
-            traversed = subst (IsTraversed forest) (sym w.traversal-is) c.loop-n.invariant.traversed;
-            ended = subst (λ (v : Traversal). AreSubtreeEnds forest [] v.visited 0 v.subtree_ends.items) (sym w.traversal-is) c.loop-n.invariant.ended;
-          })
+          subst (HasVisitedTo forest (n + 1)) (sym w.traversal-is) (none_more forest n c.loop-n.traversal none c.loop-n.invariant))
     ]

@@ -1,9 +1,11 @@
-use Rattle.std.proofs.Common.{refl}
-use Rattle.dom_index.proofs.PlainLemmas.{empty_more, empty_none}
+use Rattle.std.proofs.Common.{◌+◌, ◌∙◌, ap, arith, false, length, length-append, replicate, sym}
+use Rattle.dom_index.specs.declared.chains.Chain.{Chain}
+use Rattle.dom_index.proofs.PlainLemmas.{tracked_more}
 use Rattle.dom_index.proofs.streaming.empty_paths.Goals as goal
 
-pub loop-i-init : goal.loop-i-init
-loop-i-init c = empty_none c.args.tree.now c.new-all.result.items c.new-all.ensures.items
-
 pub loop-i-preserved : goal.loop-i-preserved
-loop-i-preserved c = empty_more c.args.tree.now c.loop-i._i c.loop-i.all.items c.push_rows.new.all.items _ c.loop-i.invariant c.in_ok-push_rows.ensures refl c.new.ensures.items c.new-in-loop-i.ensures.items
+loop-i-preserved c = record {
+  long = ap length c.in_ok-push_rows.ensures ∙ (length-append c.loop-i.all.items _ ∙ ap (λ k. k + 1) c.loop-i.invariant.long);
+  tracked = tracked_more c.args.chains.now c.args.tree.now c.loop-i.all.items c.push_rows.new.all.items _ c.loop-i.i c.index-chains-i.result (omega arith) c.index-chains-i.is c.loop-i.invariant.long c.in_ok-push_rows.ensures c.new.ensures.items
+      (c.in_ok-vec.ensures.items_if_clones_equal (λ y h. h) ∙ ap (λ (k : Chain). replicate (length k.steps.now) false) (sym c.index-chains-i.is)) c.loop-i.invariant.tracked;
+}

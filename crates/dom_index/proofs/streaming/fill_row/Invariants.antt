@@ -7,5 +7,5 @@ use Rattle.dom_index.proofs.streaming.fill_row.Given as goal
 abbrev pub invariant-loop-i : goal.invariant-loop-i
 invariant-loop-i l = record {
   kept : l.caches ≡ l.fn.caches;
-  filled : Filling l.visited.tree.now (first_in l.chain) (steps_in l.chain) (Some l.visited.id) l.i l.below.items;
+  filled : Filling l.visited.tree.now (first_in l.chain) (steps_in l.chain) (Some l.visited.id) l.i l.row.items;
 }

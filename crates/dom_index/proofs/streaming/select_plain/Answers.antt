@@ -5,7 +5,7 @@ use Rattle.dom_selectors.specs.ValuesAsTrees.{read_list}
 use Rattle.dom_select.specs.Descendants.{IsMatch}
 use Rattle.dom_select.proofs.FilterLemmas.{filters_same}
 use Rattle.dom_select.proofs.SelectionLemmas.{selected_below}
-use Rattle.dom_index.specs.declared.streaming.Chain.{Chain}
+use Rattle.dom_index.specs.declared.chains.Chain.{Chain}
 use Rattle.dom_index.specs.Tracks.{AreChainsOf, IsReached}
 use Rattle.dom_index.proofs.PlainLemmas.{chains_prepared, some_meant}
 use Rattle.dom_index.proofs.streaming.select_plain.Goals as goal

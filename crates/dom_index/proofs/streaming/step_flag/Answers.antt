@@ -14,7 +14,7 @@ returns-then-on-is_deep-clause-is c = λ s at.
     let chain = c.args.chain.now in
     let forest = c.args.visited.now.tree.now in
     let k = step_combinator chain.steps.now c.args.i c.index-chain-i.result c.requires.step c.index-chain-i.is s at in
-    step_kept forest c.forest_laws.ensures.forest c.forest_laws.ensures.lines (first_in chain) (steps_in chain) c.requires.prepared.upward c.args.visited.now.id c.args.flags.now c.requires.flags c.args.i s at
+    step_kept forest c.forest_laws.ensures.forest c.forest_laws.ensures.lines (first_in chain) (steps_in chain) c.requires.at.prepared.upward c.args.visited.now.id c.args.flags.now c.requires.at.flags_are c.args.i s at
     (ap (λ b. slice_index_or c.args.flags.now c.args.i false && b) (sym (c.is_deep.ensures ∙ ap is_deep (ap (λ (x : Step). x.combinator) (sym c.index-chain-i.is) ∙ k))) ∙ c.if-on-is_deep.true)
 
 pub returns-then-not-reached_at-clause-is : goal.returns-then-not-reached_at-clause-is
@@ -22,27 +22,27 @@ returns-then-not-reached_at-clause-is c = λ s at.
     let chain = c.args.chain.now in
     let forest = c.args.visited.now.tree.now in
     let k = step_combinator chain.steps.now c.args.i c.index-chain-i.result c.requires.step c.index-chain-i.is s at in
-    let known : c.args.i < length chain.tests.items = let step = c.requires.step in let count = c.requires.prepared.count in omega (arith, step, count) in
+    let known : c.args.i < length chain.tests.items = let step = c.requires.step in let count = c.requires.at.prepared.count in omega (arith, step, count) in
     let off = ap (λ b. slice_index_or c.args.flags.now c.args.i false && b) (sym (c.is_deep.ensures ∙ ap is_deep (ap (λ (x : Step). x.combinator) (sym c.index-chain-i.is) ∙ k))) ∙ c.if-on-is_deep.false in
     elim (slice_get_cases chain.tests.items c.args.i).1 [
-      | inl some ↦ step_unreached forest c.forest_laws.ensures.forest c.forest_laws.ensures.lines (first_in chain) (steps_in chain) c.requires.prepared.upward c.args.visited.now.id c.args.flags.now c.requires.flags c.args.i s at
-          off (sym c.reached_at.ensures ∙ c.if-not-reached_at.true) (read_compound some.0.compound.now) (c.requires.prepared.tests c.args.i some.0 some.2).1
+      | inl some ↦ step_unreached forest c.forest_laws.ensures.forest c.forest_laws.ensures.lines (first_in chain) (steps_in chain) c.requires.at.prepared.upward c.args.visited.now.id c.args.flags.now c.requires.at.flags_are c.args.i s at
+          off (sym c.reached_at.ensures ∙ c.if-not-reached_at.true) (read_compound some.0.compound.now) (c.requires.at.prepared.tests c.args.i some.0 some.2).1
       | inr past ↦ absurd (let far = past.0 in omega (arith, known, far))
     ]
 
 pub matches-requires-clause-ready : goal.matches-requires-clause-ready
 matches-requires-clause-ready c =
     let chain = c.args.chain.now in
-    let known : c.args.i < length chain.tests.items = let step = c.requires.step in let count = c.requires.prepared.count in omega (arith, step, count) in
-    (c.requires.prepared.tests c.args.i c.index.result.now (read_there chain.tests.items c.args.i c.index.result.now known c.index.ensures)).0
+    let known : c.args.i < length chain.tests.items = let step = c.requires.step in let count = c.requires.at.prepared.count in omega (arith, step, count) in
+    (c.requires.at.prepared.tests c.args.i c.index.result.now (read_there chain.tests.items c.args.i c.index.result.now known c.index.ensures)).0
 
 pub returns-clause-is : goal.returns-clause-is
 returns-clause-is c = λ s at.
     let chain = c.args.chain.now in
     let forest = c.args.visited.now.tree.now in
     let k = step_combinator chain.steps.now c.args.i c.index-chain-i.result c.requires.step c.index-chain-i.is s at in
-    let known : c.args.i < length chain.tests.items = let step = c.requires.step in let count = c.requires.prepared.count in omega (arith, step, count) in
-    let test = c.requires.prepared.tests c.args.i c.index.result.now (read_there chain.tests.items c.args.i c.index.result.now known c.index.ensures) in
+    let known : c.args.i < length chain.tests.items = let step = c.requires.step in let count = c.requires.at.prepared.count in omega (arith, step, count) in
+    let test = c.requires.at.prepared.tests c.args.i c.index.result.now (read_there chain.tests.items c.args.i c.index.result.now known c.index.ensures) in
     let off = ap (λ b. slice_index_or c.args.flags.now c.args.i false && b) (sym (c.is_deep.ensures ∙ ap is_deep (ap (λ (x : Step). x.combinator) (sym c.index-chain-i.is) ∙ k))) ∙ c.if-on-is_deep.false in
-    step_tested forest c.forest_laws.ensures.forest c.forest_laws.ensures.lines (first_in chain) (steps_in chain) c.requires.prepared.upward c.args.visited.now.id c.args.flags.now c.requires.flags c.args.i s at
+    step_tested forest c.forest_laws.ensures.forest c.forest_laws.ensures.lines (first_in chain) (steps_in chain) c.requires.at.prepared.upward c.args.visited.now.id c.args.flags.now c.requires.at.flags_are c.args.i s at
     off (sym c.reached_at.ensures ∙ c.if-not-reached_at.false) (read_compound c.index.result.now.compound.now) test.1 c.matches.result c.matches.ensures.is

@@ -1,10 +1,10 @@
 use Rattle.std.proofs.Common.{ap, map, arith}
 use Rattle.dom_selectors.specs.ValuesAsTrees.{read_compound, read_step}
 use Rattle.dom_index.proofs.PlainLemmas.{chains_next, plain_here}
-use Rattle.dom_index.proofs.streaming.prepare_all.Goals as goal
+use Rattle.dom_index.proofs.chains.prepare_all.Goals as goal
 
-pub prepare-requires : goal.prepare-requires
-prepare-requires c = plain_here c.args.selectors.now c.loop-i.i c.index-selectors-i.result c.index-selectors-i-in-loop-i.result c.deref.result.now c.requires (omega arith) c.deref.ensures.value
+pub new-requires : goal.new-requires
+new-requires c = plain_here c.args.selectors.now c.loop-i.i c.index-selectors-i.result c.index-selectors-i-in-loop-i.result c.deref.result.now c.requires (omega arith) c.deref.ensures.value
 
 pub loop-i-preserved : goal.loop-i-preserved
 loop-i-preserved c =

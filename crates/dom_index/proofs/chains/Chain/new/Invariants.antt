@@ -4,7 +4,7 @@ use Rattle.dom_selectors.specs.ValuesAsTrees.{read_compound, read_step}
 use Rattle.dom_index.specs.declared.node_tests.NodeTest.{NodeTest}
 use Rattle.dom_index.specs.FlagRows.{compound_at}
 use Rattle.dom_index.specs.NodeTests.{IsReady}
-use Rattle.dom_index.proofs.streaming.prepare.Given as goal
+use Rattle.dom_index.proofs.chains.Chain.new.Given as goal
 
 -- so many compounds have tests
 abbrev pub invariant-loop-i : goal.invariant-loop-i

@@ -2,7 +2,7 @@ use Rattle.std.proofs.Common.{◌∙◌, ◌+◌, ap, sym, arith, length, ◌∷
 use Rattle.std.proofs.lemmas.List.{length-append}
 use Rattle.dom_selectors.specs.declared.syntax.Step.{Step}
 use Rattle.dom_index.proofs.PlainLemmas.{tests_more}
-use Rattle.dom_index.proofs.streaming.prepare.Goals as goal
+use Rattle.dom_index.proofs.chains.Chain.new.Goals as goal
 
 pub loop-i-preserved : goal.loop-i-preserved
 loop-i-preserved c = record {

@@ -1,0 +1,77 @@
+//! Selectors that are prepared for a traversal: a test for each compound.
+
+ghost use Rattle.std.specs.Prelude.{◌≡◌, ◌∷◌, ◌++◌, [], IfOk, OnOk};
+ghost use Rattle.dom_index.specs.NodeTests.{ArePlain, IsPlain};
+ghost use Rattle.dom_index.specs.Tracks.{AreChainsOf, IsPrepared};
+
+use crate::node_tests::NodeTest;
+use dom_nodes::fault::OutOfMemory;
+use dom_selectors::syntax::{Compound, Selector, Step};
+use dom_trees::tree::Tree;
+
+/// A selector whose combinators are descendant and child ones, with a test for each of its
+/// compounds.
+#[derive(Drop)]
+pub(crate) struct Chain<'s> {
+    pub(crate) first: &'s Compound,
+    pub(crate) steps: &'s [Step],
+    pub(crate) tests: Vec<NodeTest<'s>>,
+}
+
+impl<'s> Chain<'s> {
+    /// Prepares a selector for the nodes of a tree.
+    fn new(first: &'s Compound, steps: &'s [Step], tree: &Tree) -> Result<Chain<'s>, OutOfMemory>
+        requires { IsPlain first.now steps.now }
+        ensures prepared { IfOk result IsPrepared }
+        ensures first { IfOk result (λ chain. chain.first ≡ first.entry) }
+        ensures steps { IfOk result (λ chain. chain.steps ≡ steps.entry) }
+    {
+        let mut tests = Vec::new(tree.allocator());
+        push_test(&mut tests, NodeTest::new(first, tree)?)?;
+        for i in 0..steps.len() {
+            let test = NodeTest::new(&steps[i].compound, tree)?;
+            push_test(&mut tests, test)?;
+        }
+        Ok(Chain {
+            first,
+            steps,
+            tests,
+        })
+    }
+}
+
+/// Adds a test.
+fn push_test<'s>(tests: &mut Vec<NodeTest<'s>>, test: NodeTest<'s>) -> Result<(), OutOfMemory>
+    ensures { OnOk result (tests.new.items ≡ tests.old.items ++ test.entry ∷ []) }
+{
+    match tests.push(test) {
+        Ok(()) => Ok(()),
+        Err(_) => Err(OutOfMemory),
+    }
+}
+
+/// Prepares plain selectors for the nodes of a tree.
+pub(crate) fn prepare_all<'s>(
+    selectors: &'s [Selector],
+    tree: &Tree,
+) -> Result<Vec<Chain<'s>>, OutOfMemory>
+    requires { ArePlain selectors.now }
+    ensures { IfOk result (λ chains. AreChainsOf selectors.now chains.items) }
+{
+    let mut chains = Vec::new(tree.allocator());
+    for i in 0..selectors.len() {
+        let chain = Chain::new(&selectors[i].first, &selectors[i].rest, tree)?;
+        push_chain(&mut chains, chain)?;
+    }
+    Ok(chains)
+}
+
+/// Adds a chain.
+fn push_chain<'s>(chains: &mut Vec<Chain<'s>>, chain: Chain<'s>) -> Result<(), OutOfMemory>
+    ensures { OnOk result (chains.new.items ≡ chains.old.items ++ chain.entry ∷ []) }
+{
+    match chains.push(chain) {
+        Ok(()) => Ok(()),
+        Err(_) => Err(OutOfMemory),
+    }
+}
