@@ -1,5 +1,5 @@
 -- Compounds that are prepared for tests.
-use Rattle.std.specs.Prelude.{ℕ, map, IfSome}
+use Rattle.std.specs.Prelude.{ℕ, ◌≡◌, ◌<◌, length, map, IfSome}
 use Rattle.dom_links.specs.Forest.{Forest}
 use Rattle.dom_selectors.specs.ListsAsTrees.{lists_of}
 use Rattle.dom_selectors.specs.ValuesAsTrees.{read_compound, read_nested}
@@ -7,7 +7,9 @@ use Rattle.dom_select.specs.Answers.{AreAnswers}
 use Rattle.dom_index.specs.declared.node_set.PreparedCompound.{PreparedCompound}
 use Rattle.dom_index.specs.TypeBytes.{IsTypeFilterOf}
 
--- the type filter is the compound's, and the answers are those of its nested lists at n
-pub record IsPreparedAt (forest : Forest) (n : ℕ) (prepared : PreparedCompound) : Type 0 where
+-- n is a node, the type filter is the compound's, the answers are those of its nested lists at n, and the caches are the tree's
+pub record IsPreparedAt (forest : Forest) (n : ℕ) (prepared : PreparedCompound) (caches : Forest) : Type 0 where
+  pub known : n < length forest.content
   pub filter : IfSome prepared.name (IsTypeFilterOf (read_compound prepared.compound.now))
   pub answered : AreAnswers (lists_of (map read_nested prepared.compound.now.nested.items)) forest n prepared.answers.items
+  pub caches_are : caches ≡ forest

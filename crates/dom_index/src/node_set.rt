@@ -1,6 +1,6 @@
 //! Sets of nodes as one flag for each node, and their operations.
 
-ghost use Rattle.std.specs.Prelude.{◌≡◌, ◌<◌, ◌≤◌, ◌+◌, ℕ, true, length, map, IfOk};
+ghost use Rattle.std.specs.Prelude.{◌≡◌, ◌<◌, ◌≤◌, ◌+◌, ◌^◌, ℕ, true, length, map, IfOk};
 ghost use Rattle.dom_selectors.specs.declared.syntax.Combinator.TheVariants.{Sibling};
 ghost use Rattle.dom_selectors.specs.ListsAsTrees.{lists_of};
 ghost use Rattle.dom_selectors.specs.Syntax.{no_lists};
@@ -48,15 +48,15 @@ pub(crate) fn filter_by_compound(
         answers: vec![in preorder.tree.allocator(); true; compound.nested.len()]?,
     };
     let mut caches = SelectorCaches::new(preorder.tree);
-    let asked = member_count(&wanted);
     let mut table = wanted;
+    let mut asked = 0;
     for n in 0..table.len() {
         if !table[n] {
             continue;
         }
-        table[n] = compound_holds(preorder, &prepared, n, &mut caches);
+        table[n] = compound_holds(preorder, &prepared, n, &mut caches, &mut asked);
     }
-    *tests = tests.saturating_add(asked as u128);
+    *tests = tests.saturating_add(asked);
     Ok(table)
 }
 
@@ -68,32 +68,27 @@ struct PreparedCompound<'c> {
     answers: Vec<bool>,
 }
 
-/// Whether the node matches the compound; its type alone may decide that.
+/// Whether the node matches the compound; its type alone may decide that. It adds one to `asked`.
 fn compound_holds(
     preorder: &Preorder<'_>,
     prepared: &PreparedCompound<'_>,
     n: usize,
     caches: &mut SelectorCaches<'_>,
+    asked: &mut u128,
 ) -> bool
-    requires known { n < length preorder.now.tree.now.content }
-    requires prepared { IsPreparedAt preorder.now.tree.now n prepared.now }
-    requires caches { caches.old ≡ preorder.now.tree.now }
+    requires prepared { IsPreparedAt preorder.now.tree.now n prepared.now caches.old }
+    requires room { asked.old + 1 < 2 ^ 128 }
     ensures is { Decides result (Holds (read_compound prepared.now.compound.now)
         preorder.now.tree.now n) }
     ensures kept { caches.new ≡ caches.old }
+    ensures counted { asked.new ≡ asked.old + 1 }
 {
     if let Some(answer) = decided_by_type(preorder, n, prepared.name) {
+        *asked += 1;
         return answer;
     }
     let node = NodeRef::new(numbered(preorder.tree, n), preorder.tree);
-    let mut tests = 0;
-    test_compound(
-        prepared.compound,
-        &node,
-        &prepared.answers,
-        caches,
-        &mut tests,
-    )
+    test_compound(prepared.compound, &node, &prepared.answers, caches, asked)
 }
 
 /// The elements.

@@ -1,5 +1,6 @@
-use Rattle.std.proofs.Common.{◌<◌, ◌≡◌, ◌∙◌, sym, ap, map, subst, length, replicate, true, false, arith}
+use Rattle.std.proofs.Common.{◌<◌, ◌≡◌, ◌+◌, ◌∙◌, sym, ap, map, subst, length, replicate, true, false, arith}
 use Rattle.std.proofs.lemmas.List.{length-map, length-set, get_or_read}
+use Rattle.std.proofs.lemmas.List.Sums.{count_by_more_yes}
 use Rattle.dom_select.specs.Answers.{AreAnswers}
 use Rattle.dom_select.specs.Meaning.{Holds}
 use Rattle.dom_selectors.specs.ListsAsTrees.{lists_of}
@@ -20,8 +21,10 @@ compound_holds-requires-clause-prepared c =
     let long : c.len.result ≡ length lists = c.len.ensures ∙ (omega arith) ∙ sym (length-map c.args.compound.now.nested.items read_nested) in
     let answers : c.in_ok-vec.field-0.items ≡ replicate (length lists) true = c.in_ok-vec.ensures.items_if_clones_equal (λ y h. h) ∙ ap (λ m. replicate m true) long in
     record {
+      known = known;
       filter = c.type_filter_of.ensures;
       answered = subst (AreAnswers (lists_of lists) forest n) (sym answers) all;
+      caches_are = c.loop-n.invariant.kept;
     }
 
 pub loop-n-preserved : goal.loop-n-preserved
@@ -31,10 +34,13 @@ loop-n-preserved c =
     let wanted = c.args.wanted.items in
     let forest = c.args.preorder.now.tree.now in
     let inside : n < length table = omega arith in
+    let whole = c.requires.wanted in
     let long = c.loop-n.invariant.long in
     let here : in_set wanted n ≡ true = sym (c.loop-n.invariant.left n (omega arith)) ∙ (sym (get_or_read table _ _ inside c.index.ensures false) ∙ c.if-not-index.false) in
     record {
       long = length-set table n c.compound_holds.result ∙ long;
+      few = omega (arith, c.compound_holds.ensures.counted, c.loop-n.invariant.few);
+      counted = c.compound_holds.ensures.counted ∙ (ap (λ k. k + 1) c.loop-n.invariant.counted ∙ sym (count_by_more_yes (λ b. b) wanted n false (omega arith) here));
       kept = c.compound_holds.ensures.kept ∙ c.loop-n.invariant.kept;
       answer = one_more_decided (λ m. (in_set wanted m ≡ true) × Holds (read_compound c.args.compound.now) forest m) table n c.compound_holds.result inside c.loop-n.invariant.answer
           (decided_by c.compound_holds.result _ _ (λ holds. (here, holds)) (λ both. both.1) c.compound_holds.ensures.is);
