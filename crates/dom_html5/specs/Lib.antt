@@ -1,1 +1,4 @@
 pub mod Shape
+pub mod ElementKinds
+pub mod Calm
+pub mod Scopes

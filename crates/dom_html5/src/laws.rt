@@ -1,10 +1,19 @@
-//! What is true of every page. The functions do nothing.
+//! What is true of pages. The functions do nothing.
 
 ghost use Rattle.std.specs.Prelude.{◌⊎◌, codes, find};
+ghost use Rattle.dom_html5.specs.Calm.{IsCalmForest, SpellsCalmPage};
 ghost use Rattle.dom_links.specs.Forest.{Forest, children_of};
 ghost use Rattle.dom_links.specs.ListMoves.{element_at};
+ghost use Rattle.dom_links.specs.Sound.{IsForest};
+ghost use Rattle.dom_markup.specs.Html.{html_of};
+ghost use Rattle.dom_markup.specs.Plain.{IsPlain};
 ghost use Rattle.dom_trees.specs.Views.{page_part};
 ghost use Rattle.dom_html5.specs.Shape.{IsFound, IsPage};
+
+use dom_markup::laws::one_reading;
+use dom_markup::laws::plain::{
+    html_of_trees, one_meaning, plain_documents_are_spelled, plain_reads_back,
+};
 
 /// Of a page `html_root` and `head` return elements of these names, and `body` does so too where no
 /// element `frameset` stands in its place.
@@ -17,3 +26,16 @@ pub fn pages_have_parts()
         → IsFound page (codes "body") (page_part page (codes "body"))
         ⊎ IsFound page (codes "frameset") (page_part page (codes "frameset")) }
 {}
+
+/// The HTML of a plain document that is calm is a calm page of the same tree, which `parse_page`
+/// reads back.
+pub fn calm_documents_are_pages()
+    ensures { (forest : Forest) → IsForest forest → IsPlain forest → IsCalmForest forest
+        → SpellsCalmPage (html_of forest 0) forest }
+{
+    html_of_trees();
+    one_meaning();
+    one_reading();
+    plain_documents_are_spelled();
+    plain_reads_back();
+}

@@ -5,6 +5,7 @@ mod adjusting;
 mod adoption;
 mod attributes;
 mod builder;
+mod calm;
 mod chars;
 mod fault;
 mod foreign;

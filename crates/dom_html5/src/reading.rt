@@ -1,9 +1,15 @@
 //! Reading a page or a fragment, whole or in pieces.
 
-ghost use Rattle.std.specs.Prelude.{IfOk};
+ghost use Rattle.std.specs.Prelude.{◌≡◌, ◌↔◌, IfOk, IsTrue};
+ghost use Rattle.dom_links.specs.Forest.{Forest};
+ghost use Rattle.dom_markup.specs.Numbered.{document_of};
+ghost use Rattle.dom_markup.specs.ValueTrees.{ValueTrees};
+ghost use Rattle.dom_trees.specs.SameTree.{SameTree};
+ghost use Rattle.dom_html5.specs.Calm.{IsCalmPage, ReadsCalm, SpellsCalmPage};
 ghost use Rattle.dom_html5.specs.Shape.{IsPage, ReadsPage};
 
 use crate::builder::{Mode, TreeBuilder};
+use crate::calm::read_calm;
 use crate::fault::PageFault;
 use crate::inserting::Place;
 use crate::name::Name;
@@ -60,8 +66,33 @@ pub struct PageParser {
 }
 
 /// The document that a page stands for. Every text is a page: the standard says what is made of
-/// markup that has faults.
+/// markup that has faults. A calm page is explicit markup, and is read as `Document::parse` reads
+/// it, where depth isn't bounded and no errors are noted.
 pub fn parse_page(alloc: Global, source: &str, options: Options) -> Result<Document, PageFault>
+    ensures page { IfOk result (λ document. IsPage document.tree) }
+    ensures calm { (trees : ValueTrees) → IsCalmPage source.now trees → ReadsCalm options
+        → IfOk result (λ document. document.tree ≡ document_of trees) }
+    ensures same { (forest : Forest) → SpellsCalmPage source.now forest → ReadsCalm options
+        → IfOk result (λ document. SameTree forest 0 document.tree 0) }
+{
+    if !reads_calm(options) {
+        return parse_any_page(alloc, source, options);
+    }
+    match read_calm(alloc, source)? {
+        Some(document) => Ok(document),
+        None => parse_any_page(alloc, source, options),
+    }
+}
+
+/// Whether calm pages are read as explicit markup.
+fn reads_calm(options: Options) -> bool
+    ensures { IsTrue result ↔ ReadsCalm options }
+{
+    options.max_depth.is_none() && !options.errors
+}
+
+/// The document that a page stands for, by tree construction.
+fn parse_any_page(alloc: Global, source: &str, options: Options) -> Result<Document, PageFault>
     ensures { IfOk result (λ document. IsPage document.tree) }
 {
     let mut parser = PageParser::new(alloc, options)?;

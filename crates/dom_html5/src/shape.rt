@@ -104,7 +104,7 @@ fn is_top(tree: &Tree, tops: &[NodeId]) -> Result<bool, PageFault>
 }
 
 /// Whether the tree has the shape of a page.
-fn is_page(tree: &Tree) -> Result<bool, PageFault>
+pub(crate) fn is_page(tree: &Tree) -> Result<bool, PageFault>
     ensures { IfOk result (λ is. is ≡ is_page tree.now) }
 {
     let tops = besides_comments(tree, tree.root_id())?;

@@ -1,6 +1,7 @@
 //! Pages that are read as the HTML Standard reads them: whole, as bytes, in pieces, and as a
 //! fragment.
 
+mod calm;
 mod endings;
 mod shapes;
 mod tokens;

@@ -1,0 +1,165 @@
+-- Calm pages: explicit markup that tree construction reads as it stands, so that both readers give one tree.
+use Rattle.std.specs.Prelude.{ℕ, ◌≡◌, ◌==◌, ◌≤◌, ◌-◌, ◌&&◌, ◌||◌, Bool, true, false, not, nat_eq, List, [], ◌∷◌, Option, None, Some, length, map, take, drop, codes, if◌then◌else◌}
+use Rattle.std.specs.Char.{is_ascii_alphanumeric, to_ascii_lowercase}
+use Rattle.std.specs.List.{list_all, starts_with}
+use Rattle.dom_nodes.specs.Ascii.{ampersand, carriage_return, exclamation_mark, greater_than, less_than, line_feed, number_sign, slash}
+use Rattle.dom_links.specs.Forest.{Forest, children_of}
+use Rattle.dom_trees.specs.SameTree.{SameTree}
+use Rattle.dom_markup.specs.Bytes.{is_whitespace}
+use Rattle.dom_markup.specs.Html.{html_of}
+use Rattle.dom_markup.specs.Markup.{Spells}
+use Rattle.dom_markup.specs.Numbered.{document_of}
+use Rattle.dom_markup.specs.Plain.{Represents}
+use Rattle.dom_markup.specs.ValueTrees.{Attribute, ValueTrees}
+use Rattle.dom_markup.specs.ValueTrees.ValueTrees.{no_trees, text_node, comment_node, doctype_node, element_node}
+use Rattle.dom_html5.specs.ElementKinds.{holds_flow, kind_of, may_hold}
+use Rattle.dom_html5.specs.declared.calm.element_kinds.Kind.{Kind}
+use Rattle.dom_html5.specs.declared.calm.element_kinds.Kind.TheVariants.{Anchor, Block, Body, Button, ColumnGroup, DescriptionList, Document, Form, Head, Heading, ItemList, Other, Paragraph, Pre, RowGroup, Table, TableRow, Verbatim}
+use Rattle.dom_html5.specs.declared.calm.nesting.Scope.{Scope}
+use Rattle.dom_html5.specs.declared.reading.Options.{Options}
+
+-- ---- trees
+
+-- an element that may not stand in one that is open
+abbrev pub bars : Scope → Kind → Bool
+bars scope Anchor = scope.in_anchor
+bars scope Button = scope.in_button
+bars scope Form = scope.in_paragraph || scope.in_form
+bars scope Paragraph = scope.in_paragraph
+bars scope Block = scope.in_paragraph
+bars scope Heading = scope.in_paragraph
+bars scope Pre = scope.in_paragraph
+bars scope ItemList = scope.in_paragraph
+bars scope DescriptionList = scope.in_paragraph
+bars scope Table = scope.in_paragraph
+bars scope _ = false
+
+-- what the children of an element of that kind stand in
+abbrev pub inside : Scope → Kind → Scope
+inside scope Anchor = record scope { parent = Anchor; in_anchor = true }
+inside scope Button = record scope { parent = Button; in_button = true }
+inside scope Form = record scope { parent = Form; in_form = true }
+inside scope Paragraph = record scope { parent = Paragraph; in_paragraph = true }
+inside scope kind = record scope { parent = kind }
+
+-- what the nodes at the top stand in
+abbrev pub top : Scope
+top = record { parent = Document; in_paragraph = false; in_anchor = false; in_button = false; in_form = false }
+
+abbrev pub admits : Scope → Kind → Bool
+admits scope kind = may_hold scope.parent kind && not (bars scope kind)
+
+-- a `<` in front of this begins an end tag or a declaration
+abbrev pub begins_close : List ℕ → Bool
+begins_close [] = false
+begins_close (b ∷ rest) = b == slash || b == exclamation_mark
+
+-- an end tag or a declaration begins in the text
+abbrev pub has_close : List ℕ → Bool
+has_close [] = false
+has_close (b ∷ rest) = (b == less_than && begins_close rest) || has_close rest
+
+abbrev pub begins_line : List ℕ → Bool
+begins_line [] = false
+begins_line (b ∷ rest) = b == line_feed
+
+-- a child of such an element may be this text: whitespace alone where no text is shown
+abbrev pub may_hold_text : Kind → List ℕ → Bool
+may_hold_text Head contents = list_all is_whitespace contents
+may_hold_text Table contents = list_all is_whitespace contents
+may_hold_text ColumnGroup contents = list_all is_whitespace contents
+may_hold_text RowGroup contents = list_all is_whitespace contents
+may_hold_text TableRow contents = list_all is_whitespace contents
+may_hold_text Verbatim contents = not (has_close contents)
+may_hold_text Pre contents = not (begins_line contents)
+may_hold_text parent contents = holds_flow parent
+
+abbrev pub holds_comments : Kind → Bool
+holds_comments Head = true
+holds_comments Table = true
+holds_comments ColumnGroup = true
+holds_comments RowGroup = true
+holds_comments TableRow = true
+holds_comments parent = holds_flow parent
+
+abbrev pub may_hold_comment : Kind → List ℕ → Bool
+may_hold_comment parent contents = holds_comments parent && list_all (λ b. not (b == greater_than)) contents
+
+abbrev pub holds_doctype : Kind → Bool
+holds_doctype Document = true
+holds_doctype parent = false
+
+-- the trees may stand there, and so may what is in them
+abbrev pub are_calm : Scope → ValueTrees → Bool
+are_calm scope no_trees = true
+are_calm scope (text_node contents later) = may_hold_text scope.parent contents && are_calm scope later
+are_calm scope (comment_node contents later) = may_hold_comment scope.parent contents && are_calm scope later
+are_calm scope (doctype_node name public system later) = holds_doctype scope.parent && are_calm scope later
+are_calm scope (element_node name attributes children later) =
+    (admits scope (kind_of name) && are_calm (inside scope (kind_of name)) children) && are_calm scope later
+
+-- a doctype and an element `html` that holds a head and a body, and what stands in them is calm
+pub record IsCalmDocument (trees : ValueTrees) : Type 0 where
+  pub html_attributes : List Attribute
+  pub head_attributes : List Attribute
+  pub body_attributes : List Attribute
+  pub head : ValueTrees
+  pub body : ValueTrees
+  pub is : trees ≡ doctype_node (codes "html") [] [] (element_node (codes "html") html_attributes
+      (element_node (codes "head") head_attributes head (element_node (codes "body") body_attributes body no_trees)) no_trees)
+  pub calm : are_calm top trees ≡ true
+
+-- ---- texts
+
+abbrev pub begins : List ℕ → List ℕ → Bool
+begins after word = starts_with nat_eq after word
+
+-- an `&` in front of this stands for itself, whatever a reader knows of names
+abbrev pub is_bare : List ℕ → Bool
+is_bare [] = true
+is_bare (b ∷ rest) = not (is_ascii_alphanumeric b || b == number_sign)
+
+-- what follows an `&`: the end of one of five references, or what makes none
+abbrev pub is_plain_reference : List ℕ → Bool
+is_plain_reference after = begins after (codes "amp;") || begins after (codes "lt;") || begins after (codes "gt;")
+    || begins after (codes "quot;") || begins after (codes "nbsp;") || is_bare after
+
+abbrev pub is_calm_byte : ℕ → List ℕ → Bool
+is_calm_byte b after = if b == ampersand then is_plain_reference after else not (b == 0 || b == carriage_return)
+
+-- no byte 0 or 13, and no `&` but of the five references, or with nothing after it that makes one
+abbrev pub is_calm_text : List ℕ → Bool
+is_calm_text [] = true
+is_calm_text (b ∷ after) = is_calm_byte b after && is_calm_text after
+
+-- A to Z being a to z, the text begins with a doctype and `<html`, and ends with the end tags of `body` and `html`
+pub record IsFramed (page : List ℕ) : Type 0 where
+  pub long : 34 ≤ length page
+  pub front : map to_ascii_lowercase (take 20 page) ≡ codes "<!doctype html><html"
+  pub back : map to_ascii_lowercase (drop (length page - 14) page) ≡ codes "</body></html>"
+
+-- ---- pages
+
+-- the text spells a calm document by calm bytes
+pub record IsCalmPage (text : List ℕ) (trees : ValueTrees) : Type 0 where
+  pub spelled : Spells text trees
+  pub framed : IsFramed text
+  pub bytes : is_calm_text text ≡ true
+  pub document : IsCalmDocument trees
+
+-- the options under which calm pages are read so: no bound on depth, and no errors noted
+abbrev pub ReadsCalm : Options → Type 0
+ReadsCalm options = (options.max_depth ≡ None) × (options.errors ≡ false)
+
+-- the text is a calm page, whose document is the same tree as this one
+pub record SpellsCalmPage (text : List ℕ) (forest : Forest) : Type 0 where
+  pub trees : ValueTrees
+  pub page : IsCalmPage text trees
+  pub same : SameTree forest 0 (document_of trees) 0
+
+-- the nodes stand for a calm document, and the bytes of its HTML are calm
+pub record IsCalmForest (forest : Forest) : Type 0 where
+  pub trees : ValueTrees
+  pub below : Represents forest (children_of forest 0) trees
+  pub document : IsCalmDocument trees
+  pub bytes : is_calm_text (html_of forest 0) ≡ true

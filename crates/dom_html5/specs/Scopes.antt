@@ -1,0 +1,20 @@
+-- What each node of a document stands in, found in order of the nodes' numbers.
+use Rattle.std.specs.Prelude.{ℕ, List, Option, None, Some, slice_get, if◌then◌else◌}
+use Rattle.std.specs.Option.{option_and_then}
+use Rattle.dom_nodes.specs.declared.node_data.NodeData.{NodeData}
+use Rattle.dom_nodes.specs.declared.node_data.NodeData.TheVariants.{Comment, Doctype, Element as AnElement, Text}
+use Rattle.dom_html5.specs.Calm.{admits, holds_doctype, inside, may_hold_comment, may_hold_text}
+use Rattle.dom_html5.specs.ElementKinds.{kind_of}
+use Rattle.dom_html5.specs.declared.calm.nesting.Scope.{Scope}
+
+-- what the children of a node stand in, where it may stand in that scope
+abbrev pub scope_below : Scope → NodeData → Option Scope
+scope_below scope (Text contents) = if may_hold_text scope.parent contents then Some scope else None
+scope_below scope (Comment contents) = if may_hold_comment scope.parent contents then Some scope else None
+scope_below scope (Doctype _ _ _) = if holds_doctype scope.parent then Some scope else None
+scope_below scope (AnElement element) = if admits scope (kind_of element.name.local) then Some (inside scope (kind_of element.name.local)) else None
+scope_below scope _ = None
+
+-- the same, by the number of the parent, and what the children of the nodes before stand in
+abbrev pub next_scope : List Scope → Option ℕ → NodeData → Option Scope
+next_scope scopes parent content = option_and_then (λ p. option_and_then (λ scope. scope_below scope content) (slice_get scopes p)) parent

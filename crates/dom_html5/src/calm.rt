@@ -1,0 +1,97 @@
+//! Calm pages, which tree construction reads as the explicit markup that they are.
+
+ghost use Rattle.std.specs.Prelude.{◌≡◌, IfOk, IfSome, MatchOption, None, true};
+ghost use Rattle.dom_html5.specs.Calm.{IsCalmDocument, IsCalmPage, are_calm, top};
+ghost use Rattle.dom_html5.specs.Shape.{IsPage};
+ghost use Rattle.dom_markup.specs.FaultKinds.{IsLimitFault};
+ghost use Rattle.dom_markup.specs.Numbered.{document_of};
+ghost use Rattle.dom_markup.specs.ValueTrees.{ValueTrees};
+
+mod element_kinds;
+mod nesting;
+mod texts;
+
+use crate::calm::nesting::{TOP, next_scope};
+use crate::calm::texts::{is_calm_text, is_framed};
+use crate::fault::PageFault;
+use crate::shape::is_page;
+use dom_markup::document::Document;
+use dom_markup::laws::one_reading;
+use dom_markup::laws::plain::documents_are_forests;
+use dom_nodes::fault::{MarkupFault, MarkupFaultKind};
+use dom_trees::tree::Tree;
+use std::alloc::Global;
+
+/// The document of a calm page; None where the page isn't calm. `Err` where a limit was met.
+pub fn read_calm(alloc: Global, source: &str) -> Result<Option<Document>, PageFault>
+    ensures page { IfOk result (λ found. IfSome found (λ document. IsPage document.tree)) }
+    ensures calm { (trees : ValueTrees) → IsCalmPage source.now trees → IfOk result (λ found.
+        MatchOption found ⊥ (λ document. document.tree ≡ document_of trees)) }
+{
+    if !is_framed(source) {
+        return Ok(None);
+    }
+    if !is_calm_text(source) {
+        return Ok(None);
+    }
+    one_reading();
+    documents_are_forests();
+    match Document::parse(alloc, source) {
+        Ok(document) => calm_only(document),
+        Err(fault) => unread(fault),
+    }
+}
+
+/// What a text comes to that isn't read as explicit markup: a limit is a fault of a page too.
+fn unread(fault: MarkupFault) -> Result<Option<Document>, PageFault>
+    ensures none { IfOk result (λ found. found ≡ None) }
+    ensures limit { IsLimitFault fault.kind → IfOk result (λ _. ⊥) }
+{
+    match fault.kind {
+        MarkupFaultKind::Memory => Err(PageFault::Memory),
+        MarkupFaultKind::TooManyNodes => Err(PageFault::TooManyNodes),
+        _ => Ok(None),
+    }
+}
+
+/// The document, where it is calm.
+fn calm_only(document: Document) -> Result<Option<Document>, PageFault>
+    ensures page { IfOk result (λ found. IfSome found (λ calm. IsPage calm.tree)) }
+    ensures calm { (trees : ValueTrees) → document.tree ≡ document_of trees → IsCalmDocument trees
+        → IfOk result (λ found. MatchOption found ⊥ (λ calm. calm.tree ≡ document.tree)) }
+{
+    if is_calm(&document.tree)? {
+        return Ok(Some(document));
+    }
+    Ok(None)
+}
+
+/// Whether a tree that was read from explicit markup is calm.
+fn is_calm(tree: &Tree) -> Result<bool, PageFault>
+    ensures page { IfOk result (λ is. is ≡ true → IsPage tree.now) }
+    ensures calm { (trees : ValueTrees) → tree.now ≡ document_of trees → IsCalmDocument trees
+        → IfOk result (λ is. is ≡ true) }
+{
+    if !is_page(tree)? {
+        return Ok(false);
+    }
+    are_nodes_calm(tree)
+}
+
+/// Whether each node may stand where it stands. The nodes of a tree that was read are numbered in
+/// order of start, so that what a node stands in is known before it.
+fn are_nodes_calm(tree: &Tree) -> Result<bool, PageFault>
+    ensures { (trees : ValueTrees) → tree.now ≡ document_of trees
+        → IfOk result (λ are. are ≡ are_calm top trees) }
+{
+    let below = &tree.nodes()[1..];
+    let mut scopes = Vec::with_capacity(tree.allocator(), tree.len())?;
+    scopes.push(TOP)?;
+    for node in below {
+        let Some(scope) = next_scope(node, &scopes) else {
+            return Ok(false);
+        };
+        scopes.push(scope)?;
+    }
+    Ok(true)
+}

@@ -1,0 +1,135 @@
+//! Which nodes may stand where, so that tree construction leaves a tree as it is spelled.
+
+ghost use Rattle.std.specs.Prelude.{◌≡◌, if◌then◌else◌};
+ghost use Rattle.dom_html5.specs.Calm.{admits, bars, inside, may_hold_comment, may_hold_text};
+ghost use Rattle.dom_html5.specs.Scopes.{next_scope, scope_below};
+
+use crate::calm::element_kinds::Kind;
+use crate::calm::texts::{begins_line, has_close, is_whitespace, lacks_greater_than};
+use dom_nodes::node_data::{NodeData, TreeNode};
+
+/// What a node stands in: the kind of its parent, and which elements are open.
+#[derive(Clone, Copy, PartialEq, Eq, Debug, Drop)]
+pub struct Scope {
+    pub parent: Kind,
+    pub in_paragraph: bool,
+    pub in_anchor: bool,
+    pub in_button: bool,
+    pub in_form: bool,
+}
+
+/// What the nodes at the top stand in.
+pub const TOP: Scope = Scope {
+    parent: Kind::Document,
+    in_paragraph: false,
+    in_anchor: false,
+    in_button: false,
+    in_form: false,
+};
+
+impl Scope {
+    /// Whether an element of that kind may not stand in one that is open.
+    fn bars(&self, kind: Kind) -> bool
+        ensures { result ≡ bars self.now kind }
+    {
+        match kind {
+            Kind::Anchor => self.in_anchor,
+            Kind::Button => self.in_button,
+            Kind::Form => self.in_paragraph || self.in_form,
+            Kind::Paragraph
+            | Kind::Block
+            | Kind::Heading
+            | Kind::Pre
+            | Kind::ItemList
+            | Kind::DescriptionList
+            | Kind::Table => self.in_paragraph,
+            _ => false,
+        }
+    }
+
+    /// What the children of an element of that kind stand in.
+    fn inside(&self, kind: Kind) -> Scope
+        ensures { result ≡ inside self.now kind }
+    {
+        let mut scope = *self;
+        scope.parent = kind;
+        match kind {
+            Kind::Anchor => scope.in_anchor = true,
+            Kind::Button => scope.in_button = true,
+            Kind::Form => scope.in_form = true,
+            Kind::Paragraph => scope.in_paragraph = true,
+            _ => {}
+        }
+        scope
+    }
+
+    /// Whether an element of that kind may stand there.
+    fn admits(&self, kind: Kind) -> bool
+        ensures { result ≡ admits self.now kind }
+    {
+        self.parent.may_hold(kind) && !self.bars(kind)
+    }
+
+    /// What the children of this node stand in, where it may stand here.
+    pub fn below(&self, node: &NodeData) -> Option<Scope>
+        ensures { result ≡ scope_below self.now node.now }
+    {
+        match node {
+            NodeData::Text { contents } => { self.held(holds_text(self.parent, contents.as_str())) }
+            NodeData::Comment { contents } => {
+                self.held(holds_comment(self.parent, contents.as_str()))
+            }
+            NodeData::Doctype { .. } => self.held(self.parent.holds_doctype()),
+            NodeData::Element(element) => self.below_element(Kind::of(element.name.local())),
+            _ => None,
+        }
+    }
+
+    /// The same scope, where it holds a node that has no children.
+    fn held(&self, holds: bool) -> Option<Scope>
+        ensures { result ≡ (if holds then Some self.now else None) }
+    {
+        if holds { Some(*self) } else { None }
+    }
+
+    /// What the children of an element of that kind stand in, where it may stand here.
+    fn below_element(&self, kind: Kind) -> Option<Scope>
+        ensures { result ≡ (if admits self.now kind then Some (inside self.now kind) else None) }
+    {
+        if !self.admits(kind) {
+            return None;
+        }
+        Some(self.inside(kind))
+    }
+}
+
+/// What the children of this node stand in, by the scopes of the nodes before it; None where it may
+/// not stand there.
+pub fn next_scope(node: &TreeNode, scopes: &[Scope]) -> Option<Scope>
+    ensures { result ≡ next_scope scopes.now node.now.parent node.now.content }
+{
+    let parent = node.parent.get()?;
+    let scope = scopes.get(parent.value())?;
+    scope.below(&node.content)
+}
+
+/// Whether a child of such an element may be this text.
+fn holds_text(parent: Kind, contents: &str) -> bool
+    ensures { result ≡ may_hold_text parent contents.now }
+{
+    match parent {
+        Kind::Head | Kind::Table | Kind::ColumnGroup | Kind::RowGroup | Kind::TableRow => {
+            is_whitespace(contents)
+        }
+        Kind::Verbatim => !has_close(contents),
+        Kind::Pre => !begins_line(contents),
+        _ => parent.holds_flow(),
+    }
+}
+
+/// Whether a child of such an element may be a comment of these contents.
+fn holds_comment(parent: Kind, contents: &str) -> bool
+    ensures { result ≡ may_hold_comment parent contents.now }
+{
+    parent.holds_comments() && lacks_greater_than(contents)
+}

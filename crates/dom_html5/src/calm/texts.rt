@@ -1,0 +1,130 @@
+//! Texts that tree construction and tokenization read as they are spelled.
+
+ghost use Rattle.std.specs.Prelude.{◌≡◌, ◌==◌, ◌↔◌, IsTrue, not};
+ghost use Rattle.std.specs.List.{list_all};
+ghost use Rattle.dom_markup.specs.Bytes.{is_whitespace};
+ghost use Rattle.dom_nodes.specs.Ascii.{greater_than};
+ghost use Rattle.dom_html5.specs.Calm.{begins_close, begins_line, has_close};
+ghost use Rattle.dom_html5.specs.Calm.{is_bare, is_calm_byte, is_calm_text};
+ghost use Rattle.dom_html5.specs.Calm.{IsFramed, is_plain_reference};
+
+/// How many bytes a framed page has at least.
+const LEAST: usize = 34;
+
+/// Whether the page begins with the doctype and `<html`, and ends with `</body></html>`.
+pub fn is_framed(page: &str) -> bool
+    ensures { IsTrue result ↔ IsFramed page.now }
+{
+    let bytes = page.as_bytes();
+    let length = bytes.len();
+    if length < LEAST {
+        return false;
+    }
+    if !bytes[..20].eq_ignore_ascii_case(b"<!doctype html><html") {
+        return false;
+    }
+    bytes[length - 14..].eq_ignore_ascii_case(b"</body></html>")
+}
+
+/// Whether each byte of the page is calm.
+pub fn is_calm_text(page: &str) -> bool
+    ensures { result ≡ is_calm_text page.now }
+{
+    let mut rest = page.as_bytes();
+    while let Some((first, after)) = rest.split_first() {
+        if !is_calm_byte(*first, after) {
+            return false;
+        }
+        rest = after;
+    }
+    true
+}
+
+/// Whether a byte in front of these is no 0, no carriage return, and no `&` that readers differ on.
+#[inline(always)]
+fn is_calm_byte(byte: u8, after: &[u8]) -> bool
+    ensures { result ≡ is_calm_byte byte after.now }
+{
+    match byte {
+        b'&' => is_plain_reference(after),
+        0 | b'\r' => false,
+        _ => true,
+    }
+}
+
+/// Whether this follows an `&` of one of the five references, or one that stands for itself.
+fn is_plain_reference(after: &[u8]) -> bool
+    ensures { result ≡ is_plain_reference after.now }
+{
+    after.starts_with(b"amp;")
+        || after.starts_with(b"lt;")
+        || after.starts_with(b"gt;")
+        || after.starts_with(b"quot;")
+        || after.starts_with(b"nbsp;")
+        || is_bare(after)
+}
+
+/// Whether an `&` in front of this stands for itself.
+fn is_bare(after: &[u8]) -> bool
+    ensures { result ≡ is_bare after.now }
+{
+    match after.split_first() {
+        Some((first, _)) => !(first.is_ascii_alphanumeric() || *first == b'#'),
+        None => true,
+    }
+}
+
+/// Whether an end tag or a declaration begins in the text.
+pub fn has_close(text: &str) -> bool
+    ensures { result ≡ has_close text.now }
+{
+    let mut rest = text.as_bytes();
+    while let Some((first, after)) = rest.split_first() {
+        if *first == b'<' && begins_close(after) {
+            return true;
+        }
+        rest = after;
+    }
+    false
+}
+
+/// Whether the bytes behind a `<` make an end tag or a declaration of it.
+fn begins_close(after: &[u8]) -> bool
+    ensures { result ≡ begins_close after.now }
+{
+    match after.split_first() {
+        Some((first, _)) => *first == b'/' || *first == b'!',
+        None => false,
+    }
+}
+
+/// Whether the text begins with a line feed.
+pub fn begins_line(text: &str) -> bool
+    ensures { result ≡ begins_line text.now }
+{
+    match text.as_bytes().split_first() {
+        Some((first, _)) => *first == b'\n',
+        None => false,
+    }
+}
+
+/// Whether the text is whitespace alone.
+pub fn is_whitespace(text: &str) -> bool
+    ensures { result ≡ list_all is_whitespace text.now }
+{
+    text.as_bytes().iter().all(|byte| is_space(*byte))
+}
+
+/// Whether the byte is whitespace.
+fn is_space(byte: u8) -> bool
+    ensures { result ≡ is_whitespace byte }
+{
+    matches!(byte, b'\t' | b'\n' | 12 | b'\r' | b' ')
+}
+
+/// Whether no `>` stands in the text.
+pub fn lacks_greater_than(text: &str) -> bool
+    ensures { result ≡ list_all (λ b. not (b == greater_than)) text.now }
+{
+    text.as_bytes().iter().all(|byte| *byte != b'>')
+}
