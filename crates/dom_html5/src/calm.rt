@@ -1,6 +1,6 @@
 //! Calm pages, which tree construction reads as the explicit markup that they are.
 
-ghost use Rattle.std.specs.Prelude.{◌≡◌, IfOk, IfSome, MatchOption, None, true};
+ghost use Rattle.std.specs.Prelude.{◌≡◌, IfErr, IfOk, IfSome, MatchOption, MatchResult, true};
 ghost use Rattle.dom_html5.specs.Calm.{IsCalmDocument, IsCalmPage, are_calm, top};
 ghost use Rattle.dom_html5.specs.Shape.{IsPage};
 ghost use Rattle.dom_markup.specs.FaultKinds.{IsLimitFault};
