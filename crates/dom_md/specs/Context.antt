@@ -1,5 +1,5 @@
 -- Lists: their marks and numbers, and how far their items stand from the left.
-use Rattle.std.specs.Prelude.{ℕ, ◌+◌, ◌-◌, ◌^◌, Bool, List, ◌++◌, codes, max, min, nat_lt, if◌then◌else◌}
+use Rattle.std.specs.Prelude.{ℕ, ◌+◌, ◌-◌, ◌^◌, Bool, List, ◌++◌, codes, max, min, nat_lt, if◌then◌else◌, ⊤}
 use Rattle.std.specs.Fmt.{decimal}
 use Rattle.dom_md.specs.declared.context.ListKind.{ListKind}
 use Rattle.dom_md.specs.declared.context.ListKind.TheVariants.{Ul, Ol}
@@ -23,6 +23,11 @@ kind_offset (Ol n) = max 4 (digit_count n + 2)
 abbrev pub advanced : ListKind → ListKind
 advanced Ul = Ul
 advanced (Ol n) = Ol (min (n + 1) 999999999)
+
+-- a list whose items have numbers
+abbrev pub HasNumbers : ListKind → Type 0
+HasNumbers Ul = ⊥
+HasNumbers (Ol _) = ⊤
 
 -- what stands before an item
 abbrev pub prefix_of : ListKind → (cell : Bool) → List ℕ

@@ -1,7 +1,8 @@
 //! What a writer of Markdown knows of where it writes: options, emphasis and lists.
 
-ghost use Rattle.std.specs.Prelude.{◌≡◌, ◌≤◌, IfOk, IfSome, false, string_bytes};
+ghost use Rattle.std.specs.Prelude.{◌≡◌, ◌≤◌, IfNone, IfOk, IfSome, false, string_bytes};
 ghost use Rattle.dom_md.specs.Context.{advanced, digit_count, kind_offset, line_break, prefix_of};
+ghost use Rattle.dom_md.specs.Context.{HasNumbers};
 ghost use Rattle.dom_md.specs.Options.{advanced_opts, all_off, item_opts, with_include_node};
 ghost use Rattle.dom_md.specs.Options.{with_inline, with_link_body, with_list_item, with_offset};
 ghost use Rattle.dom_md.specs.Options.{with_scope, with_skip_escape, with_skip_md};
@@ -277,10 +278,11 @@ impl ListContext {
         if self.opts.table_cell { "<br>" } else { "\n" }
     }
 
-    /// What stands before an item of a list without numbers.
+    /// What stands before an item of a list without numbers; None for a list with numbers.
     pub fn mark(&self) -> Option<&'static str>
-        ensures { IfSome result (λ mark. mark.now
+        ensures some { IfSome result (λ mark. mark.now
             ≡ prefix_of self.now.kind self.now.opts.table_cell) }
+        ensures none { IfNone result (HasNumbers self.now.kind) }
     {
         match self.kind {
             ListKind::Ul => Some(if self.opts.table_cell { "+ " } else { "- " }),
