@@ -95,15 +95,15 @@ def rows(counter):
 
 
 def calls(counter):
-    """Has the program `calls` do each call with each request refused; returns how many passed and failed."""
-    status, output, error, report = counts(counter, [built("calls"), "counted"], b"")
+    """Has the program `limits` do each call with each request refused; returns how many passed and failed."""
+    status, output, error, report = counts(counter, [built("limits"), "counted"], b"")
     lines = output.decode(errors="replace").splitlines()
     wrong = [line for line in lines if not re.fullmatch(r".*: (\d+ refused, then done|done without a request)", line)]
     refusals = sum(int(found) for found in re.findall(r": (\d+) refused, then done", output.decode(errors="replace")))
     if status or len(report) != 3 or report[2]:
         wrong.append(f"status {status}, counted {report}, {error[:200]}")
     for line in wrong:
-        print(f"calls counted: {line}")
+        print(f"limits counted: {line}")
     print(f"calls with each request refused: {len(lines) - len(wrong)} passed, {len(wrong)} failed ({refusals} refusals)")
     return len(lines) - len(wrong), len(wrong) if lines else len(wrong) + 1
 

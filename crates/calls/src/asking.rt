@@ -1,10 +1,10 @@
 //! What `NodeSelect` answers of a node.
 
 use crate::printing::{show, show_flags};
-use crate::words::{cut, node_of};
 use dom_query::{
     CaseSensitivity, CssLocalName, Namespace, NodeRef, NodeSelect, NonTSPseudoClass, Tree,
 };
+use named_calls::words::{cut, node_of};
 
 /// What a node is: `N`.
 pub fn show_kinds(rt: &HostRuntime, tree: &Tree, line: &str) -> Option<()> {

@@ -1,7 +1,7 @@
 //! What a sanitiser leaves of the document.
 
-use crate::words::words_of;
 use dom_query::{Allow, Document, sanitize};
+use named_calls::words::words_of;
 
 /// Cleans the document by three lists of names: `ELEMENTS;ATTRIBUTES;DROPPED`.
 pub fn clean(rt: &HostRuntime, document: &mut Document, line: &str) -> Option<()> {

@@ -2,8 +2,8 @@
 
 use crate::printing::show;
 use dom_query::{
-    CssLocalName, CssString, InnerSelector, Matcher, MiniSelector, NonTSPseudoClass, PseudoElement,
-    ToCss,
+    CssLocalName, CssString, InnerSelector, Matcher, MiniSelector, NonTSPseudoClass, OutOfMemory,
+    PseudoElement, ToCss,
 };
 
 /// Prints what is written of a value.
@@ -35,31 +35,58 @@ fn write_each(rt: &HostRuntime, selectors: &[InnerSelector]) -> Option<()> {
     Some(())
 }
 
-/// What is printed for a programmer of a list, and whether a copy of each selector is the same as
-/// it: `SELECTOR`.
+/// What is printed for a programmer of a list, and whether a copy of its first selector is the same
+/// as its first and as its last: `SELECTOR`.
 pub fn print_selector(rt: &HostRuntime, line: &str) -> Option<()> {
-    let matcher = Matcher::new(rt.alloc(), line).ok()?;
+    match Matcher::new(rt.alloc(), line) {
+        Ok(matcher) => print_matcher(rt, &matcher),
+        Err(_) => None,
+    }
+}
+
+fn print_matcher(rt: &HostRuntime, matcher: &Matcher) -> Option<()> {
     println!(rt; "{matcher:?}").ok()?;
     let (first, last) = (matcher.selectors().first()?, matcher.selectors().last()?);
-    let copy = first.try_clone().ok()?;
-    show(rt, "the same as a copy", copy == *first)?;
-    show(rt, "the same as the last", copy == *last)
+    let copy = first.try_clone();
+    show_same(rt, "the same as a copy", first, &copy)?;
+    show_same(rt, "the same as the last", last, &copy)
+}
+
+/// Whether a copy is the same as a value.
+fn show_same<T: PartialEq>(
+    rt: &HostRuntime,
+    what: &str,
+    value: &T,
+    copy: &Result<T, OutOfMemory>,
+) -> Option<()> {
+    match copy {
+        Ok(copy) => show(rt, what, *copy == *value),
+        Err(OutOfMemory) => None,
+    }
 }
 
 /// What is printed for a programmer of a text as a string, a name, a mini selector and in a
 /// pseudo-class, of which copies are the same: `TEXT`.
 pub fn print_values(rt: &HostRuntime, text: &str) -> Option<()> {
     let string = CssString::new(rt.alloc(), text).ok()?;
-    let name = CssLocalName::new(rt.alloc(), text).ok()?;
+    print_names(rt, &string, &CssLocalName::new(rt.alloc(), text).ok()?)?;
+    print_pseudo(rt, &NonTSPseudoClass::Contains(string))?;
+    match MiniSelector::new(rt.alloc(), text) {
+        Ok(mini) => println!(rt; "{mini:?}").ok(),
+        Err(_) => None,
+    }
+}
+
+fn print_names(rt: &HostRuntime, string: &CssString, name: &CssLocalName) -> Option<()> {
     println!(rt; "{string:?} {name:?}").ok()?;
-    show(rt, "same string", string == string.try_clone().ok()?)?;
-    show(rt, "same name", name == name.try_clone().ok()?)?;
-    let pseudo = NonTSPseudoClass::Contains(string);
+    show_same(rt, "same string", string, &string.try_clone())?;
+    show_same(rt, "same name", name, &name.try_clone())
+}
+
+fn print_pseudo(rt: &HostRuntime, pseudo: &NonTSPseudoClass) -> Option<()> {
     println!(rt; "{pseudo:?}").ok()?;
-    show(rt, "same pseudo-class", pseudo == pseudo.try_clone().ok()?)?;
-    show(rt, "another", pseudo == NonTSPseudoClass::OnlyText)?;
-    let mini = MiniSelector::new(rt.alloc(), text).ok()?;
-    println!(rt; "{mini:?}").ok()
+    show_same(rt, "same pseudo-class", pseudo, &pseudo.try_clone())?;
+    show(rt, "another", *pseudo == NonTSPseudoClass::OnlyText)
 }
 
 /// What is written of copies of a text as a string, a name and in a pseudo-class: `TEXT`.

@@ -1,17 +1,12 @@
 //! Calls of the library, asked at a shell. `calls LINE ..` reads the markup on standard input,
 //! makes the call of each line on the document, in order, and prints what each answers: the rows of
-//! cases/calls. `calls` alone does each call of `limits` with ample memory, and `calls limited`
-//! with ever more of it, `calls counted` with each request refused in turn. `calls time` takes the
-//! times of some, `calls batch` and `calls raw` read many inputs.
+//! cases/calls.
 #![tactic(auto)]
 
 mod asking;
-mod batch;
 mod cleaning;
 mod css;
 mod indexes;
-mod lent;
-mod limits;
 mod many;
 mod minis;
 mod pages;
@@ -21,16 +16,14 @@ mod selecting;
 mod selections;
 mod sinks;
 mod texts;
-mod timing;
 mod trees;
 mod walking;
-mod words;
 
 use dom_query::{Document, Tree};
+use named_calls::words::cut;
 use std::env;
 use std::io::Read;
 use std::process::ExitCode;
-use words::cut;
 
 /// Makes a call that changes the document.
 fn change(rt: &HostRuntime, document: &mut Document, group: &str, line: &str) -> Option<()> {
@@ -39,7 +32,7 @@ fn change(rt: &HostRuntime, document: &mut Document, group: &str, line: &str) ->
         "make" => trees::make_node(rt, &mut document.tree, line),
         "change" => trees::change_node(rt, &mut document.tree, line),
         "copy" => trees::copy_nodes(rt, &mut document.tree, line),
-        "node" => lent::call(rt, &mut document.tree, line),
+        "node" => trees::edit_node(rt, &mut document.tree, line),
         "nodes" => many::call(rt, &mut document.tree, line),
         "snippet" => pages::put_snippet(rt, &mut document.tree, line),
         "sanitize" => cleaning::clean(rt, document, line),
@@ -145,18 +138,6 @@ fn call_all(rt: &HostRuntime, lines: &[String]) -> Option<()> {
     Some(())
 }
 
-fn run(rt: &HostRuntime, lines: &[String]) -> Option<()> {
-    match lines {
-        [] => limits::try_all(rt),
-        [word] if word.as_str() == "limited" => limits::limit_all(rt),
-        [word] if word.as_str() == "counted" => limits::count_all(rt),
-        [word] if word.as_str() == "raw" => batch::check_all(rt),
-        [word, kind] if word.as_str() == "batch" => batch::answer_all(rt, kind.as_str()),
-        [word, words @ ..] if word.as_str() == "time" => timing::time_calls(rt, words),
-        _ => call_all(rt, lines),
-    }
-}
-
 fn main(rt: HostRuntime) -> ExitCode {
     let Ok(all) = env::args(&rt) else {
         return ExitCode::from(64);
@@ -164,7 +145,7 @@ fn main(rt: HostRuntime) -> ExitCode {
     let Ok(lines) = all.skip(1).collect::<Vec<String>>(rt.alloc()) else {
         return ExitCode::from(5);
     };
-    match run(&rt, lines.as_slice()) {
+    match call_all(&rt, lines.as_slice()) {
         Some(()) => ExitCode::from(0),
         None => ExitCode::from(1),
     }

@@ -1,11 +1,11 @@
 //! Mini selectors and paths of them.
 
-use crate::printing::{show, show_ids, show_nodes, show_some};
-use crate::words::{cut, node_of, words_of};
+use crate::printing::{show, show_ids, show_nodes_read, show_read, show_some};
 use dom_query::{
     Document, MatchNode, MiniSelect, MiniSelector, NodeId, NodeRef, Traversal, Tree,
     parse_mini_selector, parse_selector_list,
 };
+use named_calls::words::{cut, node_of, words_of};
 
 /// Follows a path, and prints the id of each node that it finds, in order, or `-` where a node has
 /// none: `PATH`.
@@ -64,12 +64,8 @@ pub fn find(rt: &HostRuntime, tree: &Tree, line: &str) -> Option<()> {
     let (word, path) = cut(line);
     let id = node_of(word)?;
     let node = NodeRef::new(id, tree);
-    show_nodes(rt, "find_descendants", &node.find_descendants(path).ok()?)?;
-    show_nodes(
-        rt,
-        "try_find_descendants",
-        &node.try_find_descendants(path).ok()?,
-    )
+    show_nodes_read(rt, "find_descendants", &node.find_descendants(path))?;
+    show_nodes_read(rt, "try_find_descendants", &node.try_find_descendants(path))
 }
 
 /// What names, each of a step, find below a node: `N NAME NAME`.
@@ -80,7 +76,7 @@ pub fn find_names(rt: &HostRuntime, tree: &Tree, line: &str) -> Option<()> {
 }
 
 fn find_path(rt: &HostRuntime, node: &NodeRef<'_>, names: &[&str]) -> Option<()> {
-    show_nodes(rt, "find", &node.find(names).ok()?)?;
+    show_nodes_read(rt, "find", &node.find(names))?;
     let (nodes, id) = (node.tree.nodes(), node.id);
     let one = Traversal::find_descendant_element(nodes, id, names);
     show_some(rt, "find_descendant_element", one.map(NodeId::value))?;
@@ -93,7 +89,7 @@ fn find_path(rt: &HostRuntime, node: &NodeRef<'_>, names: &[&str]) -> Option<()>
 pub fn is_meant(rt: &HostRuntime, tree: &Tree, line: &str) -> Option<()> {
     let (word, text) = cut(line);
     let id = node_of(word)?;
-    show(rt, "mini_is", NodeRef::new(id, tree).mini_is(text).ok()?)
+    show_read(rt, "mini_is", NodeRef::new(id, tree).mini_is(text))
 }
 
 /// Whether a mini selector means a node: `N TEXT`.

@@ -1,8 +1,8 @@
 //! Calls of `Document` and of the whole `Tree`.
 
-use crate::printing::{show, show_edit, show_node, show_some};
-use crate::words::{cut, node_of, nodes_of, words_of};
+use crate::printing::{show, show_edit, show_node, show_read, show_some};
 use dom_query::{Document, DocumentMd, NodeFragment, NodeId, NodeMarkup, Place, Snippet, Tree};
+use named_calls::words::{cut, node_of, nodes_of, words_of};
 
 /// What a document answers of all of it.
 pub fn read(rt: &HostRuntime, document: &Document) -> Option<()> {
@@ -17,9 +17,9 @@ pub fn read(rt: &HostRuntime, document: &Document) -> Option<()> {
 }
 
 fn read_texts(rt: &HostRuntime, document: &Document) -> Option<()> {
-    show(rt, "text", document.text().ok()?)?;
-    show(rt, "html", document.html().ok()?)?;
-    show(rt, "inner_html", document.inner_html().ok()?)?;
+    show_read(rt, "text", document.text())?;
+    show_read(rt, "html", document.html())?;
+    show_read(rt, "inner_html", document.inner_html())?;
     show(rt, "try_html", document.try_html()?)?;
     show(rt, "try_inner_html", document.try_inner_html()?)
 }
@@ -36,24 +36,24 @@ fn read_tree(rt: &HostRuntime, tree: &Tree) -> Option<()> {
 /// The number of nodes of a document, and its HTML.
 pub fn print_page(rt: &HostRuntime, document: &Document) -> Option<()> {
     show(rt, "len", document.tree.len())?;
-    show(rt, "html", document.html().ok()?)
+    show_read(rt, "html", document.html())
 }
 
 /// The HTML of a document.
 pub fn print_html(rt: &HostRuntime, document: &Document) -> Option<()> {
-    show(rt, "html", document.html().ok()?)
+    show_read(rt, "html", document.html())
 }
 
 /// The formatted text of a document, and its Markdown.
 pub fn print_texts(rt: &HostRuntime, document: &Document) -> Option<()> {
-    show(rt, "formatted_text", document.formatted_text().ok()?)?;
-    show(rt, "md", document.md(None).ok()?)
+    show_read(rt, "formatted_text", document.formatted_text())?;
+    show_read(rt, "md", document.md(None))
 }
 
 /// The Markdown of a document without the elements of some names: `NAME NAME ..`.
 pub fn print_without(rt: &HostRuntime, document: &Document, line: &str) -> Option<()> {
     let names = words_of(rt.alloc(), line)?;
-    show(rt, "md", document.md(Some(&names)).ok()?)
+    show_read(rt, "md", document.md(Some(&names)))
 }
 
 /// The number of nodes of a document, its HTML, and what was noted of it.
@@ -127,8 +127,8 @@ fn put_at_each(rt: &HostRuntime, tree: &mut Tree, snippet: &Snippet, ids: &[Node
 /// The HTML of a node, and of what is below it, by each call: `N`.
 pub fn write_html(rt: &HostRuntime, tree: &Tree, line: &str) -> Option<()> {
     let node = tree.get_unchecked(&node_of(line)?);
-    show(rt, "html", node.html().ok()?)?;
-    show(rt, "inner_html", node.inner_html().ok()?)?;
+    show_read(rt, "html", node.html())?;
+    show_read(rt, "inner_html", node.inner_html())?;
     show(rt, "try_html", node.try_html()?)?;
     show(rt, "try_inner_html", node.try_inner_html()?)
 }

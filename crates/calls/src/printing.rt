@@ -24,6 +24,30 @@ pub fn show_some<D: Display + Drop>(rt: &HostRuntime, what: &str, value: Option<
     }
 }
 
+/// Prints a value that is read; None, where that fails.
+pub fn show_read<D: Display + Drop, F: Drop>(
+    rt: &HostRuntime,
+    what: &str,
+    read: Result<D, F>,
+) -> Option<()> {
+    match read {
+        Ok(value) => show(rt, what, value),
+        Err(_) => None,
+    }
+}
+
+/// Prints a value that is read, or `-` where there is none; None, where that fails.
+pub fn show_some_read<D: Display + Drop, F: Drop>(
+    rt: &HostRuntime,
+    what: &str,
+    read: Result<Option<D>, F>,
+) -> Option<()> {
+    match read {
+        Ok(value) => show_some(rt, what, value),
+        Err(_) => None,
+    }
+}
+
 /// Prints a value, or the fault in its place.
 pub fn show_answer<D: Display + Drop, F: Display + Drop>(
     rt: &HostRuntime,
@@ -74,4 +98,28 @@ pub fn show_nodes(rt: &HostRuntime, what: &str, nodes: &[NodeRef<'_>]) -> Option
         print!(rt; " {value}").ok()?;
     }
     println!(rt; "").ok()
+}
+
+/// Prints the numbers of nodes that are read; None, where that fails.
+pub fn show_ids_read<F: Drop>(
+    rt: &HostRuntime,
+    what: &str,
+    ids: &Result<Vec<NodeId>, F>,
+) -> Option<()> {
+    match ids {
+        Ok(ids) => show_ids(rt, what, ids),
+        Err(_) => None,
+    }
+}
+
+/// The same of nodes.
+pub fn show_nodes_read<F: Drop>(
+    rt: &HostRuntime,
+    what: &str,
+    nodes: &Result<Vec<NodeRef<'_>>, F>,
+) -> Option<()> {
+    match nodes {
+        Ok(nodes) => show_nodes(rt, what, nodes),
+        Err(_) => None,
+    }
 }

@@ -1,8 +1,8 @@
 //! What `NodeRef` reads of a node.
 
-use crate::printing::{show, show_flags, show_node, show_some};
-use crate::words::{cut, node_of};
+use crate::printing::{show, show_flags, show_node, show_read, show_some};
 use dom_query::{NodeRef, Tree};
+use named_calls::words::{cut, node_of};
 
 /// What a node is, has and says: `N`, or `N WORD` for the attribute, class or name of that word.
 pub fn read(rt: &HostRuntime, tree: &Tree, line: &str) -> Option<()> {
@@ -74,8 +74,8 @@ fn read_named(rt: &HostRuntime, node: &NodeRef<'_>, word: &str) -> Option<()> {
 
 /// The texts that are read of it.
 fn read_texts(rt: &HostRuntime, node: &NodeRef<'_>) -> Option<()> {
-    show(rt, "text", node.text().ok()?)?;
-    show(rt, "immediate_text", node.immediate_text().ok()?)?;
+    show_read(rt, "text", node.text())?;
+    show_read(rt, "immediate_text", node.immediate_text())?;
     show(rt, "normalized_char_count", node.normalized_char_count())
 }
 

@@ -1,7 +1,6 @@
 //! Selectors: what they select in a document, and what nodes answer to them.
 
-use crate::printing::{show, show_ids, show_nodes};
-use crate::words::{cut, node_of, nodes_of};
+use crate::printing::{show, show_ids_read, show_nodes, show_nodes_read, show_read};
 use dom_index::selecting::select_nodes;
 use dom_query::{
     DescendantMatches, Document, MatchNode, Matcher, MatcherIter, NodeId, NodeRef, NodeSelect,
@@ -9,6 +8,7 @@ use dom_query::{
 };
 use dom_select::matcher::descendants::select_below;
 use dom_select::matcher::several::select_below_all;
+use named_calls::words::{cut, node_of, nodes_of};
 
 /// What a selector selects below the root, by each call: `SELECTOR`; or why it is none.
 pub fn select(rt: &HostRuntime, document: &Document, line: &str) -> Option<()> {
@@ -20,10 +20,10 @@ pub fn select(rt: &HostRuntime, document: &Document, line: &str) -> Option<()> {
 
 fn select_by_each(rt: &HostRuntime, tree: &Tree, matcher: &Matcher) -> Option<()> {
     let roots = [NodeId::root()];
-    show_ids(
+    show_ids_read(
         rt,
         "select_below",
-        &select_below(tree, &NodeId::root(), matcher).ok()?,
+        &select_below(tree, &NodeId::root(), matcher),
     )?;
     list_below(rt, tree, &roots, matcher)?;
     walk_below_root(rt, tree, matcher)?;
@@ -52,16 +52,12 @@ fn walk_below(rt: &HostRuntime, tree: &Tree, roots: &[NodeId], matcher: &Matcher
 
 /// What is selected below roots, by asking each node, by tables, and by the choice between them.
 fn list_below(rt: &HostRuntime, tree: &Tree, roots: &[NodeId], matcher: &Matcher) -> Option<()> {
-    show_ids(
+    show_ids_read(
         rt,
         "select_below_all",
-        &select_below_all(tree, roots, matcher).ok()?,
+        &select_below_all(tree, roots, matcher),
     )?;
-    show_nodes(
-        rt,
-        "select_nodes",
-        &select_nodes(tree, roots, matcher).ok()?,
-    )?;
+    show_nodes_read(rt, "select_nodes", &select_nodes(tree, roots, matcher))?;
     let mut index = TreeIndex::new(tree).ok()?;
     let found = index.select(matcher, roots).ok()?;
     show_nodes(rt, "TreeIndex::select", &found)
@@ -105,7 +101,7 @@ pub fn ask(rt: &HostRuntime, tree: &Tree, line: &str) -> Option<()> {
     let (word, text) = cut(line);
     let id = node_of(word)?;
     let node = NodeRef::new(id, tree);
-    show(rt, "is", node.is(text).ok()?)?;
+    show_read(rt, "is", node.is(text))?;
     match Matcher::new(rt.alloc(), text) {
         Ok(matcher) => ask_by_matcher(rt, &node, &matcher),
         Err(fault) => show(rt, "Matcher::new", fault),

@@ -1,8 +1,10 @@
 //! Calls of `Selection` and of `DocumentSelect`.
 
-use crate::printing::{show, show_flags, show_ids, show_nodes, show_some};
-use crate::words::cut;
+use crate::printing::{
+    show, show_flags, show_ids_read, show_nodes, show_read, show_some, show_some_read,
+};
 use dom_query::{Document, DocumentSelect, Matcher, OutOfMemory, Selection, SelectionMd};
+use named_calls::words::cut;
 use std::fmt::Display;
 
 /// Prints the nodes of a selection, or the fault in its place.
@@ -74,7 +76,7 @@ fn list(rt: &HostRuntime, all: &Selection<'_>) -> Option<()> {
     let flags = [("exists", all.exists()), ("is_empty", all.is_empty())];
     show_flags(rt, &flags)?;
     show_some(rt, "get 1", all.get(1).map(|node| node.id.value()))?;
-    show_ids(rt, "ids", &all.ids().ok()?)?;
+    show_ids_read(rt, "ids", &all.ids())?;
     for one in all.iter() {
         show_nodes(rt, "iter", one.nodes())?;
     }
@@ -89,7 +91,7 @@ pub fn choose(rt: &HostRuntime, document: &Document, line: &str) -> Option<()> {
 }
 
 fn choose_from(rt: &HostRuntime, all: &Selection<'_>, choice: &str) -> Option<()> {
-    show(rt, "is", all.is(choice).ok()?)?;
+    show_read(rt, "is", all.is(choice))?;
     show_found(rt, "select", &all.select(choice))?;
     show_found(rt, "nip", &all.nip(choice))?;
     show_found(rt, "select_single", &all.select_single(choice))?;
@@ -165,11 +167,11 @@ fn read_first(rt: &HostRuntime, all: &Selection<'_>, name: &str) -> Option<()> {
 }
 
 fn read_texts(rt: &HostRuntime, all: &Selection<'_>) -> Option<()> {
-    show(rt, "text", all.text().ok()?)?;
-    show(rt, "immediate_text", all.immediate_text().ok()?)?;
-    show(rt, "formatted_text", all.formatted_text().ok()?)?;
-    show(rt, "html", all.html().ok()?)?;
-    show(rt, "inner_html", all.inner_html().ok()?)?;
-    show_some(rt, "try_html", all.try_html().ok()?)?;
-    show_some(rt, "try_inner_html", all.try_inner_html().ok()?)
+    show_read(rt, "text", all.text())?;
+    show_read(rt, "immediate_text", all.immediate_text())?;
+    show_read(rt, "formatted_text", all.formatted_text())?;
+    show_read(rt, "html", all.html())?;
+    show_read(rt, "inner_html", all.inner_html())?;
+    show_some_read(rt, "try_html", all.try_html())?;
+    show_some_read(rt, "try_inner_html", all.try_inner_html())
 }

@@ -1,11 +1,11 @@
 //! Calls of `TreeSink` on a `Document`.
 
 use crate::printing::{show, show_answer, show_edit, show_some};
-use crate::words::{cut, node_of};
 use dom_query::{
     Attr, Attrs, Document, EditFault, ElementFlags, LocalName, NameParts, Namespace, NodeId,
     NodeOrText, QualName, QuirksMode, Text, TreeSink,
 };
+use named_calls::words::{cut, node_of};
 use std::alloc::Global;
 
 /// A call that makes a node: `CALL WORDS`.

@@ -1,22 +1,22 @@
 //! Markdown and its pieces, and the tokens of a text.
 
-use crate::printing::show;
-use crate::words::{cut, node_of, words_of};
+use crate::printing::{show, show_read};
 use dom_md::formatting::formatted_node;
 use dom_query::{
     EmphasisScope, FormatOpts, ListContext, ListKind, MDSerializer, NodeMd, NodeRef, Tokens, Tree,
     escape_table_cell_inplace, fence_len, html_escape, push_escaped_chunk, serialize_md,
 };
+use named_calls::words::{cut, node_of, words_of};
 
 /// The Markdown of a node, by each call: `N`.
 pub fn write_node(rt: &HostRuntime, tree: &Tree, line: &str) -> Option<()> {
     let node = NodeRef::new(node_of(line)?, tree);
-    show(rt, "md", node.md(None).ok()?)?;
-    show(rt, "serialize_md", serialize_md(&node, false, None).ok()?)?;
+    show_read(rt, "md", node.md(None))?;
+    show_read(rt, "serialize_md", serialize_md(&node, false, None))?;
     let with_node = serialize_md(&node, true, None).ok()?;
     show(rt, "serialize_md with the node", with_node)?;
     let serializer = MDSerializer::new(&node, None);
-    show(rt, "MDSerializer", serializer.serialize(true).ok()?)
+    show_read(rt, "MDSerializer", serializer.serialize(true))
 }
 
 /// The Markdown of a node without the elements of some names, by each call: `N NAME NAME ..`.
@@ -24,18 +24,18 @@ pub fn write_without(rt: &HostRuntime, tree: &Tree, line: &str) -> Option<()> {
     let (word, names) = cut(line);
     let node = NodeRef::new(node_of(word)?, tree);
     let names = words_of(rt.alloc(), names)?;
-    show(rt, "md", node.md(Some(&names)).ok()?)?;
+    show_read(rt, "md", node.md(Some(&names)))?;
     let text = serialize_md(&node, false, Some(&names)).ok()?;
     show(rt, "serialize_md", text)?;
     let serializer = MDSerializer::new(&node, Some(&names));
-    show(rt, "MDSerializer", serializer.serialize(false).ok()?)
+    show_read(rt, "MDSerializer", serializer.serialize(false))
 }
 
 /// The formatted text of a node: `N`.
 pub fn format(rt: &HostRuntime, tree: &Tree, line: &str) -> Option<()> {
     let node = NodeRef::new(node_of(line)?, tree);
-    show(rt, "formatted_text", node.formatted_text().ok()?)?;
-    show(rt, "formatted_node", formatted_node(&node).ok()?)
+    show_read(rt, "formatted_text", node.formatted_text())?;
+    show_read(rt, "formatted_node", formatted_node(&node))
 }
 
 /// A chunk of text, escaped: `TEXT`.
@@ -54,7 +54,7 @@ pub fn escape_cell(rt: &HostRuntime, text: &str) -> Option<()> {
 
 /// A text, escaped as the value of an attribute: `TEXT`.
 pub fn escape_value(rt: &HostRuntime, text: &str) -> Option<()> {
-    show(rt, "html_escape", html_escape(rt.alloc(), text).ok()?)
+    show_read(rt, "html_escape", html_escape(rt.alloc(), text))
 }
 
 /// How long the fence of a text is: `TEXT`.
@@ -77,7 +77,7 @@ pub fn number_list(rt: &HostRuntime, line: &str) -> Option<()> {
 }
 
 fn show_list(rt: &HostRuntime, list: &ListContext) -> Option<()> {
-    show(rt, "prefix", list.prefix(rt.alloc()).ok()?)?;
+    show_read(rt, "prefix", list.prefix(rt.alloc()))?;
     show(rt, "offset", list.opts.offset)?;
     show(rt, "list_indent_len", list.list_indent_len())
 }

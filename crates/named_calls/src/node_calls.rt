@@ -1,17 +1,15 @@
 //! Calls of a node that is lent to be changed: `NodeMut` and `NodeMutMarkup`.
 
-use crate::printing::show_edit;
 use crate::words::{cut, node_of, words_of};
-use dom_query::{EditFault, NodeEdit, NodeId, NodeMut, NodeMutMarkup, Text, Tree};
+use dom_markup::setters::NodeMutMarkup;
+use dom_nodes::fault::EditFault;
+use dom_nodes::node_data::NodeEdit;
+use dom_nodes::node_id::NodeId;
+use dom_nodes::text::Text;
+use dom_trees::node_mut::NodeMut;
+use dom_trees::tree::Tree;
 
-/// A call at a node: `N CALL WORDS`.
-pub fn call(rt: &HostRuntime, tree: &mut Tree, line: &str) -> Option<()> {
-    let (_, rest) = cut(line);
-    let (call, _) = cut(rest);
-    show_edit(rt, call, edited(tree, line)?)
-}
-
-/// Makes the call.
+/// Makes the call of a line `N CALL WORDS`; None, where no call has this name.
 pub fn edited(tree: &mut Tree, line: &str) -> Option<Result<(), EditFault>> {
     let (word, rest) = cut(line);
     let id = node_of(word)?;

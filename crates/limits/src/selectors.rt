@@ -1,31 +1,25 @@
 //! Selectors: reading, copying, writing, asking.
 
-use crate::limits::calls::{Ending, Page, SELECTOR, done_if, refused_if};
-use crate::limits::memory::{Memory, take_memory};
+use crate::calls::{Ending, Page, SELECTOR, done_if, refused_if};
+use crate::memory::{Memory, take_memory};
 use dom_query::{
     DocumentSelect, Matcher, MatcherIter, Matches, NodeId, NodeRef, NodeSelect, OutOfMemory,
     SelectorCaches, SelectorFault, ToCss, Tree,
 };
 use std::alloc::Global;
 
-pub fn reads(alloc: Global, memory: Memory) -> Option<Ending> {
-    let held = take_memory(alloc, memory)?;
-    let answer = Matcher::new(alloc, SELECTOR);
-    drop(held);
-    Some(match answer {
+pub fn reads(alloc: Global) -> Ending {
+    match Matcher::new(alloc, SELECTOR) {
         Ok(matcher) => done_if(matcher.selectors().len() == 4),
         Err(fault) => refused_if(fault == SelectorFault::Memory),
-    })
+    }
 }
 
-pub fn copies(alloc: Global, page: &Page, memory: Memory) -> Option<Ending> {
-    let held = take_memory(alloc, memory)?;
-    let answer = page.matcher.try_clone();
-    drop(held);
-    Some(match answer {
+pub fn copies(page: &Page) -> Ending {
+    match page.matcher.try_clone() {
         Ok(copy) => done_if(copy.selectors().len() == 4),
         Err(OutOfMemory) => Ending::Refused,
-    })
+    }
 }
 
 pub fn writes(alloc: Global, page: &Page, memory: Memory) -> Option<Ending> {
@@ -55,17 +49,15 @@ fn agree(tree: &Tree, matcher: &Matcher, caches: &mut SelectorCaches<'_>) -> boo
 }
 
 /// Caches are refused where they give no index a second time.
-pub fn asks_caches(alloc: Global, page: &Page, memory: Memory) -> Option<Ending> {
+pub fn asks_caches(page: &Page) -> Ending {
     let tree = &page.document.tree;
     let mut caches = SelectorCaches::new(tree);
-    let held = take_memory(alloc, memory)?;
     let first = agree(tree, &page.matcher, &mut caches);
     let second = agree(tree, &page.matcher, &mut caches);
-    drop(held);
     if caches.hits() == 0 {
-        return Some(refused_if(first && second));
+        return refused_if(first && second);
     }
-    Some(done_if(first && second))
+    done_if(first && second)
 }
 
 /// How many nodes walks below roots select.
@@ -77,15 +69,15 @@ pub fn count_of(matches: Matches<'_, '_, '_>) -> usize {
     count
 }
 
-pub fn walks(alloc: Global, page: &Page, memory: Memory) -> Option<Ending> {
-    let roots = [NodeId::root(), NodeId::new(1)?];
-    let held = take_memory(alloc, memory)?;
-    let answer = Matches::new(&page.document.tree, &roots, &page.matcher);
-    drop(held);
-    Some(match answer {
+pub fn walks(page: &Page) -> Ending {
+    let Some(first) = NodeId::new(1) else {
+        return Ending::Wrong;
+    };
+    let roots = [NodeId::root(), first];
+    match Matches::new(&page.document.tree, &roots, &page.matcher) {
         Ok(matches) => done_if(count_of(matches) == 3),
         Err(OutOfMemory) => Ending::Refused,
-    })
+    }
 }
 
 /// How many nodes a matcher selects below those of a selection.
@@ -110,23 +102,19 @@ pub fn walks_selected(alloc: Global, page: &Page, memory: Memory) -> Option<Endi
     })
 }
 
-pub fn selects(alloc: Global, page: &Page, memory: Memory) -> Option<Ending> {
-    let held = take_memory(alloc, memory)?;
-    let answer = page.document.select(SELECTOR);
-    drop(held);
-    Some(match answer {
+pub fn selects(page: &Page) -> Ending {
+    match page.document.select(SELECTOR) {
         Ok(found) => done_if(found.length() == 3),
         Err(fault) => refused_if(fault == SelectorFault::Memory),
-    })
+    }
 }
 
-pub fn asks(alloc: Global, page: &Page, memory: Memory) -> Option<Ending> {
-    let node = NodeRef::new(NodeId::new(2)?, &page.document.tree);
-    let held = take_memory(alloc, memory)?;
-    let answer = node.is(SELECTOR);
-    drop(held);
-    Some(match answer {
+pub fn asks(page: &Page) -> Ending {
+    let Some(id) = NodeId::new(2) else {
+        return Ending::Wrong;
+    };
+    match NodeRef::new(id, &page.document.tree).is(SELECTOR) {
         Ok(is_meant) => done_if(is_meant),
         Err(OutOfMemory) => Ending::Refused,
-    })
+    }
 }

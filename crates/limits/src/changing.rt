@@ -1,14 +1,14 @@
 //! Calls that change one tree. Where a request is refused, the tree is as it was, its length too.
 
-use crate::limits::calls::{Ending, Page, done_if, refused_if};
-use crate::limits::memory::{Memory, take_memory};
-use crate::words::cut;
-use crate::{lent, trees};
+use crate::calls::{Ending, Page, done_if, refused_if};
+use crate::memory::{Memory, take_memory};
 use dom_links::gap::Gap;
 use dom_query::{
     Allow, Attrs, Document, EditFault, ElementFlags, LocalName, NodeData, NodeId, NodeOrText,
     OutOfMemory, Place, QualName, Text, Tree, TreeNode, TreeSink, ValidateFault, sanitize,
 };
+use named_calls::words::cut;
+use named_calls::{node_calls, tree_calls};
 use std::alloc::Global;
 
 const MARKUP: &str = "<div class=\"a a-word-that-is-longer-than-what-a-node-keeps\" \
@@ -81,15 +81,8 @@ fn edit(done: Result<(), OutOfMemory>) -> Result<(), EditFault> {
 fn change_tree(tree: &mut Tree, page: &Page, call: &str) -> Option<Result<(), EditFault>> {
     let (first, second) = (NodeId::new(1)?, NodeId::new(2)?);
     let other = &page.document.tree;
-    let name = QualName::html(LocalName::new(tree.allocator(), "b").ok()?);
-    let attrs = Attrs::new(tree.allocator());
     Some(match call {
         "new_instruction" => unit(tree.new_instruction("x", LONG)),
-        "append_child_data_of" => {
-            let contents = Text::new(tree.allocator(), "x").ok()?;
-            unit(tree.append_child_data_of(&first, NodeData::Text { contents }))
-        }
-        "append_template_of" => unit(tree.append_template_of(&first, name, attrs)),
         "append_doctype_of" => unit(tree.append_doctype_of(&first, LONG, LONG, LONG)),
         "add_text_at" => tree.add_text_at(Gap::EndOf(second), LONG),
         "copy_nodes" => unit(tree.copy_nodes(&[first, second])),
@@ -97,8 +90,24 @@ fn change_tree(tree: &mut Tree, page: &Page, call: &str) -> Option<Result<(), Ed
         "copy_at" => tree.copy_at(&second, Place::After, &[first, second]),
         "merge_at" => tree.merge_at(&second, Place::InsteadOfChildren, other, &[first]),
         "set_text_of" => tree.set_text_of(&second, LONG),
-        _ => return None,
+        _ => return append(tree, &first, call),
     })
+}
+
+/// Appends a text or a template.
+fn append(tree: &mut Tree, id: &NodeId, call: &str) -> Option<Result<(), EditFault>> {
+    let alloc = tree.allocator();
+    match call {
+        "append_child_data_of" => {
+            let contents = Text::new(alloc, "x").ok()?;
+            Some(unit(tree.append_child_data_of(id, NodeData::Text { contents })))
+        }
+        "append_template_of" => {
+            let name = QualName::html(LocalName::new(alloc, "b").ok()?);
+            Some(unit(tree.append_template_of(id, name, Attrs::new(alloc))))
+        }
+        _ => None,
+    }
 }
 
 /// A call of `Document`.
@@ -143,8 +152,8 @@ fn changed(document: &mut Document, page: &Page, line: &str) -> Option<Result<()
     let (group, rest) = cut(line);
     let (call, words) = cut(rest);
     match group {
-        "node" => lent::edited(&mut document.tree, rest),
-        "make" => trees::made(&mut document.tree, call, words).map(unit),
+        "node" => node_calls::edited(&mut document.tree, rest),
+        "make" => tree_calls::made(&mut document.tree, call, words).map(unit),
         "tree" => change_tree(&mut document.tree, page, call),
         "document" => change_document(document, call),
         _ => None,
@@ -179,15 +188,26 @@ pub fn changes(alloc: Global, page: &Page, line: &str, memory: Memory) -> Option
     }
     let mut document = made(alloc)?;
     let before = shown(alloc, &document)?;
-    let wanted = wanted(alloc, page, line)?;
-    let held = take_memory(alloc, memory)?;
-    let answer = changed(&mut document, page, line);
-    drop(held);
+    let answer = changed_within(alloc, &mut document, page, line, memory)?;
     let after = shown(alloc, &document)?;
-    Some(match answer? {
-        Ok(()) => done_if(after == wanted && after != before),
-        Err(fault) => refused_if(fault == EditFault::Memory && after == before),
-    })
+    match answer {
+        Ok(()) => Some(done_if(after != before && after == wanted(alloc, page, line)?)),
+        Err(fault) => Some(refused_if(fault == EditFault::Memory && after == before)),
+    }
+}
+
+/// Makes the change that a line says, with so much memory.
+fn changed_within(
+    alloc: Global,
+    document: &mut Document,
+    page: &Page,
+    line: &str,
+    memory: Memory,
+) -> Option<Result<(), EditFault>> {
+    let held = take_memory(alloc, memory)?;
+    let answer = changed(document, page, line);
+    drop(held);
+    answer
 }
 
 /// Makes nodes by a call, until it is refused: then it has made none.
@@ -241,17 +261,22 @@ fn node(number: usize, content: NodeData) -> Option<TreeNode> {
     })
 }
 
+/// All that nodes hold, as a text.
+fn shown_nodes(alloc: Global, nodes: &[TreeNode]) -> Option<String> {
+    format!(in alloc; "{nodes:?}").ok()
+}
+
 /// Makes a tree of nodes, which come back where that is refused.
 pub fn takes_nodes(alloc: Global, memory: Memory) -> Option<Ending> {
     let nodes = nodes_of(alloc)?;
-    let before = format!(in alloc; "{nodes:?}").ok()?;
+    let before = shown_nodes(alloc, &nodes)?;
     let held = take_memory(alloc, memory)?;
     let answer = Tree::from_nodes(nodes);
     drop(held);
     match answer {
         Ok(tree) => Some(done_if(tree.len() == 2)),
         Err((back, fault)) => {
-            let is_same = format!(in alloc; "{back:?}").ok()? == before;
+            let is_same = shown_nodes(alloc, &back)? == before;
             Some(refused_if(is_same && fault == ValidateFault::Memory))
         }
     }

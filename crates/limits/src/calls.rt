@@ -1,8 +1,8 @@
 //! The calls, and how each ended.
 
-use crate::limits::editing::Edit;
-use crate::limits::memory::Memory;
-use crate::limits::{changing, editing, markdown, mini, selectors};
+use crate::editing::Edit;
+use crate::memory::{Memory, take_memory};
+use crate::{changing, editing, markdown, mini, selectors};
 use dom_query::{Document, Matcher};
 use std::alloc::Global;
 
@@ -127,28 +127,41 @@ impl Page {
 /// Does the call with so much memory.
 pub fn tried(alloc: Global, page: &Page, call: Call, memory: Memory) -> Option<Ending> {
     match call {
-        Call::Matcher => selectors::reads(alloc, memory),
-        Call::Clone => selectors::copies(alloc, page, memory),
         Call::Css => selectors::writes(alloc, page, memory),
-        Call::Caches => selectors::asks_caches(alloc, page, memory),
-        Call::Matches => selectors::walks(alloc, page, memory),
         Call::MatcherIter => selectors::walks_selected(alloc, page, memory),
-        Call::Select => selectors::selects(alloc, page, memory),
-        Call::Is => selectors::asks(alloc, page, memory),
-        Call::Mini => mini::reads(alloc, memory),
-        Call::Path => mini::reads_path(alloc, memory),
-        Call::MiniIs => mini::asks(alloc, page, memory),
-        Call::FindDescendants => mini::finds(alloc, page, memory),
-        Call::TryFind => mini::tries(alloc, page, memory),
-        Call::Find => mini::finds_names(alloc, page, memory),
         Call::Chunk => markdown::pushes_chunk(alloc, memory),
         Call::Cell => markdown::escapes_cell(alloc, memory),
-        Call::Escape => markdown::escapes(alloc, memory),
-        Call::Prefix => markdown::makes_prefix(alloc, memory),
-        Call::Md => markdown::writes(alloc, page, memory),
-        Call::Serializer => markdown::serializes(alloc, page, memory),
-        Call::Formatted => markdown::formats(alloc, page, memory),
         Call::Edit(edit) => editing::edits(alloc, edit, memory),
         Call::Nodes => changing::takes_nodes(alloc, memory),
+        _ => {
+            let held = take_memory(alloc, memory)?;
+            let ending = done_alone(alloc, page, call);
+            drop(held);
+            ending
+        }
     }
+}
+
+/// Does a call that needs nothing to be made before.
+fn done_alone(alloc: Global, page: &Page, call: Call) -> Option<Ending> {
+    Some(match call {
+        Call::Matcher => selectors::reads(alloc),
+        Call::Clone => selectors::copies(page),
+        Call::Caches => selectors::asks_caches(page),
+        Call::Matches => selectors::walks(page),
+        Call::Select => selectors::selects(page),
+        Call::Is => selectors::asks(page),
+        Call::Mini => mini::reads(alloc),
+        Call::Path => mini::reads_path(alloc),
+        Call::MiniIs => mini::asks(page),
+        Call::FindDescendants => mini::finds(page),
+        Call::TryFind => mini::tries(page),
+        Call::Find => mini::finds_names(page),
+        Call::Escape => markdown::escapes(alloc),
+        Call::Prefix => markdown::makes_prefix(alloc),
+        Call::Md => markdown::writes(page),
+        Call::Serializer => markdown::serializes(page),
+        Call::Formatted => markdown::formats(page),
+        _ => return None,
+    })
 }

@@ -1,7 +1,7 @@
 //! Markdown and formatted text.
 
-use crate::limits::calls::{Ending, Page, done_if, refused_if};
-use crate::limits::memory::{Memory, take_memory};
+use crate::calls::{Ending, Page, done_if, refused_if};
+use crate::memory::{Memory, take_memory};
 use dom_query::{
     DocumentMd, FormatOpts, ListContext, ListKind, MDSerializer, NodeMd, OutOfMemory,
     escape_table_cell_inplace, html_escape, push_escaped_chunk,
@@ -33,35 +33,25 @@ pub fn escapes_cell(alloc: Global, memory: Memory) -> Option<Ending> {
     })
 }
 
-pub fn escapes(alloc: Global, memory: Memory) -> Option<Ending> {
-    let held = take_memory(alloc, memory)?;
-    let answer = html_escape(alloc, "/?q=\"a\"&b=\"c\"");
-    drop(held);
-    Some(match answer {
+pub fn escapes(alloc: Global) -> Ending {
+    match html_escape(alloc, "/?q=\"a\"&b=\"c\"") {
         Ok(text) => done_if(text.as_str() == "/?q=&quot;a&quot;&amp;b=&quot;c&quot;"),
         Err(OutOfMemory) => Ending::Refused,
-    })
+    }
 }
 
-pub fn makes_prefix(alloc: Global, memory: Memory) -> Option<Ending> {
-    let list = ListContext::new(FormatOpts::new(), ListKind::Ol(12));
-    let held = take_memory(alloc, memory)?;
-    let answer = list.prefix(alloc);
-    drop(held);
-    Some(match answer {
+pub fn makes_prefix(alloc: Global) -> Ending {
+    match ListContext::new(FormatOpts::new(), ListKind::Ol(12)).prefix(alloc) {
         Ok(text) => done_if(text.as_str() == "12. "),
         Err(OutOfMemory) => Ending::Refused,
-    })
+    }
 }
 
-pub fn writes(alloc: Global, page: &Page, memory: Memory) -> Option<Ending> {
-    let held = take_memory(alloc, memory)?;
-    let answer = page.document.md(None);
-    drop(held);
-    Some(match answer {
+pub fn writes(page: &Page) -> Ending {
+    match page.document.md(None) {
         Ok(text) => done_if(is_markdown(text.as_str())),
         Err(OutOfMemory) => Ending::Refused,
-    })
+    }
 }
 
 fn is_markdown(text: &str) -> bool {
@@ -69,23 +59,17 @@ fn is_markdown(text: &str) -> bool {
         && text.ends_with("```\ncode\n```\n`span`")
 }
 
-pub fn serializes(alloc: Global, page: &Page, memory: Memory) -> Option<Ending> {
+pub fn serializes(page: &Page) -> Ending {
     let root = page.document.root();
-    let held = take_memory(alloc, memory)?;
-    let answer = MDSerializer::new(&root, Some(&["table"])).serialize(false);
-    drop(held);
-    Some(match answer {
+    match MDSerializer::new(&root, Some(&["table"])).serialize(false) {
         Ok(text) => done_if(is_markdown(text.as_str())),
         Err(OutOfMemory) => Ending::Refused,
-    })
+    }
 }
 
-pub fn formats(alloc: Global, page: &Page, memory: Memory) -> Option<Ending> {
-    let held = take_memory(alloc, memory)?;
-    let answer = page.document.formatted_text();
-    drop(held);
-    Some(match answer {
+pub fn formats(page: &Page) -> Ending {
+    match page.document.formatted_text() {
         Ok(text) => done_if(text.as_str().ends_with("q\n\ncode\n\n\nspan")),
         Err(OutOfMemory) => Ending::Refused,
-    })
+    }
 }

@@ -1,10 +1,11 @@
-//! Times of calls over the markup on standard input, in this process: `calls time CALL RUNS
-//! SELECTOR` prints the best of so many runs in nanoseconds and what the call counted. `calls time`
+//! Times of calls over the markup on standard input, in this process: `bulk time CALL RUNS
+//! SELECTOR` prints the best of so many runs in nanoseconds and what the call counted. `bulk time`
 //! does each call once and prints its count alone.
 
 use dom_query::{
     Allow, Document, DocumentMd, DocumentSelect, EditFault, Matcher, MiniSelect, NodeId,
-    NodeMarkup, NodeMd, Options, Place, Snippet, Tokens, Tree, TreeIndex, parse_page, sanitize,
+    NodeMarkup, NodeMd, Options, OutOfMemory, Place, Snippet, Tokens, Tree, TreeIndex, parse_page,
+    sanitize,
 };
 use dom_select::matcher::descendants::select_below;
 use std::alloc::Global;
@@ -117,33 +118,30 @@ struct Run {
 
 /// What the calls are done on.
 #[derive(Drop)]
-struct Page {
+struct Page<'a> {
     source: String,
     document: Document,
     matcher: Matcher,
-    /// The selector as a path of mini selectors.
-    path: String,
+    /// The selector, which is also read as a path of mini selectors.
+    selector: &'a str,
 }
 
-impl Page {
+impl<'a> Page<'a> {
     /// The markup on standard input, with the matcher of a selector.
-    fn read(rt: &HostRuntime, selector: &str) -> Option<Page> {
+    fn read(rt: &HostRuntime, selector: &'a str) -> Option<Page<'a>> {
         let mut source = String::new(rt.alloc());
         rt.stdin().read_to_string(&mut source).ok()?;
-        let document = Document::parse(rt.alloc(), source.as_str()).ok()?;
-        let matcher = Matcher::new(rt.alloc(), selector).ok()?;
-        let path = String::from_str(rt.alloc(), selector).ok()?;
         Some(Page {
+            document: Document::parse(rt.alloc(), source.as_str()).ok()?,
+            matcher: Matcher::new(rt.alloc(), selector).ok()?,
             source,
-            document,
-            matcher,
-            path,
+            selector,
         })
     }
 }
 
 /// Does a call once.
-fn run_once(rt: &HostRuntime, page: &Page, call: Call) -> Option<Run> {
+fn run_once(rt: &HostRuntime, page: &Page<'_>, call: Call) -> Option<Run> {
     match call {
         Call::Drop | Call::Edits | Call::Clean | Call::Copy | Call::Merge => run_fresh(
             rt, page, call,
@@ -159,18 +157,39 @@ fn run_once(rt: &HostRuntime, page: &Page, call: Call) -> Option<Run> {
 }
 
 /// Does a call on a document of its own, whose reading isn't timed.
-fn run_fresh(rt: &HostRuntime, page: &Page, call: Call) -> Option<Run> {
-    let mut document = Document::parse(rt.alloc(), page.source.as_str()).ok()?;
-    let mut count = document.tree.len();
-    if call == Call::Clean {
-        return run_cleaning(rt, &mut document);
+fn run_fresh(rt: &HostRuntime, page: &Page<'_>, call: Call) -> Option<Run> {
+    match Document::parse(rt.alloc(), page.source.as_str()) {
+        Ok(document) => run_on(rt, page, document, call),
+        Err(_) => None,
     }
+}
+
+fn run_on(rt: &HostRuntime, page: &Page<'_>, mut document: Document, call: Call) -> Option<Run> {
+    match call {
+        Call::Drop => run_drop(rt, document),
+        Call::Clean => run_cleaning(rt, &mut document),
+        _ => run_change(rt, page, &mut document, call),
+    }
+}
+
+/// Drops a document, and counts its nodes.
+fn run_drop(rt: &HostRuntime, document: Document) -> Option<Run> {
+    let count = document.tree.len();
     let start = Instant::now(rt).ok()?;
-    if call == Call::Drop {
-        drop(document);
-    } else {
-        count = changed(page, &mut document, call)?;
-    }
+    drop(document);
+    let took = start.elapsed(rt).ok()?;
+    Some(Run { took, count })
+}
+
+/// Changes a document.
+fn run_change(
+    rt: &HostRuntime,
+    page: &Page<'_>,
+    document: &mut Document,
+    call: Call,
+) -> Option<Run> {
+    let start = Instant::now(rt).ok()?;
+    let count = changed(page, document, call)?;
     let took = start.elapsed(rt).ok()?;
     Some(Run { took, count })
 }
@@ -190,7 +209,7 @@ fn run_cleaning(rt: &HostRuntime, document: &mut Document) -> Option<Run> {
 }
 
 /// Changes a document, and counts the nodes that it then has, or those that moved.
-fn changed(page: &Page, document: &mut Document, call: Call) -> Option<usize> {
+fn changed(page: &Page<'_>, document: &mut Document, call: Call) -> Option<usize> {
     let allow = Allow {
         elements: &["i"],
         attrs: &[],
@@ -230,7 +249,7 @@ fn move_all(tree: &mut Tree) -> usize {
 }
 
 /// Does a call, and counts bytes or nodes of what it gives.
-fn count_of(rt: &HostRuntime, page: &Page, call: Call) -> Option<usize> {
+fn count_of(rt: &HostRuntime, page: &Page<'_>, call: Call) -> Option<usize> {
     let source = page.source.as_str();
     match call {
         Call::Parse | Call::Page | Call::Tokens => count_read(rt.alloc(), source, call),
@@ -243,66 +262,82 @@ fn count_of(rt: &HostRuntime, page: &Page, call: Call) -> Option<usize> {
 /// Reads the source, and counts the nodes, or the bytes of tokens.
 fn count_read(alloc: Global, source: &str, call: Call) -> Option<usize> {
     match call {
-        Call::Parse => Some(Document::parse(alloc, source).ok()?.tree.len()),
-        Call::Page => {
-            let document = parse_page(alloc, source, Options::default()).ok()?;
-            Some(document.tree.len())
-        }
+        Call::Parse => nodes_of(&Document::parse(alloc, source)),
+        Call::Page => nodes_of(&parse_page(alloc, source, Options::default())),
         _ => last_end(source),
+    }
+}
+
+/// How many nodes a document has that was made.
+fn nodes_of<F>(made: &Result<Document, F>) -> Option<usize> {
+    match made {
+        Ok(document) => Some(document.tree.len()),
+        Err(_) => None,
     }
 }
 
 /// Writes the document, and counts the bytes.
 fn length_of(document: &Document, call: Call) -> Option<usize> {
-    let text = match call {
-        Call::Html => document.html().ok()?,
-        Call::Text => document.text().ok()?,
-        Call::Formatted => document.formatted_text().ok()?,
-        _ => document.md(None).ok()?,
+    let written = match call {
+        Call::Html => document.html(),
+        Call::Text => document.text(),
+        Call::Formatted => document.formatted_text(),
+        _ => document.md(None),
     };
-    Some(text.len())
+    match written {
+        Ok(text) => Some(text.len()),
+        Err(OutOfMemory) => None,
+    }
 }
 
 /// Copies, tests or walks the document, and counts the nodes.
-fn count_nodes(page: &Page, call: Call) -> Option<usize> {
+fn count_nodes(page: &Page<'_>, call: Call) -> Option<usize> {
     let document = &page.document;
     match call {
-        Call::Clone => Some(document.try_clone().ok()?.tree.len()),
+        Call::Clone => nodes_of(&document.try_clone()),
         Call::Append => append_to_all(page),
-        Call::Validate => {
-            document.tree.validate().ok()?;
-            Some(document.tree.len())
-        }
+        Call::Validate => document
+            .tree
+            .validate()
+            .is_ok()
+            .then_some(document.tree.len()),
         _ => Some(document.root().descendants_it().count()),
     }
 }
 
 /// Makes an index, or selects, and counts what is found.
-fn count_found(page: &Page, call: Call) -> Option<usize> {
+fn count_found(page: &Page<'_>, call: Call) -> Option<usize> {
     let document = &page.document;
     match call {
-        Call::Index => TreeIndex::new(&document.tree)
-            .ok()?
-            .last_below(&NodeId::root()),
-        Call::Tables => {
-            let mut index = TreeIndex::new(&document.tree).ok()?;
-            let found = index.select(&page.matcher, &[NodeId::root()]).ok()?;
-            Some(found.len())
-        }
-        Call::Find => {
-            let found = document.root().find_descendants(page.path.as_str()).ok()?;
-            Some(found.len())
-        }
-        _ => {
-            let found = document.select_matcher(&page.matcher).ok()?;
-            Some(found.length())
-        }
+        Call::Index | Call::Tables => match TreeIndex::new(&document.tree) {
+            Ok(index) => count_indexed(index, &page.matcher, call),
+            Err(OutOfMemory) => None,
+        },
+        Call::Find => match document.root().find_descendants(page.selector) {
+            Ok(found) => Some(found.len()),
+            Err(OutOfMemory) => None,
+        },
+        _ => match document.select_matcher(&page.matcher) {
+            Ok(found) => Some(found.length()),
+            Err(OutOfMemory) => None,
+        },
+    }
+}
+
+/// What an index counts below the root, or selects there.
+fn count_indexed(mut index: TreeIndex<'_>, matcher: &Matcher, call: Call) -> Option<usize> {
+    if call == Call::Index {
+        return index.last_below(&NodeId::root());
+    }
+    match index.select(matcher, &[NodeId::root()]) {
+        Ok(found) => Some(found.len()),
+        Err(OutOfMemory) => None,
     }
 }
 
 /// Copies the document, and puts markup, which is read once, behind the children of each node that
 /// is selected; answers how many those were.
-fn append_to_all(page: &Page) -> Option<usize> {
+fn append_to_all(page: &Page<'_>) -> Option<usize> {
     let mut document = page.document.try_clone().ok()?;
     let found = select_below(&document.tree, &NodeId::root(), &page.matcher).ok()?;
     let snippet = Snippet::read(document.tree.allocator(), "<i>x</i>").ok()?;
@@ -322,7 +357,7 @@ fn last_end(source: &str) -> Option<usize> {
 }
 
 /// Prints the best of so many runs.
-fn time(rt: &HostRuntime, page: &Page, name: &str, runs: u64) -> Option<()> {
+fn time(rt: &HostRuntime, page: &Page<'_>, name: &str, runs: u64) -> Option<()> {
     let call = call_named(name)?;
     let mut best = Duration::MAX;
     let mut count = 0;
@@ -338,7 +373,7 @@ fn time(rt: &HostRuntime, page: &Page, name: &str, runs: u64) -> Option<()> {
 }
 
 /// Prints what each call counts.
-fn count_all(rt: &HostRuntime, page: &Page) -> Option<()> {
+fn count_all(rt: &HostRuntime, page: &Page<'_>) -> Option<()> {
     for (name, call) in CALLS {
         let count = run_once(rt, page, call)?.count;
         println!(rt; "{name} {count}").ok()?;

@@ -1,7 +1,9 @@
 //! Calls that memory is refused to. What was handed in is then as before, and the refusal is
-//! reported as one. `calls limited` takes what memory there is, leaves so many bytes and does the
-//! call, with more bytes each time, until it was refused and was done. `calls counted` has the
-//! counter of cases/refuse.c refuse each request of a call in turn, alone and with all behind it.
+//! reported as one. `limits` does each call with ample memory. `limits space` takes what memory
+//! there is, leaves so many bytes and does the call, with more bytes each time, until it was
+//! refused and was done. `limits counted` has the counter of cases/refuse.c refuse each request of
+//! a call in turn, alone and with all behind it.
+#![tactic(auto)]
 
 mod calls;
 mod changing;
@@ -13,12 +15,14 @@ mod mini;
 mod reading;
 mod selectors;
 
-use crate::limits::calls::{CALLS, Call, Ending, Page, tried};
-use crate::limits::changing::CHANGES;
-use crate::limits::free::FREE;
-use crate::limits::memory::{Memory, was_refused};
-use crate::limits::reading::READS;
+use calls::{CALLS, Call, Ending, Page, tried};
+use changing::CHANGES;
+use free::FREE;
+use memory::{Memory, was_refused};
+use reading::READS;
 use std::alloc::Global;
+use std::env;
+use std::process::ExitCode;
 
 /// How many more bytes are left each time.
 const STEP: usize = 16;
@@ -98,7 +102,7 @@ fn count_free(rt: &HostRuntime, page: &Page, name: &str) -> Option<()> {
 }
 
 /// Prints how each call ended whose requests the counter refused in turn.
-pub fn count_all(rt: &HostRuntime) -> Option<()> {
+fn count_all(rt: &HostRuntime) -> Option<()> {
     let page = Page::new(rt.alloc())?;
     for (name, call) in CALLS {
         count(rt, &page, name, Limited::Call(call))?;
@@ -126,7 +130,7 @@ fn show_done(rt: &HostRuntime, name: &str, ending: Option<Ending>) -> Option<()>
 }
 
 /// Prints how each call ended with ample memory.
-pub fn try_all(rt: &HostRuntime) -> Option<()> {
+fn try_all(rt: &HostRuntime) -> Option<()> {
     let (alloc, page) = (rt.alloc(), Page::new(rt.alloc())?);
     for (name, call) in CALLS {
         show_done(rt, name, tried(alloc, &page, call, Memory::Ample))?;
@@ -148,7 +152,7 @@ pub fn try_all(rt: &HostRuntime) -> Option<()> {
 }
 
 /// Prints how each call ended in an address space of some hundred megabytes with ever more of it.
-pub fn limit_all(rt: &HostRuntime) -> Option<()> {
+fn limit_all(rt: &HostRuntime) -> Option<()> {
     let page = Page::new(rt.alloc())?;
     for (name, call) in CALLS {
         let ending = match is_refused_first(rt.alloc(), &page, call) {
@@ -159,4 +163,26 @@ pub fn limit_all(rt: &HostRuntime) -> Option<()> {
         println!(rt; "{name}: {ending}").ok()?;
     }
     Some(())
+}
+
+fn run(rt: &HostRuntime, words: &[String]) -> Option<()> {
+    match words {
+        [] => try_all(rt),
+        [word] if word.as_str() == "space" => limit_all(rt),
+        [word] if word.as_str() == "counted" => count_all(rt),
+        _ => None,
+    }
+}
+
+fn main(rt: HostRuntime) -> ExitCode {
+    let Ok(all) = env::args(&rt) else {
+        return ExitCode::from(64);
+    };
+    let Ok(words) = all.skip(1).collect::<Vec<String>>(rt.alloc()) else {
+        return ExitCode::from(5);
+    };
+    match run(&rt, words.as_slice()) {
+        Some(()) => ExitCode::from(0),
+        None => ExitCode::from(1),
+    }
 }

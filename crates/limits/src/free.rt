@@ -1,14 +1,14 @@
 //! Calls that take no memory.
 
-use crate::limits::calls::{Ending, MARKUP, Page, done_if};
-use crate::limits::memory::{Memory, take_memory};
-use crate::limits::selectors::count_of;
-use crate::words::{cut, node_of};
-use crate::{lent, trees};
+use crate::calls::{Ending, MARKUP, Page, done_if};
+use crate::memory::{Memory, take_memory};
+use crate::selectors::count_of;
 use dom_query::{
     DescendantMatches, Document, Matches, MiniSelect, MiniSelector, NodeEdit, NodeId, NodeRef,
-    NodeSelect, OutOfMemory, Selection, Text, Tree, TreeSink,
+    NodeSelect, Selection, Text, Tree, TreeSink,
 };
+use named_calls::words::{cut, node_of};
+use named_calls::{node_calls, tree_calls};
 use std::alloc::Global;
 
 pub const FREE: [&str; 40] = [
@@ -54,6 +54,9 @@ pub const FREE: [&str; 40] = [
     "ask normalized_char_count",
 ];
 
+/// A text that a node keeps apart.
+const LONG: &str = "another text that is too long to be kept within a node";
+
 /// A call of a lent node that is given names.
 fn without_names(tree: &mut Tree, id: &NodeId, call: &str) -> Option<bool> {
     let mut node = tree.node_mut(id)?;
@@ -69,7 +72,7 @@ fn without_names(tree: &mut Tree, id: &NodeId, call: &str) -> Option<bool> {
 }
 
 /// A call that changes the document.
-fn is_changed(document: &mut Document, line: &str, text: Text) -> Option<bool> {
+fn is_changed(document: &mut Document, line: &str) -> Option<bool> {
     let (group, rest) = cut(line);
     let (call, words) = cut(rest);
     let (first, second) = (NodeId::new(1)?, NodeId::new(4)?);
@@ -77,17 +80,13 @@ fn is_changed(document: &mut Document, line: &str, text: Text) -> Option<bool> {
     let done = match group {
         "move" => {
             let (id, other) = (node_of(word)?, node_of(behind)?);
-            trees::moved(&mut document.tree, call, &id, &other)?
+            tree_calls::moved(&mut document.tree, call, &id, &other)?
         }
-        "cut" => trees::cut_out(&mut document.tree, call, &node_of(word)?)?,
-        "node" => lent::edited(&mut document.tree, rest)?,
+        "cut" => tree_calls::cut_out(&mut document.tree, call, &node_of(word)?)?,
+        "node" => node_calls::edited(&mut document.tree, rest)?,
         "names" => return without_names(&mut document.tree, &first, call),
         "sink" if call == "remove_from_parent" => document.remove_from_parent(&second),
         "sink" => document.reparent_children(&second, &first),
-        "update" => {
-            let change = move |edit: &mut NodeEdit| edit.contents = text;
-            document.tree.update_node(&NodeId::new(3)?, change)
-        }
         _ => return None,
     };
     Some(done.is_ok())
@@ -132,7 +131,7 @@ fn count_child_ids(tree: &Tree) -> usize {
 }
 
 /// A call that reads: how many nodes it gives, which aren't none.
-fn count(page: &Page, matches: Matches<'_, '_, '_>, mini: &MiniSelector<'_>, call: &str) -> usize {
+fn count(page: &Page, call: &str) -> usize {
     let (tree, root) = (&page.document.tree, page.document.root());
     let Some(id) = NodeId::new(5) else {
         return 0;
@@ -147,47 +146,69 @@ fn count(page: &Page, matches: Matches<'_, '_, '_>, mini: &MiniSelector<'_>, cal
         "descendant_ids_of_it" => tree.descendant_ids_of_it(&NodeId::root()).count(),
         "match_element" => one_unless(page.matcher.match_element(&node)),
         "is_match" => one_unless(node.is_match(&page.matcher)),
-        "mini_match" => one_unless(node.mini_match(mini)),
         "DescendantMatches" => count_below(page),
-        "Matches" => count_of(matches),
         "Selection::from" => Selection::from(node).length(),
         "normalized_char_count" => root.normalized_char_count(),
         _ => 0,
     }
 }
 
-/// Makes a call that reads, whose memory is taken before.
+/// Makes a call that reads.
 fn reads(alloc: Global, page: &Page, call: &str, memory: Memory) -> Option<Ending> {
-    let mini = MiniSelector::new(alloc, "div.x[a=b]").ok()?;
-    let roots = [NodeId::root()];
-    let answer = Matches::new(&page.document.tree, &roots, &page.matcher);
     let held = take_memory(alloc, memory)?;
-    let found = match answer {
-        Ok(matches) => count(page, matches, &mini, call),
-        Err(OutOfMemory) => 0,
-    };
+    let found = count(page, call);
     drop(held);
     Some(done_if(found > 0))
 }
 
-/// Makes a call that changes the document, whose memory is taken before.
+/// Walks below roots, whose walks are made before.
+fn walks(alloc: Global, page: &Page, memory: Memory) -> Option<Ending> {
+    let roots = [NodeId::root()];
+    let matches = Matches::new(&page.document.tree, &roots, &page.matcher).ok()?;
+    let held = take_memory(alloc, memory)?;
+    let found = count_of(matches);
+    drop(held);
+    Some(done_if(found > 0))
+}
+
+/// Asks a node whether a mini selector, which is read before, matches it.
+fn asks_mini(alloc: Global, page: &Page, memory: Memory) -> Option<Ending> {
+    let mini = MiniSelector::new(alloc, "div.x[a=b]").ok()?;
+    let node = NodeRef::new(NodeId::new(5)?, &page.document.tree);
+    let held = take_memory(alloc, memory)?;
+    let is_met = node.mini_match(&mini);
+    drop(held);
+    Some(done_if(!is_met))
+}
+
+/// Makes a call that changes a document.
 fn changes(alloc: Global, line: &str, memory: Memory) -> Option<Ending> {
     let mut document = Document::parse(alloc, MARKUP).ok()?;
-    let text = Text::new(
-        alloc,
-        "another text that is too long to be kept within a node",
-    )
-    .ok()?;
     let held = take_memory(alloc, memory)?;
-    let is_done = is_changed(&mut document, line, text);
+    let is_done = is_changed(&mut document, line);
     drop(held);
     Some(done_if(is_done?))
+}
+
+/// Puts other contents, whose memory is taken before, into a node.
+fn updates(alloc: Global, memory: Memory) -> Option<Ending> {
+    let mut document = Document::parse(alloc, MARKUP).ok()?;
+    let text = Text::new(alloc, LONG).ok()?;
+    let id = NodeId::new(3)?;
+    let held = take_memory(alloc, memory)?;
+    let change = move |edit: &mut NodeEdit| edit.contents = text;
+    let answer = document.tree.update_node(&id, change);
+    drop(held);
+    Some(done_if(answer.is_ok()))
 }
 
 /// Makes a call of the list.
 pub fn tries(alloc: Global, page: &Page, line: &str, memory: Memory) -> Option<Ending> {
     match cut(line) {
+        ("ask", "Matches") => walks(alloc, page, memory),
+        ("ask", "mini_match") => asks_mini(alloc, page, memory),
         ("ask", call) => reads(alloc, page, call, memory),
+        ("update", _) => updates(alloc, memory),
         _ => changes(alloc, line, memory),
     }
 }

@@ -1,7 +1,7 @@
 //! Calls that edit each node of a selection.
 
-use crate::limits::calls::{Ending, done_if, refused_if};
-use crate::limits::memory::{Memory, take_memory};
+use crate::calls::{Ending, done_if, refused_if};
+use crate::memory::{Memory, take_memory};
 use dom_query::{Document, EditFault, NodeId, NodeMarkup, SelectionFault, SelectionMut};
 use std::alloc::Global;
 
@@ -52,22 +52,33 @@ fn edited(document: &mut Document, nodes: Vec<NodeId>, edit: Edit) -> Result<(),
 /// done.
 pub fn edits(alloc: Global, edit: Edit, memory: Memory) -> Option<Ending> {
     let mut document = Document::parse(alloc, MARKUP).ok()?;
+    match edited_within(alloc, &mut document, edit, memory)? {
+        Ok(()) => Some(done_if(is_done_at(alloc, &document, edit, NODES)?)),
+        Err(stop) if stop.fault == EditFault::Memory => {
+            Some(refused_if(is_done_at(alloc, &document, edit, stop.done)?))
+        }
+        Err(_) => Some(Ending::Wrong),
+    }
+}
+
+/// Does it at the paragraphs with so much memory.
+fn edited_within(
+    alloc: Global,
+    document: &mut Document,
+    edit: Edit,
+    memory: Memory,
+) -> Option<Result<(), SelectionFault>> {
     let nodes = paragraphs(alloc, NODES)?;
     let held = take_memory(alloc, memory)?;
-    let answer = edited(&mut document, nodes, edit);
+    let answer = edited(document, nodes, edit);
     drop(held);
-    let done = match &answer {
-        Ok(()) => NODES,
-        Err(stop) if stop.fault == EditFault::Memory => stop.done,
-        Err(_) => return Some(Ending::Wrong),
-    };
+    Some(answer)
+}
+
+/// Whether a document is as one in which it is done at so many paragraphs.
+fn is_done_at(alloc: Global, document: &Document, edit: Edit, count: usize) -> Option<bool> {
     let mut wanted = Document::parse(alloc, MARKUP).ok()?;
-    edited(&mut wanted, paragraphs(alloc, done)?, edit).ok()?;
-    let html = document.root().html().ok()?;
-    let is_right = html == wanted.root().html().ok()?;
-    Some(if answer.is_ok() {
-        done_if(is_right)
-    } else {
-        refused_if(is_right)
-    })
+    edited(&mut wanted, paragraphs(alloc, count)?, edit).ok()?;
+    let html = wanted.root().html().ok()?;
+    Some(document.root().html().ok()? == html)
 }

@@ -1,11 +1,11 @@
-//! Many inputs in one process: `calls batch KIND` reads them in hexadecimal, one a line on standard
-//! input, and prints one answer a line. `calls raw` reads nodes with their links in that way.
+//! Many inputs in one process: `bulk batch KIND` reads them in hexadecimal, one a line on standard
+//! input, and prints one answer a line. `bulk raw` reads nodes with their links in that way.
 
-use crate::words::cut;
 use dom_query::{
     Attrs, Document, Element, Link, LocalName, Matcher, NodeData, NodeId, QualName, Text, Tree,
     TreeNode, parse_selector_list, run,
 };
+use named_calls::words::cut;
 use std::alloc::Global;
 use std::io::Read;
 use std::str;

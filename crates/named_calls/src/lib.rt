@@ -1,0 +1,7 @@
+//! Calls that edit a tree, each named by a line of words, for the programs that are asked them:
+//! `calls` prints what they answer, and `limits` refuses memory to them.
+#![tactic(auto)]
+
+pub mod node_calls;
+pub mod tree_calls;
+pub mod words;
