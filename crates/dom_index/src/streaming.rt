@@ -12,9 +12,9 @@ ghost use Rattle.dom_selectors.specs.ValuesAsTrees.{read_list};
 ghost use Rattle.dom_select.specs.Selected.{FiltersTo, Selected};
 ghost use Rattle.dom_index.specs.FlagRows.{PropagatesFrom, StepsReach, is_deep, reached_at, top};
 ghost use Rattle.dom_index.specs.NodeTests.{ArePlain};
-ghost use Rattle.dom_index.specs.Tracks.{AreFlagsAt, AreFollowing, ArePrepared, AreTracked, FlagsBelow};
-ghost use Rattle.dom_index.specs.Tracks.{IsFollowing, IsOnWay, IsReached, IsTracked, Reaches};
-ghost use Rattle.dom_index.specs.Tracks.{SomeReaches, first_in, steps_in};
+ghost use Rattle.dom_index.specs.Tracks.{AreFlagsAt, AreFollowing, ArePrepared, AreTracked};
+ghost use Rattle.dom_index.specs.Tracks.{FlagsBelow, IsFollowing, IsOnWay, IsReached, IsTracked};
+ghost use Rattle.dom_index.specs.Tracks.{Reaches, SomeReaches, first_in, steps_in};
 
 use crate::chains::{Chain, prepare_all};
 use crate::node_tests::Visited;
