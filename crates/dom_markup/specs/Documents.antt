@@ -1,9 +1,15 @@
--- What is read of a document as a whole.
-use Rattle.std.specs.Prelude.{◌≡◌, ℕ, List, Option, IfSome}
+-- What is read of a document as a whole, and what a fault says where none is read.
+use Rattle.std.specs.Prelude.{◌≡◌, ◌≤◌, ℕ, List, [], Option, IfSome, length}
 use Rattle.std.specs.Option.{option_map}
+use Rattle.dom_nodes.specs.declared.fault.MarkupFault.{MarkupFault}
+use Rattle.dom_nodes.specs.declared.fault.MarkupFaultKind.{MarkupFaultKind}
 use Rattle.dom_links.specs.Forest.{Forest}
 use Rattle.dom_trees.specs.declared.node_ref.NodeRef.{NodeRef}
-use Rattle.dom_markup.specs.Markup.{Spells}
+use Rattle.dom_markup.specs.declared.document.Document.{Document}
+use Rattle.dom_markup.specs.declared.document.QuirksMode.TheVariants.{NoQuirks}
+use Rattle.dom_markup.specs.FaultKinds.{HoldsMark, IsNestingFault}
+use Rattle.dom_markup.specs.Markup.{Item, Spells, SpellsItemsUpTo}
+use Rattle.dom_markup.specs.Names.{markup}
 use Rattle.dom_markup.specs.Numbered.{document_of}
 use Rattle.dom_markup.specs.Plain.{IsPlain}
 use Rattle.dom_markup.specs.ReadingBack.{SpellsDocument}
@@ -12,6 +18,28 @@ use Rattle.dom_markup.specs.ValueTrees.{ValueTrees}
 -- the tree is the document that the text spells
 abbrev pub IsSpelled : List ℕ → Forest → Type 0
 IsSpelled text forest = (trees : ValueTrees) × Spells text trees × (forest ≡ document_of trees)
+
+-- nothing was noted: there are no errors, and no quirks
+pub record NotesNothing (document : Document) : Type 0 where
+  pub no_errors : document.errors.items ≡ []
+  pub no_quirks : document.quirks_mode ≡ NoQuirks
+
+-- the document is the one that the text spells
+pub record IsDocumentOf (text : List ℕ) (document : Document) : Type 0 where
+  pub spelled : IsSpelled text document.tree
+  pub notes : NotesNothing document
+
+-- what a fault says of the text, and of the byte of the text that it names
+pub record IsFaultOf (text : List ℕ) (Refused : List ℕ → MarkupFaultKind → Type 0) (IsFaultAt : List ℕ → ℕ → MarkupFaultKind → Type 0) (fault : MarkupFault) : Type 0 where
+  pub refused : Refused text fault.kind
+  pub place : fault.at ≤ length text
+  pub cause : IsFaultAt text fault.at fault.kind
+
+-- the kind of a fault suits the text: one that is cut into tokens whole has faults of nesting and limits alone, and some faults
+-- need a mark
+pub record SuitsText (text : List ℕ) (kind : MarkupFaultKind) : Type 0 where
+  pub nesting : (items : List Item) → SpellsItemsUpTo markup text items [] → IsNestingFault kind
+  pub marks : HoldsMark text kind
 
 -- the node of this number in this tree, or none
 pub record IsNodeAt (forest : Forest) (number : Option ℕ) (result : Option NodeRef) : Type 0 where

@@ -1,6 +1,6 @@
 //! Documents, and reading them from explicit markup.
 
-ghost use Rattle.std.specs.Prelude.{◌≡◌, ◌≤◌, [], List, codes, find, length, map, string_bytes};
+ghost use Rattle.std.specs.Prelude.{◌≡◌, codes, find, map, string_bytes};
 ghost use Rattle.std.specs.Prelude.{IfErr, IfOk, IfSome, MatchResult};
 ghost use Rattle.std.specs.Option.{option_copied};
 ghost use Rattle.dom_links.specs.Forest.{Forest, children_of};
@@ -9,11 +9,10 @@ ghost use Rattle.dom_links.specs.ListMoves.{element_at};
 ghost use Rattle.dom_links.specs.Texts.{text_of};
 ghost use Rattle.dom_trees.specs.Edits.{Edits, normalizing};
 ghost use Rattle.dom_trees.specs.Views.{base_uri, page_part};
-ghost use Rattle.dom_markup.specs.Documents.{IsHtml, IsNodeAt, IsSpelled};
+ghost use Rattle.dom_markup.specs.Documents.{IsDocumentOf, IsFaultOf, IsHtml, IsNodeAt};
+ghost use Rattle.dom_markup.specs.Documents.{NotesNothing, SuitsText};
 ghost use Rattle.dom_markup.specs.Html.{html_of, inner_html_of};
-ghost use Rattle.dom_markup.specs.Markup.{Item, SpellsItemsUpTo};
-ghost use Rattle.dom_markup.specs.FaultKinds.{HoldsMark, IsLimitFault, IsNestingFault};
-ghost use Rattle.dom_markup.specs.Names.{markup};
+ghost use Rattle.dom_markup.specs.FaultKinds.{IsLimitFault};
 ghost use Rattle.dom_markup.specs.Plain.{IsPlain};
 ghost use Rattle.dom_markup.specs.ReadingBack.{LacksIdentifiers, SpellsDocument};
 ghost use Rattle.dom_markup.specs.Refusals.{IsFaultAt, Refused};
@@ -68,8 +67,7 @@ impl Document {
     /// A document with nothing in it; `Err` where memory was refused.
     pub fn new(alloc: Global) -> Result<Document, OutOfMemory>
         ensures empty { IfOk result (λ document. document.tree ≡ lone NodeData.Document) }
-        ensures no_errors { IfOk result (λ document. document.errors.items ≡ []) }
-        ensures no_quirks { IfOk result (λ document. document.quirks_mode ≡ QuirksMode.NoQuirks) }
+        ensures notes { IfOk result NotesNothing }
     {
         match Tree::new(alloc, NodeData::Document) {
             Ok(tree) => Ok(whole(alloc, tree)),
@@ -87,19 +85,13 @@ impl Document {
     /// open element, or the text of an element begins there that no end tag ends. `TooManyNodes`
     /// and `Memory` report a limit, met at what begins there.
     pub fn parse(alloc: Global, source: &str) -> Result<Document, MarkupFault>
-        ensures ok { IfOk result (λ document. IsSpelled source.now document.tree) }
-        ensures no_errors { IfOk result (λ document. document.errors.items ≡ []) }
-        ensures no_quirks { IfOk result (λ document. document.quirks_mode ≡ QuirksMode.NoQuirks) }
-        ensures refused { IfErr result (λ fault. Refused source.now fault.kind) }
-        ensures place { IfErr result (λ fault. fault.at ≤ length source.now) }
-        ensures cause { IfErr result (λ fault. IsFaultAt source.now fault.at fault.kind) }
+        ensures ok { IfOk result (IsDocumentOf source.now) }
+        ensures fault { IfErr result (IsFaultOf source.now Refused IsFaultAt) }
+        ensures kind { IfErr result (λ fault. SuitsText source.now fault.kind) }
         ensures plain { IfOk result (λ document.
             LacksIdentifiers document.tree → IsPlain document.tree) }
         ensures same { (forest : Forest) → SpellsDocument source.now forest → MatchResult result
             (λ document. SameTree forest 0 document.tree 0) (λ fault. IsLimitFault fault.kind) }
-        ensures nesting { IfErr result (λ fault. (items : List Item)
-            → SpellsItemsUpTo markup source.now items [] → IsNestingFault fault.kind) }
-        ensures marks { IfErr result (λ fault. HoldsMark source.now fault.kind) }
     {
         kinds_of_faults();
         documents_without_identifiers_are_plain();
@@ -110,12 +102,8 @@ impl Document {
 
     /// What `parse` reads.
     fn read(alloc: Global, source: &str) -> Result<Document, MarkupFault>
-        ensures ok { IfOk result (λ document. IsSpelled source.now document.tree) }
-        ensures no_errors { IfOk result (λ document. document.errors.items ≡ []) }
-        ensures no_quirks { IfOk result (λ document. document.quirks_mode ≡ QuirksMode.NoQuirks) }
-        ensures refused { IfErr result (λ fault. Refused source.now fault.kind) }
-        ensures place { IfErr result (λ fault. fault.at ≤ length source.now) }
-        ensures cause { IfErr result (λ fault. IsFaultAt source.now fault.at fault.kind) }
+        ensures ok { IfOk result (IsDocumentOf source.now) }
+        ensures fault { IfErr result (IsFaultOf source.now Refused IsFaultAt) }
     {
         let Ok(mut reader) = Reader::new(alloc) else {
             return Err(MarkupFault {
@@ -254,8 +242,7 @@ impl Document {
 /// The document of a tree that was read with nothing to note.
 fn whole(alloc: Global, tree: Tree) -> Document
     ensures tree { result.tree ≡ tree }
-    ensures no_errors { result.errors.items ≡ [] }
-    ensures no_quirks { result.quirks_mode ≡ QuirksMode.NoQuirks }
+    ensures notes { NotesNothing result }
 {
     Document {
         tree,

@@ -1,22 +1,22 @@
 //! Fragments: markup that is read below an element `html`, and copies of nodes as such.
 
-ghost use Rattle.std.specs.Prelude.{◌≡◌, ◌≤◌, [], IfErr, IfOk, List, MatchResult, length};
+ghost use Rattle.std.specs.Prelude.{◌≡◌, IfErr, IfOk, MatchResult};
 ghost use Rattle.dom_nodes.specs.declared.fault.EditFault.TheVariants.{Memory};
 ghost use Rattle.dom_nodes.specs.Kinds.{is_top};
 ghost use Rattle.dom_links.specs.Copies.{FragmentCause};
 ghost use Rattle.dom_links.specs.Growth.{lone};
 ghost use Rattle.dom_trees.specs.NewNodes.{html_root_element};
 ghost use Rattle.dom_trees.specs.Views.{node_is};
-ghost use Rattle.dom_markup.specs.FaultKinds.{HoldsMark, IsLimitFault, IsNestingFault};
+ghost use Rattle.dom_markup.specs.Documents.{IsFaultOf, NotesNothing, SuitsText};
+ghost use Rattle.dom_markup.specs.FaultKinds.{IsLimitFault};
 ghost use Rattle.dom_markup.specs.Fragments.{FragmentRefused, IsFragmentFaultAt, IsFragmentOf};
 ghost use Rattle.dom_markup.specs.Fragments.{fragment_roots, is_whole, node_fragment};
 ghost use Rattle.dom_markup.specs.Limits.{limit_kind};
-ghost use Rattle.dom_markup.specs.Markup.{Item, Spells, SpellsItemsUpTo};
-ghost use Rattle.dom_markup.specs.Names.{markup};
+ghost use Rattle.dom_markup.specs.Markup.{Spells};
 ghost use Rattle.dom_markup.specs.ValueTrees.{ValueTrees};
 
 use crate::document::snippet::Snippet;
-use crate::document::{Document, QuirksMode, whole};
+use crate::document::{Document, whole};
 use crate::laws::faults::kinds_of_faults;
 use dom_nodes::fault::{EditFault, MarkupFault, MarkupFaultKind, OutOfMemory};
 use dom_nodes::node_data::NodeData;
@@ -30,8 +30,7 @@ impl Document {
     /// where memory was refused.
     pub fn fragment_sink(alloc: Global) -> Result<Document, OutOfMemory>
         ensures empty { IfOk result (λ document. document.tree ≡ lone NodeData.Fragment) }
-        ensures no_errors { IfOk result (λ document. document.errors.items ≡ []) }
-        ensures no_quirks { IfOk result (λ document. document.quirks_mode ≡ QuirksMode.NoQuirks) }
+        ensures notes { IfOk result NotesNothing }
     {
         match Tree::new(alloc, NodeData::Fragment) {
             Ok(tree) => Ok(whole(alloc, tree)),
@@ -44,17 +43,11 @@ impl Document {
     /// `parse` refuses the text, or by a limit that was met once all was read.
     pub fn fragment(alloc: Global, source: &str) -> Result<Document, MarkupFault>
         ensures ok { IfOk result (λ document. IsFragmentOf source.now document.tree) }
-        ensures no_errors { IfOk result (λ document. document.errors.items ≡ []) }
-        ensures no_quirks { IfOk result (λ document. document.quirks_mode ≡ QuirksMode.NoQuirks) }
-        ensures refused { IfErr result (λ fault. FragmentRefused source.now fault.kind) }
-        ensures place { IfErr result (λ fault. fault.at ≤ length source.now) }
-        ensures cause { IfErr result
-            (λ fault. IsFragmentFaultAt source.now fault.at fault.kind) }
+        ensures notes { IfOk result NotesNothing }
+        ensures fault { IfErr result (IsFaultOf source.now FragmentRefused IsFragmentFaultAt) }
+        ensures kind { IfErr result (λ fault. SuitsText source.now fault.kind) }
         ensures limits { (trees : ValueTrees) → Spells source.now trees
             → IfErr result (λ fault. IsLimitFault fault.kind) }
-        ensures nesting { IfErr result (λ fault. (items : List Item)
-            → SpellsItemsUpTo markup source.now items [] → IsNestingFault fault.kind) }
-        ensures marks { IfErr result (λ fault. HoldsMark source.now fault.kind) }
     {
         kinds_of_faults();
         let snippet = Snippet::read(alloc, source)?;
@@ -98,8 +91,7 @@ pub trait NodeFragment {
             document.tree ≡ node_fragment (forest self.now) (number self.now)) }
         ensures cause { let roots = fragment_roots (forest self.now) (number self.now)
             in IfErr result (λ fault. FragmentCause html_root_element (forest self.now) roots fault) }
-        ensures no_errors { IfOk result (λ document. document.errors.items ≡ []) }
-        ensures no_quirks { IfOk result (λ document. document.quirks_mode ≡ QuirksMode.NoQuirks) };
+        ensures notes { IfOk result NotesNothing };
 }
 
 impl<'a> NodeFragment for NodeRef<'a> {

@@ -12,6 +12,6 @@ found_is (Some document) one other e h = h ∙ e
 
 pub returns-in-Ok-clause-calm : goal.returns-in-Ok-clause-calm
 returns-in-Ok-clause-calm c = λ trees page.
-    let read = c.in-Ok.ensures.ok in
+    let read = c.in-Ok.ensures.ok.spelled in
     let is : c.in-Ok.document.tree ≡ document_of trees = read.2 ∙ ap document_of (sym (c.one_reading.ensures c.args.source.now trees read.0 page.spelled read.1)) in
     IfOk-weaker c.calm_only.result _ _ (λ found h. found_is found c.in-Ok.document.tree (document_of trees) is h) (c.calm_only.ensures.calm trees is page.document)

@@ -27,27 +27,23 @@ loop-left-smaller c =
     let read = c.in-Ok-read.ensures progress.items progress.read in
     Begins-shorter (mode_of c.loop-left.within) c.loop-left.left.now read.0 _ read.1
 
-pub returns-in-Err-clause-cause : goal.returns-in-Err-clause-cause
-returns-in-Err-clause-cause c =
+pub returns-in-Err-clause-fault : goal.returns-in-Err-clause-fault
+returns-in-Err-clause-fault c =
     let progress = c.loop-left.invariant.progress in
-    stopped _ _ _ _ _ _ progress (λ e. eqb-false (length c.loop-left.left.now) 0 (sym c.loop-left-test.ensures) (ap length e)) (omega (arith, progress.within)) (c.in-Err.ensures progress.items progress.read)
-
-pub returns-in-Err-clause-refused : goal.returns-in-Err-clause-refused
-returns-in-Err-clause-refused c = refused _ _ _ (returns-in-Err-clause-cause c)
+    let cause = stopped _ _ _ _ _ _ progress (λ e. eqb-false (length c.loop-left.left.now) 0 (sym c.loop-left-test.ensures) (ap length e)) (omega (arith, progress.within)) (c.in-Err.ensures progress.items progress.read) in
+    record { refused = refused _ _ _ cause; place = omega arith; cause = cause }
 
 pub returns-in-Ok-finish-clause-ok : goal.returns-in-Ok-finish-clause-ok
 returns-in-Ok-finish-clause-ok c =
     let progress = c.loop-left.invariant.progress in
     let none = nil_from_length0 c.loop-left.left.now (eqb-true (length c.loop-left.left.now) 0 (sym c.loop-left-test.ensures)) in
     let read = whole_text _ _ _ _ c.in-Ok-finish.tree progress none (c.in-Ok-finish.ensures.items progress.items progress.read) in
-    (read.0, read.1, c.whole.ensures.tree ∙ read.2)
+    record { spelled = (read.0, read.1, c.whole.ensures.tree ∙ read.2); notes = c.whole.ensures.notes }
 
-pub returns-in-Err-finish-clause-cause : goal.returns-in-Err-finish-clause-cause
-returns-in-Err-finish-clause-cause c =
+pub returns-in-Err-finish-clause-fault : goal.returns-in-Err-finish-clause-fault
+returns-in-Err-finish-clause-fault c =
     let progress = c.loop-left.invariant.progress in
     let none = nil_from_length0 c.loop-left.left.now (eqb-true (length c.loop-left.left.now) 0 (sym c.loop-left-test.ensures)) in
     let closed = c.in-Err-finish.ensures in
-    unclosed _ _ _ _ _ progress none closed.kind (closed.items progress.items progress.read)
-
-pub returns-in-Err-finish-clause-refused : goal.returns-in-Err-finish-clause-refused
-returns-in-Err-finish-clause-refused c = refused _ _ _ (returns-in-Err-finish-clause-cause c)
+    let cause = unclosed _ _ _ _ _ progress none closed.kind (closed.items progress.items progress.read) in
+    record { refused = refused _ _ _ cause; place = omega arith; cause = cause }
