@@ -16,9 +16,30 @@ const NAMES: [&str; 32] = [
 ];
 
 const LEAVES: [&str; 24] = [
-    "t", "t", " ", "\n", "\nt", "a&amp;b", "a & b", "&lt;", "&nbsp;", "&eacute;", "&ltx", "a < b",
-    "&#13;", "<!--c-->", "<!---->", "<!--a--!>b-->", "<br>", "<hr>", "<img src=x>", "<input>",
-    "<wbr/>", "<style>a>b</style>", "<script>a<b</script>", "<title>t</title>",
+    "t",
+    "t",
+    " ",
+    "\n",
+    "\nt",
+    "a&amp;b",
+    "a & b",
+    "&lt;",
+    "&nbsp;",
+    "&eacute;",
+    "&ltx",
+    "a < b",
+    "&#13;",
+    "<!--c-->",
+    "<!---->",
+    "<!--a--!>b-->",
+    "<br>",
+    "<hr>",
+    "<img src=x>",
+    "<input>",
+    "<wbr/>",
+    "<style>a>b</style>",
+    "<script>a<b</script>",
+    "<title>t</title>",
 ];
 
 const HEADS: [&str; 6] = [
