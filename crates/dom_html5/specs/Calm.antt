@@ -124,10 +124,18 @@ abbrev pub is_plain_reference : List ℕ → Bool
 is_plain_reference after = begins after (codes "amp;") || begins after (codes "lt;") || begins after (codes "gt;")
     || begins after (codes "quot;") || begins after (codes "nbsp;") || is_bare after
 
-abbrev pub is_calm_byte : ℕ → List ℕ → Bool
-is_calm_byte b after = if b == ampersand then is_plain_reference after else not (b == 0 || b == carriage_return)
+-- a tag of an element that calm pages lack, of those that pages have most often
+abbrev pub begins_other_tag : List ℕ → Bool
+begins_other_tag after = begins after (codes "svg") || begins after (codes "math") || begins after (codes "select")
+    || begins after (codes "noscript") || begins after (codes "template") || begins after (codes "iframe")
 
--- no byte 0 or 13, and no `&` but of the five references, or with nothing after it that makes one
+abbrev pub is_calm_byte : ℕ → List ℕ → Bool
+is_calm_byte b after =
+    if b == ampersand then is_plain_reference after
+    else if b == less_than then not (begins_other_tag after)
+    else not (b == 0 || b == carriage_return)
+
+-- no byte 0 or 13, no `&` but of the five references, or with nothing after it that makes one, and no `<` of those other tags
 abbrev pub is_calm_text : List ℕ → Bool
 is_calm_text [] = true
 is_calm_text (b ∷ after) = is_calm_byte b after && is_calm_text after

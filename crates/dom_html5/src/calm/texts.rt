@@ -6,7 +6,7 @@ ghost use Rattle.dom_markup.specs.Bytes.{is_whitespace};
 ghost use Rattle.dom_nodes.specs.Ascii.{greater_than};
 ghost use Rattle.dom_html5.specs.Calm.{begins_close, begins_line, has_close};
 ghost use Rattle.dom_html5.specs.Calm.{is_bare, is_calm_byte, is_calm_text};
-ghost use Rattle.dom_html5.specs.Calm.{IsFramed, is_plain_reference};
+ghost use Rattle.dom_html5.specs.Calm.{IsFramed, begins_other_tag, is_plain_reference};
 
 /// How many bytes a framed page has at least.
 const LEAST: usize = 34;
@@ -40,16 +40,31 @@ pub fn is_calm_text(page: &str) -> bool
     true
 }
 
-/// Whether a byte in front of these is no 0, no carriage return, and no `&` that readers differ on.
+/// Whether a byte in front of these is no 0, no carriage return, no `&` that readers differ on, and
+/// no `<` of a tag that calm pages lack.
 #[inline(always)]
 fn is_calm_byte(byte: u8, after: &[u8]) -> bool
     ensures { result ≡ is_calm_byte byte after.now }
 {
     match byte {
         b'&' => is_plain_reference(after),
+        b'<' => !begins_other_tag(after),
         0 | b'\r' => false,
         _ => true,
     }
+}
+
+/// Whether this follows the `<` of an element that calm pages lack, of those that pages have most
+/// often: such a page isn't read as explicit markup in vain.
+fn begins_other_tag(after: &[u8]) -> bool
+    ensures { result ≡ begins_other_tag after.now }
+{
+    after.starts_with(b"svg")
+        || after.starts_with(b"math")
+        || after.starts_with(b"select")
+        || after.starts_with(b"noscript")
+        || after.starts_with(b"template")
+        || after.starts_with(b"iframe")
 }
 
 /// Whether this follows an `&` of one of the five references, or one that stands for itself.
