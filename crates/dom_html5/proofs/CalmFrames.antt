@@ -1,11 +1,10 @@
 -- The HTML of a calm document begins with a doctype and `<html`, and ends with the end tags of `body` and `html`.
-use Rattle.std.proofs.Common.{◌≡◌, ℕ, ◌+◌, ◌-◌, ◌≤◌, false, List, [], ◌∷◌, ◌++◌, length, map, take, drop, refl, sym, ap, ◌∙◌, subst, arith, append-nil, append_assoc, length-append}
+use Rattle.std.proofs.Common.{◌≡◌, ℕ, ◌+◌, ◌-◌, ◌≤◌, false, List, [], ◌∷◌, ◌++◌, length, map, drop, refl, sym, ap, ◌∙◌, subst, arith, append-nil, append_assoc, length-append}
 use Rattle.std.specs.Prelude.{codes}
 use Rattle.std.specs.Char.{to_ascii_lowercase}
 use Rattle.std.specs.List.{flat_map}
 use Rattle.std.proofs.Math.Seq.{drop-append_seam}
-use Rattle.dom_nodes.specs.Words.{is_among}
-use Rattle.dom_markup.specs.Html.{attr_text, end_tag}
+use Rattle.dom_markup.specs.Html.{attr_text}
 use Rattle.dom_markup.specs.Names.{raw_names, void_names}
 use Rattle.dom_markup.specs.Numbered.{read_attr}
 use Rattle.dom_markup.specs.Plain.{start_text, text_of_trees}

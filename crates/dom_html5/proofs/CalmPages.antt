@@ -1,5 +1,5 @@
 -- A calm document has the shape of a page.
-use Rattle.std.proofs.Common.{◌≡◌, ℕ, true, Bool, List, [], ◌∷◌, refl, sym, ap, subst, ◌∙◌, slice_get, Some}
+use Rattle.std.proofs.Common.{◌≡◌, ℕ, true, List, [], ◌∷◌, refl, sym, ap, subst, ◌∙◌}
 use Rattle.std.specs.Prelude.{codes, filter, not}
 use Rattle.dom_nodes.specs.Kinds.{is_comment, is_doctype}
 use Rattle.dom_links.specs.Forest.{Forest, children_of}

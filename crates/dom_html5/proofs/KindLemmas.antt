@@ -1,5 +1,5 @@
 -- The table of the kinds of known names.
-use Rattle.std.proofs.Common.{◌≡◌, ℕ, zero, suc, ◌+◌, ◌<◌, List, [], ◌∷◌, get_or, refl, sym, ap, ◌∙◌, arith, add-zero}
+use Rattle.std.proofs.Common.{◌≡◌, ℕ, zero, suc, ◌+◌, ◌<◌, List, [], ◌∷◌, get_or, refl, sym, ap, ◌∙◌, arith}
 use Rattle.dom_nodes.specs.KnownNames.{known_name}
 use Rattle.dom_html5.specs.ElementKinds.{kind_of, names_of}
 use Rattle.dom_html5.specs.declared.calm.element_kinds.Kind.{Kind}

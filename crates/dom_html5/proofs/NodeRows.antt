@@ -1,13 +1,13 @@
 -- The nodes of a read document are its rows.
-use Rattle.std.proofs.Common.{◌≡◌, ℕ, zero, suc, ◌+◌, ◌<◌, ◌≤◌, true, false, Bool, List, [], ◌∷◌, ◌++◌, length, get_or, map, Option, Some, None, refl, sym, ap, ◌∙◌, subst, arith, drop, take, slice_get, length-drop, ◌-◌, inl, inr, add-zero}
+use Rattle.std.proofs.Common.{◌≡◌, ℕ, zero, suc, ◌+◌, ◌<◌, ◌≤◌, true, false, Bool, List, [], ◌∷◌, ◌++◌, length, get_or, Option, Some, None, refl, sym, ap, ◌∙◌, subst, arith, drop, take, slice_get, length-drop, ◌-◌, inl, inr, add-zero}
 use Rattle.std.specs.Prelude.{◌==◌, ◌⊎◌}
 use Rattle.std.specs.Option.{option_and_then, option_map, option_map_or}
-use Rattle.std.proofs.lemmas.Bool.{cases_Bool, cases_lt, eq-eqb, eqb-true, true≢false}
+use Rattle.std.proofs.lemmas.Bool.{cases_lt, eq-eqb, eqb-true, true≢false}
 use Rattle.std.proofs.lemmas.List.{length-map, take_all}
 use Rattle.std.proofs.lemmas.Option.{slice_get_past, slice_get-map}
 use Rattle.dom_nodes.specs.declared.node_data.NodeData.{NodeData}
 use Rattle.dom_nodes.specs.declared.node_data.TreeNode.{TreeNode}
-use Rattle.dom_links.specs.Forest.{Forest, children_of, contents_of, forest_of, owner_from, parent, parent_link}
+use Rattle.dom_links.specs.Forest.{Forest, children_of, contents_of, forest_of, owner_from, parent}
 use Rattle.dom_links.specs.Lists.{names, stands_in}
 use Rattle.dom_links.specs.Sound.{IsSoundArena}
 use Rattle.dom_markup.specs.Numbered.{Row, children_among, document_of, rows_from, rows_of}

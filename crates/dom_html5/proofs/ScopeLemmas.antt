@@ -1,8 +1,7 @@
 -- The scopes of a read document's nodes, found in order of number, are those that its trees are tested in.
-use Rattle.std.proofs.Common.{◌≡◌, ℕ, zero, suc, drop, ◌+◌, ◌<◌, ◌≤◌, true, false, Bool, cond, List, [], ◌∷◌, ◌++◌, length, Option, Some, None, refl, sym, ap, ◌∙◌, subst, arith, add-zero, append-nil, append_assoc, length-append, slice_get}
+use Rattle.std.proofs.Common.{◌≡◌, ℕ, zero, suc, drop, ◌+◌, ◌<◌, ◌≤◌, true, false, Bool, List, [], ◌∷◌, ◌++◌, length, Option, Some, None, refl, sym, ap, ◌∙◌, arith, append-nil, append_assoc, length-append, slice_get}
 use Rattle.std.specs.Prelude.{◌&&◌, codes, if◌then◌else◌, not}
 use Rattle.std.specs.Option.{option_and_then, option_map_or}
-use Rattle.std.specs.Str.{bytes_eq}
 use Rattle.std.proofs.Math.Bool.{and_assoc}
 use Rattle.std.proofs.Math.Seq.{drop-nil}
 use Rattle.std.proofs.lemmas.List.{length_push}
@@ -12,8 +11,8 @@ use Rattle.dom_nodes.specs.declared.node_data.NodeData.{NodeData}
 use Rattle.dom_nodes.specs.declared.node_data.NodeData.TheVariants.{Comment, Doctype, Fragment, Text}
 use Rattle.dom_links.proofs.forest.Grown.{slice_get-before, slice_get-there}
 use Rattle.dom_markup.specs.Names.{is_template}
-use Rattle.dom_markup.specs.Numbered.{Row, read_element, rows_from, rows_of, size}
-use Rattle.dom_markup.specs.ValueTrees.{Attribute, ValueTrees}
+use Rattle.dom_markup.specs.Numbered.{Row, read_element, rows_from, size}
+use Rattle.dom_markup.specs.ValueTrees.{ValueTrees}
 use Rattle.dom_markup.specs.ValueTrees.ValueTrees.{no_trees, text_node, comment_node, doctype_node, element_node}
 use Rattle.dom_html5.specs.Calm.{admits, are_calm, bars, holds_doctype, inside, may_hold_comment, may_hold_text, top}
 use Rattle.dom_html5.specs.ElementKinds.{kind_of, may_hold, names_of}

@@ -1,5 +1,5 @@
 -- Calm pages: explicit markup that tree construction reads as it stands, so that both readers give one tree.
-use Rattle.std.specs.Prelude.{ℕ, ◌≡◌, ◌==◌, ◌≤◌, ◌-◌, ◌&&◌, ◌||◌, Bool, true, false, not, nat_eq, List, [], ◌∷◌, Option, None, Some, length, map, take, drop, codes, if◌then◌else◌}
+use Rattle.std.specs.Prelude.{ℕ, ◌≡◌, ◌==◌, ◌≤◌, ◌-◌, ◌&&◌, ◌||◌, Bool, true, false, not, nat_eq, List, [], ◌∷◌, None, length, map, take, drop, codes, if◌then◌else◌}
 use Rattle.std.specs.Char.{is_ascii_alphanumeric, to_ascii_lowercase}
 use Rattle.std.specs.List.{list_all, starts_with}
 use Rattle.dom_nodes.specs.Ascii.{ampersand, carriage_return, exclamation_mark, greater_than, less_than, line_feed, number_sign, slash}
@@ -14,7 +14,7 @@ use Rattle.dom_markup.specs.ValueTrees.{Attribute, ValueTrees}
 use Rattle.dom_markup.specs.ValueTrees.ValueTrees.{no_trees, text_node, comment_node, doctype_node, element_node}
 use Rattle.dom_html5.specs.ElementKinds.{holds_flow, kind_of, may_hold}
 use Rattle.dom_html5.specs.declared.calm.element_kinds.Kind.{Kind}
-use Rattle.dom_html5.specs.declared.calm.element_kinds.Kind.TheVariants.{Anchor, Block, Body, Button, ColumnGroup, DescriptionList, Document, Form, Head, Heading, ItemList, Other, Paragraph, Pre, RowGroup, Table, TableRow, Verbatim}
+use Rattle.dom_html5.specs.declared.calm.element_kinds.Kind.TheVariants.{Anchor, Block, Button, ColumnGroup, DescriptionList, Document, Form, Head, Heading, ItemList, Paragraph, Pre, RowGroup, Table, TableRow, Verbatim}
 use Rattle.dom_html5.specs.declared.calm.nesting.Scope.{Scope}
 use Rattle.dom_html5.specs.declared.reading.Options.{Options}
 

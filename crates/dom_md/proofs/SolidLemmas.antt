@@ -1,5 +1,5 @@
 -- Formatting adds the words of a text and no others.
-use Rattle.std.proofs.Common.{◌≡◌, ℕ, zero, suc, Bool, true, false, List, [], ◌∷◌, ◌++◌, length, take, replicate, refl, sym, ◌∙◌, ap, subst, arith, append-nil, append_assoc, encode_utf8, encode_utf8_all, inl, inr}
+use Rattle.std.proofs.Common.{◌≡◌, ℕ, zero, suc, Bool, true, false, List, [], ◌∷◌, ◌++◌, length, take, replicate, refl, sym, ◌∙◌, ap, subst, arith, append-nil, append_assoc, encode_utf8_all, inl, inr}
 use Rattle.std.specs.Prelude.{◌==◌, ◌&&◌, not, codes, cond, if◌then◌else◌}
 use Rattle.std.specs.Char.{is_whitespace}
 use Rattle.std.specs.List.{filter, flat_map}

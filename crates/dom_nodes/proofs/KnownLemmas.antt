@@ -1,5 +1,5 @@
 -- The table of known names, as far as the functions over it need it. Each fact of the whole table is computed.
-use Rattle.std.proofs.Common.{◌≡◌, ℕ, zero, suc, ◌+◌, ◌*◌, ◌-◌, ◌<◌, ◌≤◌, true, List, [], ◌∷◌, take, drop, get_or, IsUtf8, map, refl, sym, ap, ◌∙◌, subst, inl, inr, arith}
+use Rattle.std.proofs.Common.{◌≡◌, ℕ, zero, suc, ◌+◌, ◌*◌, ◌-◌, ◌/◌, ◌%◌, ◌<◌, ◌≤◌, true, List, [], ◌∷◌, take, drop, get_or, length, IsUtf8, map, refl, sym, ap, ◌∙◌, subst, inl, inr, arith}
 use Rattle.std.specs.Prelude.{nat_eq, nat_lt, nat_le}
 use Rattle.std.specs.List.{list_all}
 use Rattle.std.specs.Str.{bytes_eq}
@@ -10,8 +10,8 @@ use Rattle.std.proofs.lemmas.List.{get_or_past}
 use Rattle.std.proofs.lemmas.Slice.Eq.{bytes_eq-Decides}
 use Rattle.std.proofs.lemmas.Str.{IsUtf8-from_ascii, IsAscii-take, IsAscii-drop}
 use Rattle.std.specs.Str.{IsAscii}
-use Rattle.dom_nodes.specs.declared.name.known.TheConstants.{LETTERS}
-use Rattle.dom_nodes.specs.KnownNames.{start, known_name}
+use Rattle.dom_nodes.specs.declared.name.known.TheConstants.{LETTERS, PLACES}
+use Rattle.dom_nodes.specs.KnownNames.{start, known_name, slot, HasNumber, IsUnknown}
 
 -- each name begins where or after the one before it begins, and ends within the letters
 starts_rise : agree_below (λ n. nat_le (start n) (start (n + 1))) (λ n. true) 247 ≡ true
@@ -107,3 +107,25 @@ known_lower n h = (bytes_eq-Decides _ (known_name n)).0 (agree_below_at (λ m. b
 
 pub folded_known : (n : ℕ) (name : List ℕ) → n < 247 → known_name n ≡ name → known_name n ≡ map to_ascii_lowercase name
 folded_known n name h e = sym (known_lower n h) ∙ ap (map to_ascii_lowercase) e
+
+-- the place of a name
+abbrev pub slot_in : List ℕ → ℕ
+slot_in name = slot (length name % 64) (get_or name 0 0) (get_or name (length name / 2) 0) (get_or name (length name - 1) 0)
+
+-- each known name but the empty one is found at its place
+places_are : agree_below (λ n. nat_eq (get_or PLACES (slot_in (known_name (n + 1))) 0) (n + 1)) (λ n. true) 246 ≡ true
+unfolding known_name slot
+places_are = refl
+
+place_is : (n : ℕ) → n < 246 → get_or PLACES (slot_in (known_name (n + 1))) 0 ≡ n + 1
+place_is n h = eqb-true _ _ (agree_below_at (λ m. nat_eq (get_or PLACES (slot_in (known_name (m + 1))) 0) (m + 1)) (λ m. true) 246 n places_are h)
+
+-- a name that isn't found at its place has no number
+pub unknown : (name : List ℕ) → (length name ≡ 0 → ⊥) → (HasNumber name (get_or PLACES (slot_in name) 0) → ⊥) → IsUnknown name
+unknown name some missing zero h = some (ap (λ (xs : List ℕ). length xs) (sym h.1 ∙ known_empty))
+unknown name some missing (suc n) h =
+    let found : get_or PLACES (slot_in (known_name (n + 1))) 0 ≡ n + 1 = place_is n (omega (arith, h.0)) in
+    let P : ℕ → Type 0 = λ m. known_name m ≡ name in
+    let is : known_name (n + 1) ≡ name = subst P (omega arith) h.1 in
+    let here : get_or PLACES (slot_in name) 0 ≡ n + 1 = ap (λ (xs : List ℕ). get_or PLACES (slot_in xs) 0) (sym is) ∙ found in
+    missing (omega (arith, here, h.0), ap known_name here ∙ is)

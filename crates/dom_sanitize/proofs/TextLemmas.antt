@@ -10,13 +10,11 @@ use Rattle.dom_nodes.specs.declared.node_data.NodeData.TheVariants.{Document, Fr
 use Rattle.dom_nodes.specs.Words.{is_among}
 use Rattle.dom_links.specs.Forest.{Forest, children_of}
 use Rattle.dom_links.specs.Laws.{AreTrees}
-use Rattle.dom_links.specs.Lists.{stands_in}
 use Rattle.dom_links.specs.Sound.{IsForest}
-use Rattle.dom_links.specs.Texts.{text_at, text_in, text_of}
-use Rattle.dom_links.specs.Trees.{contents_list, trees, walk, walk_below}
-use Rattle.dom_sanitize.specs.Clean.{Clean, nothing, stays, is_unwrapped, vanishes, Cleaned, Lists, element_fate, fate_at, fate_of, is_template, kept}
+use Rattle.dom_links.specs.Texts.{text_at, text_in}
+use Rattle.dom_links.specs.Trees.{trees, walk, walk_below}
+use Rattle.dom_sanitize.specs.Clean.{Clean, nothing, stays, is_unwrapped, vanishes, Cleaned, Lists, fate_at, fate_of, is_template, kept}
 use Rattle.dom_sanitize.specs.Laws.{HoldsTextsAlone, KeepsText, if_left, left_text}
-use Rattle.dom_sanitize.specs.declared.plan.Fate.{Fate}
 use Rattle.dom_sanitize.specs.declared.plan.Fate.TheVariants.{Stay, Unwrap, Vanish}
 use Rattle.dom_sanitize.proofs.CleanLemmas.{are_allowed, children_inside, inside_back, inside_front, walk-append, walk-cons, walk-none}
 use Rattle.dom_sanitize.proofs.PlanLemmas.{AreInside, inside_rest}

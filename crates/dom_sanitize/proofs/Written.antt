@@ -1,7 +1,7 @@
 -- What is written of a cleaned document.
 use Rattle.std.proofs.Common.{ℕ, ◌≡◌, ◌≢◌, Bool, true, false, List, [], ◌∷◌, ◌++◌, Option, Some, None, refl, sym, ap, ◌∙◌, subst, append_assoc, chars, codes, inl, inr}
 use Rattle.std.specs.Prelude.{◌||◌, filter, slice_get, if◌then◌else◌, is_some, MatchBool, MatchOption}
-use Rattle.std.specs.List.{flat_map, list_any}
+use Rattle.std.specs.List.{flat_map}
 use Rattle.std.specs.Option.{option_map, option_map_or}
 use Rattle.std.specs.Str.{IsUtf8, bytes_eq}
 use Rattle.std.proofs.lemmas.Bool.{cases_Bool, or_parts, true≢false}
@@ -18,9 +18,9 @@ use Rattle.dom_markup.specs.Escaping.{escaped_text, text_char}
 use Rattle.dom_markup.specs.Html.{end_tag, html_of}
 use Rattle.dom_markup.specs.Markup.{IsTagName, Spells, has_name}
 use Rattle.dom_markup.specs.Bytes.{folded}
-use Rattle.dom_markup.specs.Names.{Mode, markup, text_of, raw_text_of, is_template, mode_in, raw_names, text_names, void_names}
+use Rattle.dom_markup.specs.Names.{is_template, mode_in, raw_names, text_names, void_names}
 use Rattle.dom_markup.specs.Numbered.{document_of}
-use Rattle.dom_markup.specs.Plain.{ArePlain, IsElement, IsPlain, IsPlainIn, IsPlainTrees, Represents, StandForAttributes, begins_with_text, html_element, start_text, text_of_trees}
+use Rattle.dom_markup.specs.Plain.{ArePlain, IsElement, IsPlain, IsPlainIn, IsPlainTrees, Represents, StandForAttributes, html_element, start_text, text_of_trees}
 use Rattle.dom_markup.specs.ValueTrees.{Attribute, ValueTrees}
 use Rattle.dom_markup.specs.ValueTrees.ValueTrees.{no_trees, text_node, comment_node, doctype_node, element_node}
 use Rattle.dom_sanitize.specs.Clean.{Clean, Cleaned, Lists, fate_at, fate_of, kept}

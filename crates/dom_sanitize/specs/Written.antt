@@ -8,7 +8,7 @@ use Rattle.dom_markup.specs.Names.{is_template, raw_names, text_names}
 use Rattle.dom_markup.specs.Plain.{IsPlain}
 use Rattle.dom_markup.specs.ValueTrees.{ValueTrees}
 use Rattle.dom_markup.specs.ValueTrees.ValueTrees.{no_trees, text_node, comment_node, doctype_node, element_node}
-use Rattle.dom_sanitize.specs.Clean.{Cleaned, Lists}
+use Rattle.dom_sanitize.specs.Clean.{Lists}
 
 -- trees, and behind them others
 abbrev pub followed_by : ValueTrees → ValueTrees → ValueTrees

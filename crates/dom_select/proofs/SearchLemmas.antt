@@ -7,6 +7,7 @@ use Rattle.std.proofs.lemmas.Option.{same_Some}
 use Rattle.dom_nodes.specs.Kinds.{is_element}
 use Rattle.dom_nodes.specs.declared.node_data.NodeData.{NodeData}
 use Rattle.dom_nodes.specs.declared.node_data.NodeData.TheVariants.{Document}
+use Rattle.dom_links.specs.Copying.{AreNodesOf}
 use Rattle.dom_links.specs.Forest.{Forest, children_of, siblings}
 use Rattle.dom_links.specs.Laws.{AreLines, AreTrees}
 use Rattle.dom_links.specs.Lists.{after, first}
@@ -17,7 +18,7 @@ use Rattle.dom_selectors.specs.declared.syntax.Combinator.TheVariants.{Descendan
 use Rattle.dom_selectors.specs.MiniSyntax.{Mini, combinator_of}
 use Rattle.dom_selectors.specs.MiniTruth.{node_passes}
 use Rattle.dom_select.specs.declared.mini_selector.search.PathSearch.{PathSearch}
-use Rattle.dom_select.specs.PathFlags.{AreKnown, HaveFlags, IsPutBehind, IsSearch, IsVisit, IsVisited, IsWaiting, data_at, flag_below, flag_beside, flags_before, flags_below, flags_beside, found_by, is_any, is_led, last_flags, led_from, led_in, one_if, row_of, to_find, to_visit}
+use Rattle.dom_select.specs.PathFlags.{HaveFlags, IsPutBehind, IsSearch, IsVisit, IsVisited, IsWaiting, data_at, flag_below, flag_beside, flags_before, flags_below, flags_beside, found_by, is_any, is_led, last_flags, led_from, led_in, one_if, row_of, to_find, to_visit}
 
 -- lists
 
@@ -230,11 +231,11 @@ module _ (forest : Forest) (minis : List Mini) where
             ∙ ap (λ fs. led_in forest minis (last_flags minis (s.front ++ s.one)) (row_of forest n) ++ to_find forest minis ids fs) (sym before);
       })
 
-  pub known_put : (ids : List ℕ) (n : ℕ) → AreKnown forest ids → n < length forest.content → AreKnown forest (ids ++ n ∷ [])
+  pub known_put : (ids : List ℕ) (n : ℕ) → AreNodesOf forest ids → n < length forest.content → AreNodesOf forest (ids ++ n ∷ [])
   known_put [] n known below = (below, tt)
   known_put (m ∷ ids) n known below = (known.0, known_put ids n known.1 below)
 
-  pub known_split : (ids : List ℕ) (n : ℕ) → AreKnown forest (ids ++ n ∷ []) → AreKnown forest ids × (n < length forest.content)
+  pub known_split : (ids : List ℕ) (n : ℕ) → AreNodesOf forest (ids ++ n ∷ []) → AreNodesOf forest ids × (n < length forest.content)
   known_split [] n known = (tt, known.0)
   known_split (m ∷ ids) n known = let rest = known_split ids n known.1 in ((known.0, rest.0), rest.1)
 
@@ -244,7 +245,7 @@ module _ (forest : Forest) (minis : List Mini) where
 
   -- a node was put behind the nodes to be visited, or there is nothing to be found from it on
   pub record Waited (next : Option ℕ) (front flags : List Bool) (pending new_pending : List ℕ) (new_flags : List Bool) : Type 0 where
-    pub known : AreKnown forest new_pending
+    pub known : AreNodesOf forest new_pending
     pub have : HaveFlags steps new_pending new_flags
     pub found : to_find forest minis new_pending new_flags ≡ led_in forest minis flags (trees forest (row_on forest false next)) ++ to_find forest minis pending front
     pub fewer : to_visit forest new_pending ≤ length (walk (trees forest (row_on forest false next))) + to_visit forest pending
@@ -254,7 +255,7 @@ module _ (forest : Forest) (minis : List Mini) where
   none_waits whole next flags (inr off) = none_in forest minis flags (trees forest (row_on forest false next)) off
 
   pub waited : AreTrees forest → (next : Option ℕ) (front flags : List Bool) (pending new_pending : List ℕ) (new_flags : List Bool) → IsPutBehind next front flags pending new_pending new_flags →
-      AreKnown forest pending → HaveFlags steps pending front → length flags ≡ steps → IsWithin forest next → Waited next front flags pending new_pending new_flags
+      AreNodesOf forest pending → HaveFlags steps pending front → length flags ≡ steps → IsWithin forest next → Waited next front flags pending new_pending new_flags
   waited whole next front flags pending new_pending new_flags (inl p) known have long within =
       let n = p.0 in
       let below : n < length forest.content = subst (IsWithin forest) p.1 within in
@@ -352,9 +353,9 @@ module _ (forest : Forest) (minis : List Mini) where
       }
 
   -- the last node to be visited was taken off
-  pub taken_off : (old : PathSearch) (rest : List ℕ) (n : ℕ) → IsSearch forest minis old → old.pending.items ≡ rest ++ n ∷ [] → Popped rest n old.flags.items × AreKnown forest rest × (n < length forest.content)
+  pub taken_off : (old : PathSearch) (rest : List ℕ) (n : ℕ) → IsSearch forest minis old → old.pending.items ≡ rest ++ n ∷ [] → Popped rest n old.flags.items × AreNodesOf forest rest × (n < length forest.content)
   taken_off old rest n is off =
-      let known = known_split rest n (subst (AreKnown forest) off is.known) in
+      let known = known_split rest n (subst (AreNodesOf forest) off is.known) in
       (popped rest n old.flags.items (subst (λ ns. HaveFlags steps ns old.flags.items) off is.flags), known.0, known.1)
 
   pub all_found : AreLines forest → (old left new : PathSearch) (n : ℕ) → IsSearch forest minis old → old.pending.items ≡ left.pending.items ++ n ∷ [] →

@@ -5,6 +5,7 @@ use Rattle.std.specs.List.{list_any}
 use Rattle.dom_nodes.specs.Kinds.{is_element}
 use Rattle.dom_nodes.specs.declared.node_data.NodeData.{NodeData}
 use Rattle.dom_nodes.specs.declared.node_data.NodeData.TheVariants.{Document}
+use Rattle.dom_links.specs.Copying.{AreNodesOf}
 use Rattle.dom_links.specs.Forest.{Forest, children_of}
 use Rattle.dom_links.specs.Trees.{Trees, NoTrees, Tree, trees, walk}
 use Rattle.dom_links.specs.Walk.{later}
@@ -89,13 +90,9 @@ abbrev pub to_visit : Forest → List ℕ → ℕ
 to_visit forest [] = 0
 to_visit forest (n ∷ ns) = length (walk (row_of forest n)) + to_visit forest ns
 
-abbrev pub AreKnown : Forest → List ℕ → Type 0
-AreKnown forest [] = Unit {0}
-AreKnown forest (n ∷ ns) = (n < length forest.content) × AreKnown forest ns
-
 -- a traversal under way, in which each node to be visited is known and has its flags
 pub record IsSearch (forest : Forest) (minis : List Mini) (search : PathSearch) : Type 0 where
-  pub known : AreKnown forest search.pending.items
+  pub known : AreNodesOf forest search.pending.items
   pub flags : HaveFlags (length minis) search.pending.items search.flags.items
   pub below : length search.below.items ≡ length minis
 
@@ -112,7 +109,7 @@ last_flags minis flags = drop (length flags - length minis) flags
 
 -- a traversal under way, but that the last flags are those of a node that is visited now
 pub record IsVisit (forest : Forest) (minis : List Mini) (search : PathSearch) : Type 0 where
-  pub known : AreKnown forest search.pending.items
+  pub known : AreNodesOf forest search.pending.items
   pub room : length minis ≤ length search.flags.items
   pub flags : HaveFlags (length minis) search.pending.items (flags_before minis search.flags.items)
   pub below : length search.below.items ≡ length minis

@@ -1,6 +1,7 @@
 -- Lists of nodes of one tree, and what is made of them.
 use Rattle.std.specs.Prelude.{ℕ, ◌≡◌, ◌==◌, Bool, List, [], ◌∷◌, ◌++◌, Option, Some, None, Result, IfOk, IfSome, filter, find, map}
 use Rattle.std.specs.Prelude.{false, true}
+use Rattle.std.specs.Option.{option_to_list}
 use Rattle.std.specs.Borrow.{Bor}
 use Rattle.std.specs.List.{flat_map, list_any}
 use Rattle.dom_nodes.specs.declared.fault.OutOfMemory.{OutOfMemory}
@@ -58,13 +59,9 @@ some_node holds nodes = list_any (λ node. holds node.tree.now node.id) nodes
 abbrev pub joined : (Forest → ℕ → List ℕ) → List NodeRef → List ℕ
 joined text nodes = flat_map (λ node. text node.tree.now node.id) nodes
 
-abbrev pub one_or_none : Option ℕ → List ℕ
-one_or_none None = []
-one_or_none (Some n) = n ∷ []
-
 -- from a node to its parent, of any kind
 abbrev pub parent_node : Forest → ℕ → List ℕ
-parent_node forest n = one_or_none (parent forest n)
+parent_node forest n = option_to_list (parent forest n)
 
 -- and to elements: its children, those above it, and the nearest beside it
 abbrev pub child_elements : Forest → ℕ → List ℕ
@@ -74,10 +71,10 @@ abbrev pub elements_above : Option ℕ → Forest → ℕ → List ℕ
 elements_above most forest n = filter (element_at forest) (limited most (ancestors forest n))
 
 abbrev pub element_after : Forest → ℕ → List ℕ
-element_after forest n = one_or_none (find (element_at forest) (later forest false n))
+element_after forest n = option_to_list (find (element_at forest) (later forest false n))
 
 abbrev pub element_before : Forest → ℕ → List ℕ
-element_before forest n = one_or_none (find (element_at forest) (later forest true n))
+element_before forest n = option_to_list (find (element_at forest) (later forest true n))
 
 -- where the step leads from each node, one after the other, each node once
 abbrev pub gathered : (Forest → ℕ → List ℕ) → List NodeRef → List NodeRef

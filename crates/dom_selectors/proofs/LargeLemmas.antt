@@ -5,9 +5,8 @@ use Rattle.std.proofs.lemmas.List.{take_all}
 use Rattle.dom_selectors.specs.declared.fault.SelectorFault.{SelectorFault}
 use Rattle.dom_selectors.specs.declared.fault.SelectorFault.TheVariants.{Syntax, UnknownPseudoClass, Number, NestedHas, TooDeep, Memory}
 use Rattle.dom_selectors.specs.Characters.{after_white, digits_len, greatest_number, how_many_large, number_at}
-use Rattle.dom_selectors.specs.Nth.{SpellsNumber, SpellsOffset, SpellsAfterNumber, SpellsUnsigned, SpellsNth, after_sign}
-use Rattle.dom_selectors.specs.Spelling.{Refuses, SpellsNone, large_stands}
-use Rattle.dom_selectors.proofs.FaultLemmas.{refuses_more}
+use Rattle.dom_selectors.specs.Nth.{SpellsNumber, after_sign}
+use Rattle.dom_selectors.specs.Spelling.{SpellsNone, large_stands}
 use Rattle.dom_selectors.proofs.KeepLemmas.{after_sign_keeps, drop_keeps, large_grows, number_keeps, white_keeps}
 
 pub large_within : (part text : List ℕ) → how_many_large part ≤ how_many_large text → (f : SelectorFault) → large_stands part f → large_stands text f

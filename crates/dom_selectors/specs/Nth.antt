@@ -1,5 +1,5 @@
 -- What stands for `an+b`.
-use Rattle.std.specs.Prelude.{◌≡◌, ◌<◌, ◌≤◌, ℕ, List, [], ◌∷◌, Bool, true, false, ◌&&◌, ◌||◌, nat_eq, cond, drop, MatchBool}
+use Rattle.std.specs.Prelude.{◌≡◌, ◌<◌, ◌≤◌, ℕ, List, [], ◌∷◌, Bool, false, ◌&&◌, ◌||◌, nat_eq, cond, drop, MatchBool}
 use Rattle.dom_nodes.specs.Ascii.{hyphen, lower_d, lower_e, lower_n, lower_o, lower_v, plus_sign, upper_d, upper_e, upper_n, upper_o, upper_v}
 use Rattle.dom_nodes.specs.declared.indexes.Nth.{Nth}
 use Rattle.dom_nodes.specs.declared.indexes.Signed.{Signed}

@@ -1,8 +1,8 @@
 //! The names that need no memory: those of HTML's elements and of its common attributes.
 
-ghost use Rattle.std.specs.Prelude.{◌≡◌, ◌<◌, ℕ, IfSome};
+ghost use Rattle.std.specs.Prelude.{◌≡◌, ◌<◌, ℕ, MatchOption};
 ghost use Rattle.std.specs.Str.{bytes_eq};
-ghost use Rattle.dom_nodes.specs.KnownNames.{known_name};
+ghost use Rattle.dom_nodes.specs.KnownNames.{known_name, slot, HasNumber, IsUnknown};
 
 use std::str::from_utf8_unchecked;
 
@@ -96,10 +96,10 @@ static PLACES: [u8; 512] = [
     0, 32, 0, 0, 0, 176, 120, 64, 211, 227, 0, 21, 0, 54, 29, 0,
 ];
 
-/// The number of a name, if it is known.
+/// The number of a name; None where it isn't known.
 #[inline(always)]
 pub(crate) fn number_of(name: &str) -> Option<u8>
-    ensures { IfSome result (λ number. (number < 247) × (known_name number ≡ name.now)) }
+    ensures { MatchOption result (IsUnknown name.now) (HasNumber name.now) }
 {
     let bytes = name.as_bytes();
     let length = bytes.len();
@@ -125,7 +125,8 @@ fn slot_of(length: usize, first: usize, middle: usize, last: usize) -> usize
     requires first { first < 256 }
     requires middle { middle < 256 }
     requires last { last < 256 }
-    ensures { result < 512 }
+    ensures below { result < 512 }
+    ensures is { result ≡ slot length first middle last }
 {
     let group = (19 * length + 2 * first + 19 * middle + last) % 64;
     let place = 17 * length + 9 * first + 19 * middle + 7 * last;

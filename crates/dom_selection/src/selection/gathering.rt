@@ -1,12 +1,13 @@
 //! The related nodes of a selection's nodes, each once.
 
 ghost use Rattle.std.specs.Prelude.{◌≡◌, ◌∷◌, [], None, not, filter, OnOk};
+ghost use Rattle.std.specs.Option.option_to_list;
 ghost use Rattle.dom_links.specs.ListMoves.{element_at};
 ghost use Rattle.dom_links.specs.Trees.{ancestors, limited};
 ghost use Rattle.dom_selection.specs.Gathering.{HasGathered, IsClosed, IsClosedFor, Gathers};
 ghost use Rattle.dom_selection.specs.Selections.{Lists, child_elements, element_after};
 ghost use Rattle.dom_selection.specs.Selections.{element_before, elements_above, gathered};
-ghost use Rattle.dom_selection.specs.Selections.{one_or_none, parent_node};
+ghost use Rattle.dom_selection.specs.Selections.parent_node;
 ghost use Rattle.dom_selection.specs.Steps.{related_by};
 
 use crate::selection::seen::Seen;
@@ -74,7 +75,7 @@ impl<'a> Gathered<'a> {
 
     /// Adds a node, if there is one.
     fn gather_some(&mut self, id: Option<NodeId>) -> Result<(), OutOfMemory>
-        ensures { OnOk result (Gathers self.old self.new (one_or_none id)) }
+        ensures { OnOk result (Gathers self.old self.new (option_to_list id)) }
     {
         match id {
             Some(id) => self.gather_node(id),

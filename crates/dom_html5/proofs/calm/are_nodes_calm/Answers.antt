@@ -1,8 +1,7 @@
 use Rattle.std.proofs.Common.{◌≡◌, ℕ, suc, ◌+◌, List, [], ◌∷◌, ◌++◌, Some, None, drop, length, sym, ap, ◌∙◌, arith}
 use Rattle.std.proofs.lemmas.List.{length_push}
-use Rattle.dom_markup.specs.Numbered.{document_of, rows_from}
-use Rattle.dom_markup.specs.ValueTrees.{ValueTrees}
-use Rattle.dom_html5.specs.Calm.{are_calm, top}
+use Rattle.dom_markup.specs.Numbered.{rows_from}
+use Rattle.dom_html5.specs.Calm.{top}
 use Rattle.dom_html5.specs.Scopes.{next_scope}
 use Rattle.dom_html5.specs.declared.calm.nesting.Scope.{Scope}
 use Rattle.dom_html5.proofs.NodeRows.{IsRead, node_below, node_next, nodes_none}

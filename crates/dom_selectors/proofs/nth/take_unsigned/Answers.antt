@@ -1,6 +1,6 @@
 use Rattle.std.proofs.Common.{sym, ◌∙◌, subst}
 use Rattle.std.proofs.lemmas.Result.{MatchResult-weaker}
-use Rattle.dom_selectors.specs.Nth.{SpellsAfterNumber, signed}
+use Rattle.dom_selectors.specs.Nth.{SpellsAfterNumber}
 use Rattle.dom_selectors.specs.Spelling.{SpellsNone}
 use Rattle.dom_selectors.proofs.FaultLemmas.{refuses_more}
 use Rattle.dom_selectors.proofs.LargeLemmas.{large_within, number_within}

@@ -1,14 +1,14 @@
-use Rattle.std.proofs.Common.{◌≡◌, ◌∷◌, ◌+◌, ◌≤◌, sym, ap, ◌∙◌, subst, map, ◌++◌, [], arith}
+use Rattle.std.proofs.Common.{◌≡◌, ◌∷◌, ◌+◌, ◌≤◌, sym, ap, ◌∙◌, subst, map, ◌++◌, []}
 use Rattle.std.proofs.lemmas.List.{map-append}
 use Rattle.std.proofs.lemmas.Result.{err_from_is_err_and, MatchResult-weaker}
 use Rattle.dom_selectors.specs.Spelling.{SpellsNone, Many, Takes}
-use Rattle.dom_selectors.specs.Characters.{after_white, how_many}
+use Rattle.dom_selectors.specs.Characters.{after_white}
 use Rattle.dom_selectors.specs.Pseudos.{pseudo_of}
 use Rattle.dom_selectors.specs.Grammar.{SpellsForm, SpellsList, inner_context, stands_behind, stands_for, SpellsInner, SpellsItem, SpellsCombinator, SpellsSelector, SpellsStep, SpellsLater}
 use Rattle.dom_selectors.specs.ValuesAsTrees.{read_item, read_list, read_step, read_selector}
 use Rattle.dom_selectors.proofs.FaultLemmas.{passed_on, refuses_more, refuses_wider, refuses_without_cause}
 use Rattle.dom_selectors.proofs.DeepLemmas.{IsWithin, behind_within, colon_stands, deep_inside, refused_within, stands_within, within, within_compound, within_later, within_lead, within_list, within_selector, within_step}
-use Rattle.dom_selectors.proofs.KeepLemmas.{many_grows, name_keeps}
+use Rattle.dom_selectors.proofs.KeepLemmas.{name_keeps}
 use Rattle.dom_selectors.proofs.SelectorLemmas.{inner_once}
 use Rattle.dom_selectors.proofs.Runs.{many_last}
 use Rattle.dom_selectors.proofs.LengthLemmas.{item_shortens, step_shortens, later_shortens}
