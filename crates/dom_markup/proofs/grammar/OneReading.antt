@@ -4,7 +4,7 @@ use Rattle.std.specs.Prelude.{codes}
 use Rattle.dom_markup.specs.Names.{Mode, markup, text_of, raw_text_of}
 use Rattle.dom_markup.specs.References.{decoded}
 use Rattle.dom_markup.specs.ValueTrees.{Attribute, ValueTrees}
-use Rattle.dom_markup.specs.Markup.{Item, BeginsStart, BeginsEnd, BeginsDoctype, EndsAtTag, Begins, SpellsItemsUpTo, mode_after, text_front, items_of, Spells}
+use Rattle.dom_markup.specs.Markup.{Item, BeginsStart, BeginsEnd, BeginsDoctype, EndsAtMark, EndsAtTag, Begins, SpellsItemsUpTo, mode_after, text_front, items_of, Spells}
 use Rattle.dom_markup.specs.Markup.Item.{start_tag, end_tag, characters, comment, doctype}
 use Rattle.dom_markup.proofs.grammar.Nesting.{items_of-same}
 use Rattle.dom_markup.proofs.grammar.Reading.{start_same, end_same, start_end, start_markup, end_markup, behind_same, behind_first, other_second, no_letter, comment_markup, comment_start, comment_end, comment_behind, mark_same, behind_less}

@@ -17,7 +17,7 @@ use Rattle.dom_markup.specs.ValueTrees.{Attribute, ValueTrees}
 use Rattle.dom_markup.specs.ValueTrees.ValueTrees.{no_trees, text_node, comment_node, doctype_node, element_node}
 use Rattle.dom_markup.specs.Markup.{Item, IsTagName, EndsTag, has_name, kept_after, BeginsStart, BeginsEnd, begins_markup, text_front, EndsAtTag, EndsAtMark, SpellsItemsUpTo, items_of, AreInPlace, Spells, LacksEnd}
 use Rattle.dom_markup.specs.Markup.Item.{end_tag as the_end}
-use Rattle.dom_markup.specs.Plain.{IsPlainName, ArePlain, begins_with_text, IsPlainIn, IsPlainTrees, HaveNoIdentifiers}
+use Rattle.dom_markup.specs.Plain.{HoldsNoClose, IsPlainName, ArePlain, begins_with_text, IsPlainIn, IsPlainTrees, HaveNoIdentifiers}
 use Rattle.dom_markup.proofs.plain.PlainText.{assoc, tails, bytes_eq-swapped, or_none, none_or, void_not_raw, void_not_text}
 
 -- the texts and values of trees are UTF-8

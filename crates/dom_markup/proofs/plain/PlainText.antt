@@ -17,7 +17,7 @@ use Rattle.dom_markup.specs.Numbered.{read_attr}
 use Rattle.dom_markup.specs.ValueTrees.{Attribute, ValueTrees}
 use Rattle.dom_markup.specs.ValueTrees.ValueTrees.{no_trees, text_node, comment_node, doctype_node, element_node}
 use Rattle.dom_markup.specs.Markup.{Item, IsTagName, BeginsAttribute, EndsTag, has_name, kept_after, BeginsStart, BeginsEnd, begins_markup, text_front, EndsAtTag, BeginsDoctype, Begins, SpellsItemsUpTo, items_of, AreInPlace, Spells, LacksEnd}
-use Rattle.dom_markup.specs.Markup.Item.{characters, doctype}
+use Rattle.dom_markup.specs.Markup.Item.{characters, comment, doctype}
 use Rattle.dom_markup.specs.Markup.Item.{end_tag as the_end}
 use Rattle.dom_markup.specs.Plain.{start_text, text_of_trees, HoldsNoClose, IsPlainName, ArePlain, begins_with_text, IsPlainIn, IsPlainTrees}
 use Rattle.dom_markup.proofs.html.InertLemmas.{no_less, no_quote}

@@ -1,4 +1,4 @@
-use Rattle.std.proofs.Common.{◌≡◌, sym, ◌∙◌, codes}
+use Rattle.std.proofs.Common.{◌≡◌, rules, sym, ◌∙◌, codes}
 use Rattle.dom_query.proofs.Driving.{words-alone}
 use Rattle.dom_query.proofs.driver.job_of.Goals as goal
 
