@@ -1,13 +1,13 @@
 //! The related nodes of a selection's nodes, each once.
 
 ghost use Rattle.std.specs.Prelude.{◌≡◌, ◌∷◌, [], None, not, filter, OnOk};
-ghost use Rattle.std.specs.Option.option_to_list;
+ghost use Rattle.std.specs.Option.{option_to_list};
 ghost use Rattle.dom_links.specs.ListMoves.{element_at};
 ghost use Rattle.dom_links.specs.Trees.{ancestors, limited};
 ghost use Rattle.dom_selection.specs.Gathering.{HasGathered, IsClosed, IsClosedFor, Gathers};
 ghost use Rattle.dom_selection.specs.Selections.{Lists, child_elements, element_after};
 ghost use Rattle.dom_selection.specs.Selections.{element_before, elements_above, gathered};
-ghost use Rattle.dom_selection.specs.Selections.parent_node;
+ghost use Rattle.dom_selection.specs.Selections.{parent_node};
 ghost use Rattle.dom_selection.specs.Steps.{related_by};
 
 use crate::selection::seen::Seen;
