@@ -1,5 +1,5 @@
 -- Named character references: what of one was read, and what the longest name stands for.
-use Rattle.std.specs.Prelude.{◌≡◌, ℕ, ◌<◌, ◌≤◌, List, length, take, Option, Some, None}
+use Rattle.std.specs.Prelude.{◌≡◌, ℕ, ◌<◌, ◌≤◌, List, ◌∷◌, ◌++◌, MatchOption, length, take, Option, Some, None}
 use Rattle.html5_tokens.specs.declared.named_references.Names.{Names}
 use Rattle.html5_tokens.specs.declared.named_references.Value.{Value}
 use Rattle.html5_tokens.specs.NameTable.{name_at, value_at, IsFrontOf}
@@ -11,6 +11,10 @@ read_of names = take names.place (name_at names.low)
 -- no name begins with the text
 abbrev pub BeginsNoName : List ℕ → Type 0
 BeginsNoName text = (i : ℕ) → i < 2231 → IsFrontOf text (name_at i) → ⊥
+
+-- these are the names that begin with the text; none where no name does
+abbrev pub AreNamesFrom : List ℕ → Option Names → Type 0
+AreNamesFrom text result = MatchOption result (BeginsNoName text) (λ names. read_of names ≡ text)
 
 -- the text is a name, and the value is what it stands for
 pub record IsValueOf (text : List ℕ) (value : Value) : Type 0 where
@@ -33,3 +37,7 @@ pub record IsLongestName (text : List ℕ) (number : ℕ) : Type 0 where
 pub record IsLongest (text : List ℕ) (value : Option Value) : Type 0 where
   pub some : (i : ℕ) → IsLongestName text i → value ≡ Some (value_at i)
   pub none : ((i : ℕ) → i < 2231 → IsFrontOf (name_at i) text → ⊥) → value ≡ None
+
+-- behind what was read stands c: the value is that of the longest name that the text begins with, whatever follows
+abbrev pub IsSettled : List ℕ → ℕ → Option Value → Type 0
+IsSettled read c value = (rest : List ℕ) → IsLongest (read ++ c ∷ rest) value

@@ -1,11 +1,13 @@
 -- What a tokenizer has read.
-use Rattle.std.specs.Prelude.{◌≡◌, ℕ, Bool, false, List, [], ◌∷◌, ◌++◌, MatchBool, Option, string_bytes}
+use Rattle.std.specs.Prelude.{◌≡◌, ℕ, Bool, false, List, [], ◌∷◌, ◌++◌, MatchBool, MatchOption, Option, None, Result, IfOk, string_bytes}
+use Rattle.std.specs.Borrow.{Bor}
 use Rattle.html5_tokens.specs.declared.named_references.Value.{Value}
 use Rattle.html5_tokens.specs.declared.tokenizer.Tokenizer.{Tokenizer}
 use Rattle.html5_tokens.specs.declared.tokenizer.named.Match.{Match}
 use Rattle.html5_tokens.specs.declared.tokenizer.references.Reference.{Reference}
 use Rattle.html5_tokens.specs.declared.tokenizer.references.Reference.TheVariants.{None as NoReference, Named}
-use Rattle.html5_tokens.specs.NamedReferences.{read_of, IsLongest}
+use Rattle.html5_tokens.specs.NamedReferences.{read_of, IsSettled}
+use Rattle.html5_tokens.specs.Runs.{IsRun}
 use Rattle.html5_tokens.specs.declared.tokenizer.state.State.TheVariants.{Data}
 
 -- the characters that stand before the next token, as far as they are read
@@ -25,6 +27,19 @@ pub record AddsText (old new : Tokenizer) (text : List ℕ) : Type 0 where
   pub reference : new.reference ≡ old.reference
   pub after_return : new.after_return ≡ old.after_return
 
+-- the text is read, and no token ends in it
+abbrev pub ReadsNoToken : {T E : Type 0} → Tokenizer → Tokenizer → List ℕ → Result (Option T) E → Type 0
+ReadsNoToken old new text result = IfOk result (λ token. (token ≡ None) × AddsText old new text)
+
+-- the text is read whole: nothing of it is left
+abbrev pub ReadsWhole : {E : Type 0} → Tokenizer → Tokenizer → List ℕ → Result (Bor (List ℕ)) E → Type 0
+ReadsWhole old new text result = IfOk result (λ rest. (rest.now ≡ []) × AddsText old new text)
+
+-- in text, and with no errors noted, a run is read whole, and no token takes the place of the one before
+abbrev pub ReadsRun : {T E : Type 0} → Tokenizer → Tokenizer → List ℕ → Option T → Option T → Result (Bor (List ℕ)) E → Type 0
+ReadsRun old new text before after result =
+    IsInText old → old.errors ≡ None → IsRun text → IfOk result (λ rest. (rest.now ≡ []) × (after ≡ before) × AddsText old new text)
+
 -- these characters of a name were read in the reference
 pub record IsInName (reference : Reference) (read : List ℕ) : Type 0 where
   pub found : Match
@@ -33,5 +48,14 @@ pub record IsInName (reference : Reference) (read : List ℕ) : Type 0 where
 
 -- these characters of a name were read, and c comes: a name goes on with it, or the value is that
 -- of the longest name that the text begins with, whatever follows
-abbrev pub IsNameRead : List ℕ → Option Value → ℕ → Bool → Reference → Type 0
-IsNameRead read value c goes_on new = MatchBool goes_on (IsInName new (read ++ c ∷ [])) ((rest : List ℕ) → IsLongest (read ++ c ∷ rest) value)
+abbrev pub IsNameRead : List ℕ → Option Value → ℕ → Reference → Bool → Type 0
+IsNameRead read value c new goes_on = MatchBool goes_on (IsInName new (read ++ c ∷ [])) (IsSettled read c value)
+
+-- the same behind what a match has read
+abbrev pub IsReadBehind : Match → ℕ → Reference → Bool → Type 0
+IsReadBehind found = IsNameRead (read_of found.names) found.value
+
+-- a character more is read of a name, or the value of the match is settled
+abbrev pub MatchesOn : Match → ℕ → Option Match → Type 0
+MatchesOn found c result =
+    MatchOption result (IsSettled (read_of found.names) c found.value) (λ more. read_of more.names ≡ read_of found.names ++ c ∷ [])

@@ -1,5 +1,6 @@
 -- Tags without attributes, as they are written and as they are read.
-use Rattle.std.specs.Prelude.{◌≡◌, ℕ, Bool, true, false, List, [], ◌∷◌, ◌++◌, ◌&&◌, ◌||◌, Option, Some, string_bytes}
+use Rattle.std.specs.Prelude.{◌≡◌, ℕ, Bool, true, false, List, [], ◌∷◌, ◌++◌, ◌&&◌, ◌||◌, Option, Some, None, Result, IfOk, string_bytes}
+use Rattle.std.specs.Borrow.{Bor}
 use Rattle.std.specs.Char.{is_ascii_lowercase, is_ascii_digit}
 use Rattle.std.specs.List.{list_all}
 use Rattle.std.specs.Option.{IsSomeAnd}
@@ -48,11 +49,12 @@ pub record EndsTag (kind : TagKind) (name : List ℕ) (old new : Tokenizer) : Ty
   pub text : text_of new ≡ text_of old
   pub errors : new.errors ≡ old.errors
 
--- where the text begins with a start tag or an end tag of a plain name, without attributes, the
--- token is that tag, and what follows the tag is left
-abbrev pub ReadsPlainTag : Tokenizer → Tokenizer → List ℕ → Option TokenKind → List ℕ → Type 0
-ReadsPlainTag old new text token left = (kind : TagKind) (name rest : List ℕ) → IsPlainName name → text ≡ written_before kind name rest →
-    (left ≡ rest) × (token ≡ Some Tag) × EndsTag kind name old new
+-- in text, with no errors noted, where the text begins with a start tag or an end tag of a plain
+-- name, without attributes, the token is that tag, and what follows the tag is left
+abbrev pub ReadsPlainTag : {E : Type 0} → Tokenizer → Tokenizer → List ℕ → Option TokenKind → Result (Bor (List ℕ)) E → Type 0
+ReadsPlainTag old new text token result = IsInText old → old.errors ≡ None → IfOk result (λ left.
+    (kind : TagKind) (name rest : List ℕ) → IsPlainName name → text ≡ written_before kind name rest →
+    (left.now ≡ rest) × (token ≡ Some Tag) × EndsTag kind name old new)
 
 -- the token is such a tag
 abbrev pub IsBareTagToken : TagKind → List ℕ → Token → Type 0
@@ -61,6 +63,11 @@ IsBareTagToken kind name (Comment comment) = ⊥
 IsBareTagToken kind name (Doctype doctype) = ⊥
 
 -- the same where the token is taken out of the tokenizer
-abbrev pub TakesPlainTag : Tokenizer → Tokenizer → List ℕ → Option Token → List ℕ → Type 0
-TakesPlainTag old new text token left = (kind : TagKind) (name rest : List ℕ) → IsPlainName name → text ≡ written_before kind name rest →
-    (left ≡ rest) × IsSomeAnd token (IsBareTagToken kind name) × IsInText new × (text_of new ≡ text_of old)
+abbrev pub TakesPlainTag : {E : Type 0} → Tokenizer → Tokenizer → List ℕ → Option Token → Result (Bor (List ℕ)) E → Type 0
+TakesPlainTag old new text token result = IsInText old → old.errors ≡ None → IfOk result (λ left.
+    (kind : TagKind) (name rest : List ℕ) → IsPlainName name → text ≡ written_before kind name rest →
+    (left.now ≡ rest) × IsSomeAnd token (IsBareTagToken kind name) × IsInText new × (text_of new ≡ text_of old))
+
+-- the tag that ended last is taken out as the token, where the kind is that of a tag
+abbrev pub TakesTag : Option TokenKind → Tokenizer → Tokenizer → Option Token → Type 0
+TakesTag kind old new token = (tag : TagToken) → kind ≡ Some Tag → old.ended ≡ Some tag → (token ≡ Some (TheTag tag)) × (new ≡ record old { ended = None })

@@ -31,7 +31,7 @@ pub struct Value {
 }
 
 impl Names {
-    ghost use Rattle.html5_tokens.specs.NamedReferences.{read_of, BeginsNoName};
+    ghost use Rattle.html5_tokens.specs.NamedReferences.{read_of, AreNamesFrom};
     ghost use Rattle.html5_tokens.specs.NamedReferences.{IsNoName, IsValueOf};
 
     /// All names.
@@ -47,8 +47,7 @@ impl Names {
 
     /// Those of the names that go on with this character; none where no name does.
     pub fn with(self, letter: u8) -> Option<Names>
-        ensures { MatchOption result (BeginsNoName (read_of self ++ letter ∷ []))
-            (λ more. read_of more ≡ read_of self ++ letter ∷ []) }
+        ensures { AreNamesFrom (read_of self ++ letter ∷ []) result }
     {
         let low = self.first_from(u16::from(letter));
         let high = self.first_from(u16::from(letter) + 1);

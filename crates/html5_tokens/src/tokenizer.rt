@@ -77,6 +77,7 @@ fn is_space(c: char) -> bool {
 impl Tokenizer {
     ghost use Rattle.std.specs.Option.{option_copied};
     ghost use Rattle.html5_tokens.specs.Reading.{IsInText, text_of};
+    ghost use Rattle.html5_tokens.specs.Tags.{TakesTag};
 
     /// A tokenizer at the beginning of a page.
     pub fn new(alloc: Global) -> Tokenizer
@@ -150,8 +151,7 @@ impl Tokenizer {
     /// Takes the token of that kind that ended last, if there is one.
     fn take_token(&mut self, kind: Option<TokenKind>) -> Option<Token>
         ensures none { kind ≡ None → (result ≡ None) × (self.new ≡ self.old) }
-        ensures tag { (tag : Tag) → kind ≡ Some TokenKind.Tag → self.old.ended ≡ Some tag →
-            (result ≡ Some (Token.Tag tag)) × (self.new ≡ record self.old { ended = None }) }
+        ensures tag { TakesTag kind self.old self.new result }
     {
         match kind? {
             TokenKind::Tag => Some(Token::Tag(self.ended.take()?)),
@@ -169,8 +169,7 @@ impl Tokenizer {
     /// Puts the token of that kind that ended last there, if there is one.
     fn put_token(&mut self, kind: Option<TokenKind>, token: &mut Option<Token>)
         ensures none { kind ≡ None → (token.new ≡ token.old) × (self.new ≡ self.old) }
-        ensures tag { (tag : Tag) → kind ≡ Some TokenKind.Tag → self.old.ended ≡ Some tag →
-            (token.new ≡ Some (Token.Tag tag)) × (self.new ≡ record self.old { ended = None }) }
+        ensures tag { TakesTag kind self.old self.new token.new }
     {
         if kind.is_none() {
             return;

@@ -1,6 +1,6 @@
 //! The end of the page.
 
-ghost use Rattle.std.specs.Prelude.{◌≡◌, [], IfOk};
+ghost use Rattle.std.specs.Prelude.{[]};
 
 use super::state::{
     CdataState, CommentState, DoctypeState, EndTagState, Raw, ScriptState, TagState,
@@ -11,13 +11,12 @@ use crate::token::TokenKind;
 use std::alloc::AllocError;
 
 impl Tokenizer {
-    ghost use Rattle.html5_tokens.specs.Reading.{IsInText, AddsText};
+    ghost use Rattle.html5_tokens.specs.Reading.{IsInText, ReadsNoToken};
 
     /// The page ends here: what was read of a mark is text, a comment or a doctype ends, a tag is
     /// dropped. Hands out that comment or doctype.
     pub fn end(&mut self) -> Step
-        ensures text { IsInText self.old → IfOk result (λ token.
-            (token ≡ None) × AddsText self.old self.new []) }
+        ensures text { IsInText self.old → ReadsNoToken self.old self.new [] result }
     {
         let kind = self.end_kind()?;
         Ok(self.take_token(kind))
@@ -25,8 +24,7 @@ impl Tokenizer {
 
     /// The same; the comment or doctype is lent.
     pub fn end_kind(&mut self) -> Result<Option<TokenKind>, AllocError>
-        ensures text { IsInText self.old → IfOk result (λ kind.
-            (kind ≡ None) × AddsText self.old self.new []) }
+        ensures text { IsInText self.old → ReadsNoToken self.old self.new [] result }
     {
         self.end_reference()?;
         match self.state {

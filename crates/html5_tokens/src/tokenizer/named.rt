@@ -1,6 +1,6 @@
 //! Named character references: the longest name wins.
 
-ghost use Rattle.std.specs.Prelude.{◌≡◌, ◌++◌, ◌∷◌, [], ℕ, List, MatchOption, None};
+ghost use Rattle.std.specs.Prelude.{◌≡◌, [], None};
 ghost use Rattle.html5_tokens.specs.NamedReferences.{read_of, IsLongest};
 
 use crate::named_references::{Names, Value};
@@ -19,6 +19,8 @@ pub struct Match {
 }
 
 impl Match {
+    ghost use Rattle.html5_tokens.specs.Reading.{MatchesOn};
+
     /// Nothing was read.
     pub fn new() -> Match
         ensures read { read_of result.names ≡ [] }
@@ -35,9 +37,7 @@ impl Match {
     /// What was read and this character, where a name goes on with both. Where none does, the value
     /// is that of the longest name, whatever text follows.
     pub fn with(self, c: char) -> Option<Match>
-        ensures { MatchOption result
-            ((rest : List ℕ) → IsLongest (read_of self.names ++ c ∷ rest) self.value)
-            (λ more. read_of more.names ≡ read_of self.names ++ c ∷ []) }
+        ensures { MatchesOn self c result }
     {
         let Ok(byte) = u8::try_from(c) else {
             return None;

@@ -175,8 +175,7 @@ impl Tokenizer {
         text: &'a str,
         read: &mut Option<TokenKind>,
     ) -> Result<&'a str, AllocError>
-        ensures { IsInText self.old → self.old.errors ≡ None → IfOk result (λ rest.
-            ReadsPlainTag self.old self.new text.now read.new rest.now) }
+        ensures { ReadsPlainTag self.old self.new text.now read.new result }
     {
         if !self.is_plain() {
             return Ok(text);

@@ -76,7 +76,7 @@ fn number_error(number: u32) -> Option<ParseError> {
 
 impl Tokenizer {
     ghost use Rattle.html5_tokens.specs.NamedReferences.{read_of};
-    ghost use Rattle.html5_tokens.specs.Reading.{IsInName, IsNameRead};
+    ghost use Rattle.html5_tokens.specs.Reading.{IsInName, IsNameRead, IsReadBehind};
     ghost use Rattle.html5_tokens.specs.declared.tokenizer.named.Match.{Match};
 
     pub(super) fn is_in_reference(&self) -> bool
@@ -103,10 +103,9 @@ impl Tokenizer {
     /// Reads a character in a reference, and returns whether it is a part of that.
     pub(super) fn reference(&mut self, c: char) -> Result<bool, AllocError>
         ensures begins { self.old.reference ≡ Reference.Begun → is_ascii_alphanumeric c ≡ true →
-            IfOk result (λ goes_on. IsNameRead [] None c goes_on self.new.reference) }
+            IfOk result (IsNameRead [] None c self.new.reference) }
         ensures goes_on { (found : Match) → self.old.reference ≡ Reference.Named found →
-            IfOk result (λ goes_on.
-            IsNameRead (read_of found.names) found.value c goes_on self.new.reference) }
+            IfOk result (IsReadBehind found c self.new.reference) }
     {
         match self.reference {
             Reference::None => Ok(false),
@@ -130,8 +129,8 @@ impl Tokenizer {
     }
 
     fn reference_begins(&mut self, c: char) -> Result<bool, AllocError>
-        ensures { is_ascii_alphanumeric c ≡ true → IfOk result (λ goes_on.
-            IsNameRead [] None c goes_on self.new.reference) }
+        ensures { is_ascii_alphanumeric c ≡ true →
+            IfOk result (IsNameRead [] None c self.new.reference) }
     {
         if c == '#' {
             return self.go_on(Reference::Number, c);
@@ -194,8 +193,7 @@ impl Tokenizer {
     }
 
     fn named(&mut self, found: Match, c: char) -> Result<bool, AllocError>
-        ensures { IfOk result (λ goes_on.
-            IsNameRead (read_of found.names) found.value c goes_on self.new.reference) }
+        ensures { IfOk result (IsReadBehind found c self.new.reference) }
     {
         match found.with(c) {
             Some(more) => self.name_goes_on(more, c),
@@ -204,8 +202,8 @@ impl Tokenizer {
     }
 
     fn name_goes_on(&mut self, found: Match, c: char) -> Result<bool, AllocError>
-        ensures { IfOk result (λ goes_on. (goes_on ≡ true)
-            × IsInName self.new.reference (read_of found.names)) }
+        ensures { IfOk result (λ b. (b ≡ true) ×
+            IsInName self.new.reference (read_of found.names)) }
     {
         self.written.push(c)?;
         if found.is_whole {

@@ -1,6 +1,6 @@
 //! Stretches of a page, and in them the runs of characters that a state reads as they stand.
 
-ghost use Rattle.std.specs.Prelude.{◌≡◌, ◌<◌, ◌≤◌, true, [], IfOk, IfSome, OnOk, length};
+ghost use Rattle.std.specs.Prelude.{◌≡◌, ◌<◌, ◌≤◌, true, IfOk, IfSome, OnOk, length};
 ghost use Rattle.std.specs.Str.{IsCharBoundary};
 ghost use Rattle.html5_tokens.specs.Runs.{ends_text, ends_tag_name, tag_name_len_of, IsRun};
 
@@ -238,14 +238,15 @@ fn split_char(text: &str) -> Option<(char, &str)>
 
 impl Tokenizer {
     ghost use Rattle.html5_tokens.specs.Reading.{IsInText, AddsText};
+    ghost use Rattle.html5_tokens.specs.Reading.{ReadsNoToken, ReadsRun, ReadsWhole};
     ghost use Rattle.html5_tokens.specs.Tags.{ReadsPlainTag, TakesPlainTag};
 
     /// Reads a stretch of a page: a part of it in which [`MARKS`] stands nowhere but at the end, as
     /// `split_inclusive` cuts it. Hands out the token that ends there, if one does. Errors where
     /// memory is refused.
     pub fn read_stretch(&mut self, stretch: &str) -> Step
-        ensures text { IsInText self.old → IsRun stretch.now → IfOk result (λ token.
-            (token ≡ None) × AddsText self.old self.new stretch.now) }
+        ensures text { IsInText self.old → IsRun stretch.now →
+            ReadsNoToken self.old self.new stretch.now result }
     {
         let kind = self.stretch(stretch)?;
         Ok(self.take_token(kind))
@@ -258,11 +259,8 @@ impl Tokenizer {
         text: &'a str,
         token: &mut Option<Token>,
     ) -> Result<&'a str, AllocError>
-        ensures text { IsInText self.old → self.old.errors ≡ None → IsRun text.now → IfOk result
-            (λ rest. (rest.now ≡ []) × (token.new ≡ token.old)
-            × AddsText self.old self.new text.now) }
-        ensures plain_tag { IsInText self.old → self.old.errors ≡ None → IfOk result (λ rest.
-            TakesPlainTag self.old self.new text.now token.new rest.now) }
+        ensures text { ReadsRun self.old self.new text.now token.old token.new result }
+        ensures plain_tag { TakesPlainTag self.old self.new text.now token.new result }
     {
         let mut kind = None;
         let rest = self.read_kind(text, &mut kind)?;
@@ -278,11 +276,8 @@ impl Tokenizer {
         text: &'a str,
         kind: &mut Option<TokenKind>,
     ) -> Result<&'a str, AllocError>
-        ensures text { IsInText self.old → self.old.errors ≡ None → IsRun text.now → IfOk result
-            (λ rest. (rest.now ≡ []) × (kind.new ≡ kind.old)
-            × AddsText self.old self.new text.now) }
-        ensures plain_tag { IsInText self.old → self.old.errors ≡ None → IfOk result (λ rest.
-            ReadsPlainTag self.old self.new text.now kind.new rest.now) }
+        ensures text { ReadsRun self.old self.new text.now kind.old kind.new result }
+        ensures plain_tag { ReadsPlainTag self.old self.new text.now kind.new result }
     {
         if self.errors.is_some() {
             return self.read_first(text, kind);
@@ -303,8 +298,7 @@ impl Tokenizer {
         text: &'a str,
         kind: &mut Option<TokenKind>,
     ) -> Result<&'a str, AllocError>
-        ensures { IsInText self.old → self.old.errors ≡ None → IfOk result (λ rest.
-            ReadsPlainTag self.old self.new text.now kind.new rest.now) }
+        ensures { ReadsPlainTag self.old self.new text.now kind.new result }
     {
         let mut made = None;
         let rest = self.read_front(text, &mut made)?;
@@ -333,8 +327,8 @@ impl Tokenizer {
 
     /// Reads a stretch of a page.
     fn stretch(&mut self, stretch: &str) -> Progress
-        ensures text { IsInText self.old → IsRun stretch.now → IfOk result (λ kind.
-            (kind ≡ None) × AddsText self.old self.new stretch.now) }
+        ensures text { IsInText self.old → IsRun stretch.now →
+            ReadsNoToken self.old self.new stretch.now result }
     {
         if self.errors.is_some() {
             self.check_input(stretch)?;
@@ -387,8 +381,7 @@ impl Tokenizer {
         text: &'a str,
         kind: &mut Option<TokenKind>,
     ) -> Result<&'a str, AllocError>
-        ensures { IsInText self.old → self.old.errors ≡ None → IfOk result (λ rest.
-            ReadsPlainTag self.old self.new text.now kind.new rest.now) }
+        ensures { ReadsPlainTag self.old self.new text.now kind.new result }
     {
         let rest = self.read_plain(text, kind)?;
         if rest.len() < text.len() {
@@ -420,8 +413,8 @@ impl Tokenizer {
     /// Reads the run at the front of a text as one slice, and returns what follows it.
     fn read_run<'a>(&mut self, text: &'a str) -> Result<&'a str, AllocError>
         ensures less { IfOk result (λ rest. length rest.now ≤ length text.now) }
-        ensures text { IsInText self.old → IsRun text.now → IfOk result (λ rest.
-            (rest.now ≡ []) × AddsText self.old self.new text.now) }
+        ensures text { IsInText self.old → IsRun text.now →
+            ReadsWhole self.old self.new text.now result }
     {
         if self.after_return || self.is_in_reference() {
             return Ok(text);

@@ -5,5 +5,5 @@ use Rattle.html5_tokens.proofs.tokenizer.Tokenizer.reference_begins.Goals as goa
 
 pub returns-then-is_ascii_alphanumeric : goal.returns-then-is_ascii_alphanumeric
 returns-then-is_ascii_alphanumeric c _ =
-    subst₂ (λ (read : List ℕ) (value : Option Value). IfOk c.named.result (λ goes_on. IsNameRead read value c.args.c goes_on c.named.new.self.reference))
+    subst₂ (λ (read : List ℕ) (value : Option Value). IfOk c.named.result (IsNameRead read value c.args.c c.named.new.self.reference))
     c.new.ensures.read c.new.ensures.value c.named.ensures
