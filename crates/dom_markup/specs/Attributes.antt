@@ -1,9 +1,13 @@
 -- The names of the attributes that are kept of a tag.
-use Rattle.std.specs.Prelude.{◌≡◌, ◌≤◌, ℕ, List, length, take, ◌||◌, String}
+use Rattle.std.specs.Prelude.{◌≡◌, ◌≤◌, ℕ, Bool, List, [], ◌∷◌, length, map, take, ◌||◌, String}
 use Rattle.std.specs.BTreeSet.{BTreeSet, contains_text}
 use Rattle.std.specs.List.{list_any}
 use Rattle.std.specs.Str.{bytes_eq}
 use Rattle.dom_nodes.specs.Changes.{is_attr_named}
+use Rattle.dom_nodes.specs.declared.name.Attr.{Attr}
+use Rattle.dom_markup.specs.Markup.{EndsTag, kept_after}
+use Rattle.dom_markup.specs.Numbered.{read_attr}
+use Rattle.dom_markup.specs.ValueTrees.{Attribute}
 use Rattle.dom_markup.specs.declared.document.attributes.KeptAttrs.{KeptAttrs}
 
 -- the new set has the name, and what the old one has
@@ -14,3 +18,11 @@ Gains name old new = (other : List ℕ) → contains_text new other ≡ (contain
 pub record IsNoted (kept : KeptAttrs) : Type 0 where
   pub within : kept.noted ≤ length kept.attrs
   pub names : (name : List ℕ) → contains_text kept.older name ≡ list_any (is_attr_named name) (take kept.noted kept.attrs)
+
+-- behind the attributes that were kept before, this one is kept too, unless one of them has its name
+abbrev pub Keeps : Attribute → List Attr → List Attr → Type 0
+Keeps added old new = (kept : List Attribute) → old ≡ map read_attr kept → new ≡ map read_attr (kept_after kept (added ∷ []))
+
+-- the attributes are those that are kept of the tag that ends in this text
+abbrev pub AreKept : List ℕ → List Attr → Type 0
+AreKept text attrs = (slash : Bool) (all : List Attribute) (rest : List ℕ) → EndsTag slash text all rest → attrs ≡ map read_attr (kept_after [] all)

@@ -6,7 +6,8 @@ use Rattle.dom_markup.specs.References.{decoded}
 use Rattle.dom_markup.specs.ValueTrees.{Attribute}
 use Rattle.dom_nodes.specs.declared.fault.MarkupFaultKind.{MarkupFaultKind}
 use Rattle.dom_nodes.specs.declared.fault.MarkupFaultKind.TheVariants.{BadTag, SlashOnOpen}
-use Rattle.dom_markup.specs.Markup.{BeginsAttribute, BeginsIdentifiers, BeginsQuoted, Closes, EndsTag, Fails, is_bare_byte}
+use Rattle.dom_markup.specs.Markup.{BeginsNoAttribute, BeginsIdentifiers, BeginsQuoted, Closes, EndsTag, Fails, is_bare_byte}
+use Rattle.dom_markup.specs.declared.document.scan.Written.{Written}
 use Rattle.dom_markup.specs.declared.document.scan.ByteClass.{ByteClass}
 use Rattle.dom_markup.specs.declared.document.scan.ByteClass.TheVariants.{Whitespace, Name, Bare}
 
@@ -18,6 +19,10 @@ passes Bare = is_bare_byte
 -- the attribute of a name and a value as they are written; the references in the value are read
 abbrev pub attribute_of : List ℕ → List ℕ → Attribute
 attribute_of name value = record { name = folded name; value = decoded value }
+
+-- the same, where both are held together
+abbrev pub attribute_in : Written → Attribute
+attribute_in written = attribute_of written.name.now written.value.now
 
 -- text is front, whose bytes pass, and then behind, which goes on with none that does
 pub record Splits (p : ℕ → Bool) (text front behind : List ℕ) : Type 0 where
@@ -39,7 +44,7 @@ ClosesNothing void text _ = ⊥
 -- behind the attributes at the front of the text, all that are there, stands rest
 pub record PastAttributes (text rest : List ℕ) : Type 0 where
   pub same : SameEnd text rest
-  pub none : (attribute : Attribute) (after : List ℕ) → BeginsAttribute rest attribute after → ⊥
+  pub none : BeginsNoAttribute rest
 
 -- text is the identifiers of a doctype, its end, and then rest
 abbrev pub EndsDoctype : List ℕ → List ℕ → List ℕ → List ℕ → Type 0

@@ -1,13 +1,14 @@
 -- What is read of a document as a whole, and what a fault says where none is read.
-use Rattle.std.specs.Prelude.{◌≡◌, ◌≤◌, ℕ, List, [], Option, IfSome, length}
+use Rattle.std.specs.Prelude.{◌≡◌, ◌≤◌, ℕ, List, [], Option, IfSome, Result, MatchResult, String, length, string_bytes}
 use Rattle.std.specs.Option.{option_map}
 use Rattle.dom_nodes.specs.declared.fault.MarkupFault.{MarkupFault}
 use Rattle.dom_nodes.specs.declared.fault.MarkupFaultKind.{MarkupFaultKind}
 use Rattle.dom_links.specs.Forest.{Forest}
+use Rattle.dom_trees.specs.SameTree.{SameTree}
 use Rattle.dom_trees.specs.declared.node_ref.NodeRef.{NodeRef}
 use Rattle.dom_markup.specs.declared.document.Document.{Document}
 use Rattle.dom_markup.specs.declared.document.QuirksMode.TheVariants.{NoQuirks}
-use Rattle.dom_markup.specs.FaultKinds.{HoldsMark, IsNestingFault}
+use Rattle.dom_markup.specs.FaultKinds.{HoldsMark, IsLimitFault, IsNestingFault}
 use Rattle.dom_markup.specs.Markup.{Item, Spells, SpellsItemsUpTo}
 use Rattle.dom_markup.specs.Names.{markup}
 use Rattle.dom_markup.specs.Numbered.{document_of}
@@ -47,6 +48,11 @@ pub record IsNodeAt (forest : Forest) (number : Option ℕ) (result : Option Nod
   pub tree_is : IfSome result (λ node. node.tree.now ≡ forest)
 
 -- this HTML, which spells the document where that is plain
-pub record IsHtml (forest : Forest) (html text : List ℕ) : Type 0 where
-  pub is : text ≡ html
-  pub spells : IsPlain forest → SpellsDocument text forest
+pub record IsHtml {A : Type 0} (forest : Forest) (html : List ℕ) (text : String A) : Type 0 where
+  pub is : string_bytes text ≡ html
+  pub spells : IsPlain forest → SpellsDocument (string_bytes text) forest
+
+-- where the text spells a document, the same is read of it, unless a limit is met
+abbrev pub ReadsSpelled : List ℕ → Result Document MarkupFault → Type 0
+ReadsSpelled text result =
+    (forest : Forest) → SpellsDocument text forest → MatchResult result (λ document. SameTree forest 0 document.tree 0) (λ fault. IsLimitFault fault.kind)

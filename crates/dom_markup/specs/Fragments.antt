@@ -1,9 +1,10 @@
 -- Fragments: what is read, or copied, below an element `html`.
 use Rattle.std.specs.Prelude.{ℕ, ◌≡◌, ◌<◌, ◌==◌, ◌||◌, ◌⊎◌, Bool, not, List, [], ◌∷◌, codes, filter, length, if◌then◌else◌}
 use Rattle.dom_nodes.specs.Kinds.{is_doctype, is_top}
+use Rattle.dom_nodes.specs.declared.fault.EditFault.{EditFault}
 use Rattle.dom_nodes.specs.declared.fault.MarkupFaultKind.{MarkupFaultKind}
 use Rattle.dom_nodes.specs.declared.fault.MarkupFaultKind.TheVariants.{TooManyNodes}
-use Rattle.dom_links.specs.Copies.{fragment_of}
+use Rattle.dom_links.specs.Copies.{FragmentCause, fragment_of}
 use Rattle.dom_links.specs.Forest.{Forest, children_of}
 use Rattle.dom_trees.specs.NewNodes.{html_root_element}
 use Rattle.dom_trees.specs.Views.{has_local_name, node_is}
@@ -46,3 +47,7 @@ fragment_roots forest n = if node_is is_top forest n then children_of forest n e
 -- the fragment of a node
 abbrev pub node_fragment : Forest → ℕ → Forest
 node_fragment forest n = if is_whole forest n then forest else fragment_of html_root_element forest (fragment_roots forest n)
+
+-- why the fragment of a node isn't made
+abbrev pub NodeFragmentCause : Forest → ℕ → EditFault → Type 0
+NodeFragmentCause forest n fault = FragmentCause html_root_element forest (fragment_roots forest n) fault

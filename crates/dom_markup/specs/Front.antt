@@ -4,11 +4,12 @@ use Rattle.std.specs.Borrow.{Bor}
 use Rattle.dom_nodes.specs.Ascii.{less_than}
 use Rattle.dom_nodes.specs.declared.fault.MarkupFaultKind.{MarkupFaultKind}
 use Rattle.dom_markup.specs.Bytes.{folded, is_letter}
-use Rattle.dom_markup.specs.Markup.{Begins, BeginsNothing}
-use Rattle.dom_markup.specs.Markup.Item.{end_tag, characters, comment, doctype}
+use Rattle.dom_markup.specs.Markup.{Begins, BeginsNothing, BeginsStart}
+use Rattle.dom_markup.specs.Markup.Item.{end_tag, characters, comment}
 use Rattle.dom_markup.specs.Names.{Mode, markup}
-use Rattle.dom_markup.specs.Refusals.{Cause}
-use Rattle.dom_markup.specs.Token.{contents_in}
+use Rattle.dom_markup.specs.Refusals.{Cause, StartCause}
+use Rattle.dom_markup.specs.Token.{contents_in, doctype_item}
+use Rattle.dom_markup.specs.ValueTrees.{Attribute}
 use Rattle.dom_markup.specs.declared.document.front.Front.{Front}
 use Rattle.dom_markup.specs.declared.document.front.Front.TheVariants.{StartTag, Text, EndTag, Comment, Doctype}
 
@@ -25,8 +26,12 @@ IsFront mode text StartTag rest = (mode ≡ markup) × OpensTag text rest
 IsFront mode text (Text written) rest = Begins mode text (characters (contents_in mode written.now)) rest
 IsFront mode text (EndTag name) rest = Begins mode text (end_tag (folded name.now)) rest
 IsFront mode text (Comment contents) rest = Begins mode text (comment contents.now) rest
-IsFront mode text (Doctype read) rest = Begins mode text (doctype (folded read.name.now) read.public.now read.system.now) rest
+IsFront mode text (Doctype read) rest = Begins mode text (doctype_item read) rest
 
 -- the item at the front and what follows it, or why none begins there
 abbrev pub TakesFront : Mode → List ℕ → Result (Front × Bor (List ℕ)) MarkupFaultKind → Type 0
 TakesFront mode text result = MatchResult result (λ found. IsFront mode text found.0 found.1.now) (λ kind. BeginsNothing mode text × Cause mode text kind)
+
+-- the name of the start tag at the front, as it is written, and what follows the tag; or why none begins there
+abbrev pub TakesStart : List ℕ → Result (Bor (List ℕ) × Bor (List ℕ)) MarkupFaultKind → Type 0
+TakesStart text result = MatchResult result (λ found. (all : List Attribute) × BeginsStart text (folded found.0.now) all found.1.now) (StartCause text)

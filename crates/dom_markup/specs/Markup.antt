@@ -47,12 +47,16 @@ abbrev pub Fails : (ℕ → Bool) → List ℕ → Type 0
 Fails p [] = Unit {0}
 Fails p (b ∷ bs) = p b ≡ false
 
+-- text is front, as far as the first place where the byte stands, the byte, and rest
+abbrev pub EndsAtByte : ℕ → List ℕ → List ℕ → List ℕ → Type 0
+EndsAtByte byte text front rest = (list_all (λ b. not (b == byte)) front ≡ true) × (text ≡ front ++ byte ∷ rest)
+
 -- text is a value as it is written and then rest: in quotes of one kind without that quote, or bare, as far as it goes
 abbrev pub BeginsValue : List ℕ → List ℕ → List ℕ → Type 0
 BeginsValue [] written rest = ⊥
 BeginsValue (c ∷ more) written rest =
     MatchBool (c == double_quote || c == single_quote)
-    ((list_all (λ b. not (b == c)) written ≡ true) × (more ≡ written ++ c ∷ rest))
+    (EndsAtByte c more written rest)
     ((c ∷ more ≡ written ++ rest) × (written ≢ []) × (list_all is_bare_byte written ≡ true) × Fails is_bare_byte rest)
 
 abbrev pub begins_equals : List ℕ → Bool
@@ -78,6 +82,10 @@ pub record BeginsAttribute (text : List ℕ) (attribute : Attribute) (rest : Lis
   pub whole_name : Fails is_name_byte after
   pub folds : attribute.name ≡ folded name
   pub valued : HasValue after attribute.value rest
+
+-- no attribute begins the text
+abbrev pub BeginsNoAttribute : List ℕ → Type 0
+BeginsNoAttribute text = (attribute : Attribute) (rest : List ℕ) → BeginsAttribute text attribute rest → ⊥
 
 -- text is optional whitespace, where it may be a slash, and `>`, and then rest
 abbrev pub Closes : Bool → List ℕ → List ℕ → Type 0
@@ -119,13 +127,21 @@ pub record BeginsEnd (text name rest : List ℕ) : Type 0 where
   pub names : NamesElement written name
   pub is_space : IsSpace space
 
+-- no end tag begins the text
+abbrev pub BeginsNoEnd : List ℕ → Type 0
+BeginsNoEnd text = (name rest : List ℕ) → BeginsEnd text name rest → ⊥
+
 -- ---- texts
+
+-- what stands behind a `<` where markup begins: a letter, `/`, `!` or `?`
+abbrev pub opens_markup : ℕ → Bool
+opens_markup b = is_letter b || b == slash || b == exclamation_mark || b == question_mark
 
 -- a tag, a comment, a doctype or an instruction begins here: a `<` and a letter, `/`, `!` or `?`
 abbrev pub begins_markup : List ℕ → Bool
 begins_markup [] = false
 begins_markup (a ∷ []) = false
-begins_markup (a ∷ b ∷ bs) = a == less_than && (is_letter b || b == slash || b == exclamation_mark || b == question_mark)
+begins_markup (a ∷ b ∷ bs) = a == less_than && opens_markup b
 
 -- the text up to the first place where markup begins
 abbrev pub text_front : List ℕ → List ℕ
@@ -169,6 +185,10 @@ pub record BeginsWord (word text rest : List ℕ) : Type 0 where
   pub some_space : space ≢ []
   pub folds : folded written ≡ word
 
+-- the word, with no name byte behind it, does not begin the text
+abbrev pub BeginsNoWord : List ℕ → List ℕ → Type 0
+BeginsNoWord word text = (rest : List ℕ) → Fails is_name_byte rest → BeginsWord word text rest → ⊥
+
 -- text is the identifiers of a doctype, and then rest: none, a public and perhaps a system one, or a system one
 abbrev pub BeginsIdentifiers : List ℕ → List ℕ → List ℕ → List ℕ → Type 0
 BeginsIdentifiers text public system rest =
@@ -194,6 +214,10 @@ pub record BeginsDoctype (text name public system rest : List ℕ) : Type 0 wher
   pub folds : name ≡ folded written
   pub identifiers : BeginsIdentifiers more public system close
   pub closes : Closes false close rest
+
+-- no doctype begins the text
+abbrev pub BeginsNoDoctype : List ℕ → Type 0
+BeginsNoDoctype text = (name public system rest : List ℕ) → BeginsDoctype text name public system rest → ⊥
 
 -- ---- items
 

@@ -1,5 +1,6 @@
 -- What a reader has read, and what a step of it does.
 use Rattle.std.specs.Prelude.{◌≡◌, ◌+◌, ◌-◌, ◌++◌, ◌∷◌, ◌⊎◌, [], ℕ, List, None, true, false, Result, length, map, slice_get, MatchResult, if◌then◌else◌}
+use Rattle.std.specs.Borrow.{Bor}
 use Rattle.std.specs.Option.{option_map_or}
 use Rattle.dom_links.specs.Forest.{Forest}
 use Rattle.dom_links.specs.Growth.{with_child, with_template}
@@ -8,7 +9,7 @@ use Rattle.dom_nodes.specs.declared.fault.MarkupFaultKind.TheVariants.{Memory}
 use Rattle.dom_nodes.specs.declared.name.Attr.{Attr}
 use Rattle.dom_nodes.specs.declared.name.NameParts.{NameParts}
 use Rattle.dom_nodes.specs.declared.node_data.NodeData.{NodeData}
-use Rattle.dom_nodes.specs.declared.node_data.NodeData.TheVariants.{Element}
+use Rattle.dom_nodes.specs.declared.node_data.NodeData.TheVariants.{Element, Doctype as ADoctype}
 use Rattle.dom_trees.specs.NewNodes.{element_with, html_name}
 use Rattle.dom_markup.specs.Bytes.{folded}
 use Rattle.dom_markup.specs.Limits.{LacksNumbers}
@@ -17,8 +18,9 @@ use Rattle.dom_markup.specs.ValueTrees.{Attribute, ValueTrees}
 use Rattle.dom_markup.specs.Markup.{Item, AreInPlace, Begins, BeginsNothing, BeginsStart, items_of, mode_after}
 use Rattle.dom_markup.specs.Frames.{Opened, HasRead}
 use Rattle.dom_markup.specs.Numbered.{document_of, read_attr}
-use Rattle.dom_markup.specs.Refusals.{Cause, Declines}
+use Rattle.dom_markup.specs.Refusals.{Cause, Declines, LeavesSomeOpen, StartCause}
 use Rattle.dom_markup.specs.Token.{mode_of}
+use Rattle.dom_markup.specs.declared.document.doctypes.Doctype.{Doctype}
 use Rattle.dom_markup.specs.declared.document.reader.Behind.{Behind}
 use Rattle.dom_markup.specs.declared.document.reader.Open.{Open}
 use Rattle.dom_markup.specs.declared.document.reader.Reader.{Reader}
@@ -38,6 +40,10 @@ IsReading reader = (items : List Item) × AfterItems items reader
 -- these are all items of trees that are in place, and the forest is their document
 abbrev pub IsWhole : List Item → Forest → Type 0
 IsWhole items forest = (trees : ValueTrees) × (items ≡ items_of trees) × AreInPlace true trees × (forest ≡ document_of trees)
+
+-- where the reader has read these items, they are whole trees, and this is their document; or an element is left open
+abbrev pub EndsReading : Reader → Result Forest MarkupFaultKind → Type 0
+EndsReading reader result = (items : List Item) → AfterItems items reader → MatchResult result (IsWhole items) (λ _. LeavesSomeOpen items)
 
 -- the number below which children stand: that of the innermost open element, of its contents where it is a template, or
 -- of the document
@@ -60,10 +66,18 @@ pub record IsStarted (started : Started) (name : List ℕ) (attributes : List At
 abbrev pub plain_element : NameParts → List Attr → NodeData
 plain_element name attrs = Element (record { name = name; attrs = attrs; template_contents = None; mathml_annotation_xml_integration_point = false })
 
+-- the doctype of a name and identifiers as they are written
+abbrev pub doctype_data : Doctype → NodeData
+doctype_data written = ADoctype (folded written.name.now) written.public.now written.system.now
+
 -- a start tag that holds this stands at the front of the text, and then rest follows
 abbrev pub StartsSo : List ℕ → Started → List ℕ → Type 0
 StartsSo text started rest =
     let name = folded started.written.now in (all : List Attribute) × BeginsStart text name all rest × IsStarted started name all
+
+-- what the start tag at the front holds, and what follows the tag; or memory was refused, or none begins there
+abbrev pub TakesStarted : List ℕ → Result (Started × Bor (List ℕ)) MarkupFaultKind → Type 0
+TakesStarted text result = MatchResult result (λ found. StartsSo text found.0 found.1.now) (λ kind. (kind ≡ Memory) ⊎ StartCause text kind)
 
 -- the forest with a new element of a start tag as the last child of p, and a template's contents
 abbrev pub with_started : ℕ → Started → Forest → Forest

@@ -89,6 +89,10 @@ pub record EditsByHtml (result : Result Unit EditFault) (old new : NodeMut) (tex
   pub cause : IfErr result (HtmlCause text edit old.tree.now)
   pub loan : IsSameLoan old new
 
+-- what the text spells is put to a place at the node
+abbrev pub PutsHtml : Place → List ℕ → NodeMut → NodeMut → Result Unit EditFault → Type 0
+PutsHtml place text old new result = EditsByHtml result old new text (putting place old.id)
+
 -- what a fault of reading is called where a tree was to be edited
 abbrev pub named_edit : MarkupFaultKind → MarkupFault → EditFault
 named_edit kinds.TooManyNodes fault = TooManyNodes

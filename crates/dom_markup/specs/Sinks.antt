@@ -42,6 +42,10 @@ abbrev pub putting : Gap → NodeOrText → TreeEdit
 putting gap (AppendNode n) = moving_to gap (Node n)
 putting gap (AppendText text) = adding_text gap text.now
 
+-- A node goes to a gap of the document's tree, or a text comes to it; the notes stay
+abbrev pub PutsIn : Gap → NodeOrText → Document → Document → Result Unit EditFault → Type 0
+PutsIn gap child old new result = EditsIn result old new (putting gap child)
+
 -- before a node that has a parent; else at the end of another's children
 abbrev pub gap_by_parent : Forest → ℕ → ℕ → Gap
 gap_by_parent forest n other = if is_some (parent forest n) then Before n else EndOf other

@@ -5,6 +5,7 @@ use Rattle.dom_markup.specs.Names.{Mode, markup, text_of, raw_text_of}
 use Rattle.dom_markup.specs.References.{decoded}
 use Rattle.dom_markup.specs.Markup.{Item, Begins, mode_after}
 use Rattle.dom_markup.specs.Markup.Item.{start_tag, end_tag, characters, comment, doctype}
+use Rattle.dom_markup.specs.declared.document.doctypes.Doctype.{Doctype}
 use Rattle.dom_markup.specs.declared.document.within.Within.{Within}
 use Rattle.dom_markup.specs.declared.document.within.Within.TheVariants.{Markup, Text, RawText}
 use Rattle.dom_markup.specs.declared.document.tokens.TokenKind.{TokenKind}
@@ -46,6 +47,10 @@ abbrev pub contents_in : Mode → List ℕ → List ℕ
 contents_in markup text = decoded text
 contents_in (text_of name) text = decoded text
 contents_in (raw_text_of name) text = text
+
+-- what a doctype as it is written stands for
+abbrev pub doctype_item : Doctype → Item
+doctype_item written = doctype (folded written.name.now) written.public.now written.system.now
 
 -- an item of this kind stands at the front of the text, and rest after it, which is read in this mode
 pub record BeginsKind (mode : Mode) (text : List ℕ) (kind : TokenKind) (rest : List ℕ) (next : Mode) : Type 0 where

@@ -1,22 +1,21 @@
 //! Documents, and reading them from explicit markup.
 
 ghost use Rattle.std.specs.Prelude.{◌≡◌, codes, find, map, string_bytes};
-ghost use Rattle.std.specs.Prelude.{IfErr, IfOk, IfSome, MatchResult};
+ghost use Rattle.std.specs.Prelude.{IfErr, IfOk, IfSome};
 ghost use Rattle.std.specs.Option.{option_copied};
-ghost use Rattle.dom_links.specs.Forest.{Forest, children_of};
+ghost use Rattle.dom_links.specs.Forest.{children_of};
 ghost use Rattle.dom_links.specs.Growth.{lone};
 ghost use Rattle.dom_links.specs.ListMoves.{element_at};
 ghost use Rattle.dom_links.specs.Texts.{text_of};
 ghost use Rattle.dom_trees.specs.Edits.{Edits, normalizing};
 ghost use Rattle.dom_trees.specs.Views.{base_uri, page_part};
 ghost use Rattle.dom_markup.specs.Documents.{IsDocumentOf, IsFaultOf, IsHtml, IsNodeAt};
-ghost use Rattle.dom_markup.specs.Documents.{NotesNothing, SuitsText};
+ghost use Rattle.dom_markup.specs.Documents.{NotesNothing, SuitsText, ReadsSpelled};
 ghost use Rattle.dom_markup.specs.Html.{html_of, inner_html_of};
-ghost use Rattle.dom_markup.specs.FaultKinds.{IsLimitFault};
 ghost use Rattle.dom_markup.specs.Plain.{IsPlain};
-ghost use Rattle.dom_markup.specs.ReadingBack.{LacksIdentifiers, SpellsDocument};
+ghost use Rattle.dom_markup.specs.ReadingBack.{LacksIdentifiers};
 ghost use Rattle.dom_markup.specs.Refusals.{IsFaultAt, Refused};
-ghost use Rattle.dom_trees.specs.SameTree.{SameTree};
+ghost use Rattle.dom_markup.specs.Sinks.{errors_of};
 
 mod attributes;
 mod doctypes;
@@ -90,8 +89,7 @@ impl Document {
         ensures kind { IfErr result (λ fault. SuitsText source.now fault.kind) }
         ensures plain { IfOk result (λ document.
             LacksIdentifiers document.tree → IsPlain document.tree) }
-        ensures same { (forest : Forest) → SpellsDocument source.now forest → MatchResult result
-            (λ document. SameTree forest 0 document.tree 0) (λ fault. IsLimitFault fault.kind) }
+        ensures same { ReadsSpelled source.now result }
     {
         kinds_of_faults();
         documents_without_identifiers_are_plain();
@@ -140,8 +138,7 @@ impl Document {
     /// The same document: its tree with every node at its number, its errors and its mode.
     pub fn try_clone(&self) -> Result<Document, OutOfMemory>
         ensures tree { IfOk result (λ copy. copy.tree ≡ self.now.tree) }
-        ensures errors { IfOk result (λ copy.
-            map string_bytes copy.errors.items ≡ map string_bytes self.now.errors.items) }
+        ensures errors { IfOk result (λ copy. errors_of copy ≡ errors_of self.now) }
         ensures quirks { IfOk result (λ copy. copy.quirks_mode ≡ self.now.quirks_mode) }
     {
         let tree = self.tree.try_clone()?;
@@ -192,32 +189,28 @@ impl Document {
 
     /// The document's HTML. That of a plain document spells it, so `parse` reads it back.
     pub fn html(&self) -> Result<String, OutOfMemory>
-        ensures { let tree = self.now.tree in
-            IfOk result (λ text. IsHtml tree (html_of tree 0) (string_bytes text)) }
+        ensures { IfOk result (IsHtml self.now.tree (html_of self.now.tree 0)) }
     {
         self.root().html()
     }
 
     /// The HTML of the root's children, which is the document's.
     pub fn inner_html(&self) -> Result<String, OutOfMemory>
-        ensures { let tree = self.now.tree in
-            IfOk result (λ text. IsHtml tree (inner_html_of tree 0) (string_bytes text)) }
+        ensures { IfOk result (IsHtml self.now.tree (inner_html_of self.now.tree 0)) }
     {
         self.root().inner_html()
     }
 
     /// The same as `html`, but None where memory was refused.
     pub fn try_html(&self) -> Option<String>
-        ensures { let tree = self.now.tree in
-            IfSome result (λ text. IsHtml tree (html_of tree 0) (string_bytes text)) }
+        ensures { IfSome result (IsHtml self.now.tree (html_of self.now.tree 0)) }
     {
         self.root().try_html()
     }
 
     /// The same as `inner_html`, but None where memory was refused.
     pub fn try_inner_html(&self) -> Option<String>
-        ensures { let tree = self.now.tree in
-            IfSome result (λ text. IsHtml tree (inner_html_of tree 0) (string_bytes text)) }
+        ensures { IfSome result (IsHtml self.now.tree (inner_html_of self.now.tree 0)) }
     {
         self.root().try_inner_html()
     }

@@ -11,6 +11,5 @@ pub mod texts;
 
 /// A text spells one list of trees at most.
 pub fn one_reading()
-    ensures { (text : List ℕ) (trees others : ValueTrees) → Spells text trees → Spells text others
-        → trees ≡ others }
+    ensures { (text : List ℕ) (a b : ValueTrees) → Spells text a → Spells text b → a ≡ b }
 {}

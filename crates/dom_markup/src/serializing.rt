@@ -1,10 +1,10 @@
 //! The text of a tree, written to any writer or into a string.
 
-ghost use Rattle.std.specs.Prelude.{◌≡◌, IfOk, IfSome, string_bytes};
+ghost use Rattle.std.specs.Prelude.{◌≡◌, IfOk, IfSome};
 ghost use Rattle.dom_markup.specs.Html.{html_of, inner_html_of};
 ghost use Rattle.dom_markup.specs.Plain.{IsPlain};
-ghost use Rattle.dom_markup.specs.ReadingBack.{SpellsDocument};
-ghost use Rattle.dom_markup.specs.Writing.{Writes};
+ghost use Rattle.dom_markup.specs.ReadingBack.{SpellsDocument, SpellsPlainRoot};
+ghost use Rattle.dom_markup.specs.Writing.{Writes, IsText};
 
 use crate::laws::plain::plain_documents_are_spelled;
 use crate::serializing::stack::{put_children, put_node};
@@ -46,32 +46,24 @@ pub trait NodeMarkup {
     /// The node's HTML; empty for an unknown number. That of a plain document's root spells the
     /// document, so `Document::parse` reads it back.
     fn html(&self) -> Result<String, OutOfMemory>
-        ensures text { IfOk result (λ text. string_bytes text
-            ≡ html_of (forest self.now) (number self.now)) }
-        ensures spelled { IfOk result (λ text. number self.now ≡ 0 → IsPlain (forest self.now)
-            → SpellsDocument (string_bytes text) (forest self.now)) };
+        ensures text { IfOk result (IsText (html_of (forest self.now) (number self.now))) }
+        ensures spelled { IfOk result (SpellsPlainRoot (forest self.now) (number self.now)) };
 
     /// The HTML of the node's children; empty for an unknown number. That of a plain document's
     /// root spells the document.
     fn inner_html(&self) -> Result<String, OutOfMemory>
-        ensures text { IfOk result (λ text. string_bytes text
-            ≡ inner_html_of (forest self.now) (number self.now)) }
-        ensures spelled { IfOk result (λ text. number self.now ≡ 0 → IsPlain (forest self.now)
-            → SpellsDocument (string_bytes text) (forest self.now)) };
+        ensures text { IfOk result (IsText (inner_html_of (forest self.now) (number self.now))) }
+        ensures spelled { IfOk result (SpellsPlainRoot (forest self.now) (number self.now)) };
 
     /// The same as `html`, but None where memory was refused.
     fn try_html(&self) -> Option<String>
-        ensures text { IfSome result (λ text. string_bytes text
-            ≡ html_of (forest self.now) (number self.now)) }
-        ensures spelled { IfSome result (λ text. number self.now ≡ 0 → IsPlain (forest self.now)
-            → SpellsDocument (string_bytes text) (forest self.now)) };
+        ensures text { IfSome result (IsText (html_of (forest self.now) (number self.now))) }
+        ensures spelled { IfSome result (SpellsPlainRoot (forest self.now) (number self.now)) };
 
     /// The same as `inner_html`, but None where memory was refused.
     fn try_inner_html(&self) -> Option<String>
-        ensures text { IfSome result (λ text. string_bytes text
-            ≡ inner_html_of (forest self.now) (number self.now)) }
-        ensures spelled { IfSome result (λ text. number self.now ≡ 0 → IsPlain (forest self.now)
-            → SpellsDocument (string_bytes text) (forest self.now)) };
+        ensures text { IfSome result (IsText (inner_html_of (forest self.now) (number self.now))) }
+        ensures spelled { IfSome result (SpellsPlainRoot (forest self.now) (number self.now)) };
 }
 
 ghost use Rattle.dom_markup.specs.Scopes.{html_in};

@@ -4,7 +4,7 @@ ghost use Rattle.std.specs.Prelude.{◌≡◌, IfErr, IfOk};
 ghost use Rattle.dom_links.specs.declared.gap.Place.TheVariants.{After, Around, AtEnd, AtFront};
 ghost use Rattle.dom_links.specs.declared.gap.Place.TheVariants.{Before, InsteadOfChildren};
 ghost use Rattle.dom_markup.specs.Documents.{IsSpelled};
-ghost use Rattle.dom_markup.specs.Setters.{EditsByHtml, ReadCause, named_edit, putting};
+ghost use Rattle.dom_markup.specs.Setters.{EditsByHtml, ReadCause, named_edit, PutsHtml};
 ghost use Rattle.dom_markup.specs.Setters.{replacing_by};
 
 use crate::document::snippet::Snippet;
@@ -27,28 +27,23 @@ pub trait NodeMutMarkup {
 
     /// Puts the markup in the place of the children. These are cut out, and are a run of their own.
     fn set_html(&mut self, html: &str) -> Result<(), EditFault>
-        ensures { EditsByHtml result (node self.old) (node self.new) html.now
-            (putting InsteadOfChildren (node self.old).id) };
+        ensures { PutsHtml InsteadOfChildren html.now (node self.old) (node self.new) result };
 
     /// Puts the markup behind the children.
     fn append_html(&mut self, html: &str) -> Result<(), EditFault>
-        ensures { EditsByHtml result (node self.old) (node self.new) html.now
-            (putting AtEnd (node self.old).id) };
+        ensures { PutsHtml AtEnd html.now (node self.old) (node self.new) result };
 
     /// Puts the markup in front of the children.
     fn prepend_html(&mut self, html: &str) -> Result<(), EditFault>
-        ensures { EditsByHtml result (node self.old) (node self.new) html.now
-            (putting AtFront (node self.old).id) };
+        ensures { PutsHtml AtFront html.now (node self.old) (node self.new) result };
 
     /// Puts the markup right before the node.
     fn before_html(&mut self, html: &str) -> Result<(), EditFault>
-        ensures { EditsByHtml result (node self.old) (node self.new) html.now
-            (putting Before (node self.old).id) };
+        ensures { PutsHtml Before html.now (node self.old) (node self.new) result };
 
     /// Puts the markup right after the node.
     fn after_html(&mut self, html: &str) -> Result<(), EditFault>
-        ensures { EditsByHtml result (node self.old) (node self.new) html.now
-            (putting After (node self.old).id) };
+        ensures { PutsHtml After html.now (node self.old) (node self.new) result };
 
     /// Puts the markup in the place of the node, which is cut out. Markup without nodes changes
     /// nothing.
@@ -59,8 +54,7 @@ pub trait NodeMutMarkup {
     /// Puts the first node of the markup, if that is an element, right before the node, and the
     /// node to the end of its children. What is not used is a run of its own.
     fn wrap_html(&mut self, html: &str) -> Result<(), EditFault>
-        ensures { EditsByHtml result (node self.old) (node self.new) html.now
-            (putting Around (node self.old).id) };
+        ensures { PutsHtml Around html.now (node self.old) (node self.new) result };
 }
 
 impl<'a> NodeMutMarkup for NodeMut<'a> {
@@ -98,7 +92,7 @@ impl<'a> NodeMutMarkup for NodeMut<'a> {
 
 /// Reads markup, and puts it at the place at the node.
 fn put_html(node: &mut NodeMut<'_>, place: Place, html: &str) -> Result<(), EditFault>
-    ensures { EditsByHtml result node.old node.new html.now (putting place node.old.id) }
+    ensures { PutsHtml place html.now node.old node.new result }
 {
     let snippet = read_html(node, html)?;
     snippet.put_at(node.tree, &node.id, place)

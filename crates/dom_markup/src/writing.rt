@@ -86,8 +86,7 @@ pub fn write_bytes<W: Write>(w: &mut W, bytes: &[u8]) -> Result<(), WriteFault>
 
 /// Puts the parts, one after the other.
 pub(crate) fn put_parts<P: PutText<W>, W>(w: &mut W, parts: &[&str]) -> Result<(), P::Fault>
-    ensures { Writes (P.written w.old) (P.written w.new) result
-        (flat_map (λ part. part.now) parts.now) }
+    ensures { Writes (P.written w.old) (P.written w.new) result (flat_map (λ p. p.now) parts.now) }
 {
     for part in parts {
         P::put(w, part)?;

@@ -1,15 +1,11 @@
 //! The attributes of a start tag: of equal names the first is kept.
 
-ghost use Rattle.std.specs.Prelude.{◌≡◌, ◌∷◌, [], List, ℕ, Bool, IfOk, OnOk, map, string_bytes};
+ghost use Rattle.std.specs.Prelude.{◌≡◌, [], IfOk, OnOk, string_bytes};
 ghost use Rattle.std.specs.List.{list_any};
 ghost use Rattle.dom_nodes.specs.Changes.{is_attr_named};
-ghost use Rattle.dom_markup.specs.Attributes.{Gains, IsNoted};
+ghost use Rattle.dom_markup.specs.Attributes.{Gains, IsNoted, Keeps, AreKept};
 ghost use Rattle.dom_markup.specs.Bytes.{folded};
-ghost use Rattle.dom_markup.specs.Markup.{EndsTag, kept_after};
-ghost use Rattle.dom_markup.specs.Numbered.{read_attr};
-ghost use Rattle.dom_markup.specs.References.{decoded};
-ghost use Rattle.dom_markup.specs.ValueTrees.{Attribute};
-ghost use Rattle.dom_markup.specs.ByteClasses.{attribute_of, PastAttributes};
+ghost use Rattle.dom_markup.specs.ByteClasses.{PastAttributes, attribute_in};
 
 use crate::document::scan::{Written, attribute_at, estimate_attrs};
 use crate::references::decode;
@@ -103,9 +99,8 @@ impl KeptAttrs {
     fn add(&mut self, alloc: Global, written: Written) -> Result<(), OutOfMemory>
         requires { IsNoted self.old }
         ensures noted { OnOk result (IsNoted self.new) }
-        ensures added { OnOk result ((kept : List Attribute) → self.old.attrs ≡ map read_attr kept
-            → let added = attribute_of written.entry.name.now written.entry.value.now in
-            self.new.attrs ≡ map read_attr (kept_after kept (added ∷ []))) }
+        ensures added { OnOk result (Keeps (attribute_in written.entry) self.old.attrs
+            self.new.attrs) }
     {
         let local = LocalName::folded(alloc, written.name)?;
         if self.has(&local) {
@@ -123,8 +118,7 @@ impl KeptAttrs {
 #[inline(always)]
 pub fn attrs_of(alloc: Global, text: &str) -> Result<(Attrs, &str), OutOfMemory>
     ensures past { IfOk result (λ found. PastAttributes text.now found.1.now) }
-    ensures attrs { IfOk result (λ found. (slash : Bool) (all : List Attribute) (rest : List ℕ)
-        → EndsTag slash text.now all rest → found.0 ≡ map read_attr (kept_after [] all)) }
+    ensures attrs { IfOk result (λ found. AreKept text.now found.0) }
 {
     let mut kept = KeptAttrs::new(alloc, estimate_attrs(text));
     let mut rest = text;

@@ -1,10 +1,13 @@
 //! Doctypes.
 
-ghost use Rattle.std.specs.Prelude.{◌++◌, codes, List, ℕ, IfNone, IfSome};
+ghost use Rattle.std.specs.Prelude.{◌++◌, codes, IfNone, IfSome};
 ghost use Rattle.dom_markup.specs.Taking.{Takes, TakesTwo};
-ghost use Rattle.dom_markup.specs.Bytes.{folded, is_name_byte};
-ghost use Rattle.dom_markup.specs.Markup.{BeginsDoctype, BeginsQuoted, BeginsWord, Fails};
+ghost use Rattle.dom_markup.specs.Bytes.{is_name_byte};
+ghost use Rattle.dom_markup.specs.Markup.{Begins, BeginsNoDoctype, BeginsNoWord};
+ghost use Rattle.dom_markup.specs.Markup.{BeginsQuoted, BeginsWord, Fails};
 ghost use Rattle.dom_markup.specs.ByteClasses.{AfterPublic, EndsDoctype, IsWord};
+ghost use Rattle.dom_markup.specs.Names.{markup};
+ghost use Rattle.dom_markup.specs.Token.{doctype_item};
 
 use crate::document::scan::{ByteClass, close_at, split_front, split_letter, strip};
 
@@ -38,8 +41,7 @@ fn word_end<'a>(text: &'a str, word: &str) -> Option<&'a str>
     requires { IsWord word.now }
     ensures some { IfSome result (λ rest. BeginsWord word.now text.now rest.now) }
     ensures whole { IfSome result (λ rest. Fails is_name_byte rest.now) }
-    ensures none { IfNone result ((rest : List ℕ) → Fails is_name_byte rest
-        → BeginsWord word.now text.now rest → ⊥) }
+    ensures none { IfNone result (BeginsNoWord word.now text.now) }
 {
     let (space, behind) = split_front(ByteClass::Whitespace, text);
     let (written, rest) = split_front(ByteClass::Name, behind);
@@ -84,10 +86,9 @@ fn identifiers_at(text: &str) -> Option<(&str, &str, &str)>
 
 /// The doctype, behind its `<!`, and what follows it.
 pub fn doctype_at(tag: &str) -> Option<(Doctype<'_>, &str)>
-    ensures some { let text = codes "<!" ++ tag.now in IfSome result (λ found. let read = found.0 in
-        BeginsDoctype text (folded read.name.now) read.public.now read.system.now found.1.now) }
-    ensures none { IfNone result ((name public system rest : List ℕ)
-        → BeginsDoctype (codes "<!" ++ tag.now) name public system rest → ⊥) }
+    ensures some { IfSome result (λ f.
+        Begins markup (codes "<!" ++ tag.now) (doctype_item f.0) f.1.now) }
+    ensures none { IfNone result (BeginsNoDoctype (codes "<!" ++ tag.now)) }
 {
     let (word, inner) = split_front(ByteClass::Name, tag);
     let (space, gap) = split_front(ByteClass::Whitespace, inner);

@@ -3,14 +3,12 @@
 ghost use Rattle.std.specs.Prelude.{◌≡◌, IfErr, IfOk, MatchResult};
 ghost use Rattle.dom_nodes.specs.declared.fault.EditFault.TheVariants.{Memory};
 ghost use Rattle.dom_nodes.specs.Kinds.{is_top};
-ghost use Rattle.dom_links.specs.Copies.{FragmentCause};
 ghost use Rattle.dom_links.specs.Growth.{lone};
-ghost use Rattle.dom_trees.specs.NewNodes.{html_root_element};
 ghost use Rattle.dom_trees.specs.Views.{node_is};
 ghost use Rattle.dom_markup.specs.Documents.{IsFaultOf, NotesNothing, SuitsText};
 ghost use Rattle.dom_markup.specs.FaultKinds.{IsLimitFault};
 ghost use Rattle.dom_markup.specs.Fragments.{FragmentRefused, IsFragmentFaultAt, IsFragmentOf};
-ghost use Rattle.dom_markup.specs.Fragments.{fragment_roots, is_whole, node_fragment};
+ghost use Rattle.dom_markup.specs.Fragments.{is_whole, node_fragment, NodeFragmentCause};
 ghost use Rattle.dom_markup.specs.Limits.{limit_kind};
 ghost use Rattle.dom_markup.specs.Markup.{Spells};
 ghost use Rattle.dom_markup.specs.ValueTrees.{ValueTrees};
@@ -46,8 +44,8 @@ impl Document {
         ensures notes { IfOk result NotesNothing }
         ensures fault { IfErr result (IsFaultOf source.now FragmentRefused IsFragmentFaultAt) }
         ensures kind { IfErr result (λ fault. SuitsText source.now fault.kind) }
-        ensures limits { (trees : ValueTrees) → Spells source.now trees
-            → IfErr result (λ fault. IsLimitFault fault.kind) }
+        ensures limits { (t : ValueTrees) → Spells source.now t → IfErr result
+            (λ f. IsLimitFault f.kind) }
     {
         kinds_of_faults();
         let snippet = Snippet::read(alloc, source)?;
@@ -87,10 +85,8 @@ pub trait NodeFragment {
     /// fragment, copies of its children. The root and an element named `html` give a copy of the
     /// whole tree, every node at its number. Refused as `UnknownNode`, `TooManyNodes` or `Memory`.
     fn to_fragment(&self) -> Result<Document, EditFault>
-        ensures ok { IfOk result (λ document.
-            document.tree ≡ node_fragment (forest self.now) (number self.now)) }
-        ensures cause { let roots = fragment_roots (forest self.now) (number self.now)
-            in IfErr result (λ fault. FragmentCause html_root_element (forest self.now) roots fault) }
+        ensures ok { IfOk result (λ d. d.tree ≡ node_fragment (forest self.now) (number self.now)) }
+        ensures cause { IfErr result (NodeFragmentCause (forest self.now) (number self.now)) }
         ensures notes { IfOk result NotesNothing };
 }
 
@@ -108,8 +104,7 @@ impl<'a> NodeFragment for NodeRef<'a> {
 /// The tree of a node's fragment.
 fn fragment_tree(tree: &Tree, id: NodeId) -> Result<Tree, EditFault>
     ensures ok { IfOk result (λ made. made ≡ node_fragment tree.now id) }
-    ensures cause { let roots = fragment_roots tree.now id
-        in IfErr result (λ fault. FragmentCause html_root_element tree.now roots fault) }
+    ensures cause { IfErr result (NodeFragmentCause tree.now id) }
 {
     if is_whole(tree, id) {
         return cloned(tree);

@@ -23,8 +23,7 @@ pub fn after_end<'a>(text: &'a str, name: &str) -> Option<&'a str>
 
 /// The text before the first end tag of this name, and what begins with that tag.
 pub fn split_raw<'a>(text: &'a str, name: &str) -> Option<(&'a str, &'a str)>
-    ensures some { IfSome result (λ found.
-        EndsAtTag (folded name.now) text.now found.0.now found.1.now) }
+    ensures some { IfSome result (λ f. EndsAtTag (folded name.now) text.now f.0.now f.1.now) }
     ensures none { IfNone result (LacksEnd (folded name.now) text.now) }
 {
     let mut at = 0;

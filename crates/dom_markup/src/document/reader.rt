@@ -1,7 +1,7 @@
 //! Reading tags and texts into a tree.
 
-ghost use Rattle.std.specs.Prelude.{◌≡◌, ◌≢◌, ◌<◌, ◌+◌, ◌++◌, ◌⊎◌, [], List, ℕ, None, codes};
-ghost use Rattle.std.specs.Prelude.{IfErr, IfOk, MatchResult, length};
+ghost use Rattle.std.specs.Prelude.{◌≡◌, ◌≢◌, ◌<◌, ◌+◌, ◌++◌, [], None, codes};
+ghost use Rattle.std.specs.Prelude.{IfErr, IfOk, length};
 ghost use Rattle.dom_links.specs.Growth.{with_child, with_template};
 ghost use Rattle.dom_trees.specs.NewNodes.{element_with};
 ghost use Rattle.dom_markup.specs.Frames.{children_place};
@@ -10,9 +10,8 @@ ghost use Rattle.dom_markup.specs.Bytes.{folded};
 ghost use Rattle.dom_markup.specs.Limits.{IsLimit, IsPlainData, limit_kind};
 ghost use Rattle.dom_markup.specs.Markup.{Item};
 ghost use Rattle.dom_markup.specs.Names.{markup};
-ghost use Rattle.dom_markup.specs.Reader.{StartsSo};
-ghost use Rattle.dom_markup.specs.Refusals.{LeavesSomeOpen, StartCause};
-ghost use Rattle.dom_markup.specs.Token.{contents_in, mode_of};
+ghost use Rattle.dom_markup.specs.Reader.{TakesStarted, doctype_data};
+ghost use Rattle.dom_markup.specs.Token.{contents_in, doctype_item, mode_of};
 
 use crate::document::attributes::{attrs_of, folded_name};
 use crate::document::doctypes::Doctype;
@@ -42,9 +41,7 @@ struct Started<'a> {
 /// What a start tag holds, which is taken while it is scanned, and what follows it. It stands here
 /// behind its `<`.
 fn start_tag_of(alloc: Global, tag: &str) -> Result<(Started<'_>, &str), MarkupFaultKind>
-    ensures { let text = codes "<" ++ tag.now in MatchResult result
-        (λ found. StartsSo text found.0 found.1.now)
-        (λ kind. (kind ≡ MarkupFaultKind.Memory) ⊎ StartCause text kind) }
+    ensures { TakesStarted (codes "<" ++ tag.now) result }
 {
     let (written, behind) = split_front(ByteClass::Name, tag);
     if !names_element(written) {
@@ -69,8 +66,7 @@ fn start_tag_of(alloc: Global, tag: &str) -> Result<(Started<'_>, &str), MarkupF
 
 /// The node of a doctype.
 fn doctype_of(alloc: Global, written: Doctype) -> Result<NodeData, OutOfMemory>
-    ensures doctype { let read = written.entry in IfOk result (λ content.
-        content ≡ NodeData.Doctype (folded read.name.now) read.public.now read.system.now) }
+    ensures doctype { IfOk result (λ content. content ≡ doctype_data written.entry) }
     ensures plain { IfOk result (λ content. IsPlainData content) }
 {
     let name = folded_name(alloc, written.name)?;
@@ -140,7 +136,7 @@ pub struct Reader<'a> {
 }
 
 impl<'a> Reader<'a> {
-    ghost use Rattle.dom_markup.specs.Reader.{AfterItems, Grows, IsReading, IsWhole};
+    ghost use Rattle.dom_markup.specs.Reader.{AfterItems, EndsReading, Grows, IsReading};
     ghost use Rattle.dom_markup.specs.Reader.{ReadsFront, ReadsItem, parent_number, with_started};
 
     /// A reader that has read nothing.
@@ -247,9 +243,7 @@ impl<'a> Reader<'a> {
     /// Reads a doctype, which stands where no element is open.
     fn read_doctype(&mut self, alloc: Global, written: Doctype) -> Result<(), MarkupFaultKind>
         requires { IsReading self.old }
-        ensures { let read = written.entry in
-            ReadsItem (Item.doctype (folded read.name.now) read.public.now read.system.now)
-            self.old self.new result }
+        ensures { ReadsItem (doctype_item written.entry) self.old self.new result }
     {
         if !self.stack.is_empty() {
             return Err(MarkupFaultKind::MisplacedDoctype);
@@ -335,8 +329,7 @@ impl<'a> Reader<'a> {
 
     /// The tree, once all is read; `Unclosed` where an element is open.
     pub fn finish(self) -> Result<Tree, MarkupFaultKind>
-        ensures items { (items : List Item) → AfterItems items self.entry
-            → MatchResult result (λ tree. IsWhole items tree) (λ _. LeavesSomeOpen items) }
+        ensures items { EndsReading self.entry result }
         ensures kind { IfErr result (λ kind. kind ≡ MarkupFaultKind.Unclosed) }
     {
         if self.stack.is_empty() {

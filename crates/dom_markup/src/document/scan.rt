@@ -1,17 +1,18 @@
 //! Fronts of a text: whitespace, names, attributes, the end of a start tag.
 
-ghost use Rattle.std.specs.Prelude.{◌≡◌, ◌≤◌, ◌<◌, ◌==◌, ◌||◌, not, true, List, ℕ, ◌∷◌, ◌++◌};
+ghost use Rattle.std.specs.Prelude.{◌≡◌, ◌≤◌, ◌<◌, not, true, List, ℕ, ◌∷◌, ◌++◌};
 ghost use Rattle.std.specs.Prelude.{IfNone, IfSome, codes, drop, length, map};
 ghost use Rattle.std.specs.Simd.Lanes.{chunk, mask_l};
-ghost use Rattle.std.specs.List.{list_all, prefix_len};
-ghost use Rattle.dom_nodes.specs.Ascii.{exclamation_mark, question_mark, slash};
+ghost use Rattle.std.specs.List.{prefix_len};
+ghost use Rattle.dom_nodes.specs.Ascii.{slash};
 ghost use Rattle.dom_markup.specs.Bytes.{is_letter, is_low, is_name_byte, is_whitespace};
 ghost use Rattle.dom_markup.specs.References.{decoded};
-ghost use Rattle.dom_markup.specs.ValueTrees.{Attribute};
 ghost use Rattle.dom_markup.specs.Markup.{BeginsAttribute, BeginsValue, Closes, EndsAtMark};
-ghost use Rattle.dom_markup.specs.Markup.{HasValue, begins_markup, text_front};
+ghost use Rattle.dom_markup.specs.Markup.{HasValue, begins_markup, text_front, BeginsNoAttribute};
+ghost use Rattle.dom_markup.specs.Markup.{EndsAtByte, opens_markup};
 ghost use Rattle.dom_markup.specs.Taking.{Leaves, Takes};
-ghost use Rattle.dom_markup.specs.ByteClasses.{attribute_of, passes, PastAttributes, Splits};
+ghost use Rattle.dom_markup.specs.ByteClasses.{passes, PastAttributes, Splits, attribute_in};
+ghost use Rattle.dom_markup.specs.Plain.{HoldsNoClose};
 
 use crate::document::names::is_letter;
 use memchr::memchr;
@@ -147,8 +148,7 @@ pub fn strip_all<'a>(text: &'a str, front: &str) -> Option<&'a str>
 
 /// Whether markup begins at a `<` with this byte behind it.
 fn opens_markup(byte: u8) -> bool
-    ensures { result ≡ (is_letter byte
-        || byte == slash || byte == exclamation_mark || byte == question_mark) }
+    ensures { result ≡ opens_markup byte }
 {
     is_letter(byte) || matches!(byte, b'/' | b'!' | b'?')
 }
@@ -241,8 +241,7 @@ fn places_of(bytes: &[u8], byte: u8) -> u64
 pub fn comment_at(text: &str) -> Option<(&str, &str)>
     ensures some { IfSome result (λ found.
         EndsAtMark (codes "-->") text.now found.0.now found.1.now) }
-    ensures none { IfNone result ((front rest : List ℕ)
-        → text.now ≡ front ++ (codes "-->" ++ rest) → ⊥) }
+    ensures none { IfNone result (HoldsNoClose text.now) }
 {
     let (contents, rest) = text.split_once("-->")?;
     Some((contents, rest))
@@ -254,8 +253,7 @@ pub fn comment_at(text: &str) -> Option<(&str, &str)>
 #[inline(always)]
 pub fn split_letter(text: &str, letter: u8) -> Option<(&str, &str)>
     requires { letter < 128 }
-    ensures some { IfSome result (λ found. (list_all (λ b. not (b == letter)) found.0.now ≡ true)
-        × (text.now ≡ found.0.now ++ letter ∷ found.1.now)) }
+    ensures some { IfSome result (λ found. EndsAtByte letter text.now found.0.now found.1.now) }
     ensures none { IfNone result ((front rest : List ℕ) → text.now ≡ front ++ letter ∷ rest → ⊥) }
 {
     let at = memchr(letter, text.as_bytes())?;
@@ -308,10 +306,8 @@ pub struct Written<'a> {
 /// The attribute at the front, and what follows it.
 #[inline(always)]
 pub fn attribute_at(text: &str) -> Option<(Written<'_>, &str)>
-    ensures some { IfSome result (λ found. let written = found.0 in
-        BeginsAttribute text.now (attribute_of written.name.now written.value.now) found.1.now) }
-    ensures none { IfNone result ((attribute : Attribute) (rest : List ℕ)
-        → BeginsAttribute text.now attribute rest → ⊥) }
+    ensures some { IfSome result (λ f. BeginsAttribute text.now (attribute_in f.0) f.1.now) }
+    ensures none { IfNone result (BeginsNoAttribute text.now) }
 {
     let (space, behind) = split_front(ByteClass::Whitespace, text);
     if space.is_empty() {

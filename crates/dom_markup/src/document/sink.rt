@@ -31,7 +31,7 @@ pub trait TreeSink {
     ghost use Rattle.dom_trees.specs.NewNodes.{comment_node, doctype_node, instruction_node};
     ghost use Rattle.dom_trees.specs.Views.{is_integration_point, node_qual_name};
     ghost use Rattle.dom_markup.specs.declared.document.Document.{Document};
-    ghost use Rattle.dom_markup.specs.Sinks.{EditsIn, MakesIn, Notes, gap_by_parent, putting};
+    ghost use Rattle.dom_markup.specs.Sinks.{EditsIn, MakesIn, Notes, PutsIn, gap_by_parent};
 
     // The document that is filled.
     ghost document: { Self → Document };
@@ -87,8 +87,8 @@ pub trait TreeSink {
     /// Puts a node or a text at the end of the children of a node. A text is joined to a last child
     /// that is a text. Refused as `Tree::append_child_of` and `Tree::add_text_at` are.
     fn append(&mut self, parent: &NodeId, child: NodeOrText<'_>) -> Result<(), EditFault>
-        ensures { EditsIn result (document self.old) (document self.new)
-            (putting (EndOf parent.now) child.entry) };
+        ensures { PutsIn (EndOf parent.now) child.entry (document self.old) (document self.new)
+            result };
 
     /// Puts a node or a text right before a node. A text is joined to the sibling before it, if
     /// that is a text. Refused as `Tree::insert_before_of` and `Tree::add_text_at` are.
@@ -97,8 +97,8 @@ pub trait TreeSink {
         sibling: &NodeId,
         child: NodeOrText<'_>,
     ) -> Result<(), EditFault>
-        ensures { EditsIn result (document self.old) (document self.new)
-            (putting (Before sibling.now) child.entry) };
+        ensures { PutsIn (Before sibling.now) child.entry (document self.old) (document self.new)
+            result };
 
     /// Where the element has a parent, puts a node or a text right before it, as
     /// `append_before_sibling`; else at the end of the children of the other one, as `append`.
@@ -108,8 +108,8 @@ pub trait TreeSink {
         prev_element: &NodeId,
         child: NodeOrText<'_>,
     ) -> Result<(), EditFault>
-        ensures { let gap = gap_by_parent (document self.old).tree element.now prev_element.now
-            in EditsIn result (document self.old) (document self.new) (putting gap child.entry) };
+        ensures { let gap = gap_by_parent (document self.old).tree element.now prev_element.now in
+            PutsIn gap child.entry (document self.old) (document self.new) result };
 
     /// Makes a doctype as the last child of the root. Refused as `NoChildrenHere` by a root that
     /// has no children; as `TooManyNodes` or `Memory`.

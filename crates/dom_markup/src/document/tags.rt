@@ -1,11 +1,10 @@
 //! Where tags end.
 
-ghost use Rattle.std.specs.Prelude.{◌++◌, List, ℕ, codes, IfNone, IfSome, MatchResult};
+ghost use Rattle.std.specs.Prelude.{◌++◌, codes, IfNone, IfSome, MatchResult};
 ghost use Rattle.dom_markup.specs.Bytes.{folded};
-ghost use Rattle.dom_markup.specs.ValueTrees.{Attribute};
-ghost use Rattle.dom_markup.specs.Markup.{BeginsEnd, BeginsStart, Closes};
-ghost use Rattle.dom_markup.specs.Refusals.{StartCause};
+ghost use Rattle.dom_markup.specs.Markup.{BeginsEnd, Closes, BeginsNoEnd};
 ghost use Rattle.dom_markup.specs.ByteClasses.{ClosesNothing};
+ghost use Rattle.dom_markup.specs.Front.{TakesStart};
 
 use crate::document::names::{is_void, names_element};
 use crate::document::scan::{ByteClass, attributes_end, close_at, split_front, strip};
@@ -15,8 +14,7 @@ use dom_nodes::fault::MarkupFaultKind;
 /// slash and `>`.
 #[inline(always)]
 pub fn close_tag(close: &str, void: bool) -> Result<&str, MarkupFaultKind>
-    ensures { MatchResult result (λ rest. Closes void close.now rest.now)
-        (ClosesNothing void close.now) }
+    ensures { MatchResult result (λ r. Closes void close.now r.now) (ClosesNothing void close.now) }
 {
     if let Some(rest) = close_at(close, void) {
         return Ok(rest);
@@ -29,9 +27,7 @@ pub fn close_tag(close: &str, void: bool) -> Result<&str, MarkupFaultKind>
 
 /// The name of the start tag behind its `<`, as it is written, and what follows the tag.
 pub fn start_tag_end(tag: &str) -> Result<(&str, &str), MarkupFaultKind>
-    ensures { let text = codes "<" ++ tag.now in MatchResult result
-        (λ found. (all : List Attribute) × BeginsStart text (folded found.0.now) all found.1.now)
-        (StartCause text) }
+    ensures { TakesStart (codes "<" ++ tag.now) result }
 {
     let (name, behind) = split_front(ByteClass::Name, tag);
     if !names_element(name) {
@@ -44,10 +40,8 @@ pub fn start_tag_end(tag: &str) -> Result<(&str, &str), MarkupFaultKind>
 /// The name of the end tag behind its `</`, as it is written, and what follows the tag.
 #[inline(always)]
 pub fn end_tag_end(tag: &str) -> Option<(&str, &str)>
-    ensures some { IfSome result (λ found.
-        BeginsEnd (codes "</" ++ tag.now) (folded found.0.now) found.1.now) }
-    ensures none { IfNone result ((name rest : List ℕ)
-        → BeginsEnd (codes "</" ++ tag.now) name rest → ⊥) }
+    ensures some { IfSome result (λ f. BeginsEnd (codes "</" ++ tag.now) (folded f.0.now) f.1.now) }
+    ensures none { IfNone result (BeginsNoEnd (codes "</" ++ tag.now)) }
 {
     let (name, behind) = split_front(ByteClass::Name, tag);
     let (_, behind) = split_front(ByteClass::Whitespace, behind);

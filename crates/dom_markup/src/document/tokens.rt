@@ -59,8 +59,7 @@ fn kind_of_text(within: Within) -> TokenKind
 
 /// The start tag behind its `<`.
 fn start_at(tag: &str) -> Result<Found<'_>, MarkupFaultKind>
-    ensures { let text = codes "<" ++ tag.now in
-        MatchResult result (IsFound markup text) (StartCause text) }
+    ensures { let t = codes "<" ++ tag.now in MatchResult result (IsFound markup t) (StartCause t) }
 {
     let (name, rest) = start_tag_end(tag)?;
     Ok(Found {

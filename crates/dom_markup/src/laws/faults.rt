@@ -13,12 +13,10 @@ ghost use Rattle.dom_markup.specs.ValueTrees.{ValueTrees};
 /// only faults of nesting and limits occur, and for one that spells trees only limits. A bad
 /// comment needs `<!--`, an instruction `<?`, and a stray end `</`.
 pub fn kinds_of_faults()
-    ensures tokens { (mode : Mode) (left : List ℕ) (kind : MarkupFaultKind) → Cause mode left kind
-        → IsTokenFault kind }
+    ensures tokens { (m : Mode) (t : List ℕ) (k : MarkupFaultKind) → Cause m t k → IsTokenFault k }
     ensures nesting { (text : List ℕ) (at : ℕ) (kind : MarkupFaultKind) (items : List Item)
         → SpellsItemsUpTo markup text items [] → IsFaultAt text at kind → IsNestingFault kind }
-    ensures marks { (text : List ℕ) (at : ℕ) (kind : MarkupFaultKind) → IsFaultAt text at kind
-        → HoldsMark text kind }
+    ensures marks { (t : List ℕ) (n : ℕ) (k : MarkupFaultKind) → IsFaultAt t n k → HoldsMark t k }
     ensures limits { (text : List ℕ) (trees : ValueTrees) (kind : MarkupFaultKind)
         → Spells text trees → Refused text kind → IsLimitFault kind }
 {}

@@ -1,15 +1,17 @@
 //! What holds of plain documents.
 
-ghost use Rattle.std.specs.Prelude.{◌≡◌, Bool, false, ℕ, List, slice_get};
+ghost use Rattle.std.specs.Prelude.{◌≡◌, ℕ, List};
 ghost use Rattle.std.specs.Str.{IsUtf8};
 ghost use Rattle.dom_links.specs.Forest.{Forest, children_of};
 ghost use Rattle.dom_links.specs.Sound.{IsForest};
 ghost use Rattle.dom_links.specs.Trees.{trees};
-ghost use Rattle.dom_markup.specs.Html.{html_of, inner_html_of, trees_text};
+ghost use Rattle.dom_markup.specs.Html.{html_of, inner_html_of};
 ghost use Rattle.dom_markup.specs.Markup.{Spells};
 ghost use Rattle.dom_markup.specs.Numbered.{document_of};
-ghost use Rattle.dom_markup.specs.Plain.{HaveNoIdentifiers, IsPlain, Represents, text_of_trees};
-ghost use Rattle.dom_markup.specs.ReadingBack.{LacksIdentifiers, SpellsDocument};
+ghost use Rattle.dom_markup.specs.Plain.{HaveNoIdentifiers, IsPlain, Represents};
+ghost use Rattle.dom_markup.specs.ReadingBack.{LacksIdentifiers, SpellsDocument, SpellsItsTrees};
+ghost use Rattle.dom_markup.specs.ReadingBack.{NodesAreWrittenAsTrees, DocumentIsWrittenAsTrees};
+ghost use Rattle.dom_markup.specs.ReadingBack.{AreSameByTrees};
 ghost use Rattle.dom_markup.specs.ValueTrees.{ValueTrees};
 ghost use Rattle.dom_trees.specs.SameTree.{SameTree};
 
@@ -20,22 +22,15 @@ use dom_nodes::node_data::NodeData;
 /// The HTML of nodes that stand for some trees is that of the trees, and so is the HTML of a
 /// document.
 pub fn html_of_trees()
-    ensures nodes { (forest : Forest) → IsForest forest
-        → (raw : Bool) (ns : List ℕ) (values : ValueTrees) → Represents forest ns values
-        → trees_text forest raw (trees forest ns) ≡ text_of_trees raw values }
-    ensures document { (forest : Forest) → IsForest forest
-        → slice_get forest.content 0 ≡ Some NodeData.Document
-        → (values : ValueTrees) → Represents forest (children_of forest 0) values
-        → html_of forest 0 ≡ text_of_trees false values }
+    ensures nodes { (forest : Forest) → IsForest forest → NodesAreWrittenAsTrees forest }
+    ensures document { (forest : Forest) → IsForest forest → DocumentIsWrittenAsTrees forest }
 {
     trees_of_a_forest();
 }
 
 /// The HTML of a plain document spells the trees that the nodes below its root stand for.
 pub fn plain_reads_back()
-    ensures { (forest : Forest) → IsForest forest → IsPlain forest
-        → (trees : ValueTrees) × Represents forest (children_of forest 0) trees
-        × Spells (html_of forest 0) trees }
+    ensures { (forest : Forest) → IsForest forest → IsPlain forest → SpellsItsTrees forest }
 {
     trees_of_a_forest();
 }
@@ -48,33 +43,26 @@ pub fn what_is_read_is_plain()
 
 /// The nodes below the root of the document of some trees stand for these trees.
 pub fn documents_stand_for_their_trees()
-    ensures { (trees : ValueTrees) → let document = document_of trees in
-        Represents document (children_of document 0) trees }
+    ensures { (t : ValueTrees) → Represents (document_of t) (children_of (document_of t) 0) t }
 {}
 
 /// Nodes stand for one list of trees at most.
 pub fn one_meaning()
-    ensures { (forest : Forest) (ns : List ℕ) (one two : ValueTrees)
-        → Represents forest ns one → Represents forest ns two → one ≡ two }
+    ensures { (f : Forest) (ns : List ℕ) (a b : ValueTrees) → Represents f ns a → Represents f ns b
+        → a ≡ b }
 {}
 
 /// Documents that stand for the same trees are the same tree.
 pub fn documents_of_the_same_trees()
-    ensures { (one other : Forest) → IsForest one → IsForest other
-        → slice_get one.content 0 ≡ Some NodeData.Document
-        → slice_get other.content 0 ≡ Some NodeData.Document
-        → (values : ValueTrees) → Represents one (children_of one 0) values
-        → Represents other (children_of other 0) values → SameTree one 0 other 0 }
+    ensures { (one other : Forest) → IsForest one → IsForest other → AreSameByTrees one other }
 {
     trees_of_a_forest();
 }
 
 /// The HTML of a plain document's root, or of its children, spells the same tree.
 pub fn plain_documents_are_spelled()
-    ensures root { (forest : Forest) → IsForest forest → IsPlain forest
-        → SpellsDocument (html_of forest 0) forest }
-    ensures children { (forest : Forest) → IsForest forest → IsPlain forest
-        → SpellsDocument (inner_html_of forest 0) forest }
+    ensures root { (f : Forest) → IsForest f → IsPlain f → SpellsDocument (html_of f 0) f }
+    ensures children { (f : Forest) → IsForest f → IsPlain f → SpellsDocument (inner_html_of f 0) f }
 {
     trees_of_a_forest();
 }
