@@ -1,10 +1,11 @@
 -- The stack of what is still to be formatted, the last entry first.
-use Rattle.std.specs.Prelude.{◌≡◌, ℕ, ◌+◌, ◌<◌, ◌≤◌, false, List, [], ◌++◌, ◌∷◌, length, Option, Some, OnOk, Result, slice_get, codes, if◌then◌else◌}
+use Rattle.std.specs.Prelude.{◌≡◌, ℕ, ◌+◌, ◌<◌, ◌≤◌, false, List, [], ◌++◌, ◌∷◌, length, Option, Some, OnOk, Result, String, string_bytes, slice_get, codes, if◌then◌else◌}
 use Rattle.std.specs.Str.{IsUtf8, bytes_eq}
 use Rattle.std.specs.Option.{option_map_or}
 use Rattle.dom_nodes.specs.declared.node_data.NodeData.{NodeData}
 use Rattle.dom_nodes.specs.declared.node_data.NodeData.TheVariants.{Text, Element as AnElement}
-use Rattle.dom_links.specs.Forest.{Forest}
+use Rattle.dom_links.specs.Forest.{Forest, forest_of}
+use Rattle.dom_nodes.specs.declared.node_data.TreeNode.{TreeNode}
 use Rattle.dom_links.specs.Texts.{text_of}
 use Rattle.dom_links.specs.Trees.{trees}
 use Rattle.dom_links.specs.Walk.{row_on}
@@ -77,12 +78,17 @@ pub record IsPartFolded (old new : List ℕ) (before after : List Event) : Type 
   pub utf8 : AreUtf8 after → AreUtf8 before
 
 -- the events were added to the text
-abbrev pub Formats : {T E : Type 0} → (old new : List ℕ) → Result T E → List Event → Type 0
-Formats old new result es = OnOk result (IsFolded old new es)
+abbrev pub Formats : {A T E : Type 0} → (old new : String A) → Result T E → List Event → Type 0
+Formats old new result es = OnOk result (IsFolded (string_bytes old) (string_bytes new) es)
 
 -- some of the events that were to come were added, and the others are still to come
-abbrev pub FormatsSome : {T E : Type 0} → (old new : List ℕ) → Result T E → (before after : List Event) → Type 0
-FormatsSome old new result before after = OnOk result (IsPartFolded old new before after)
+abbrev pub FormatsSome : {A T E : Type 0} → (old new : String A) → Result T E → (before after : List Event) → Type 0
+FormatsSome old new result before after = OnOk result (IsPartFolded (string_bytes old) (string_bytes new) before after)
+
+-- so it is with an entry that comes before those on the stack, and the entries that are on the stack then
+abbrev pub FormatsOp : {A T E : Type 0} → List TreeNode → FormatOp → (old new : String A) → Result T E → (before after : List FormatOp) → Type 0
+FormatsOp nodes op old new result before after =
+    FormatsSome old new result (op_events (forest_of nodes) op ++ ops_events (forest_of nodes) before) (ops_events (forest_of nodes) after)
 
 -- entries for these events, which take at most so many steps, were pushed on a stack, and all nodes named on it are known
 pub record PushesEvents {T E : Type 0} (result : Result T E) (forest : Forest) (old new : List FormatOp) (es : List Event) (steps : ℕ) : Type 0 where
@@ -94,3 +100,8 @@ pub record PushesEvents {T E : Type 0} (result : Result T E) (forest : Forest) (
 pub record LeavesFewer {T E : Type 0} (result : Result T E) (forest : Forest) (ops : List FormatOp) (steps : ℕ) : Type 0 where
   pub all_within : OnOk result (AreWithin forest ops)
   pub fewer : OnOk result (weight forest ops < steps)
+
+-- less steps are left than the entry and those on the stack would take
+abbrev pub ShortensOp : {T E : Type 0} → List TreeNode → FormatOp → Result T E → (before after : List FormatOp) → Type 0
+ShortensOp nodes op result before after =
+    LeavesFewer result (forest_of nodes) after (op_weight (forest_of nodes) op + weight (forest_of nodes) before)

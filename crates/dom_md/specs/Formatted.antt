@@ -1,5 +1,6 @@
 -- Formatted text: a fold over what opens and closes in a tree, and over its texts.
-use Rattle.std.specs.Prelude.{ℕ, ◌-◌, ◌==◌, ◌&&◌, ◌||◌, nat_lt, not, Bool, true, false, List, [], ◌∷◌, ◌++◌, length, drop, slice_get, codes, encode_utf8_all, if◌then◌else◌}
+use Rattle.std.specs.Prelude.{◌≡◌, Result, String, IfOk, encode_utf8, string_bytes, ℕ, ◌-◌, ◌==◌, ◌&&◌, ◌||◌, nat_lt, not, Bool, true, false, List, [], ◌∷◌, ◌++◌, length, drop, slice_get, codes, encode_utf8_all, if◌then◌else◌}
+use Rattle.std.specs.Borrow.{Bor}
 use Rattle.std.specs.Char.{is_whitespace}
 use Rattle.std.specs.List.{flat_map}
 use Rattle.std.specs.Option.{option_map_or}
@@ -58,6 +59,14 @@ spaced_words text = encode_utf8_all (spaced_on false (chars text))
 -- the words of a text, joined by one space
 abbrev pub joined_words : List ℕ → List ℕ
 joined_words text = spaced_words (trim_start text)
+
+-- some of the words of a text were added to the string, and the others follow
+abbrev pub AddsWords : {A E : Type 0} → (old new : String A) → Result (Bor (List ℕ)) E → List ℕ → Type 0
+AddsWords old new result text = IfOk result (λ after. string_bytes new ++ spaced_words after.now ≡ string_bytes old ++ spaced_words text)
+
+-- the text is a character and what follows it, and so are its words
+abbrev pub CutsChar : List ℕ → ℕ × Bor (List ℕ) → Type 0
+CutsChar text cut = (text ≡ encode_utf8 cut.0 ++ cut.1.now) × (spaced_words text ≡ encode_utf8 cut.0 ++ spaced_words cut.1.now)
 
 abbrev pub begins_with_whitespace : List ℕ → Bool
 begins_with_whitespace text = nat_lt (length (trim_start text)) (length text)

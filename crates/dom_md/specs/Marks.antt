@@ -1,7 +1,8 @@
 -- The first mark of a text.
-use Rattle.std.specs.Prelude.{◌≡◌, ◌<◌, ◌+◌, ℕ, List, ◌∷◌, ◌++◌, length, take, drop, slice_index_or}
+use Rattle.std.specs.Prelude.{◌≡◌, ◌<◌, ◌+◌, ℕ, List, MatchOption, Option, ◌∷◌, ◌++◌, length, take, drop, slice_index_or}
 use Rattle.dom_nodes.specs.Ascii.{backslash}
 use Rattle.dom_md.specs.Chunks.{with_marks}
+use Rattle.dom_md.specs.declared.chunks.Marked.{Marked}
 
 -- a mark stands at this place and none before it
 pub record IsFirstMark (text : List ℕ) (at : ℕ) : Type 0 where
@@ -13,3 +14,7 @@ pub record IsFirstMark (text : List ℕ) (at : ℕ) : Type 0 where
 pub record Cuts (text before mark after : List ℕ) : Type 0 where
   pub whole : with_marks text ≡ before ++ backslash ∷ (mark ++ with_marks after)
   pub shorter : length after < length text
+
+-- or it has none
+abbrev pub CutsMark : List ℕ → Option Marked → Type 0
+CutsMark text result = MatchOption result (with_marks text ≡ text) (λ cut. Cuts text cut.before.now cut.mark.now cut.after.now)

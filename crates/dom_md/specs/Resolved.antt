@@ -1,5 +1,5 @@
 -- What a text with backslashes stands for.
-use Rattle.std.specs.Prelude.{◌≡◌, ◌++◌, ℕ, ◌==◌, ◌&&◌, ◌||◌, nat_lt, Bool, true, false, List, [], ◌∷◌, if◌then◌else◌}
+use Rattle.std.specs.Prelude.{◌≡◌, ◌++◌, ℕ, ◌==◌, ◌&&◌, ◌||◌, nat_lt, Bool, true, false, List, [], ◌∷◌, String, string_bytes, if◌then◌else◌}
 use Rattle.dom_nodes.specs.Ascii.{backslash, delete, digit_nine, digit_zero, lower_a, lower_z, space, upper_a, upper_z}
 
 -- ASCII punctuation
@@ -30,3 +30,10 @@ pub record Reads (old new words : List ℕ) : Type 0 where
   pub added : List ℕ
   pub is : new ≡ old ++ added
   pub resolves : (more : List ℕ) → resolved (added ++ more) ≡ words ++ resolved more
+
+-- the same of strings
+abbrev pub ResolvesIn : {A : Type 0} → (old new : String A) → List ℕ → Type 0
+ResolvesIn old new chunk = Resolves (string_bytes old) (string_bytes new) chunk
+
+abbrev pub ReadsIn : {A : Type 0} → (old new : String A) → List ℕ → Type 0
+ReadsIn old new words = Reads (string_bytes old) (string_bytes new) words

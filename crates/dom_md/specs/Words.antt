@@ -1,5 +1,5 @@
 -- What the Markdown of texts alone stands for.
-use Rattle.std.specs.Prelude.{◌≡◌, ℕ, ◌&&◌, Bool, true, false, List, ◌∷◌}
+use Rattle.std.specs.Prelude.{◌≡◌, ℕ, ◌&&◌, Bool, true, false, List, ◌∷◌, String, string_bytes}
 use Rattle.std.specs.List.{flat_map, list_all}
 use Rattle.dom_nodes.specs.Ascii.{space}
 use Rattle.dom_nodes.specs.Classes.{words_joined}
@@ -24,5 +24,5 @@ abbrev pub joined_words_of : Forest → ℕ → List ℕ
 joined_words_of forest n = words_joined (words_of (text_of forest n))
 
 -- where the node holds texts alone, its Markdown resolves to the words of its text
-abbrev pub ReadsAsWords : Forest → ℕ → List ℕ → Type 0
-ReadsAsWords forest n md = holds_texts forest n ≡ true → resolved md ≡ joined_words_of forest n
+abbrev pub ReadsAsWords : {A : Type 0} → Forest → ℕ → String A → Type 0
+ReadsAsWords forest n md = holds_texts forest n ≡ true → resolved (string_bytes md) ≡ joined_words_of forest n

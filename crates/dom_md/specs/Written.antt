@@ -1,8 +1,9 @@
 -- How a row of words is written.
-use Rattle.std.specs.Prelude.{◌≡◌, ◌<◌, ◌+◌, ℕ, ◌==◌, ◌&&◌, ◌||◌, not, Bool, false, List, [], ◌∷◌, ◌++◌, length, take, drop, slice_index_or, if◌then◌else◌}
+use Rattle.std.specs.Prelude.{◌≡◌, ◌<◌, ◌+◌, ℕ, ◌==◌, ◌&&◌, ◌||◌, not, Bool, false, List, MatchOption, Option, [], ◌∷◌, ◌++◌, length, take, drop, slice_index_or, if◌then◌else◌}
 use Rattle.std.specs.Char.{is_ascii_whitespace}
 use Rattle.dom_nodes.specs.Ascii.{backslash, caret, delete, exclamation_mark, space}
 use Rattle.dom_md.specs.Chunks.{is_mark, is_marked}
+use Rattle.dom_md.specs.declared.serializer.words.Change.{Change}
 
 -- the text begins with a byte but whitespace
 abbrev pub begins_word : List ℕ → Bool
@@ -36,3 +37,8 @@ pub record IsFirstChange (escape : Bool) (text : List ℕ) (at : ℕ) : Type 0 w
 pub record CutsChange (escape : Bool) (text before changed after : List ℕ) : Type 0 where
   pub whole : written escape text ≡ before ++ (change_of changed after ++ written escape after)
   pub shorter : length after < length text
+
+-- or all of it is written as it is
+abbrev pub CutsFirstChange : Bool → List ℕ → Option Change → Type 0
+CutsFirstChange escape text result =
+    MatchOption result (written escape text ≡ text) (λ cut. CutsChange escape text cut.before.now cut.changed.now cut.after.now)

@@ -7,8 +7,9 @@ ghost use Rattle.std.specs.Prelude.{IfOk, MatchOption, None, OnErr, OnOk, if◌t
 ghost use Rattle.std.specs.Prelude.{string_bytes};
 ghost use Rattle.dom_md.specs.Chunks.{escaped, begins_block, is_list_marker, is_mark, is_marked};
 ghost use Rattle.dom_md.specs.Chunks.{is_stop, is_underline, line_mark, with_marks};
-ghost use Rattle.dom_md.specs.Marks.{Cuts, IsFirstMark};
-ghost use Rattle.dom_md.specs.Resolved.{Reads, Resolves};
+ghost use Rattle.dom_md.specs.Marks.{IsFirstMark, CutsMark};
+ghost use Rattle.dom_md.specs.Adding.{Adds};
+ghost use Rattle.dom_md.specs.Resolved.{ReadsIn, ResolvesIn};
 
 use dom_nodes::fault::OutOfMemory;
 use std::alloc::{AllocError, Global};
@@ -21,12 +22,10 @@ pub fn push_escaped_chunk(
     escape: bool,
     line_start: bool,
 ) -> Result<(), OutOfMemory>
-    ensures added { OnOk result (string_bytes text.new
-        ≡ string_bytes text.old ++ (if escape then escaped line_start chunk.now else chunk.now)) }
-    ensures resolves { OnOk result (escape ≡ true
-        → Resolves (string_bytes text.old) (string_bytes text.new) chunk.now) }
-    ensures reads { OnOk result (escape ≡ true
-        → Reads (string_bytes text.old) (string_bytes text.new) chunk.now) }
+    ensures added { Adds text.old text.new result (if escape then escaped line_start chunk.now else
+        chunk.now) }
+    ensures resolves { OnOk result (escape ≡ true → ResolvesIn text.old text.new chunk.now) }
+    ensures reads { OnOk result (escape ≡ true → ReadsIn text.old text.new chunk.now) }
     ensures err { OnErr result (string_bytes text.new ≡ string_bytes text.old) }
 {
     if !escape {
@@ -109,8 +108,7 @@ struct Marked<'a> {
 
 /// The first mark of a text.
 fn cut_mark(text: &str) -> Option<Marked<'_>>
-    ensures { MatchOption result (with_marks text.now ≡ text.now) (λ cut.
-        Cuts text.now cut.before.now cut.mark.now cut.after.now) }
+    ensures { CutsMark text.now result }
 {
     let at = find_mark(text.as_bytes())?;
     Some(Marked {

@@ -292,8 +292,8 @@ impl ListContext {
 
     /// What stands before an item.
     pub fn prefix(&self, alloc: Global) -> Result<String, OutOfMemory>
-        ensures { IfOk result (λ text. string_bytes text
-            ≡ prefix_of self.now.kind self.now.opts.table_cell) }
+        ensures { IfOk result (λ t. string_bytes t ≡ prefix_of self.now.kind
+            self.now.opts.table_cell) }
     {
         match self.kind {
             ListKind::Ul => {

@@ -23,17 +23,16 @@ pub trait NodeMd {
     /// unknown number. Without any whitespace, that of a node that may have children is its `text`
     /// without whitespace.
     fn formatted_text(&self) -> Result<String, OutOfMemory>
-        ensures text { IfOk result (λ text. string_bytes text
-            ≡ formatted_below (forest self.now) (number self.now)) }
-        ensures words { IfOk result (λ text. KeepsWords (forest self.now) (number self.now)
-            (string_bytes text)) };
+        ensures text { IfOk result (λ t. string_bytes t ≡ formatted_below (forest self.now)
+            (number self.now)) }
+        ensures words { IfOk result (λ t. KeepsWords (forest self.now) (number self.now)
+            (string_bytes t)) };
 
     /// The Markdown of what is below the node; empty for an unknown number. Elements of the names
     /// in `skip_tags` are left out: `script`, `style`, `meta` and `head` where none are given. That
     /// of a node that holds texts alone resolves to the words of its text, joined by one space.
     fn md(&self, skip_tags: Option<&[&str]>) -> Result<String, OutOfMemory>
-        ensures { IfOk result (λ md. ReadsAsWords (forest self.now) (number self.now)
-            (string_bytes md)) };
+        ensures { IfOk result (ReadsAsWords (forest self.now) (number self.now)) };
 }
 
 impl<'a> NodeMd for NodeRef<'a> {

@@ -41,8 +41,7 @@ pub fn serialize_md(
     include_node: bool,
     skip_tags: Option<&[&str]>,
 ) -> Result<String, OutOfMemory>
-    ensures { include_node ≡ false → IfOk result (λ md.
-        ReadsAsWords node.now.tree.now node.now.id (string_bytes md)) }
+    ensures { include_node ≡ false → IfOk result (ReadsAsWords node.now.tree.now node.now.id) }
 {
     MDSerializer::new(node, skip_tags).serialize(include_node)
 }
@@ -70,8 +69,8 @@ impl<'a> MDSerializer<'a> {
     /// The Markdown of what is below the node, or of the node, too. What is below a node that holds
     /// texts alone resolves to the words of its text.
     pub fn serialize(&self, include_node: bool) -> Result<String, OutOfMemory>
-        ensures { include_node ≡ false → IfOk result (λ md.
-            ReadsAsWords self.now.node.tree.now self.now.node.id (string_bytes md)) }
+        ensures { include_node ≡ false → IfOk result (ReadsAsWords self.now.node.tree.now
+            self.now.node.id) }
     {
         let mut writer = Writer::new(self.node.tree, self.skip_tags);
         writer.begin(self.node.id, include_node)?;

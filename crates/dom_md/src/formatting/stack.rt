@@ -10,10 +10,12 @@ ghost use Rattle.dom_links.specs.Texts.{text_of};
 ghost use Rattle.dom_links.specs.Walk.{IsNodeOf, IsWithin};
 ghost use Rattle.dom_links.specs.Weights.{row_weight, weight_below};
 ghost use Rattle.dom_md.specs.Formatted.{events_below, formatted_node};
-ghost use Rattle.dom_md.specs.FormatOps.{AreWithin, Formats, FormatsSome, IsFolded};
-ghost use Rattle.dom_md.specs.FormatOps.{IsOpWithin, LeavesFewer, PushesEvents, first_events};
-ghost use Rattle.dom_md.specs.FormatOps.{close_events, op_events, op_weight, ops_events};
+ghost use Rattle.dom_md.specs.FormatOps.{AreWithin, Formats, IsFolded, FormatsOp, ShortensOp};
+ghost use Rattle.dom_md.specs.FormatOps.{IsOpWithin, PushesEvents, first_events};
+ghost use Rattle.dom_md.specs.FormatOps.{close_events, ops_events};
 ghost use Rattle.dom_md.specs.FormatOps.{rest_events, row_events, weight};
+ghost use Rattle.dom_md.specs.Adding.{Adds};
+ghost use Rattle.dom_md.specs.declared.formatting.stack.FormatOp.TheVariants.{Open};
 
 use crate::formatting::steps::{add_text, close_element, open_element};
 use dom_links::iters::{find_node, node_at};
@@ -73,8 +75,7 @@ fn format_ops(
 ) -> Result<(), OutOfMemory>
     requires sound { IsSoundArena nodes.now }
     requires all_within { AreWithin (forest_of nodes.now) ops.items }
-    ensures { Formats (string_bytes text.old) (string_bytes text.new) result
-        (ops_events (forest_of nodes.now) ops.items) }
+    ensures { Formats text.old text.new result (ops_events (forest_of nodes.now) ops.items) }
 {
     while let Some(op) = ops.pop() {
         format_op(nodes, op, &mut ops, text)?;
@@ -92,11 +93,8 @@ fn format_op(
     requires sound { IsSoundArena nodes.now }
     requires known { IsOpWithin (forest_of nodes.now) op }
     requires all_within { AreWithin (forest_of nodes.now) ops.old.items }
-    ensures text { FormatsSome (string_bytes text.old) (string_bytes text.new) result
-        (op_events (forest_of nodes.now) op ++ ops_events (forest_of nodes.now) ops.old.items)
-        (ops_events (forest_of nodes.now) ops.new.items) }
-    ensures left { LeavesFewer result (forest_of nodes.now) ops.new.items
-        (op_weight (forest_of nodes.now) op + weight (forest_of nodes.now) ops.old.items) }
+    ensures text { FormatsOp nodes.now op text.old text.new result ops.old.items ops.new.items }
+    ensures left { ShortensOp nodes.now op result ops.old.items ops.new.items }
 {
     match op {
         FormatOp::Open { id } => open_node(nodes, id, ops, text),
@@ -106,8 +104,7 @@ fn format_op(
 
 /// What a node's end adds.
 fn close_node(content: &NodeData, text: &mut String) -> Result<(), OutOfMemory>
-    ensures { Formats (string_bytes text.old) (string_bytes text.new) result
-        (close_events content.now) }
+    ensures { Formats text.old text.new result (close_events content.now) }
 {
     match content {
         NodeData::Element(element) => Ok(close_element(text, element.name.local())?),
@@ -125,12 +122,9 @@ fn open_node(
     requires sound { IsSoundArena nodes.now }
     requires known { IsWithin (forest_of nodes.now) (Some id) }
     requires all_within { AreWithin (forest_of nodes.now) ops.old.items }
-    ensures text { FormatsSome (string_bytes text.old) (string_bytes text.new) result
-        (row_events (forest_of nodes.now) (Some id)
-        ++ ops_events (forest_of nodes.now) ops.old.items)
-        (ops_events (forest_of nodes.now) ops.new.items) }
-    ensures left { LeavesFewer result (forest_of nodes.now) ops.new.items
-        (row_weight (forest_of nodes.now) (Some id) + weight (forest_of nodes.now) ops.old.items) }
+    ensures text { FormatsOp nodes.now (Open id) text.old text.new result ops.old.items
+        ops.new.items }
+    ensures left { ShortensOp nodes.now (Open id) result ops.old.items ops.new.items }
 {
     let node = node_at(nodes, id);
     push_open(nodes, node.next_sibling.get(), ops)?;
@@ -148,8 +142,8 @@ fn begin_node(
     requires sound { IsSoundArena nodes.now }
     requires node { IsNodeOf (forest_of nodes.now) id node.now }
     requires all_within { AreWithin (forest_of nodes.now) ops.old.items }
-    ensures text { Formats (string_bytes text.old) (string_bytes text.new) result
-        (first_events (forest_of nodes.now) id node.now.content) }
+    ensures text { Formats text.old text.new result (first_events (forest_of nodes.now) id
+        node.now.content) }
     ensures pushes { let forest = forest_of nodes.now
         in PushesEvents result forest ops.old.items ops.new.items
         (rest_events forest id node.now.content) (1 + weight_below forest id) }
@@ -175,8 +169,7 @@ fn begin_node(
 /// Adds the text of the node as it is.
 fn keep_text(nodes: &[TreeNode], id: NodeId, text: &mut String) -> Result<(), OutOfMemory>
     requires { IsSoundArena nodes.now }
-    ensures text { OnOk result (string_bytes text.new
-        ≡ string_bytes text.old ++ text_of (forest_of nodes.now) id) }
+    ensures text { Adds text.old text.new result (text_of (forest_of nodes.now) id) }
     ensures utf8 { OnOk result (IsUtf8 (text_of (forest_of nodes.now) id)) }
 {
     let kept = TreeNodeOps::text_of(*text.allocator(), nodes, &id)?;

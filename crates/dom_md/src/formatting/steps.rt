@@ -1,18 +1,19 @@
 //! The steps of formatting, each on the text so far.
 
-ghost use Rattle.std.specs.Prelude.{◌≡◌, ◌==◌, ◌<◌, ◌≤◌, ◌+◌, ◌-◌, ◌++◌, ◌∷◌, ℕ, IfOk, IfSome};
+ghost use Rattle.std.specs.Prelude.{◌≡◌, ◌==◌, ◌<◌, ◌≤◌, ◌+◌, ◌-◌, ◌++◌, ◌∷◌, IfOk, IfSome};
 ghost use Rattle.std.specs.Prelude.{OnOk, drop, encode_utf8, length, not, slice_index_or};
-ghost use Rattle.std.specs.Prelude.{string_bytes, take, true};
+ghost use Rattle.std.specs.Prelude.{string_bytes, true};
 ghost use Rattle.std.specs.List.{list_any};
 ghost use Rattle.std.specs.Str.{IsCharBoundary, IsUtf8, bytes_eq, trim_start};
 ghost use Rattle.dom_nodes.specs.Ascii.{space};
 ghost use Rattle.dom_nodes.specs.Words.{is_among};
-ghost use Rattle.dom_md.specs.Formatted.{block_names, cell_names, drop_spaces, ends_with};
-ghost use Rattle.dom_md.specs.Formatted.{ends_with_whitespace, is_fresh, is_parted};
+ghost use Rattle.dom_md.specs.Formatted.{block_names, cell_names, drop_spaces, ends_with, CutsChar};
+ghost use Rattle.dom_md.specs.Formatted.{ends_with_whitespace, is_fresh, is_parted, AddsWords};
 ghost use Rattle.dom_md.specs.Formatted.{joined_words, line_names, spaced_words, with_close};
 ghost use Rattle.dom_md.specs.Formatted.{with_gap, with_open, with_text};
 ghost use Rattle.dom_md.specs.Lanes.{Marks};
 ghost use Rattle.dom_md.specs.Visible.{begins_visible, is_visible, stays};
+ghost use Rattle.dom_md.specs.Adding.{Adds, EachFrom, KeepsFront};
 
 use crate::formatting::names::{is_block, is_cell, is_line};
 use crate::lanes::{at_most, load, past_spaces, unmarked_len};
@@ -88,8 +89,7 @@ fn first_word_on(added: &str) -> &str
 /// Adds a text with one space for the whitespace before each word and none at its end. What stays
 /// as it is, most of most texts, is added in one go.
 fn push_spaced(text: &mut String, row: &str) -> Result<(), AllocError>
-    ensures { OnOk result (string_bytes text.new
-        ≡ string_bytes text.old ++ spaced_words row.now) }
+    ensures { Adds text.old text.new result (spaced_words row.now) }
 {
     let mut rest = row;
     while !rest.is_empty() {
@@ -103,8 +103,7 @@ fn push_spaced(text: &mut String, row: &str) -> Result<(), AllocError>
 /// Adds what is written for the character at the front, with the letters or the whitespace behind
 /// it, and gives what stands behind that.
 fn push_next<'a>(text: &mut String, rest: &'a str) -> Result<&'a str, AllocError>
-    ensures words { IfOk result (λ after. string_bytes text.new ++ spaced_words after.now
-        ≡ string_bytes text.old ++ spaced_words rest.now) }
+    ensures words { AddsWords text.old text.new result rest.now }
     ensures shorter { IfOk result (λ after. length after.now ≤ length rest.now - 1) }
 {
     let mut chars = rest.chars();
@@ -125,8 +124,7 @@ fn push_next<'a>(text: &mut String, rest: &'a str) -> Result<&'a str, AllocError
 /// Adds the characters beyond ASCII at the front, with single spaces between them, and gives what
 /// stands behind them.
 fn push_letters<'a>(text: &mut String, rest: &'a str) -> Result<&'a str, AllocError>
-    ensures words { IfOk result (λ after. string_bytes text.new ++ spaced_words after.now
-        ≡ string_bytes text.old ++ spaced_words rest.now) }
+    ensures words { AddsWords text.old text.new result rest.now }
     ensures shorter { IfOk result (λ after. length after.now ≤ length rest.now) }
 {
     let end = letters_len(rest);
@@ -137,8 +135,7 @@ fn push_letters<'a>(text: &mut String, rest: &'a str) -> Result<&'a str, AllocEr
 /// How many bytes they take.
 fn letters_len(text: &str) -> usize
     ensures boundary { IsCharBoundary text.now result }
-    ensures same { spaced_words text.now
-        ≡ take result text.now ++ spaced_words (drop result text.now) }
+    ensures same { KeepsFront spaced_words text.now result }
 {
     let mut left = text;
     while let Some((_, after)) = cut_same(left) {
@@ -149,8 +146,7 @@ fn letters_len(text: &str) -> usize
 
 /// A letter at the front or a space before one, and what stands behind it.
 fn cut_same(text: &str) -> Option<(char, &str)>
-    ensures { IfSome result (λ cut. (text.now ≡ encode_utf8 cut.0 ++ cut.1.now)
-        × (spaced_words text.now ≡ encode_utf8 cut.0 ++ spaced_words cut.1.now)) }
+    ensures { IfSome result (CutsChar text.now) }
 {
     if let Some(letter) = cut_letter(text) {
         return Some(letter);
@@ -181,8 +177,7 @@ fn cut_letter(text: &str) -> Option<(char, &str)>
 fn same_len(bytes: &[u8]) -> usize
     ensures within { result ≤ length bytes.now }
     ensures boundary { IsUtf8 bytes.now → IsCharBoundary bytes.now result }
-    ensures same { spaced_words bytes.now
-        ≡ take result bytes.now ++ spaced_words (drop result bytes.now) }
+    ensures same { KeepsFront spaced_words bytes.now result }
 {
     for at in same_blocks(bytes)..bytes.len() {
         if !stays(bytes, at) {
@@ -196,8 +191,7 @@ fn same_len(bytes: &[u8]) -> usize
 fn same_blocks(bytes: &[u8]) -> usize
     ensures within { result ≤ length bytes.now }
     ensures boundary { IsUtf8 bytes.now → IsCharBoundary bytes.now result }
-    ensures same { spaced_words bytes.now
-        ≡ take result bytes.now ++ spaced_words (drop result bytes.now) }
+    ensures same { KeepsFront spaced_words bytes.now result }
 {
     let mut at = 0;
     while 16 < bytes.len() - at {
@@ -214,8 +208,7 @@ fn same_blocks(bytes: &[u8]) -> usize
 fn same_run(bytes: &[u8], at: usize) -> usize
     requires { at + 17 ≤ length bytes.now }
     ensures within { result ≤ 16 }
-    ensures stay { (k : ℕ) → k < result
-        → stays (slice_index_or bytes.now (at + k) 0) (drop (at + k + 1) bytes.now) ≡ true }
+    ensures stay { EachFrom bytes.now at result stays true }
 {
     let tested = past_spaces(load(bytes, at), load(bytes, at + 1));
     unmarked_len(not_visible(tested))

@@ -1,7 +1,6 @@
 //! Addresses and titles of links and images.
-
-ghost use Rattle.std.specs.Prelude.{◌≡◌, ◌++◌, OnOk, string_bytes};
 ghost use Rattle.dom_md.specs.Addresses.{with_ampersands};
+ghost use Rattle.dom_md.specs.Adding.{Adds};
 
 use crate::context::FormatOpts;
 use crate::serializer::texts::push_text;
@@ -70,8 +69,7 @@ fn kinds_of(address: &[u8]) -> u8 {
 
 /// Adds the address with `&amp;` for each `&`.
 fn push_ampersands(text: &mut String, address: &str) -> Result<(), AllocError>
-    ensures { OnOk result (string_bytes text.new
-        ≡ string_bytes text.old ++ with_ampersands address.now) }
+    ensures { Adds text.old text.new result (with_ampersands address.now) }
 {
     let mut rest = address;
     while let Some((before, after)) = rest.split_once('&') {

@@ -1,14 +1,15 @@
 //! The words of a text, as they are written.
 
-ghost use Rattle.std.specs.Prelude.{◌≡◌, ◌||◌, ◌+◌, ◌++◌, ◌<◌, ◌≤◌, ℕ, OnOk, MatchOption, codes};
-ghost use Rattle.std.specs.Prelude.{drop, false, length, slice_index_or, string_bytes, take, true};
+ghost use Rattle.std.specs.Prelude.{◌≡◌, ◌||◌, ◌+◌, ◌<◌, ◌≤◌, OnOk, MatchOption, codes};
+ghost use Rattle.std.specs.Prelude.{drop, false, length, slice_index_or, string_bytes, true};
 ghost use Rattle.std.specs.Str.{bytes_eq};
 ghost use Rattle.dom_nodes.specs.Words.{words_of};
 ghost use Rattle.dom_md.specs.Lanes.{Marks};
-ghost use Rattle.dom_md.specs.Resolved.{Reads};
 ghost use Rattle.dom_md.specs.Words.{spaced};
-ghost use Rattle.dom_md.specs.Written.{CutsChange, IsFirstChange, begins_word, change_of};
+ghost use Rattle.dom_md.specs.Written.{IsFirstChange, begins_word, change_of, CutsFirstChange};
 ghost use Rattle.dom_md.specs.Written.{is_changed, is_special, written};
+ghost use Rattle.dom_md.specs.Adding.{Adds, EachFrom, KeepsFront};
+ghost use Rattle.dom_md.specs.Resolved.{ReadsIn};
 
 use crate::chunks::{is_marked, push_escaped_chunk};
 use crate::context::FormatOpts;
@@ -25,8 +26,8 @@ pub(super) fn push_words(
     opts: FormatOpts,
     parted: bool,
 ) -> Result<(), OutOfMemory>
-    ensures { OnOk result (opts.skip_escape ≡ false → Reads (string_bytes text.old)
-        (string_bytes text.new) (spaced parted (words_of added.now))) }
+    ensures { OnOk result (opts.skip_escape ≡ false → ReadsIn text.old text.new
+        (spaced parted (words_of added.now))) }
 {
     let row = added.trim_ascii_start();
     if row.is_empty() {
@@ -41,8 +42,7 @@ pub(super) fn push_words(
 
 /// Adds the words of a text that begins with one.
 fn push_row(text: &mut String, row: &str, escape: bool, line_start: bool) -> Result<(), OutOfMemory>
-    ensures { OnOk result (escape ≡ true → Reads (string_bytes text.old) (string_bytes text.new)
-        (written false row.now)) }
+    ensures { OnOk result (escape ≡ true → ReadsIn text.old text.new (written false row.now)) }
 {
     if escape && (line_start || begins_with_stop(row)) {
         let end = word_len(row.as_bytes());
@@ -63,8 +63,7 @@ fn begins_with_stop(row: &str) -> bool {
 fn word_len(bytes: &[u8]) -> usize
     ensures within { result ≤ length bytes.now }
     ensures ascii { result < length bytes.now → slice_index_or bytes.now result 0 < 128 }
-    ensures word { written false bytes.now
-        ≡ take result bytes.now ++ written false (drop result bytes.now) }
+    ensures word { KeepsFront (written false) bytes.now result }
 {
     for at in 0..bytes.len() {
         if bytes[at].is_ascii_whitespace() {
@@ -77,7 +76,7 @@ fn word_len(bytes: &[u8]) -> usize
 /// Adds a word; a backslash stands before one that would make a list's mark of the digits before
 /// it.
 fn push_first_word(text: &mut String, word: &str, line_start: bool) -> Result<(), OutOfMemory>
-    ensures { OnOk result (Reads (string_bytes text.old) (string_bytes text.new) word.now) }
+    ensures { OnOk result (ReadsIn text.old text.new word.now) }
 {
     if word.len() == 1 && is_stop_word(word) && ends_in_marker_digits(text.as_str()) {
         text.push('\\')?;
@@ -95,8 +94,7 @@ fn is_stop_word(word: &str) -> bool
 /// Adds a text with one space for whitespace before a word and none at its end; with `escape`, a
 /// backslash stands before each mark.
 pub(crate) fn push_written(text: &mut String, added: &str, escape: bool) -> Result<(), AllocError>
-    ensures { OnOk result (string_bytes text.new
-        ≡ string_bytes text.old ++ written escape added.now) }
+    ensures { Adds text.old text.new result (written escape added.now) }
 {
     let mut rest = added;
     while let Some(cut) = cut_change(rest, escape) {
@@ -117,8 +115,7 @@ struct Change<'a> {
 
 /// The first such byte.
 fn cut_change(text: &str, escape: bool) -> Option<Change<'_>>
-    ensures { MatchOption result (written escape text.now ≡ text.now) (λ cut.
-        CutsChange escape text.now cut.before.now cut.changed.now cut.after.now) }
+    ensures { CutsFirstChange escape text.now result }
 {
     let at = find_change(text.as_bytes(), escape)?;
     Some(Change {
@@ -130,8 +127,8 @@ fn cut_change(text: &str, escape: bool) -> Option<Change<'_>>
 
 /// The place of the first such byte.
 fn find_change(bytes: &[u8], escape: bool) -> Option<usize>
-    ensures { MatchOption result (written escape bytes.now ≡ bytes.now) (λ at.
-        IsFirstChange escape bytes.now at) }
+    ensures { MatchOption result (written escape bytes.now ≡ bytes.now)
+        (IsFirstChange escape bytes.now) }
 {
     for at in same_blocks(bytes, escape)..bytes.len() {
         if is_changed(bytes, at, escape) {
@@ -144,8 +141,7 @@ fn find_change(bytes: &[u8], escape: bool) -> Option<usize>
 /// A place up to which all is written as it is, found 16 bytes at a time.
 fn same_blocks(bytes: &[u8], escape: bool) -> usize
     ensures within { result ≤ length bytes.now }
-    ensures same { written escape bytes.now
-        ≡ take result bytes.now ++ written escape (drop result bytes.now) }
+    ensures same { KeepsFront (written escape) bytes.now result }
 {
     let mut at = 0;
     while 16 < bytes.len() - at {
@@ -163,8 +159,7 @@ fn same_blocks(bytes: &[u8], escape: bool) -> usize
 fn same_run(bytes: &[u8], at: usize, escape: bool) -> usize
     requires { at + 17 ≤ length bytes.now }
     ensures within { result ≤ 16 }
-    ensures same { (k : ℕ) → k < result → is_changed escape
-        (slice_index_or bytes.now (at + k) 0) (drop (at + k + 1) bytes.now) ≡ false }
+    ensures same { EachFrom bytes.now at result (is_changed escape) false }
 {
     let here = load(bytes, at);
     let gaps = at_most(past_spaces(here, load(bytes, at + 1)), b' ');
@@ -232,8 +227,7 @@ fn begins_word(bytes: &[u8]) -> bool
 
 /// Adds what is written for such a byte.
 fn push_change(text: &mut String, changed: &str, after: &str) -> Result<(), AllocError>
-    ensures { OnOk result (string_bytes text.new
-        ≡ string_bytes text.old ++ change_of changed.now after.now) }
+    ensures { Adds text.old text.new result (change_of changed.now after.now) }
 {
     if begins_word(changed.as_bytes()) {
         text.push('\\')?;
