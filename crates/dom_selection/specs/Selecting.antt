@@ -1,5 +1,5 @@
 -- What selectors select below nodes, and which nodes they mean.
-use Rattle.std.specs.Prelude.{ℕ, ◌≡◌, ◌⊎◌, List, [], ◌∷◌, ◌++◌, chars}
+use Rattle.std.specs.Prelude.{ℕ, ◌≡◌, ◌≢◌, ◌⊎◌, Bool, MatchBool, List, [], ◌∷◌, ◌++◌, Option, MatchOption, chars}
 use Rattle.std.specs.Borrow.{Bor}
 use Rattle.dom_links.specs.Forest.{Forest}
 use Rattle.dom_links.specs.Lists.{without}
@@ -64,9 +64,25 @@ ByText text Does = (selector : SelectorList) × StandsFor (chars text) selector 
 abbrev pub NotByText : List ℕ → (SelectorList → Type 0) → Type 0
 NotByText text Does = (selector : SelectorList) → StandsFor (chars text) selector → Does selector → ⊥
 
+-- the answer states whether the selector that the text stands for does so
+abbrev pub DecidesByText : List ℕ → (SelectorList → Type 0) → Bool → Type 0
+DecidesByText text Does answer = MatchBool answer (ByText text Does) (NotByText text Does)
+
+-- the selector that the text stands for gives this
+abbrev pub GivesByText : {A : Type 0} → List ℕ → (SelectorList → A → Type 0) → A → Type 0
+GivesByText text Gives found = ByText text (λ selector. Gives selector found)
+
 -- the text stands for no selector
 abbrev pub StandsForNothing : List ℕ → Type 0
 StandsForNothing text = (selector : SelectorList) → StandsFor text selector → ⊥
+
+-- the selector that the text stands for; none where it stands for none
+abbrev pub IsSelectorOf : List ℕ → Option SelectorList → Type 0
+IsSelectorOf text found = MatchOption found (StandsForNothing text) (StandsFor text)
+
+-- what the selector gives that the text stands for; none where it stands for none
+abbrev pub TriesText : {A : Type 0} → List ℕ → (SelectorList → A → Type 0) → Option A → Type 0
+TriesText text Gives found = MatchOption found (StandsForNothing (chars text)) (GivesByText text Gives)
 
 -- the text stands for no selector that selects a node below the nodes
 abbrev pub SelectsNothing : List ℕ → List NodeRef → Type 0
@@ -75,3 +91,11 @@ SelectsNothing text nodes = (selector : SelectorList) → StandsFor (chars text)
 -- the same below the root of a tree of this forest
 abbrev pub SelectsNothingIn : List ℕ → Forest → Type 0
 SelectsNothingIn text forest = (selector : SelectorList) → StandsFor (chars text) selector → SelectsIn selector forest []
+
+-- what the selector selects that the text stands for; none where it selects nothing, or the text stands for none
+abbrev pub SelectsSome : List ℕ → List NodeRef → Option (List NodeRef) → Type 0
+SelectsSome text nodes found = MatchOption found (SelectsNothing text nodes) (λ some. (some ≢ []) × ByText text (λ selector. Selects selector nodes some))
+
+-- the same below the root of a tree of this forest
+abbrev pub SelectsSomeIn : List ℕ → Forest → Option (List NodeRef) → Type 0
+SelectsSomeIn text forest found = MatchOption found (SelectsNothingIn text forest) (λ some. (some ≢ []) × ByText text (λ selector. SelectsIn selector forest some))

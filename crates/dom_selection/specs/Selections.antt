@@ -1,5 +1,5 @@
 -- Lists of nodes of one tree, and what is made of them.
-use Rattle.std.specs.Prelude.{ℕ, ◌≡◌, ◌==◌, Bool, List, [], ◌∷◌, ◌++◌, Option, Some, None, Result, IfOk, IfSome, filter, find, map}
+use Rattle.std.specs.Prelude.{ℕ, ◌≡◌, ◌==◌, Bool, List, [], ◌∷◌, ◌++◌, Option, Some, None, MatchOption, Result, IfOk, IfSome, String, filter, find, map, string_bytes}
 use Rattle.std.specs.Prelude.{false, true}
 use Rattle.std.specs.Option.{option_to_list}
 use Rattle.std.specs.Borrow.{Bor}
@@ -11,7 +11,7 @@ use Rattle.dom_links.specs.Lists.{stands_in, without}
 use Rattle.dom_links.specs.Trees.{ancestors, limited}
 use Rattle.dom_links.specs.Walk.{later}
 use Rattle.dom_trees.specs.declared.node_ref.NodeRef.{NodeRef}
-use Rattle.dom_trees.specs.Views.{refs_to}
+use Rattle.dom_trees.specs.Views.{node_attr, refs_to}
 use Rattle.dom_select.specs.Selected.{first_occurrences}
 
 -- the numbers of the nodes
@@ -41,6 +41,14 @@ at_first answer default (node ∷ nodes) = answer node.tree.now node.id
 abbrev pub IsOfFirst : List ℕ → (Forest → ℕ → List ℕ) → List NodeRef → Type 0
 IsOfFirst text answer [] = ⊥
 IsOfFirst text answer (node ∷ nodes) = text ≡ answer node.tree.now node.id
+
+-- this is its text; none where there is no first node
+abbrev pub IsTextOfFirst : {A : Type 0} → (Forest → ℕ → List ℕ) → List NodeRef → Option (String A) → Type 0
+IsTextOfFirst answer nodes found = MatchOption found (nodes ≡ []) (λ text. IsOfFirst (string_bytes text) answer nodes)
+
+-- the value of the first node's attribute of that name
+abbrev pub attr_of_first : List ℕ → List NodeRef → Option (List ℕ)
+attr_of_first name nodes = at_first (λ forest n. node_attr forest n name) None nodes
 
 -- the first node alone; none of none
 abbrev pub first_alone : List NodeRef → List NodeRef

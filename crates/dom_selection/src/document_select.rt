@@ -1,10 +1,10 @@
 //! The elements that selectors select in a document.
 
-ghost use Rattle.std.specs.Prelude.{◌≡◌, ◌≢◌, [], chars, IfErr, IfOk, MatchOption};
+ghost use Rattle.std.specs.Prelude.{chars, IfErr, IfOk};
 ghost use Rattle.dom_links.specs.Forest.{Forest};
 ghost use Rattle.dom_selectors.specs.Grammar.{Refused};
-ghost use Rattle.dom_selection.specs.Selecting.{ByText, SelectsFirstIn, SelectsIn};
-ghost use Rattle.dom_selection.specs.Selecting.{SelectsNothingIn};
+ghost use Rattle.dom_selection.specs.Selecting.{SelectsFirstIn, SelectsIn, GivesByText};
+ghost use Rattle.dom_selection.specs.Selecting.{SelectsSomeIn};
 
 use crate::selection::Selection;
 use dom_markup::document::Document;
@@ -24,22 +24,17 @@ pub trait DocumentSelect {
     /// The elements that match one of the selectors in the text, in preorder. Refused as
     /// `Matcher::new` refuses the text.
     fn select(&self, selectors: &str) -> Result<Selection<'_>, SelectorFault>
-        ensures ok { IfOk result (λ found.
-            ByText selectors.now (λ list. SelectsIn list (forest self.now) found)) }
+        ensures ok { IfOk result (GivesByText selectors.now (λ s. SelectsIn s (forest self.now))) }
         ensures refused { IfErr result (Refused (chars selectors.now)) };
 
     /// As `select`.
     fn nip(&self, selectors: &str) -> Result<Selection<'_>, SelectorFault>
-        ensures ok { IfOk result (λ found.
-            ByText selectors.now (λ list. SelectsIn list (forest self.now) found)) }
+        ensures ok { IfOk result (GivesByText selectors.now (λ s. SelectsIn s (forest self.now))) }
         ensures refused { IfErr result (Refused (chars selectors.now)) };
 
     /// The same as `select`, but None where nothing is selected or the text is outside the grammar.
     fn try_select(&self, selectors: &str) -> Result<Option<Selection<'_>>, OutOfMemory>
-        ensures { IfOk result (λ found.
-            MatchOption found (SelectsNothingIn selectors.now (forest self.now))
-            (λ some. (some ≢ [])
-            × ByText selectors.now (λ list. SelectsIn list (forest self.now) some))) };
+        ensures { IfOk result (SelectsSomeIn selectors.now (forest self.now)) };
 
     /// The first of what `select_matcher` returns, alone; none of none.
     fn select_single_matcher(&self, matcher: &Matcher) -> Result<Selection<'_>, OutOfMemory>
@@ -47,8 +42,8 @@ pub trait DocumentSelect {
 
     /// The first of what `select` returns, alone; none of none.
     fn select_single(&self, selectors: &str) -> Result<Selection<'_>, SelectorFault>
-        ensures ok { IfOk result (λ found.
-            ByText selectors.now (λ list. SelectsFirstIn list (forest self.now) found)) }
+        ensures ok { IfOk result (GivesByText selectors.now
+            (λ s. SelectsFirstIn s (forest self.now))) }
         ensures refused { IfErr result (Refused (chars selectors.now)) };
 }
 

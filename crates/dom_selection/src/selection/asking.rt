@@ -1,12 +1,12 @@
 //! Whether a selection's nodes match a selector, and those that do.
 
 ghost use Rattle.std.specs.Prelude.{◌≡◌, ◌≢◌, [], None, Ok, Some, chars};
-ghost use Rattle.std.specs.Prelude.{IfErr, IfOk, MatchBool, MatchOption};
-ghost use Rattle.dom_selectors.specs.Grammar.{Refused, StandsFor};
+ghost use Rattle.std.specs.Prelude.{IfErr, IfOk};
+ghost use Rattle.dom_selectors.specs.Grammar.{Refused};
 ghost use Rattle.dom_selectors.specs.declared.fault.SelectorFault.TheVariants.{Memory};
 ghost use Rattle.dom_selectors.specs.Spelling.{Decides};
-ghost use Rattle.dom_selection.specs.Selecting.{ByText, Keeps, MeansSome, NotByText};
-ghost use Rattle.dom_selection.specs.Selecting.{StandsForNothing};
+ghost use Rattle.dom_selection.specs.Selecting.{ByText, Keeps, MeansSome, DecidesByText, TriesText};
+ghost use Rattle.dom_selection.specs.Selecting.{IsSelectorOf};
 
 use crate::selection::{Selection, push_if};
 use dom_nodes::fault::OutOfMemory;
@@ -17,8 +17,7 @@ use std::alloc::Global;
 
 /// The matcher of the text; None where the text is outside the grammar.
 pub(crate) fn matcher_of(alloc: Global, text: &str) -> Result<Option<Matcher>, OutOfMemory>
-    ensures { IfOk result (λ found. MatchOption found (StandsForNothing (chars text.now))
-        (StandsFor (chars text.now))) }
+    ensures { IfOk result (IsSelectorOf (chars text.now)) }
 {
     match Matcher::new(alloc, text) {
         Ok(matcher) => Ok(Some(matcher)),
@@ -53,9 +52,7 @@ impl<'a> Selection<'a> {
     /// Whether some node, of whichever kind, matches one of the selectors in the text; false where
     /// the text is outside the grammar.
     pub fn is(&self, selectors: &str) -> Result<bool, OutOfMemory>
-        ensures { IfOk result (λ answer. MatchBool answer
-            (ByText selectors.now (λ list. MeansSome list self.now))
-            (NotByText selectors.now (λ list. MeansSome list self.now))) }
+        ensures { IfOk result (DecidesByText selectors.now (λ s. MeansSome s self.now)) }
     {
         match matcher_of(self.allocator(), selectors)? {
             Some(matcher) => Ok(self.is_matcher(&matcher)),
@@ -82,8 +79,8 @@ impl<'a> Selection<'a> {
     /// `Matcher::new` refuses the text; that of an empty selection isn't read.
     pub fn filter(&self, selectors: &str) -> Result<Selection<'a>, SelectorFault>
         ensures none { self.now ≡ [] → result ≡ Ok [] }
-        ensures ok { IfOk result (λ kept. self.now ≢ [] →
-            ByText selectors.now (λ list. Keeps list self.now kept)) }
+        ensures ok { IfOk result (λ k. self.now ≢ [] → ByText selectors.now
+            (λ s. Keeps s self.now k)) }
         ensures refused { IfErr result (Refused (chars selectors.now)) }
     {
         if self.is_empty() {
@@ -99,9 +96,8 @@ impl<'a> Selection<'a> {
     /// The same as `filter`, but None where the text is outside the grammar.
     pub fn try_filter(&self, selectors: &str) -> Result<Option<Selection<'a>>, OutOfMemory>
         ensures none { self.now ≡ [] → result ≡ Ok (Some []) }
-        ensures ok { IfOk result (λ found. self.now ≢ [] →
-            MatchOption found (StandsForNothing (chars selectors.now))
-            (λ kept. ByText selectors.now (λ list. Keeps list self.now kept))) }
+        ensures ok { IfOk result (λ k. self.now ≢ [] → TriesText selectors.now
+            (λ s. Keeps s self.now) k) }
     {
         if self.is_empty() {
             return Ok(Some(Selection::new(self.allocator())));

@@ -2,11 +2,11 @@
 //! is none.
 
 ghost use Rattle.std.specs.Prelude.{◌≡◌, [], None, codes, false, is_some, string_bytes, unwrap_or};
-ghost use Rattle.std.specs.Prelude.{IfOk, MatchOption};
+ghost use Rattle.std.specs.Prelude.{IfOk};
 ghost use Rattle.std.specs.Option.{option_copied};
-ghost use Rattle.dom_trees.specs.Views.{node_attr, node_attrs};
+ghost use Rattle.dom_trees.specs.Views.{node_attrs};
 ghost use Rattle.dom_markup.specs.Html.{html_of, inner_html_of};
-ghost use Rattle.dom_selection.specs.Selections.{IsOfFirst, at_first};
+ghost use Rattle.dom_selection.specs.Selections.{at_first, IsTextOfFirst, attr_of_first};
 
 use crate::selection::Selection;
 use dom_markup::serializing::NodeMarkup;
@@ -26,40 +26,35 @@ impl<'a> Selection<'a> {
 
     /// The value of the first attribute of that local name.
     pub fn attr(&self, name: &str) -> Option<&'a str>
-        ensures { option_copied result
-            ≡ at_first (λ forest n. node_attr forest n name.now) None self.now }
+        ensures { option_copied result ≡ attr_of_first name.now self.now }
     {
         self.nodes().first()?.attr(name)
     }
 
     /// The value of the first attribute of that local name, or the default.
     pub fn attr_or(&self, name: &str, default: &'a str) -> &'a str
-        ensures { let value = at_first (λ forest n. node_attr forest n name.now) None self.now
-            in result.now ≡ unwrap_or value default.now }
+        ensures { result.now ≡ unwrap_or (attr_of_first name.now self.now) default.now }
     {
         self.attr(name).unwrap_or(default)
     }
 
     /// Whether there is an attribute of that local name.
     pub fn has_attr(&self, name: &str) -> bool
-        ensures { let value = at_first (λ forest n. node_attr forest n name.now) None self.now
-            in result ≡ is_some value }
+        ensures { result ≡ is_some (attr_of_first name.now self.now) }
     {
         self.attr(name).is_some()
     }
 
     /// The value of the first attribute `id`.
     pub fn id(&self) -> Option<&'a str>
-        ensures { option_copied result
-            ≡ at_first (λ forest n. node_attr forest n (codes "id")) None self.now }
+        ensures { option_copied result ≡ attr_of_first (codes "id") self.now }
     {
         self.attr("id")
     }
 
     /// The value of the first attribute `class`.
     pub fn class(&self) -> Option<&'a str>
-        ensures { option_copied result
-            ≡ at_first (λ forest n. node_attr forest n (codes "class")) None self.now }
+        ensures { option_copied result ≡ attr_of_first (codes "class") self.now }
     {
         self.attr("class")
     }
@@ -86,8 +81,7 @@ impl<'a> Selection<'a> {
 
     /// The HTML of the first node; None where there is none.
     pub fn try_html(&self) -> Result<Option<String>, OutOfMemory>
-        ensures { IfOk result (λ found. MatchOption found (self.now ≡ [])
-            (λ html. IsOfFirst (string_bytes html) html_of self.now)) }
+        ensures { IfOk result (IsTextOfFirst html_of self.now) }
     {
         match self.nodes().first() {
             Some(node) => Ok(Some(node.html()?)),
@@ -97,8 +91,7 @@ impl<'a> Selection<'a> {
 
     /// The HTML of the first node's children; None where there is no node.
     pub fn try_inner_html(&self) -> Result<Option<String>, OutOfMemory>
-        ensures { IfOk result (λ found. MatchOption found (self.now ≡ [])
-            (λ html. IsOfFirst (string_bytes html) inner_html_of self.now)) }
+        ensures { IfOk result (IsTextOfFirst inner_html_of self.now) }
     {
         match self.nodes().first() {
             Some(node) => Ok(Some(node.inner_html()?)),

@@ -2,8 +2,8 @@
 
 ghost use Rattle.std.specs.Prelude.{◌≡◌, ◌≢◌, [], Ok, Some, chars, IfErr, IfOk, MatchOption};
 ghost use Rattle.dom_selectors.specs.Grammar.{Refused};
-ghost use Rattle.dom_selection.specs.Selecting.{Adds, ByText, Selects, SelectsFirst};
-ghost use Rattle.dom_selection.specs.Selecting.{SelectsNothing, StandsForNothing, WillSelect};
+ghost use Rattle.dom_selection.specs.Selecting.{Adds, ByText, Selects, SelectsFirst, GivesByText};
+ghost use Rattle.dom_selection.specs.Selecting.{WillSelect, TriesText, SelectsSome};
 ghost use Rattle.dom_select.specs.MatcherIters.{matches_of};
 
 use crate::selection::Selection;
@@ -48,8 +48,7 @@ impl<'a> Selection<'a> {
     /// The elements below the nodes that match one of the selectors in the text, each once, in the
     /// order of the traversals. Refused as `Matcher::new` refuses the text.
     pub fn select(&self, selectors: &str) -> Result<Selection<'a>, SelectorFault>
-        ensures ok { IfOk result (λ found.
-            ByText selectors.now (λ list. Selects list self.now found)) }
+        ensures ok { IfOk result (GivesByText selectors.now (λ s. Selects s self.now)) }
         ensures refused { IfErr result (Refused (chars selectors.now)) }
     {
         let matcher = Matcher::new(self.allocator(), selectors)?;
@@ -61,8 +60,7 @@ impl<'a> Selection<'a> {
 
     /// As `select`.
     pub fn nip(&self, selectors: &str) -> Result<Selection<'a>, SelectorFault>
-        ensures ok { IfOk result (λ found.
-            ByText selectors.now (λ list. Selects list self.now found)) }
+        ensures ok { IfOk result (GivesByText selectors.now (λ s. Selects s self.now)) }
         ensures refused { IfErr result (Refused (chars selectors.now)) }
     {
         self.select(selectors)
@@ -70,8 +68,7 @@ impl<'a> Selection<'a> {
 
     /// The same as `select`, but None where nothing is selected or the text is outside the grammar.
     pub fn try_select(&self, selectors: &str) -> Result<Option<Selection<'a>>, OutOfMemory>
-        ensures { IfOk result (λ found. MatchOption found (SelectsNothing selectors.now self.now)
-            (λ some. (some ≢ []) × ByText selectors.now (λ list. Selects list self.now some))) }
+        ensures { IfOk result (SelectsSome selectors.now self.now) }
     {
         let Some(matcher) = matcher_of(self.allocator(), selectors)? else {
             return Ok(None);
@@ -100,8 +97,7 @@ impl<'a> Selection<'a> {
 
     /// The first of what `select` returns, alone; none of none.
     pub fn select_single(&self, selectors: &str) -> Result<Selection<'a>, SelectorFault>
-        ensures ok { IfOk result (λ found.
-            ByText selectors.now (λ list. SelectsFirst list self.now found)) }
+        ensures ok { IfOk result (GivesByText selectors.now (λ s. SelectsFirst s self.now)) }
         ensures refused { IfErr result (Refused (chars selectors.now)) }
     {
         let matcher = Matcher::new(self.allocator(), selectors)?;
@@ -128,8 +124,8 @@ impl<'a> Selection<'a> {
     /// selection isn't read.
     pub fn add(&self, selectors: &str) -> Result<Selection<'a>, SelectorFault>
         ensures none { self.now ≡ [] → result ≡ Ok [] }
-        ensures ok { IfOk result (λ all. self.now ≢ [] →
-            ByText selectors.now (λ list. Adds list self.now all)) }
+        ensures ok { IfOk result (λ a. self.now ≢ [] → ByText selectors.now
+            (λ s. Adds s self.now a)) }
         ensures refused { IfErr result (Refused (chars selectors.now)) }
     {
         let alloc = self.allocator();
@@ -146,9 +142,8 @@ impl<'a> Selection<'a> {
     /// The same as `add`, but None where the text is outside the grammar.
     pub fn try_add(&self, selectors: &str) -> Result<Option<Selection<'a>>, OutOfMemory>
         ensures none { self.now ≡ [] → result ≡ Ok (Some []) }
-        ensures ok { IfOk result (λ found. self.now ≢ [] →
-            MatchOption found (StandsForNothing (chars selectors.now))
-            (λ all. ByText selectors.now (λ list. Adds list self.now all))) }
+        ensures ok { IfOk result (λ a. self.now ≢ [] → TriesText selectors.now
+            (λ s. Adds s self.now) a) }
     {
         if self.is_empty() {
             return Ok(Some(Selection::new(self.allocator())));
