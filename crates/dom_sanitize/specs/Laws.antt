@@ -49,3 +49,7 @@ KeepsText allow old new = text_of new 0 ≡ text_at old 0 ++ left_text allow old
 -- below the root stand texts alone
 abbrev pub HoldsTextsAlone : Forest → Type 0
 HoldsTextsAlone forest = (n : ℕ) → stands_in n (walk_below forest 0) ≡ true → (contents : List ℕ) × (slice_get forest.content n ≡ Some (Text contents))
+
+-- a law of a forest and what cleaning leaves of it
+abbrev pub OnceCleaned : Lists → Forest → Forest → Type 0 → Type 0
+OnceCleaned allow old new Law = IsForest old → IsForest new → Cleaned allow old new → Law

@@ -2,7 +2,7 @@
 use Rattle.std.specs.Prelude.{ℕ, ◌+◌, ◌<◌, ◌≡◌, ◌==◌, ◌&&◌, ◌||◌, Bool, true, false, if◌then◌else◌, is_some, List, [], ◌∷◌, ◌++◌, Option, Some, None, length}
 use Rattle.dom_nodes.specs.Changes.{only_names, with_attrs}
 use Rattle.dom_links.specs.Contents.{with_content}
-use Rattle.dom_links.specs.Forest.{Forest}
+use Rattle.dom_links.specs.Forest.{Forest, children_of}
 use Rattle.dom_links.specs.declared.gap.Gap.TheVariants.{FrontOf}
 use Rattle.dom_links.specs.Moves.{cut, moved_to}
 use Rattle.dom_links.specs.Sound.{AtOrBelow, children_allowed_at, stays}
@@ -32,6 +32,10 @@ planned allow forest home (Tree n contents children later) =
     record { id = n; home = home_of (fate_at allow forest n) home }
     ∷ steps_under (fate_at allow forest n) (planned allow forest n children) (planned allow forest home children)
     ++ planned allow forest home later
+
+-- the steps for all below the root
+abbrev pub plan_of : Lists → Forest → List Step
+plan_of allow forest = planned allow forest 0 (trees forest (children_of forest 0))
 
 abbrev pub row_plan : Lists → Forest → Option ℕ → ℕ → List Step
 row_plan allow forest first home = planned allow forest home (trees forest (row_on forest false first))

@@ -6,7 +6,7 @@ ghost use Rattle.dom_links.specs.Sound.{IsForest};
 ghost use Rattle.dom_markup.specs.Plain.{IsPlain};
 ghost use Rattle.dom_sanitize.specs.Clean.{Cleaned, Lists};
 ghost use Rattle.dom_sanitize.specs.Laws.{AreAllowed, HasOneClean, HoldsTextsAlone, KeepsText};
-ghost use Rattle.dom_sanitize.specs.Laws.{NothingAppears, StaysClean};
+ghost use Rattle.dom_sanitize.specs.Laws.{NothingAppears, StaysClean, OnceCleaned};
 ghost use Rattle.dom_sanitize.specs.Written.{AllowsNoText, ReadsBackClean};
 
 use dom_links::laws::{lines_of_a_forest, trees_of_a_forest};
@@ -17,24 +17,22 @@ use dom_markup::laws::plain::{
 
 /// Below the root of a cleaned tree stand texts and allowed elements, with allowed attributes.
 pub fn what_is_left_is_allowed()
-    ensures { (allow : Lists) (old new : Forest) → IsForest new → Cleaned allow old new
-        → AreAllowed allow new }
+    ensures { (a : Lists) (old new : Forest) → IsForest new → Cleaned a old new → AreAllowed a new }
 {
     trees_of_a_forest();
 }
 
 /// Each node below the root of a cleaned tree was below it before.
 pub fn nothing_new_appears()
-    ensures { (allow : Lists) (old new : Forest) → IsForest old → IsForest new
-        → Cleaned allow old new → NothingAppears old new }
+    ensures { (allow : Lists) (old new : Forest) → OnceCleaned allow old new
+        (NothingAppears old new) }
 {
     trees_of_a_forest();
 }
 
 /// To clean a cleaned tree again changes nothing.
 pub fn cleaning_twice_is_once()
-    ensures { (allow : Lists) (old new : Forest) → IsForest new → Cleaned allow old new
-        → StaysClean allow new }
+    ensures { (a : Lists) (old new : Forest) → IsForest new → Cleaned a old new → StaysClean a new }
 {
     trees_of_a_forest();
     lines_of_a_forest();
@@ -49,8 +47,8 @@ pub fn one_clean()
 
 /// The text of a cleaned tree is what it was, but for the text of what vanished.
 pub fn text_is_kept()
-    ensures { (allow : Lists) (old new : Forest) → IsForest old → IsForest new
-        → Cleaned allow old new → KeepsText allow old new }
+    ensures { (allow : Lists) (old new : Forest) → OnceCleaned allow old new
+        (KeepsText allow old new) }
 {
     trees_of_a_forest();
 }

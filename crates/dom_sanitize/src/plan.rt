@@ -7,7 +7,7 @@ ghost use Rattle.dom_links.specs.Lists.{first};
 ghost use Rattle.dom_links.specs.Sound.{IsForest};
 ghost use Rattle.dom_links.specs.Trees.{trees};
 ghost use Rattle.dom_sanitize.specs.Clean.{element_fate, fate_of, lists_of};
-ghost use Rattle.dom_sanitize.specs.Plan.{AreRows, LooksAt, home_of, planned, with_below, with_row};
+ghost use Rattle.dom_sanitize.specs.Plan.{AreRows, LooksAt, home_of, with_below, with_row, plan_of};
 
 use crate::lookup::Lookup;
 use crate::sanitize::Allow;
@@ -117,8 +117,7 @@ fn fate_of(allow: &Lookup<'_>, content: &NodeData) -> Fate
 /// that vanishes isn't looked at.
 pub(crate) fn plan(tree: &Tree, allow: &Allow<'_>) -> Result<Vec<Step>, OutOfMemory>
     requires { IsForest tree.now }
-    ensures { let below = trees tree.now (children_of tree.now 0)
-        in IfOk result (λ steps. steps.items ≡ planned (lists_of allow.now) tree.now 0 below) }
+    ensures { IfOk result (λ steps. steps.items ≡ plan_of (lists_of allow.now) tree.now) }
 {
     trees_of_a_forest();
     lines_of_a_forest();
