@@ -16,7 +16,8 @@ use Rattle.dom_query.specs.declared.script.Rendering.{Rendering}
 use Rattle.dom_query.specs.declared.script.Rendering.TheVariants.{Count, Text, Formatted, Html, InnerHtml, Document}
 use Rattle.dom_query.specs.Cleaning.{IsNoSanitize, are_lists}
 use Rattle.dom_query.specs.EditLine.{IsNoEdit}
-use Rattle.dom_query.specs.Script.{HasNoSelector, HasSelector, IsBad, IsNoQuery, StandsForNothing, navigation_word, rendering_word}
+use Rattle.dom_query.specs.Script.{HasNoSelector, HasSelector, IsBad, IsNoQuery, navigation_word, rendering_word}
+use Rattle.dom_selection.specs.Selecting.{StandsForNothing}
 use Rattle.dom_query.specs.Words.{HasArgument, HasNoName, is_name}
 
 pub argument-none : (line word : List ℕ) → FindsTextPrefix word line None → (argument : List ℕ) → HasArgument line word argument → ⊥

@@ -1,10 +1,11 @@
 -- What lines write of the selected nodes.
-use Rattle.std.specs.Prelude.{ℕ, List, [], ◌∷◌, ◌++◌, decimal, length, unwrap_or}
+use Rattle.std.specs.Prelude.{ℕ, List, [], ◌∷◌, ◌++◌, Option, Result, decimal, length, unwrap_or}
 use Rattle.std.specs.List.{flat_map}
 use Rattle.dom_links.specs.Forest.{Forest}
 use Rattle.dom_links.specs.Texts.{text_of}
 use Rattle.dom_trees.specs.Views.{node_attr}
 use Rattle.dom_markup.specs.Scopes.{html_in}
+use Rattle.dom_markup.specs.Writing.{Writes}
 use Rattle.dom_markup.specs.declared.serializing.TraversalScope.{TraversalScope}
 use Rattle.dom_markup.specs.declared.serializing.TraversalScope.TheVariants.{IncludeNode, ChildrenOnly}
 use Rattle.dom_md.specs.Formatted.{formatted_node}
@@ -41,3 +42,7 @@ rendered Formatted forest selection = formatted_of forest selection
 rendered Html forest selection = first_html IncludeNode forest selection
 rendered InnerHtml forest selection = first_html ChildrenOnly forest selection
 rendered Document forest selection = html_in IncludeNode forest 0
+
+-- the text and a line feed are written, or after a fault a beginning of that
+abbrev pub PutsLine : {W T E : Type 0} → (W → Option (List ℕ)) → W → W → Result T E → List ℕ → Type 0
+PutsLine contents old new result text = Writes (contents old) (contents new) result (line_of text)

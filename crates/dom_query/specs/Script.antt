@@ -16,10 +16,6 @@ use Rattle.dom_query.specs.Cleaning.{IsSanitize}
 use Rattle.dom_query.specs.EditLine.{HasLargeMarkup, IsEdit}
 use Rattle.dom_query.specs.Words.{HasArgument, HasName}
 
--- the text stands for no selector
-abbrev pub StandsForNothing : List ℕ → Type 0
-StandsForNothing text = (selector : SelectorList) → StandsFor text selector → ⊥
-
 -- the line is the word and a selector
 abbrev pub HasSelector : List ℕ → List ℕ → SelectorList → Type 0
 HasSelector line word selector = (argument : List ℕ) × HasArgument line word argument × StandsFor (chars argument) selector

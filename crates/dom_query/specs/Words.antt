@@ -1,5 +1,5 @@
 -- The parts of lines: a word, and what stands behind it.
-use Rattle.std.specs.Prelude.{◌≡◌, ◌⊎◌, ℕ, Bool, false, true, List, [], ◌∷◌, ◌++◌}
+use Rattle.std.specs.Prelude.{◌≡◌, ◌≢◌, ◌⊎◌, ℕ, Bool, false, true, List, [], ◌∷◌, ◌++◌, Option, MatchOption, Result, IfOk}
 use Rattle.std.specs.List.{list_all}
 use Rattle.dom_markup.specs.Bytes.{is_name_byte}
 
@@ -22,3 +22,11 @@ HasName line word name = HasArgument line word name × (is_name name ≡ true)
 
 abbrev pub HasNoName : List ℕ → List ℕ → Type 0
 HasNoName line word = (name : List ℕ) → HasName line word name → ⊥
+
+-- where memory sufficed, what was found is so, or nothing was, and then it is so
+abbrev pub Finds : {A E : Type 0} → Result (Option A) E → Type 0 → (A → Type 0) → Type 0
+Finds result Nothing Is = IfOk result (λ found. MatchOption found Nothing Is)
+
+-- the line is the word of what was found; where nothing was, it is no such word
+abbrev pub IsWordOf : {A : Type 0} → (A → List ℕ) → List ℕ → Option A → Type 0
+IsWordOf {A} word line found = MatchOption found ((x : A) → line ≢ word x) (λ x. line ≡ word x)

@@ -25,7 +25,7 @@ pub trait DocumentMd {
     /// The Markdown of what is below the root. That of texts alone resolves to their words, joined
     /// by one space.
     fn md(&self, skip_tags: Option<&[&str]>) -> Result<String, OutOfMemory>
-        ensures { IfOk result (λ md. ReadsAsWords (forest self.now) 0 (string_bytes md)) };
+        ensures { IfOk result (ReadsAsWords (forest self.now) 0) };
 }
 
 impl DocumentMd for Document {

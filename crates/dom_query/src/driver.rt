@@ -39,8 +39,7 @@ fn job_of(words: &[String]) -> Option<Job<'_>>
 fn read_whole<R: Read>(alloc: Global, input: &mut R) -> Result<Vec<u8>, DriveFault>
     ensures ok { IfOk result (λ bytes.
         IfSome (R.remaining input.old) (λ known. bytes.items ≡ known)) }
-    ensures err { IfErr result (λ fault.
-        (fault ≡ DriveFault.Read) ⊎ (fault ≡ DriveFault.Run RunFault.Memory)) }
+    ensures err { IfErr result (λ f. (f ≡ DriveFault.Read) ⊎ (f ≡ DriveFault.Run RunFault.Memory)) }
 {
     let mut bytes = Vec::new(alloc);
     match input.read_to_end(&mut bytes) {

@@ -30,8 +30,7 @@ pub fn document_reads_back()
 /// Where a script ends in the line `document`, what a run writes that is done is the text of the
 /// lines before it, and then a line: where they leave a plain document, it spells the same tree.
 pub fn last_document_reads_back()
-    ensures { (markup script : List ℕ) (commands : List Command) (text : List ℕ)
-        → EndReadsBack markup script commands text }
+    ensures { (m s : List ℕ) (cs : List Command) (text : List ℕ) → EndReadsBack m s cs text }
 {
     dom_markup::laws::one_reading();
     dom_select::laws::one_reading();

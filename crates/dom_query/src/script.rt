@@ -1,8 +1,9 @@
 //! The lines of a script, and the commands that they ask for.
 
-ghost use Rattle.std.specs.Prelude.{◌≡◌, ◌∷◌, ◌++◌, [], IfErr, IfOk, OnOk, MatchOption};
+ghost use Rattle.std.specs.Prelude.{◌≡◌, ◌∷◌, ◌++◌, [], IfErr, IfOk, OnOk};
 ghost use Rattle.dom_query.specs.Faults.{LineRefused, ScriptRefused};
 ghost use Rattle.dom_query.specs.Script.{IsBad, IsCommand, IsNoQuery, IsQuery, IsScript};
+ghost use Rattle.dom_query.specs.Words.{Finds};
 
 mod arguments;
 pub mod edit_line;
@@ -109,8 +110,7 @@ impl From<OutOfMemory> for ScriptFault {
 
 /// The query that the line asks for, if it asks for one.
 fn query_of(alloc: Global, line: &str) -> Result<Option<(QueryKind, Matcher)>, OutOfMemory>
-    ensures { IfOk result (λ found. MatchOption found (IsNoQuery line.now)
-        (λ query. IsQuery line.now query.0 query.1)) }
+    ensures { Finds result (IsNoQuery line.now) (λ query. IsQuery line.now query.0 query.1) }
 {
     if let Some(matcher) = selector_behind(alloc, line, "select")? {
         return Ok(Some((QueryKind::Select, matcher)));
@@ -129,7 +129,7 @@ fn query_of(alloc: Global, line: &str) -> Result<Option<(QueryKind, Matcher)>, O
 
 /// What the line asks for, if it asks for a command.
 fn command_of(alloc: Global, line: &str) -> Result<Option<Command>, ScriptFault>
-    ensures ok { IfOk result (λ found. MatchOption found (IsBad line.now) (IsCommand line.now)) }
+    ensures ok { Finds result (IsBad line.now) (IsCommand line.now) }
     ensures refused { IfErr result (LineRefused line.now) }
 {
     if line.is_empty() {

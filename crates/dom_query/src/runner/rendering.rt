@@ -2,9 +2,8 @@
 
 ghost use Rattle.std.specs.Prelude.{◌≡◌, decimal, length, IfErr};
 ghost use Rattle.dom_markup.specs.Scopes.{html_in};
-ghost use Rattle.dom_markup.specs.Writing.{Writes};
 ghost use Rattle.dom_query.specs.Faults.{GaveOut};
-ghost use Rattle.dom_query.specs.Rendering.{first_attr, first_html, formatted_of, line_of};
+ghost use Rattle.dom_query.specs.Rendering.{first_attr, first_html, formatted_of, PutsLine};
 ghost use Rattle.dom_query.specs.Rendering.{rendered, texts_of};
 
 use crate::numbers::write_number;
@@ -20,8 +19,7 @@ use std::io::Write;
 
 /// Writes the number of the nodes, and a line feed.
 fn write_count<W: Write>(selection: &[NodeId], out: &mut W) -> Result<(), WriteFault>
-    ensures { Writes (W.contents out.old) (W.contents out.new) result
-        (line_of (decimal (length selection.now))) }
+    ensures { PutsLine W.contents out.old out.new result (decimal (length selection.now)) }
 {
     write_number(out, selection.len())?;
     write_bytes(out, b"\n")
@@ -29,8 +27,7 @@ fn write_count<W: Write>(selection: &[NodeId], out: &mut W) -> Result<(), WriteF
 
 /// Writes the texts of the nodes, and a line feed.
 fn write_texts<W: Write>(tree: &Tree, selection: &[NodeId], out: &mut W) -> Result<(), RunFault>
-    ensures writes { Writes (W.contents out.old) (W.contents out.new) result
-        (line_of (texts_of tree.now selection.now)) }
+    ensures writes { PutsLine W.contents out.old out.new result (texts_of tree.now selection.now) }
     ensures cause { IfErr result GaveOut }
 {
     for id in selection {
@@ -42,8 +39,8 @@ fn write_texts<W: Write>(tree: &Tree, selection: &[NodeId], out: &mut W) -> Resu
 
 /// Writes the formatted texts of the nodes, each with its own tags, and a line feed.
 fn write_formatted<W: Write>(tree: &Tree, selection: &[NodeId], out: &mut W) -> Result<(), RunFault>
-    ensures writes { Writes (W.contents out.old) (W.contents out.new) result
-        (line_of (formatted_of tree.now selection.now)) }
+    ensures writes { PutsLine W.contents out.old out.new result
+        (formatted_of tree.now selection.now) }
     ensures cause { IfErr result GaveOut }
 {
     for id in selection {
@@ -60,8 +57,7 @@ fn write_node<W: Write>(
     scope: TraversalScope,
     out: &mut W,
 ) -> Result<(), WriteFault>
-    ensures { Writes (W.contents out.old) (W.contents out.new) result
-        (line_of (html_in scope tree.now id)) }
+    ensures { PutsLine W.contents out.old out.new result (html_in scope tree.now id) }
 {
     NodeRef::new(id, tree).write_html(scope, out)?;
     write_bytes(out, b"\n")
@@ -74,8 +70,7 @@ fn write_first<W: Write>(
     scope: TraversalScope,
     out: &mut W,
 ) -> Result<(), WriteFault>
-    ensures { Writes (W.contents out.old) (W.contents out.new) result
-        (line_of (first_html scope tree.now selection.now)) }
+    ensures { PutsLine W.contents out.old out.new result (first_html scope tree.now selection.now) }
 {
     match selection.first() {
         Some(id) => write_node(tree, *id, scope, out),
@@ -100,8 +95,8 @@ pub fn write_attr<W: Write>(
     name: &str,
     out: &mut W,
 ) -> Result<(), WriteFault>
-    ensures { Writes (W.contents out.old) (W.contents out.new) result
-        (line_of (first_attr name.now tree.now selection.now)) }
+    ensures { PutsLine W.contents out.old out.new result
+        (first_attr name.now tree.now selection.now) }
 {
     write_bytes(out, value_of(tree, selection, name).as_bytes())?;
     write_bytes(out, b"\n")
@@ -114,8 +109,8 @@ pub fn render<W: Write>(
     rendering: Rendering,
     out: &mut W,
 ) -> Result<(), RunFault>
-    ensures writes { Writes (W.contents out.old) (W.contents out.new) result
-        (line_of (rendered rendering tree.now selection.now)) }
+    ensures writes { PutsLine W.contents out.old out.new result
+        (rendered rendering tree.now selection.now) }
     ensures cause { IfErr result GaveOut }
 {
     match rendering {

@@ -3,9 +3,10 @@
 ghost use Rattle.std.specs.Prelude.{◌≡◌, ◌≢◌, chars, IfOk, MatchBool, MatchOption};
 ghost use Rattle.std.specs.List.{list_all};
 ghost use Rattle.dom_markup.specs.Bytes.{is_name_byte};
-ghost use Rattle.dom_query.specs.Script.{HasNoSelector, HasSelector, StandsForNothing};
+ghost use Rattle.dom_query.specs.Script.{HasNoSelector, HasSelector};
 ghost use Rattle.dom_query.specs.Words.{HasArgument, HasName, HasNoArgument, HasNoName, is_name};
-ghost use Rattle.dom_selectors.specs.Grammar.{StandsFor};
+ghost use Rattle.dom_query.specs.Words.{Finds};
+ghost use Rattle.dom_selection.specs.Selecting.{IsSelectorOf};
 
 use dom_nodes::fault::OutOfMemory;
 use dom_nodes::text::Text;
@@ -28,8 +29,7 @@ pub fn argument_of<'a>(line: &'a str, word: &str) -> Option<&'a str>
 
 /// The selector, if the text is one.
 fn selector_of(alloc: Global, text: &str) -> Result<Option<Matcher>, OutOfMemory>
-    ensures { IfOk result (λ found.
-        MatchOption found (StandsForNothing (chars text.now)) (StandsFor (chars text.now))) }
+    ensures { IfOk result (IsSelectorOf (chars text.now)) }
 {
     match Matcher::new(alloc, text) {
         Ok(matcher) => Ok(Some(matcher)),
@@ -55,8 +55,7 @@ pub fn selector_behind(
     line: &str,
     word: &str,
 ) -> Result<Option<Matcher>, OutOfMemory>
-    ensures { IfOk result (λ found. MatchOption found (HasNoSelector line.now word.now)
-        (HasSelector line.now word.now)) }
+    ensures { Finds result (HasNoSelector line.now word.now) (HasSelector line.now word.now) }
 {
     match argument_of(line, word) {
         Some(argument) => selector_of(alloc, argument),
@@ -92,8 +91,7 @@ fn is_name_byte(byte: u8) -> bool
 
 /// The name behind the word, if the line is these.
 pub fn name_behind(alloc: Global, line: &str, word: &str) -> Result<Option<Text>, OutOfMemory>
-    ensures { IfOk result (λ found.
-        MatchOption found (HasNoName line.now word.now) (HasName line.now word.now)) }
+    ensures { Finds result (HasNoName line.now word.now) (HasName line.now word.now) }
 {
     let Some(argument) = argument_of(line, word) else {
         return Ok(None);

@@ -9,7 +9,7 @@ ghost use Rattle.dom_query.specs.EditLine.{HasMarkup, HasNoMarkup, IsNoEdit, IsN
 ghost use Rattle.dom_query.specs.EditLine.{IsNoPut, IsNoSetAttr, IsNoStrip, IsNoTextEdit, IsPut};
 ghost use Rattle.dom_query.specs.EditLine.{names_in};
 ghost use Rattle.dom_query.specs.Faults.{LineRefused, MarkupLimit};
-ghost use Rattle.dom_query.specs.Words.{HasArgument, HasNoArgument, is_name};
+ghost use Rattle.dom_query.specs.Words.{HasArgument, HasNoArgument, is_name, Finds};
 
 use crate::script::ScriptFault;
 use crate::script::arguments::{argument_of, is_name, name_behind};
@@ -49,8 +49,7 @@ pub enum EditLine {
 
 /// The text behind the word, if the line is these.
 fn text_behind(alloc: Global, line: &str, word: &str) -> Result<Option<Text>, OutOfMemory>
-    ensures { IfOk result (λ found.
-        MatchOption found (HasNoArgument line.now word.now) (HasArgument line.now word.now)) }
+    ensures { Finds result (HasNoArgument line.now word.now) (HasArgument line.now word.now) }
 {
     match argument_of(line, word) {
         Some(argument) => Ok(Some(Text::new(alloc, argument)?)),
@@ -116,8 +115,7 @@ fn bare_edit_of(line: &str) -> Option<EditLine>
 
 /// The edit that the line is, if it is one with a name.
 fn named_edit_of(alloc: Global, line: &str) -> Result<Option<EditLine>, OutOfMemory>
-    ensures { IfOk result (λ found.
-        MatchOption found (IsNoNamedEdit line.now) (IsEdit line.now)) }
+    ensures { Finds result (IsNoNamedEdit line.now) (IsEdit line.now) }
 {
     if let Some(name) = name_behind(alloc, line, "remove-attr")? {
         return Ok(Some(EditLine::RemoveAttr(name)));
@@ -130,8 +128,7 @@ fn named_edit_of(alloc: Global, line: &str) -> Result<Option<EditLine>, OutOfMem
 
 /// The edit that the line is, if it is one with any text.
 fn text_edit_of(alloc: Global, line: &str) -> Result<Option<EditLine>, OutOfMemory>
-    ensures { IfOk result (λ found.
-        MatchOption found (IsNoTextEdit line.now) (IsEdit line.now)) }
+    ensures { Finds result (IsNoTextEdit line.now) (IsEdit line.now) }
 {
     if let Some(classes) = text_behind(alloc, line, "add-class")? {
         return Ok(Some(EditLine::AddClass(classes)));
@@ -147,8 +144,7 @@ fn text_edit_of(alloc: Global, line: &str) -> Result<Option<EditLine>, OutOfMemo
 
 /// The edit that the line is, if it sets an attribute.
 fn set_attr_of(alloc: Global, line: &str) -> Result<Option<EditLine>, OutOfMemory>
-    ensures { IfOk result (λ found.
-        MatchOption found (IsNoSetAttr line.now) (IsEdit line.now)) }
+    ensures { Finds result (IsNoSetAttr line.now) (IsEdit line.now) }
 {
     let Some(argument) = argument_of(line, "set-attr") else {
         return Ok(None);
@@ -163,8 +159,7 @@ fn set_attr_of(alloc: Global, line: &str) -> Result<Option<EditLine>, OutOfMemor
 
 /// The edit that the line is, if it strips elements.
 fn strip_of(alloc: Global, line: &str) -> Result<Option<EditLine>, OutOfMemory>
-    ensures { IfOk result (λ found.
-        MatchOption found (IsNoStrip line.now) (IsEdit line.now)) }
+    ensures { Finds result (IsNoStrip line.now) (IsEdit line.now) }
 {
     let Some(names) = argument_of(line, "strip") else {
         return Ok(None);
@@ -177,8 +172,7 @@ fn strip_of(alloc: Global, line: &str) -> Result<Option<EditLine>, OutOfMemory>
 
 /// What was read of the text, if it is markup.
 fn snippet_of(alloc: Global, text: &str) -> Result<Option<Snippet>, ScriptFault>
-    ensures ok { IfOk result (λ found.
-        MatchOption found (SpellsNothing text.now) (IsSpelled text.now)) }
+    ensures ok { Finds result (SpellsNothing text.now) (IsSpelled text.now) }
     ensures refused { IfErr result (MarkupLimit text.now) }
 {
     match Snippet::read(alloc, text) {
@@ -193,8 +187,7 @@ fn snippet_of(alloc: Global, text: &str) -> Result<Option<Snippet>, ScriptFault>
 
 /// What was read of the markup behind the word, if the line is these.
 fn snippet_behind(alloc: Global, line: &str, word: &str) -> Result<Option<Snippet>, ScriptFault>
-    ensures ok { IfOk result (λ found.
-        MatchOption found (HasNoMarkup line.now word.now) (HasMarkup line.now word.now)) }
+    ensures ok { Finds result (HasNoMarkup line.now word.now) (HasMarkup line.now word.now) }
     ensures refused { IfErr result (LineRefused line.now) }
 {
     match argument_of(line, word) {
@@ -205,8 +198,7 @@ fn snippet_behind(alloc: Global, line: &str, word: &str) -> Result<Option<Snippe
 
 /// What the line puts where, if it puts markup.
 fn put_of(alloc: Global, line: &str) -> Result<Option<(Place, Snippet)>, ScriptFault>
-    ensures ok { IfOk result (λ found. MatchOption found (IsNoPut line.now)
-        (λ put. IsPut line.now put.0 put.1)) }
+    ensures ok { Finds result (IsNoPut line.now) (λ put. IsPut line.now put.0 put.1) }
     ensures refused { IfErr result (LineRefused line.now) }
 {
     if let Some(snippet) = snippet_behind(alloc, line, "set-html")? {
@@ -232,7 +224,7 @@ fn put_of(alloc: Global, line: &str) -> Result<Option<(Place, Snippet)>, ScriptF
 
 /// The edit that the line is, if it is one.
 pub fn edit_of(alloc: Global, line: &str) -> Result<Option<EditLine>, ScriptFault>
-    ensures ok { IfOk result (λ found. MatchOption found (IsNoEdit line.now) (IsEdit line.now)) }
+    ensures ok { Finds result (IsNoEdit line.now) (IsEdit line.now) }
     ensures refused { IfErr result (LineRefused line.now) }
 {
     if let Some(edit) = bare_edit_of(line) {

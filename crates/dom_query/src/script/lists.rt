@@ -1,8 +1,9 @@
 //! The lists of names of the line that cleans the tree.
 
-ghost use Rattle.std.specs.Prelude.{◌≡◌, map, IfOk, MatchOption};
+ghost use Rattle.std.specs.Prelude.{◌≡◌, map, IfOk};
 ghost use Rattle.dom_query.specs.Cleaning.{IsNoSanitize, IsSanitize, are_lists, is_list};
 ghost use Rattle.dom_query.specs.Cleaning.{listed_in, lists_in};
+ghost use Rattle.dom_query.specs.Words.{Finds};
 
 use crate::script::arguments::argument_of;
 use crate::script::edit_line::{are_names, names_of};
@@ -36,7 +37,7 @@ fn are_lists(text: &str) -> bool
 
 /// The three lists behind the word, if the line is these.
 pub fn lists_behind(alloc: Global, line: &str) -> Result<Option<Text>, OutOfMemory>
-    ensures { IfOk result (λ found. MatchOption found (IsNoSanitize line.now) (IsSanitize line.now)) }
+    ensures { Finds result (IsNoSanitize line.now) (IsSanitize line.now) }
 {
     let Some(lists) = argument_of(line, "sanitize") else {
         return Ok(None);

@@ -1,14 +1,12 @@
 //! The words of lines that stand alone.
-
-ghost use Rattle.std.specs.Prelude.{◌≡◌, ◌≢◌, MatchOption};
 ghost use Rattle.dom_query.specs.Script.{navigation_word, rendering_word};
+ghost use Rattle.dom_query.specs.Words.{IsWordOf};
 
 use crate::script::{Navigation, Rendering};
 
 /// The direction of the line, if it is one.
 pub fn navigation_of(line: &str) -> Option<Navigation>
-    ensures { MatchOption result ((navigation : Navigation) → line.now ≢ navigation_word navigation)
-        (λ navigation. line.now ≡ navigation_word navigation) }
+    ensures { IsWordOf navigation_word line.now result }
 {
     if line == "parent" {
         return Some(Navigation::Parent);
@@ -36,8 +34,7 @@ pub fn navigation_of(line: &str) -> Option<Navigation>
 
 /// What the line renders, if it renders something.
 pub fn rendering_of(line: &str) -> Option<Rendering>
-    ensures { MatchOption result ((rendering : Rendering) → line.now ≢ rendering_word rendering)
-        (λ rendering. line.now ≡ rendering_word rendering) }
+    ensures { IsWordOf rendering_word line.now result }
 {
     if line == "count" {
         return Some(Rendering::Count);

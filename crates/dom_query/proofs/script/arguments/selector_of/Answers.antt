@@ -2,7 +2,7 @@ use Rattle.std.proofs.Common.{◌≢◌, List, ℕ, refl, chars}
 use Rattle.dom_selectors.specs.declared.fault.SelectorFault.{SelectorFault}
 use Rattle.dom_selectors.specs.declared.fault.SelectorFault.TheVariants.{Syntax, UnknownPseudoClass, Number, NestedHas, TooDeep, Memory}
 use Rattle.dom_selectors.specs.Grammar.{Refused}
-use Rattle.dom_query.specs.Script.{StandsForNothing}
+use Rattle.dom_selection.specs.Selecting.{StandsForNothing}
 use Rattle.dom_query.proofs.script.arguments.selector_of.Goals as goal
 
 -- a fault other than memory says that the text stands for nothing
