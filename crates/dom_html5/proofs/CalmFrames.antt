@@ -1,16 +1,17 @@
 -- The HTML of a calm document begins with a doctype and `<html`, and ends with the end tags of `body` and `html`.
-use Rattle.std.proofs.Common.{◌≡◌, ℕ, ◌+◌, ◌-◌, ◌≤◌, false, List, [], ◌∷◌, ◌++◌, length, map, drop, refl, sym, ap, ◌∙◌, subst, arith, append-nil, append_assoc, length-append}
+use Rattle.std.proofs.Common.{◌≡◌, ℕ, ◌+◌, ◌-◌, false, List, [], ◌∷◌, ◌++◌, length, map, drop, refl, sym, ap, ◌∙◌, subst, arith, append-nil, append_assoc, length-append}
 use Rattle.std.specs.Prelude.{codes}
 use Rattle.std.specs.Char.{to_ascii_lowercase}
 use Rattle.std.specs.List.{flat_map}
 use Rattle.std.proofs.Math.Seq.{drop-append_seam}
+use Rattle.dom_markup.specs.Escaping.{escaped_text}
 use Rattle.dom_markup.specs.Html.{attr_text}
 use Rattle.dom_markup.specs.Names.{raw_names, void_names}
 use Rattle.dom_markup.specs.Numbered.{read_attr}
 use Rattle.dom_markup.specs.Plain.{start_text, text_of_trees}
 use Rattle.dom_markup.specs.ValueTrees.{Attribute, ValueTrees}
 use Rattle.dom_markup.specs.ValueTrees.ValueTrees.{no_trees, doctype_node, element_node}
-use Rattle.dom_html5.specs.Calm.{IsCalmDocument, IsFramed}
+use Rattle.dom_html5.specs.Calm.{IsCalmDocument, IsFramed, behind_text}
 
 -- the text ends with that one
 record Ends (text last : List ℕ) : Type 0 where
@@ -33,9 +34,13 @@ body_ends : (c : List Attribute) (body : ValueTrees) → Ends (text_of_trees fal
 unfolding void_names raw_names
 body_ends c body = ends_more (start_text (codes "body") c) _ _ (ends_nil _ _ (ends_here (text_of_trees false body) (codes "</body>")))
 
-parts_end : (b c : List Attribute) (head body : ValueTrees) → Ends (text_of_trees false (element_node (codes "head") b head (element_node (codes "body") c body no_trees))) (codes "</body>")
+behind_ends : (space : List ℕ) (c : List Attribute) (body : ValueTrees) → Ends (text_of_trees false (behind_text space (element_node (codes "body") c body no_trees))) (codes "</body>")
+behind_ends [] c body = body_ends c body
+behind_ends (s ∷ more) c body = ends_more (escaped_text (s ∷ more)) _ _ (body_ends c body)
+
+parts_end : (b c : List Attribute) (head body : ValueTrees) (space : List ℕ) → Ends (text_of_trees false (element_node (codes "head") b head (behind_text space (element_node (codes "body") c body no_trees)))) (codes "</body>")
 unfolding void_names raw_names
-parts_end b c head body = ends_more (start_text (codes "head") b) _ _ (ends_more (text_of_trees false head ++ codes "</head>") _ _ (body_ends c body))
+parts_end b c head body space = ends_more (start_text (codes "head") b) _ _ (ends_more (text_of_trees false head ++ codes "</head>") _ _ (behind_ends space c body))
 
 -- what follows `<html`
 abbrev rest_of : List Attribute → List ℕ → List ℕ
@@ -60,14 +65,14 @@ framed_by rest e =
       back = ap (map to_ascii_lowercase) (last_bytes _ (codes "</body></html>") refl (ends_more (codes "<!DOCTYPE html><html") rest _ e));
     }
 
-document_framed : (a b c : List Attribute) (head body : ValueTrees) →
-    IsFramed (text_of_trees false (doctype_node (codes "html") [] [] (element_node (codes "html") a (element_node (codes "head") b head (element_node (codes "body") c body no_trees)) no_trees)))
+document_framed : (a b c : List Attribute) (head body : ValueTrees) (space : List ℕ) →
+    IsFramed (text_of_trees false (doctype_node (codes "html") [] [] (element_node (codes "html") a (element_node (codes "head") b head (behind_text space (element_node (codes "body") c body no_trees))) no_trees)))
 unfolding void_names raw_names
-document_framed a b c head body =
-    let parts = text_of_trees false (element_node (codes "head") b head (element_node (codes "body") c body no_trees)) in
-    framed_by (rest_of a parts) (rest_ends a parts (parts_end b c head body))
+document_framed a b c head body space =
+    let parts = text_of_trees false (element_node (codes "head") b head (behind_text space (element_node (codes "body") c body no_trees))) in
+    framed_by (rest_of a parts) (rest_ends a parts (parts_end b c head body space))
 
 pub calm_framed : (trees : ValueTrees) → IsCalmDocument trees → IsFramed (text_of_trees false trees)
 calm_framed trees calm =
     subst (λ (ts : ValueTrees). IsFramed (text_of_trees false ts)) (sym calm.is)
-    (document_framed calm.html_attributes calm.head_attributes calm.body_attributes calm.head calm.body)
+    (document_framed calm.html_attributes calm.head_attributes calm.body_attributes calm.head calm.body calm.space)

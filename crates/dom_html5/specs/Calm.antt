@@ -1,9 +1,12 @@
 -- Calm pages: explicit markup that tree construction reads as it stands, so that both readers give one tree.
-use Rattle.std.specs.Prelude.{ℕ, ◌≡◌, ◌==◌, ◌≤◌, ◌-◌, ◌&&◌, ◌||◌, Bool, true, false, not, nat_eq, List, [], ◌∷◌, None, length, map, take, drop, codes, if◌then◌else◌}
+use Rattle.std.specs.Prelude.{ℕ, ◌≡◌, ◌==◌, ◌≤◌, ◌-◌, ◌&&◌, ◌||◌, Bool, true, false, not, nat_eq, List, [], ◌∷◌, Option, None, find, length, map, take, drop, codes, if◌then◌else◌}
 use Rattle.std.specs.Char.{is_ascii_alphanumeric, to_ascii_lowercase}
 use Rattle.std.specs.List.{list_all, starts_with}
+use Rattle.std.specs.Option.{option_map_or}
 use Rattle.dom_nodes.specs.Ascii.{ampersand, carriage_return, exclamation_mark, greater_than, less_than, line_feed, number_sign, slash}
 use Rattle.dom_links.specs.Forest.{Forest, children_of}
+use Rattle.dom_links.specs.ListMoves.{element_at}
+use Rattle.dom_links.specs.Lists.{first, last}
 use Rattle.dom_trees.specs.SameTree.{SameTree}
 use Rattle.dom_markup.specs.Bytes.{is_whitespace}
 use Rattle.dom_markup.specs.Html.{html_of}
@@ -14,7 +17,7 @@ use Rattle.dom_markup.specs.ValueTrees.{Attribute, ValueTrees}
 use Rattle.dom_markup.specs.ValueTrees.ValueTrees.{no_trees, text_node, comment_node, doctype_node, element_node}
 use Rattle.dom_html5.specs.ElementKinds.{holds_flow, kind_of, may_hold}
 use Rattle.dom_html5.specs.declared.calm.element_kinds.Kind.{Kind}
-use Rattle.dom_html5.specs.declared.calm.element_kinds.Kind.TheVariants.{Anchor, Block, Button, ColumnGroup, DescriptionList, Document, Form, Head, Heading, ItemList, Paragraph, Pre, RowGroup, Table, TableRow, Verbatim}
+use Rattle.dom_html5.specs.declared.calm.element_kinds.Kind.TheVariants.{Anchor, Block, Button, ColumnGroup, DescriptionList, Document, Form, Head, Heading, Html, ItemList, Paragraph, Pre, RowGroup, Table, TableRow, Verbatim}
 use Rattle.dom_html5.specs.declared.calm.nesting.Scope.{Scope}
 use Rattle.dom_html5.specs.declared.reading.Options.{Options}
 
@@ -65,6 +68,7 @@ begins_line (b ∷ rest) = b == line_feed
 
 -- a child of such an element may be this text: whitespace alone where no text is shown
 abbrev pub may_hold_text : Kind → List ℕ → Bool
+may_hold_text Html contents = list_all is_whitespace contents
 may_hold_text Head contents = list_all is_whitespace contents
 may_hold_text Table contents = list_all is_whitespace contents
 may_hold_text ColumnGroup contents = list_all is_whitespace contents
@@ -98,16 +102,32 @@ are_calm scope (doctype_node name public system later) = holds_doctype scope.par
 are_calm scope (element_node name attributes children later) =
     (admits scope (kind_of name) && are_calm (inside scope (kind_of name)) children) && are_calm scope later
 
--- a doctype and an element `html` that holds a head and a body, and what stands in them is calm
+-- trees behind this text; where it is empty, there is no text
+abbrev pub behind_text : List ℕ → ValueTrees → ValueTrees
+behind_text [] later = later
+behind_text (b ∷ contents) later = text_node (b ∷ contents) later
+
+-- a doctype and an element `html` that holds a head, whitespace if any, and a body, and what stands in them is calm
 pub record IsCalmDocument (trees : ValueTrees) : Type 0 where
   pub html_attributes : List Attribute
   pub head_attributes : List Attribute
   pub body_attributes : List Attribute
   pub head : ValueTrees
+  pub space : List ℕ
   pub body : ValueTrees
   pub is : trees ≡ doctype_node (codes "html") [] [] (element_node (codes "html") html_attributes
-      (element_node (codes "head") head_attributes head (element_node (codes "body") body_attributes body no_trees)) no_trees)
+      (element_node (codes "head") head_attributes head (behind_text space (element_node (codes "body") body_attributes body no_trees))) no_trees)
   pub calm : are_calm top trees ≡ true
+
+-- whether there is such a node, and it is an element
+abbrev pub is_element_at : Forest → Option ℕ → Bool
+is_element_at forest found = option_map_or (element_at forest) found false
+
+-- whether the first and the last child of the first element at the top are elements
+abbrev pub has_elements_at_ends : Forest → Bool
+has_elements_at_ends forest =
+    option_map_or (λ html. is_element_at forest (first (children_of forest html)) && is_element_at forest (last (children_of forest html)))
+    (find (element_at forest) (children_of forest 0)) false
 
 -- ---- texts
 

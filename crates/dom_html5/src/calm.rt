@@ -2,6 +2,9 @@
 
 ghost use Rattle.std.specs.Prelude.{◌≡◌, IfErr, IfOk, IfSome, MatchOption, MatchResult, true};
 ghost use Rattle.dom_html5.specs.Calm.{IsCalmDocument, IsCalmPage, are_calm, top};
+ghost use Rattle.dom_html5.specs.Calm.{has_elements_at_ends, is_element_at};
+ghost use Rattle.dom_links.specs.Forest.{children_of};
+ghost use Rattle.dom_links.specs.Lists.{first, last};
 ghost use Rattle.dom_html5.specs.Shape.{IsPage};
 ghost use Rattle.dom_markup.specs.FaultKinds.{IsLimitFault};
 ghost use Rattle.dom_markup.specs.Numbered.{document_of};
@@ -19,6 +22,7 @@ use dom_markup::document::Document;
 use dom_markup::laws::one_reading;
 use dom_markup::laws::plain::documents_are_forests;
 use dom_nodes::fault::{MarkupFault, MarkupFaultKind};
+use dom_nodes::node_id::NodeId;
 use dom_trees::tree::Tree;
 use std::alloc::Global;
 
@@ -75,7 +79,44 @@ fn is_calm(tree: &Tree) -> Result<bool, PageFault>
     if !is_page(tree)? {
         return Ok(false);
     }
+    if !has_elements_at_ends(tree) {
+        return Ok(false);
+    }
     are_nodes_calm(tree)
+}
+
+/// Whether the first and the last node in the element `html` are elements: then whitespace stands
+/// in it between its head and its body alone.
+fn has_elements_at_ends(tree: &Tree) -> bool
+    ensures { result ≡ has_elements_at_ends tree.now }
+{
+    let Some(html) = tree.html_root() else {
+        return false;
+    };
+    if !begins_with_element(tree, html.id) {
+        return false;
+    }
+    ends_with_element(tree, html.id)
+}
+
+/// Whether the first child of the node is an element.
+fn begins_with_element(tree: &Tree, id: NodeId) -> bool
+    ensures { result ≡ is_element_at tree.now (first (children_of tree.now id)) }
+{
+    match tree.first_child_of(&id) {
+        Some(child) => child.is_element(),
+        None => false,
+    }
+}
+
+/// Whether the last child of the node is an element.
+fn ends_with_element(tree: &Tree, id: NodeId) -> bool
+    ensures { result ≡ is_element_at tree.now (last (children_of tree.now id)) }
+{
+    match tree.last_child_of(&id) {
+        Some(child) => child.is_element(),
+        None => false,
+    }
 }
 
 /// Whether each node may stand where it stands. The nodes of a tree that was read are numbered in

@@ -118,9 +118,12 @@ fn holds_text(parent: Kind, contents: &str) -> bool
     ensures { result ≡ may_hold_text parent contents.now }
 {
     match parent {
-        Kind::Head | Kind::Table | Kind::ColumnGroup | Kind::RowGroup | Kind::TableRow => {
-            is_whitespace(contents)
-        }
+        Kind::Html
+        | Kind::Head
+        | Kind::Table
+        | Kind::ColumnGroup
+        | Kind::RowGroup
+        | Kind::TableRow => is_whitespace(contents),
         Kind::Verbatim => !has_close(contents),
         Kind::Pre => !begins_line(contents),
         _ => parent.holds_flow(),

@@ -1,7 +1,11 @@
-use Rattle.std.proofs.Common.{sym, subst, ◌∙◌}
+use Rattle.std.proofs.Common.{◌≡◌, true, sym, subst, ◌∙◌}
+use Rattle.dom_html5.specs.Calm.{has_elements_at_ends}
 use Rattle.dom_html5.specs.Shape.{IsPage}
-use Rattle.dom_html5.proofs.CalmPages.{calm_page}
+use Rattle.dom_html5.proofs.CalmPages.{calm_shape}
 use Rattle.dom_html5.proofs.calm.is_calm.Goals as goal
 
 pub returns-then-not-branch-clause-calm : goal.returns-then-not-branch-clause-calm
-returns-then-not-branch-clause-calm c = λ trees e calm. sym c.if-not-branch.true ∙ (c.in_ok-is_page.ensures ∙ subst IsPage (sym e) (calm_page trees calm))
+returns-then-not-branch-clause-calm c = λ trees e calm. sym c.if-not-branch.true ∙ (c.in_ok-is_page.ensures ∙ subst IsPage (sym e) ((calm_shape trees calm).page))
+
+pub returns-then-not-has_elements_at_ends-clause-calm : goal.returns-then-not-has_elements_at_ends-clause-calm
+returns-then-not-has_elements_at_ends-clause-calm c = λ trees e calm. sym c.if-not-has_elements_at_ends.true ∙ (c.has_elements_at_ends.ensures ∙ subst (λ f. has_elements_at_ends f ≡ true) (sym e) ((calm_shape trees calm).ends))
