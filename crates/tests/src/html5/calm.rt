@@ -120,6 +120,120 @@ fn nodes_of(document: &Document) -> Option<(String, usize)> {
     Some((document.html().ok()?, ids.ok()?.len()))
 }
 
+/// What stands in the element `html` of a page, and its HTML as the standard has it: pages within
+/// the rules on the frame of calm pages, and just outside of them.
+const FRAMES: [(&str, &str); 7] = [
+    (
+        "<head></head>\n<body></body>",
+        "<head></head>\n<body></body>",
+    ),
+    ("<head></head>x<body></body>", "<head></head><body>x</body>"),
+    ("\n<head></head><body></body>", "<head></head><body></body>"),
+    (
+        "<head></head><body></body>\n",
+        "<head></head><body>\n</body>",
+    ),
+    (
+        "<head></head> <!--c--><body></body>",
+        "<head></head> <!--c--><body></body>",
+    ),
+    ("<head> </head><body></body>", "<head> </head><body></body>"),
+    ("<head>x</head><body></body>", "<head></head><body>x</body>"),
+];
+
+/// What stands in the body of a page that breaks a rule on calm trees or texts, and its HTML as the
+/// standard has it.
+const BROKEN: [(&str, &str); 17] = [
+    ("<p><div>x</div></p>", "<p></p><div>x</div><p></p>"),
+    (
+        "<ul><li><li>x</li></li></ul>",
+        "<ul><li></li><li>x</li></ul>",
+    ),
+    (
+        "<table><tr><td>x</td></tr></table>",
+        "<table><tbody><tr><td>x</td></tr></tbody></table>",
+    ),
+    (
+        "<table>x<tbody></tbody></table>",
+        "x<table><tbody></tbody></table>",
+    ),
+    ("<a>x<a>y</a></a>", "<a>x</a><a>y</a>"),
+    (
+        "<button>x<button>y</button></button>",
+        "<button>x</button><button>y</button>",
+    ),
+    ("<form>x<form>y</form></form>", "<form>xy</form>"),
+    ("<h1>x<h2>y</h2></h1>", "<h1>x</h1><h2>y</h2>"),
+    ("<pre>\nx</pre>", "<pre>x</pre>"),
+    (
+        "<dl><dt>x<dd>y</dd></dt></dl>",
+        "<dl><dt>x</dt><dd>y</dd></dl>",
+    ),
+    ("<!--a--!>b-->", "<!--a-->b--&gt;"),
+    ("&eacute;", "\u{e9}"),
+    ("&ltx", "&lt;x"),
+    ("<svg><p></p></svg>", "<svg></svg><p></p>"),
+    ("<select><b>x</b></select>", "<select>x</select>"),
+    ("a\rb", "a\nb"),
+    ("a\0b", "ab"),
+];
+
+/// What stands in the body of calm pages: each beside one that breaks a rule.
+const KEPT: [&str; 14] = [
+    "<p><b>x</b></p>",
+    "<ul><li><ul><li>x</li></ul></li></ul>",
+    "<table><tbody><tr><td>x</td></tr></tbody></table>",
+    "<table>\n<tbody></tbody></table>",
+    "<a><b>x</b></a>",
+    "<button><i>x</i></button>",
+    "<form><p>x</p></form>",
+    "<h1><i>x</i></h1>",
+    "<pre>x\n</pre>",
+    "<dl><dt>x</dt><dd>y</dd></dl>",
+    "<!--a--b-->",
+    "a&amp;b&lt;&gt;&nbsp;",
+    "<script>a<b</script>",
+    "<selected-x>y</selected-x>",
+];
+
+/// A page that has this in its element `html`.
+fn framed(alloc: Global, front: &str, inner: &str, back: &str) -> Option<String> {
+    let mut page = String::new(alloc);
+    add(&mut page, "<!DOCTYPE html><html>")?;
+    add(&mut page, front)?;
+    add(&mut page, inner)?;
+    add(&mut page, back)?;
+    add(&mut page, "</html>")?;
+    Some(page)
+}
+
+const FRONT: &str = "<head></head><body>";
+
+const BACK: &str = "</body>";
+
+/// Whether a page with this inside has that HTML inside, read whole and in pieces.
+fn is_read_as(alloc: Global, front: &str, back: &str, row: (&str, &str)) -> Option<bool> {
+    let page = framed(alloc, front, row.0, back)?;
+    let html = framed(alloc, front, row.1, back)?;
+    let (whole, _) = nodes_of(&parse_page(alloc, page.as_str(), OPTIONS).ok()?)?;
+    let (pieces, _) = nodes_of(&in_pieces(alloc, page.as_str()).ok()?)?;
+    Some(whole.as_str() == html.as_str() && pieces.as_str() == html.as_str())
+}
+
+#[test]
+fn reads_pages_at_the_border_of_calm_ones(rt: HostRuntime) -> Result<(), Fail> {
+    for row in FRAMES {
+        assert!(rt; is_read_as(rt.alloc(), "", "", row) == Some(true));
+    }
+    for row in BROKEN {
+        assert!(rt; is_read_as(rt.alloc(), FRONT, BACK, row) == Some(true));
+    }
+    for body in KEPT {
+        assert!(rt; is_read_as(rt.alloc(), FRONT, BACK, (body, body)) == Some(true));
+    }
+    Ok(())
+}
+
 /// Whether a random page is one tree by both ways.
 fn is_one_tree(alloc: Global, dice: &mut Dice) -> Option<bool> {
     let page = page(alloc, dice)?;
