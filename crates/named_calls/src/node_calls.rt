@@ -1,6 +1,6 @@
 //! Calls of a node that is lent to be changed: `NodeMut` and `NodeMutMarkup`.
 
-use crate::words::{cut, node_of, words_of};
+use crate::words::{cut, named, node_of, words_of};
 use dom_markup::setters::NodeMutMarkup;
 use dom_nodes::fault::EditFault;
 use dom_nodes::node_data::NodeEdit;
@@ -18,75 +18,165 @@ pub fn edited(tree: &mut Tree, line: &str) -> Option<Result<(), EditFault>> {
     // A number that the tree doesn't have is refused by the calls.
     node.id = id;
     if let Some(other) = node_of(words) {
-        moved(&mut node, call, &other)
-    } else if call.ends_with("_html") {
-        put(&mut node, call, words)
-    } else {
-        changed(&mut node, call, words)
+        return Some(moved(&mut node, named(&MOVES, call)?, &other));
+    }
+    if let Some(putting) = named(&PUTS, call) {
+        return Some(put(&mut node, putting, words));
+    }
+    if let Some(changing) = named(&CHANGES, call) {
+        return Some(changed(&mut node, changing, words));
+    }
+    changed_always(&mut node, named(&CUTS, call)?, words)?;
+    Some(Ok(()))
+}
+
+/// A call that moves the node or another.
+#[derive(Clone, Copy, Drop)]
+enum Moving {
+    AppendChild,
+    PrependChild,
+    InsertBefore,
+    InsertAfter,
+    AppendChildren,
+    PrependChildren,
+    InsertSiblingsBefore,
+    InsertSiblingsAfter,
+    ReplaceWith,
+    WrapNode,
+}
+
+const MOVES: [(&str, Moving); 10] = [
+    ("append_child", Moving::AppendChild),
+    ("prepend_child", Moving::PrependChild),
+    ("insert_before", Moving::InsertBefore),
+    ("insert_after", Moving::InsertAfter),
+    ("append_children", Moving::AppendChildren),
+    ("prepend_children", Moving::PrependChildren),
+    ("insert_siblings_before", Moving::InsertSiblingsBefore),
+    ("insert_siblings_after", Moving::InsertSiblingsAfter),
+    ("replace_with", Moving::ReplaceWith),
+    ("wrap_node", Moving::WrapNode),
+];
+
+fn moved(node: &mut NodeMut<'_>, moving: Moving, other: &NodeId) -> Result<(), EditFault> {
+    match moving {
+        Moving::AppendChild => node.append_child(other),
+        Moving::PrependChild => node.prepend_child(other),
+        Moving::InsertBefore => node.insert_before(other),
+        Moving::InsertAfter => node.insert_after(other),
+        Moving::AppendChildren => node.append_children(other),
+        Moving::PrependChildren => node.prepend_children(other),
+        Moving::InsertSiblingsBefore => node.insert_siblings_before(other),
+        Moving::InsertSiblingsAfter => node.insert_siblings_after(other),
+        Moving::ReplaceWith => node.replace_with(other),
+        Moving::WrapNode => node.wrap_node(other),
     }
 }
 
-fn moved(node: &mut NodeMut<'_>, call: &str, other: &NodeId) -> Option<Result<(), EditFault>> {
-    Some(match call {
-        "append_child" => node.append_child(other),
-        "prepend_child" => node.prepend_child(other),
-        "insert_before" => node.insert_before(other),
-        "insert_after" => node.insert_after(other),
-        "append_children" => node.append_children(other),
-        "prepend_children" => node.prepend_children(other),
-        "insert_siblings_before" => node.insert_siblings_before(other),
-        "insert_siblings_after" => node.insert_siblings_after(other),
-        "replace_with" => node.replace_with(other),
-        "wrap_node" => node.wrap_node(other),
-        _ => return None,
-    })
+/// A call that puts markup at the node.
+#[derive(Clone, Copy, Drop)]
+enum Putting {
+    Set,
+    Append,
+    Prepend,
+    Before,
+    After,
+    ReplaceWith,
+    Wrap,
 }
 
-/// Puts markup at the node.
-fn put(node: &mut NodeMut<'_>, call: &str, html: &str) -> Option<Result<(), EditFault>> {
-    Some(match call {
-        "set_html" => node.set_html(html),
-        "append_html" => node.append_html(html),
-        "prepend_html" => node.prepend_html(html),
-        "before_html" => node.before_html(html),
-        "after_html" => node.after_html(html),
-        "replace_with_html" => node.replace_with_html(html),
-        "wrap_html" => node.wrap_html(html),
-        _ => return None,
-    })
+const PUTS: [(&str, Putting); 7] = [
+    ("set_html", Putting::Set),
+    ("append_html", Putting::Append),
+    ("prepend_html", Putting::Prepend),
+    ("before_html", Putting::Before),
+    ("after_html", Putting::After),
+    ("replace_with_html", Putting::ReplaceWith),
+    ("wrap_html", Putting::Wrap),
+];
+
+fn put(node: &mut NodeMut<'_>, putting: Putting, html: &str) -> Result<(), EditFault> {
+    match putting {
+        Putting::Set => node.set_html(html),
+        Putting::Append => node.append_html(html),
+        Putting::Prepend => node.prepend_html(html),
+        Putting::Before => node.before_html(html),
+        Putting::After => node.after_html(html),
+        Putting::ReplaceWith => node.replace_with_html(html),
+        Putting::Wrap => node.wrap_html(html),
+    }
 }
 
-/// The changes that may be refused.
-fn changed(node: &mut NodeMut<'_>, call: &str, words: &str) -> Option<Result<(), EditFault>> {
+/// A change that may be refused.
+#[derive(Clone, Copy, Drop)]
+enum Changing {
+    RemoveFromParent,
+    RemoveChildren,
+    UnwrapNode,
+    SetText,
+    Normalize,
+    SetAttr,
+    Rename,
+    AddClass,
+    RemoveClass,
+}
+
+const CHANGES: [(&str, Changing); 9] = [
+    ("remove_from_parent", Changing::RemoveFromParent),
+    ("remove_children", Changing::RemoveChildren),
+    ("unwrap_node", Changing::UnwrapNode),
+    ("set_text", Changing::SetText),
+    ("normalize", Changing::Normalize),
+    ("set_attr", Changing::SetAttr),
+    ("rename", Changing::Rename),
+    ("add_class", Changing::AddClass),
+    ("remove_class", Changing::RemoveClass),
+];
+
+fn changed(node: &mut NodeMut<'_>, changing: Changing, words: &str) -> Result<(), EditFault> {
     let (name, value) = cut(words);
-    Some(match call {
-        "remove_from_parent" => node.remove_from_parent(),
-        "remove_children" => node.remove_children(),
-        "unwrap_node" => node.unwrap_node(),
-        "set_text" => node.set_text(words),
-        "normalize" => node.normalize(),
-        "set_attr" => node.set_attr(name, value),
-        "rename" => node.rename(name),
-        "add_class" => node.add_class(words),
-        "remove_class" => node.remove_class(words),
-        _ => {
-            changed_always(node, call, words)?;
-            Ok(())
-        }
-    })
+    match changing {
+        Changing::RemoveFromParent => node.remove_from_parent(),
+        Changing::RemoveChildren => node.remove_children(),
+        Changing::UnwrapNode => node.unwrap_node(),
+        Changing::SetText => node.set_text(words),
+        Changing::Normalize => node.normalize(),
+        Changing::SetAttr => node.set_attr(name, value),
+        Changing::Rename => node.rename(name),
+        Changing::AddClass => node.add_class(words),
+        Changing::RemoveClass => node.remove_class(words),
+    }
 }
 
-/// The changes that are never refused.
-fn changed_always(node: &mut NodeMut<'_>, call: &str, words: &str) -> Option<()> {
+/// A change that is never refused.
+#[derive(Clone, Copy, Drop)]
+enum Cutting {
+    StripElements,
+    RemoveAttr,
+    RemoveAttrs,
+    RetainAttrs,
+    RemoveAllAttrs,
+    Update,
+}
+
+const CUTS: [(&str, Cutting); 6] = [
+    ("strip_elements", Cutting::StripElements),
+    ("remove_attr", Cutting::RemoveAttr),
+    ("remove_attrs", Cutting::RemoveAttrs),
+    ("retain_attrs", Cutting::RetainAttrs),
+    ("remove_all_attrs", Cutting::RemoveAllAttrs),
+    ("update", Cutting::Update),
+];
+
+fn changed_always(node: &mut NodeMut<'_>, cutting: Cutting, words: &str) -> Option<()> {
     let names = words_of(node.tree.allocator(), words)?;
-    match call {
-        "strip_elements" => node.strip_elements(&names),
-        "remove_attr" => node.remove_attr(words),
-        "remove_attrs" => node.remove_attrs(&names),
-        "retain_attrs" => node.retain_attrs(&names),
-        "remove_all_attrs" => node.remove_all_attrs(),
-        "update" => return update(node, words),
-        _ => return None,
+    match cutting {
+        Cutting::StripElements => node.strip_elements(&names),
+        Cutting::RemoveAttr => node.remove_attr(words),
+        Cutting::RemoveAttrs => node.remove_attrs(&names),
+        Cutting::RetainAttrs => node.retain_attrs(&names),
+        Cutting::RemoveAllAttrs => node.remove_all_attrs(),
+        Cutting::Update => return update(node, words),
     }
     Some(())
 }

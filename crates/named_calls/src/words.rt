@@ -8,6 +8,16 @@ pub fn cut(line: &str) -> (&str, &str) {
     line.split_once(' ').unwrap_or((line, ""))
 }
 
+/// What stands beside a name in a table.
+pub fn named<T: Copy + Drop>(table: &[(&str, T)], name: &str) -> Option<T> {
+    for (each, value) in table {
+        if *each == name {
+            return Some(*value);
+        }
+    }
+    None
+}
+
 /// The node of the number that a word spells.
 pub fn node_of(word: &str) -> Option<NodeId> {
     NodeId::new(word.parse::<usize>().ok()?)
