@@ -7,7 +7,7 @@ use dom_query::{Document, Matcher};
 use std::alloc::Global;
 
 /// How a call ended.
-#[derive(Clone, Copy, PartialEq, Eq, Debug, Drop)]
+#[derive(Clone, Copy, PartialEq, Eq, Drop)]
 pub enum Ending {
     /// With the right answer.
     Done,
@@ -36,7 +36,7 @@ pub fn refused_if(is_right: bool) -> Ending {
 }
 
 /// A call that asks for memory.
-#[derive(Clone, Copy, PartialEq, Eq, Debug, Drop)]
+#[derive(Clone, Copy, Drop)]
 pub enum Call {
     Matcher,
     Clone,

@@ -7,7 +7,7 @@ use dom_query::{
     Allow, Attrs, Document, EditFault, ElementFlags, LocalName, NodeData, NodeId, NodeOrText,
     OutOfMemory, Place, QualName, Text, Tree, TreeNode, TreeSink, ValidateFault, sanitize,
 };
-use named_calls::words::cut;
+use named_calls::words::{cut, named};
 use named_calls::{node_calls, tree_calls};
 use std::alloc::Global;
 
@@ -78,40 +78,95 @@ fn edit(done: Result<(), OutOfMemory>) -> Result<(), EditFault> {
 }
 
 /// A call of `Tree`.
-fn change_tree(tree: &mut Tree, page: &Page, call: &str) -> Option<Result<(), EditFault>> {
+#[derive(Clone, Copy, Drop)]
+enum OfTree {
+    NewInstruction,
+    AppendDoctype,
+    AddText,
+    CopyNodes,
+    Merge,
+    CopyAt,
+    MergeAt,
+    SetText,
+}
+
+const TREE_CALLS: [(&str, OfTree); 8] = [
+    ("new_instruction", OfTree::NewInstruction),
+    ("append_doctype_of", OfTree::AppendDoctype),
+    ("add_text_at", OfTree::AddText),
+    ("copy_nodes", OfTree::CopyNodes),
+    ("merge", OfTree::Merge),
+    ("copy_at", OfTree::CopyAt),
+    ("merge_at", OfTree::MergeAt),
+    ("set_text_of", OfTree::SetText),
+];
+
+fn change_tree(tree: &mut Tree, page: &Page, call: OfTree) -> Option<Result<(), EditFault>> {
     let (first, second) = (NodeId::new(1)?, NodeId::new(2)?);
     let other = &page.document.tree;
     Some(match call {
-        "new_instruction" => unit(tree.new_instruction("x", LONG)),
-        "append_doctype_of" => unit(tree.append_doctype_of(&first, LONG, LONG, LONG)),
-        "add_text_at" => tree.add_text_at(Gap::EndOf(second), LONG),
-        "copy_nodes" => unit(tree.copy_nodes(&[first, second])),
-        "merge" => unit(tree.merge(other, &[first, second])),
-        "copy_at" => tree.copy_at(&second, Place::After, &[first, second]),
-        "merge_at" => tree.merge_at(&second, Place::InsteadOfChildren, other, &[first]),
-        "set_text_of" => tree.set_text_of(&second, LONG),
-        _ => return append(tree, &first, call),
+        OfTree::NewInstruction => unit(tree.new_instruction("x", LONG)),
+        OfTree::AppendDoctype => unit(tree.append_doctype_of(&first, LONG, LONG, LONG)),
+        OfTree::AddText => tree.add_text_at(Gap::EndOf(second), LONG),
+        OfTree::CopyNodes => unit(tree.copy_nodes(&[first, second])),
+        OfTree::Merge => unit(tree.merge(other, &[first, second])),
+        OfTree::CopyAt => tree.copy_at(&second, Place::After, &[first, second]),
+        OfTree::MergeAt => tree.merge_at(&second, Place::InsteadOfChildren, other, &[first]),
+        OfTree::SetText => tree.set_text_of(&second, LONG),
     })
 }
 
-/// Appends a text or a template.
-fn append(tree: &mut Tree, id: &NodeId, call: &str) -> Option<Result<(), EditFault>> {
-    let alloc = tree.allocator();
-    match call {
-        "append_child_data_of" => {
+/// What is appended in one call.
+#[derive(Clone, Copy, Drop)]
+enum Appended {
+    Data,
+    Template,
+}
+
+const APPENDED: [(&str, Appended); 2] = [
+    ("append_child_data_of", Appended::Data),
+    ("append_template_of", Appended::Template),
+];
+
+fn append(tree: &mut Tree, what: Appended) -> Option<Result<(), EditFault>> {
+    let (alloc, first) = (tree.allocator(), NodeId::new(1)?);
+    match what {
+        Appended::Data => {
             let contents = Text::new(alloc, "x").ok()?;
-            Some(unit(tree.append_child_data_of(id, NodeData::Text { contents })))
+            Some(unit(tree.append_child_data_of(&first, NodeData::Text { contents })))
         }
-        "append_template_of" => {
+        Appended::Template => {
             let name = QualName::html(LocalName::new(alloc, "b").ok()?);
-            Some(unit(tree.append_template_of(id, name, Attrs::new(alloc))))
+            Some(unit(tree.append_template_of(&first, name, Attrs::new(alloc))))
         }
-        _ => None,
     }
 }
 
 /// A call of `Document`.
-fn change_document(document: &mut Document, call: &str) -> Option<Result<(), EditFault>> {
+#[derive(Clone, Copy, Drop)]
+enum OfDocument {
+    Normalize,
+    Sanitize,
+    ParseError,
+    CreateComment,
+    CreateInstruction,
+    Append,
+    AppendBefore,
+    AppendDoctype,
+}
+
+const DOCUMENT_CALLS: [(&str, OfDocument); 8] = [
+    ("normalize", OfDocument::Normalize),
+    ("sanitize", OfDocument::Sanitize),
+    ("parse_error", OfDocument::ParseError),
+    ("create_comment", OfDocument::CreateComment),
+    ("create_pi", OfDocument::CreateInstruction),
+    ("append", OfDocument::Append),
+    ("append_before_sibling", OfDocument::AppendBefore),
+    ("append_doctype_to_document", OfDocument::AppendDoctype),
+];
+
+fn change_document(document: &mut Document, call: OfDocument) -> Option<Result<(), EditFault>> {
     let second = NodeId::new(2)?;
     let allow = Allow {
         elements: &["p", "u"],
@@ -119,32 +174,28 @@ fn change_document(document: &mut Document, call: &str) -> Option<Result<(), Edi
         drop: &["b"],
     };
     Some(match call {
-        "normalize" => document.normalize(),
-        "sanitize" => edit(sanitize(document, &allow)),
-        "parse_error" => edit(document.parse_error(LONG)),
-        "create_comment" => unit(document.create_comment(LONG)),
-        "create_pi" => unit(document.create_pi("x", LONG)),
-        "append" => document.append(&second, NodeOrText::AppendText(LONG)),
-        "append_before_sibling" => {
+        OfDocument::Normalize => document.normalize(),
+        OfDocument::Sanitize => edit(sanitize(document, &allow)),
+        OfDocument::ParseError => edit(document.parse_error(LONG)),
+        OfDocument::CreateComment => unit(document.create_comment(LONG)),
+        OfDocument::CreateInstruction => unit(document.create_pi("x", LONG)),
+        OfDocument::Append => document.append(&second, NodeOrText::AppendText(LONG)),
+        OfDocument::AppendBefore => {
             document.append_before_sibling(&second, NodeOrText::AppendText(LONG))
         }
-        "append_doctype_to_document" => document.append_doctype_to_document(LONG, LONG, ""),
-        _ => return create(document, call),
+        OfDocument::AppendDoctype => document.append_doctype_to_document(LONG, LONG, ""),
     })
 }
 
 /// A template that the sink makes.
-fn create(document: &mut Document, call: &str) -> Option<Result<(), EditFault>> {
+fn create(document: &mut Document) -> Option<Result<(), EditFault>> {
     let alloc = document.tree.allocator();
     let name = QualName::html(LocalName::new(alloc, "template").ok()?);
     let flags = ElementFlags {
         template: true,
         mathml_annotation_xml_integration_point: false,
     };
-    match call {
-        "create_element" => Some(unit(document.create_element(name, Attrs::new(alloc), flags))),
-        _ => None,
-    }
+    Some(unit(document.create_element(name, Attrs::new(alloc), flags)))
 }
 
 /// Makes the change that a line says.
@@ -154,8 +205,12 @@ fn changed(document: &mut Document, page: &Page, line: &str) -> Option<Result<()
     match group {
         "node" => node_calls::edited(&mut document.tree, rest),
         "make" => tree_calls::made(&mut document.tree, call, words).map(unit),
-        "tree" => change_tree(&mut document.tree, page, call),
-        "document" => change_document(document, call),
+        "tree" => match named(&APPENDED, call) {
+            Some(what) => append(&mut document.tree, what),
+            None => change_tree(&mut document.tree, page, named(&TREE_CALLS, call)?),
+        },
+        "document" if call == "create_element" => create(document),
+        "document" => change_document(document, named(&DOCUMENT_CALLS, call)?),
         _ => None,
     }
 }

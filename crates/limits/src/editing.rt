@@ -12,7 +12,7 @@ const NODES: usize = 3;
 const LONG: &str = "a text that is too long to be kept within the value of a node";
 
 /// What is done at each node.
-#[derive(Clone, Copy, PartialEq, Eq, Debug, Drop)]
+#[derive(Clone, Copy, Drop)]
 pub enum Edit {
     SetAttr,
     SetText,

@@ -7,7 +7,7 @@ use dom_query::{
     DescendantMatches, Document, Matches, MiniSelect, MiniSelector, NodeEdit, NodeId, NodeRef,
     NodeSelect, Selection, Text, Tree, TreeSink,
 };
-use named_calls::words::{cut, node_of};
+use named_calls::words::{cut, named, node_of};
 use named_calls::{node_calls, tree_calls};
 use std::alloc::Global;
 
@@ -58,15 +58,31 @@ pub const FREE: [&str; 40] = [
 const LONG: &str = "another text that is too long to be kept within a node";
 
 /// A call of a lent node that is given names.
-fn without_names(tree: &mut Tree, id: &NodeId, call: &str) -> Option<bool> {
+#[derive(Clone, Copy, Drop)]
+enum Names {
+    Strip,
+    RemoveAttr,
+    RemoveAttrs,
+    RetainAttrs,
+    RemoveAll,
+}
+
+const NAMES: [(&str, Names); 5] = [
+    ("strip_elements", Names::Strip),
+    ("remove_attr", Names::RemoveAttr),
+    ("remove_attrs", Names::RemoveAttrs),
+    ("retain_attrs", Names::RetainAttrs),
+    ("remove_all_attrs", Names::RemoveAll),
+];
+
+fn without_names(tree: &mut Tree, id: &NodeId, call: Names) -> Option<bool> {
     let mut node = tree.node_mut(id)?;
     match call {
-        "strip_elements" => node.strip_elements(&["p", "b"]),
-        "remove_attr" => node.remove_attr("class"),
-        "remove_attrs" => node.remove_attrs(&["class", "id"]),
-        "retain_attrs" => node.retain_attrs(&["id"]),
-        "remove_all_attrs" => node.remove_all_attrs(),
-        _ => return None,
+        Names::Strip => node.strip_elements(&["p", "b"]),
+        Names::RemoveAttr => node.remove_attr("class"),
+        Names::RemoveAttrs => node.remove_attrs(&["class", "id"]),
+        Names::RetainAttrs => node.retain_attrs(&["id"]),
+        Names::RemoveAll => node.remove_all_attrs(),
     }
     Some(true)
 }
@@ -84,7 +100,7 @@ fn is_changed(document: &mut Document, line: &str) -> Option<bool> {
         }
         "cut" => tree_calls::cut_out(&mut document.tree, call, &node_of(word)?)?,
         "node" => node_calls::edited(&mut document.tree, rest)?,
-        "names" => return without_names(&mut document.tree, &first, call),
+        "names" => return without_names(&mut document.tree, &first, named(&NAMES, call)?),
         "sink" if call == "remove_from_parent" => document.remove_from_parent(&second),
         "sink" => document.reparent_children(&second, &first),
         _ => return None,
@@ -130,31 +146,60 @@ fn count_child_ids(tree: &Tree) -> usize {
     count
 }
 
+/// A call that reads.
+#[derive(Clone, Copy, Drop)]
+enum Asking {
+    Children,
+    Ancestors,
+    Descendants,
+    ChildIds,
+    AncestorIds,
+    DescendantIds,
+    MatchElement,
+    IsMatch,
+    Below,
+    From,
+    CharCount,
+}
+
+const ASKED: [(&str, Asking); 11] = [
+    ("children_it", Asking::Children),
+    ("ancestors_it", Asking::Ancestors),
+    ("descendants_it", Asking::Descendants),
+    ("child_ids_of_it", Asking::ChildIds),
+    ("ancestor_ids_of_it", Asking::AncestorIds),
+    ("descendant_ids_of_it", Asking::DescendantIds),
+    ("match_element", Asking::MatchElement),
+    ("is_match", Asking::IsMatch),
+    ("DescendantMatches", Asking::Below),
+    ("Selection::from", Asking::From),
+    ("normalized_char_count", Asking::CharCount),
+];
+
 /// A call that reads: how many nodes it gives, which aren't none.
-fn count(page: &Page, call: &str) -> usize {
+fn count(page: &Page, call: Asking) -> usize {
     let (tree, root) = (&page.document.tree, page.document.root());
     let Some(id) = NodeId::new(5) else {
         return 0;
     };
     let node = NodeRef::new(id, tree);
     match call {
-        "children_it" => count_children(&root),
-        "ancestors_it" => count_ancestors(&node),
-        "descendants_it" => root.descendants_it().count(),
-        "child_ids_of_it" => count_child_ids(tree),
-        "ancestor_ids_of_it" => tree.ancestor_ids_of_it(&id, None).count(),
-        "descendant_ids_of_it" => tree.descendant_ids_of_it(&NodeId::root()).count(),
-        "match_element" => one_unless(page.matcher.match_element(&node)),
-        "is_match" => one_unless(node.is_match(&page.matcher)),
-        "DescendantMatches" => count_below(page),
-        "Selection::from" => Selection::from(node).length(),
-        "normalized_char_count" => root.normalized_char_count(),
-        _ => 0,
+        Asking::Children => count_children(&root),
+        Asking::Ancestors => count_ancestors(&node),
+        Asking::Descendants => root.descendants_it().count(),
+        Asking::ChildIds => count_child_ids(tree),
+        Asking::AncestorIds => tree.ancestor_ids_of_it(&id, None).count(),
+        Asking::DescendantIds => tree.descendant_ids_of_it(&NodeId::root()).count(),
+        Asking::MatchElement => one_unless(page.matcher.match_element(&node)),
+        Asking::IsMatch => one_unless(node.is_match(&page.matcher)),
+        Asking::Below => count_below(page),
+        Asking::From => Selection::from(node).length(),
+        Asking::CharCount => root.normalized_char_count(),
     }
 }
 
 /// Makes a call that reads.
-fn reads(alloc: Global, page: &Page, call: &str, memory: Memory) -> Option<Ending> {
+fn reads(alloc: Global, page: &Page, call: Asking, memory: Memory) -> Option<Ending> {
     let held = take_memory(alloc, memory)?;
     let found = count(page, call);
     drop(held);
@@ -207,7 +252,7 @@ pub fn tries(alloc: Global, page: &Page, line: &str, memory: Memory) -> Option<E
     match cut(line) {
         ("ask", "Matches") => walks(alloc, page, memory),
         ("ask", "mini_match") => asks_mini(alloc, page, memory),
-        ("ask", call) => reads(alloc, page, call, memory),
+        ("ask", call) => reads(alloc, page, named(&ASKED, call)?, memory),
         ("update", _) => updates(alloc, memory),
         _ => changes(alloc, line, memory),
     }

@@ -19,7 +19,7 @@ use calls::{CALLS, Call, Ending, Page, tried};
 use changing::CHANGES;
 use free::FREE;
 use memory::{Memory, was_refused};
-use reading::READS;
+use reading::{READS, Read};
 use std::alloc::Global;
 use std::env;
 use std::process::ExitCode;
@@ -34,7 +34,7 @@ const TRIES: usize = 4_000;
 enum Limited<'a> {
     Call(Call),
     Change(&'a str),
-    Read(&'a str),
+    Read(Read),
 }
 
 /// Does the call with so much memory.
@@ -42,7 +42,7 @@ fn ending_of(alloc: Global, page: &Page, limited: Limited<'_>, memory: Memory) -
     match limited {
         Limited::Call(call) => tried(alloc, page, call, memory),
         Limited::Change(line) => changing::changes(alloc, page, line, memory),
-        Limited::Read(name) => reading::reads(alloc, page, name, memory),
+        Limited::Read(read) => reading::reads(alloc, page, read, memory),
     }
 }
 
@@ -104,16 +104,16 @@ fn count_free(rt: &HostRuntime, page: &Page, name: &str) -> Option<()> {
 /// Prints how each call ended whose requests the counter refused in turn.
 fn count_all(rt: &HostRuntime) -> Option<()> {
     let page = Page::new(rt.alloc())?;
-    for (name, call) in CALLS {
-        count(rt, &page, name, Limited::Call(call))?;
+    for (name, call) in &CALLS {
+        count(rt, &page, name, Limited::Call(*call))?;
     }
-    for line in CHANGES {
+    for line in &CHANGES {
         count(rt, &page, line, Limited::Change(line))?;
     }
-    for name in READS {
-        count(rt, &page, name, Limited::Read(name))?;
+    for (name, read) in &READS {
+        count(rt, &page, name, Limited::Read(*read))?;
     }
-    for name in FREE {
+    for name in &FREE {
         count_free(rt, &page, name)?;
     }
     Some(())
@@ -132,20 +132,17 @@ fn show_done(rt: &HostRuntime, name: &str, ending: Option<Ending>) -> Option<()>
 /// Prints how each call ended with ample memory.
 fn try_all(rt: &HostRuntime) -> Option<()> {
     let (alloc, page) = (rt.alloc(), Page::new(rt.alloc())?);
-    for (name, call) in CALLS {
-        show_done(rt, name, tried(alloc, &page, call, Memory::Ample))?;
+    for (name, call) in &CALLS {
+        show_done(rt, name, tried(alloc, &page, *call, Memory::Ample))?;
     }
-    for line in CHANGES {
-        show_done(
-            rt,
-            line,
-            changing::changes(alloc, &page, line, Memory::Ample),
-        )?;
+    for line in &CHANGES {
+        let ending = changing::changes(alloc, &page, line, Memory::Ample);
+        show_done(rt, line, ending)?;
     }
-    for name in READS {
-        show_done(rt, name, reading::reads(alloc, &page, name, Memory::Ample))?;
+    for (name, read) in &READS {
+        show_done(rt, name, reading::reads(alloc, &page, *read, Memory::Ample))?;
     }
-    for name in FREE {
+    for name in &FREE {
         show_done(rt, name, free::tries(alloc, &page, name, Memory::Ample))?;
     }
     Some(())
@@ -154,8 +151,8 @@ fn try_all(rt: &HostRuntime) -> Option<()> {
 /// Prints how each call ended in an address space of some hundred megabytes with ever more of it.
 fn limit_all(rt: &HostRuntime) -> Option<()> {
     let page = Page::new(rt.alloc())?;
-    for (name, call) in CALLS {
-        let ending = match is_refused_first(rt.alloc(), &page, call) {
+    for (name, call) in &CALLS {
+        let ending = match is_refused_first(rt.alloc(), &page, *call) {
             Some(true) => "refused, then done",
             Some(false) => "never refused",
             None => "wrong",

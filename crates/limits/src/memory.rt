@@ -20,7 +20,7 @@ const ASKED: usize = COMMAND + (1 << 33);
 const NUMBERS: usize = 1 << 31;
 
 /// How much memory a call has.
-#[derive(Clone, Copy, PartialEq, Eq, Debug, Drop)]
+#[derive(Clone, Copy, Drop)]
 pub enum Memory {
     Ample,
     /// About so many bytes.

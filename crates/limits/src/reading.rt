@@ -12,50 +12,137 @@ use dom_select::matcher::descendants::select_below;
 use dom_select::matcher::several::select_below_all;
 use std::alloc::Global;
 
-pub const READS: [&str; 43] = [
-    "Document::parse",
-    "Document::fragment",
-    "Snippet::read",
-    "Document::try_clone",
-    "Tree::try_clone",
-    "Tree::fragment_of",
-    "Tree::validate",
-    "to_fragment",
-    "TreeIndex::new",
-    "TreeIndex::select",
-    "select_nodes",
-    "select_below",
-    "select_below_all",
-    "MatcherIter::new",
-    "child_ids_of",
-    "ancestor_ids_of",
-    "descendant_ids_of",
-    "children_of",
-    "ancestors_of",
-    "children",
-    "ancestors",
-    "descendants",
-    "element_children",
-    "text",
-    "immediate_text",
-    "html",
-    "inner_html",
-    "try_html",
-    "try_inner_html",
-    "Selection::from_ids",
-    "Selection::select",
-    "Selection::find",
-    "Selection::filter",
-    "Selection::add",
-    "Selection::ids",
-    "Selection::parent",
-    "Selection::children",
-    "Selection::ancestors",
-    "Selection::next_sibling",
-    "Selection::add_selection",
-    "Selection::text",
-    "Selection::html",
-    "Selection::is",
+/// A call that reads markup.
+#[derive(Clone, Copy, Drop)]
+pub enum Markup {
+    Parse,
+    Fragment,
+    Snippet,
+}
+
+/// A call that copies or looks through a tree.
+#[derive(Clone, Copy, Drop)]
+pub enum Copying {
+    Document,
+    Tree,
+    FragmentOf,
+    Validate,
+    ToFragment,
+}
+
+/// A call that selects.
+#[derive(Clone, Copy, Drop)]
+pub enum Selecting {
+    IndexNew,
+    Index,
+    Nodes,
+    Below,
+    BelowAll,
+    Iter,
+}
+
+/// A call that lists nodes or their numbers.
+#[derive(Clone, Copy, Drop)]
+pub enum Listing {
+    ChildIds,
+    AncestorIds,
+    DescendantIds,
+    ChildrenOf,
+    AncestorsOf,
+    Children,
+    Ancestors,
+    Descendants,
+    Elements,
+}
+
+/// A call that makes a text.
+#[derive(Clone, Copy, Drop)]
+pub enum Writing {
+    Text,
+    ImmediateText,
+    Html,
+    InnerHtml,
+    TryHtml,
+    TryInnerHtml,
+}
+
+/// A call of a selection.
+#[derive(Clone, Copy, Drop)]
+pub enum Asking {
+    FromIds,
+    Select,
+    Find,
+    Filter,
+    Add,
+    Ids,
+    Parent,
+    Children,
+    Ancestors,
+    Next,
+    AddSelection,
+    Text,
+    Html,
+    Is,
+}
+
+/// A call that reads.
+#[derive(Clone, Copy, Drop)]
+pub enum Read {
+    Markup(Markup),
+    Copying(Copying),
+    Selecting(Selecting),
+    Listing(Listing),
+    Writing(Writing),
+    Asking(Asking),
+}
+
+pub const READS: [(&str, Read); 43] = [
+    ("Document::parse", Read::Markup(Markup::Parse)),
+    ("Document::fragment", Read::Markup(Markup::Fragment)),
+    ("Snippet::read", Read::Markup(Markup::Snippet)),
+    ("Document::try_clone", Read::Copying(Copying::Document)),
+    ("Tree::try_clone", Read::Copying(Copying::Tree)),
+    ("Tree::fragment_of", Read::Copying(Copying::FragmentOf)),
+    ("Tree::validate", Read::Copying(Copying::Validate)),
+    ("to_fragment", Read::Copying(Copying::ToFragment)),
+    ("TreeIndex::new", Read::Selecting(Selecting::IndexNew)),
+    ("TreeIndex::select", Read::Selecting(Selecting::Index)),
+    ("select_nodes", Read::Selecting(Selecting::Nodes)),
+    ("select_below", Read::Selecting(Selecting::Below)),
+    ("select_below_all", Read::Selecting(Selecting::BelowAll)),
+    ("MatcherIter::new", Read::Selecting(Selecting::Iter)),
+    ("child_ids_of", Read::Listing(Listing::ChildIds)),
+    ("ancestor_ids_of", Read::Listing(Listing::AncestorIds)),
+    ("descendant_ids_of", Read::Listing(Listing::DescendantIds)),
+    ("children_of", Read::Listing(Listing::ChildrenOf)),
+    ("ancestors_of", Read::Listing(Listing::AncestorsOf)),
+    ("children", Read::Listing(Listing::Children)),
+    ("ancestors", Read::Listing(Listing::Ancestors)),
+    ("descendants", Read::Listing(Listing::Descendants)),
+    ("element_children", Read::Listing(Listing::Elements)),
+    ("text", Read::Writing(Writing::Text)),
+    ("immediate_text", Read::Writing(Writing::ImmediateText)),
+    ("html", Read::Writing(Writing::Html)),
+    ("inner_html", Read::Writing(Writing::InnerHtml)),
+    ("try_html", Read::Writing(Writing::TryHtml)),
+    ("try_inner_html", Read::Writing(Writing::TryInnerHtml)),
+    ("Selection::from_ids", Read::Asking(Asking::FromIds)),
+    ("Selection::select", Read::Asking(Asking::Select)),
+    ("Selection::find", Read::Asking(Asking::Find)),
+    ("Selection::filter", Read::Asking(Asking::Filter)),
+    ("Selection::add", Read::Asking(Asking::Add)),
+    ("Selection::ids", Read::Asking(Asking::Ids)),
+    ("Selection::parent", Read::Asking(Asking::Parent)),
+    ("Selection::children", Read::Asking(Asking::Children)),
+    ("Selection::ancestors", Read::Asking(Asking::Ancestors)),
+    ("Selection::next_sibling", Read::Asking(Asking::Next)),
+    (
+        "Selection::add_selection",
+        Read::Asking(Asking::AddSelection),
+    ),
+    ("Selection::text", Read::Asking(Asking::Text)),
+    ("Selection::html", Read::Asking(Asking::Html)),
+    ("Selection::is", Read::Asking(Asking::Is)),
 ];
 
 /// What a call that reads answers: how much it read, or a refusal.
@@ -120,60 +207,58 @@ fn read_nodes(read: Result<Document, MarkupFault>) -> Option<Size> {
 }
 
 /// A call that reads markup.
-fn read_markup(alloc: Global, name: &str) -> Option<Size> {
-    match name {
-        "Document::parse" => read_nodes(Document::parse(alloc, MARKUP)),
-        "Document::fragment" => read_nodes(Document::fragment(alloc, MARKUP)),
-        "Snippet::read" => match Snippet::read(alloc, MARKUP) {
+fn read_markup(alloc: Global, call: Markup) -> Option<Size> {
+    match call {
+        Markup::Parse => read_nodes(Document::parse(alloc, MARKUP)),
+        Markup::Fragment => read_nodes(Document::fragment(alloc, MARKUP)),
+        Markup::Snippet => match Snippet::read(alloc, MARKUP) {
             Ok(_) => Some(Ok(1)),
             Err(fault) if fault.kind == MarkupFaultKind::Memory => Some(Err(OutOfMemory)),
             Err(_) => None,
         },
-        _ => None,
     }
 }
 
 /// A call that copies.
-fn copy(page: &Page, name: &str) -> Option<Size> {
+fn copy(page: &Page, call: Copying) -> Option<Size> {
     let (document, first) = (&page.document, NodeId::new(1)?);
-    Some(match name {
-        "Document::try_clone" => match document.try_clone() {
+    Some(match call {
+        Copying::Document => match document.try_clone() {
             Ok(copy) => Ok(copy.tree.len()),
             Err(OutOfMemory) => Err(OutOfMemory),
         },
-        "Tree::try_clone" => nodes(document.tree.try_clone()),
-        "Tree::fragment_of" => match Tree::fragment_of(&document.tree, &[first]) {
+        Copying::Tree => nodes(document.tree.try_clone()),
+        Copying::FragmentOf => match Tree::fragment_of(&document.tree, &[first]) {
             Ok(copy) => Ok(copy.len()),
             Err(EditFault::Memory) => Err(OutOfMemory),
             Err(_) => return None,
         },
-        "to_fragment" => match NodeRef::new(first, &document.tree).to_fragment() {
+        Copying::ToFragment => match NodeRef::new(first, &document.tree).to_fragment() {
             Ok(copy) => Ok(copy.tree.len()),
             Err(EditFault::Memory) => Err(OutOfMemory),
             Err(_) => return None,
         },
-        "Tree::validate" => match document.tree.validate() {
+        Copying::Validate => match document.tree.validate() {
             Ok(()) => Ok(1),
             Err(ValidateFault::Memory) => Err(OutOfMemory),
             Err(_) => return None,
         },
-        _ => return None,
     })
 }
 
 /// A call that selects.
-fn select(page: &Page, name: &str) -> Option<Size> {
+fn select(page: &Page, call: Selecting) -> Option<Size> {
     let (tree, matcher, roots) = (&page.document.tree, &page.matcher, [NodeId::root()]);
-    Some(match name {
-        "TreeIndex::new" => match TreeIndex::new(tree) {
+    Some(match call {
+        Selecting::IndexNew => match TreeIndex::new(tree) {
             Ok(index) => Ok(index.last_below(&NodeId::root())?),
             Err(OutOfMemory) => Err(OutOfMemory),
         },
-        "TreeIndex::select" => select_by_index(tree, matcher, &roots),
-        "select_nodes" => number(select_nodes(tree, &roots, matcher)),
-        "select_below" => number(select_below(tree, &NodeId::root(), matcher)),
-        "select_below_all" => number(select_below_all(tree, &roots, matcher)),
-        "MatcherIter::new" => match MatcherIter::new(
+        Selecting::Index => select_by_index(tree, matcher, &roots),
+        Selecting::Nodes => number(select_nodes(tree, &roots, matcher)),
+        Selecting::Below => number(select_below(tree, &NodeId::root(), matcher)),
+        Selecting::BelowAll => number(select_below_all(tree, &roots, matcher)),
+        Selecting::Iter => match MatcherIter::new(
             tree,
             &[NodeId::root(), NodeId::new(1)?],
             matcher,
@@ -181,7 +266,6 @@ fn select(page: &Page, name: &str) -> Option<Size> {
             Ok(_) => Ok(1),
             Err(OutOfMemory) => Err(OutOfMemory),
         },
-        _ => return None,
     })
 }
 
@@ -193,91 +277,77 @@ fn select_by_index(tree: &Tree, matcher: &Matcher, roots: &[NodeId]) -> Size {
 }
 
 /// A list of nodes or their numbers.
-fn list(tree: &Tree, name: &str) -> Option<Size> {
+fn list(tree: &Tree, call: Listing) -> Option<Size> {
     let (first, third) = (NodeId::new(1)?, NodeId::new(5)?);
     let (node, below) = (NodeRef::new(first, tree), NodeRef::new(third, tree));
-    Some(match name {
-        "child_ids_of" => number(tree.child_ids_of(&first)),
-        "ancestor_ids_of" => number(tree.ancestor_ids_of(&third, None)),
-        "descendant_ids_of" => number(tree.descendant_ids_of(&first)),
-        "children_of" => number(tree.children_of(&first)),
-        "ancestors_of" => number(tree.ancestors_of(&third, None)),
-        "children" => number(node.children()),
-        "ancestors" => number(below.ancestors(None)),
-        "descendants" => number(node.descendants()),
-        "element_children" => number(node.element_children()),
-        _ => return None,
+    Some(match call {
+        Listing::ChildIds => number(tree.child_ids_of(&first)),
+        Listing::AncestorIds => number(tree.ancestor_ids_of(&third, None)),
+        Listing::DescendantIds => number(tree.descendant_ids_of(&first)),
+        Listing::ChildrenOf => number(tree.children_of(&first)),
+        Listing::AncestorsOf => number(tree.ancestors_of(&third, None)),
+        Listing::Children => number(node.children()),
+        Listing::Ancestors => number(below.ancestors(None)),
+        Listing::Descendants => number(node.descendants()),
+        Listing::Elements => number(node.element_children()),
     })
 }
 
 /// A text.
-fn write(tree: &Tree, name: &str) -> Option<Size> {
+fn write(tree: &Tree, call: Writing) -> Option<Size> {
     let node = NodeRef::new(NodeId::new(1)?, tree);
     let heading = NodeRef::new(NodeId::new(2)?, tree);
-    Some(match name {
-        "text" => length(node.text()),
-        "immediate_text" => length(heading.immediate_text()),
-        "html" => length(node.html()),
-        "inner_html" => length(node.inner_html()),
-        "try_html" => length_if(node.try_html()),
-        "try_inner_html" => length_if(node.try_inner_html()),
-        _ => return None,
+    Some(match call {
+        Writing::Text => length(node.text()),
+        Writing::ImmediateText => length(heading.immediate_text()),
+        Writing::Html => length(node.html()),
+        Writing::InnerHtml => length(node.inner_html()),
+        Writing::TryHtml => length_if(node.try_html()),
+        Writing::TryInnerHtml => length_if(node.try_inner_html()),
     })
 }
 
 /// A call of a selection that was made before.
-fn ask(some: &Selection<'_>, page: &Page, name: &str) -> Option<Size> {
-    Some(match name {
-        "Selection::from_ids" => selected(Selection::from_ids(
-            &page.document.tree,
-            &[NodeId::root()],
-        )),
-        "Selection::select" => return selected_by(page.document.select(SELECTOR)),
-        "Selection::find" => return selected_by(some.select("b, li")),
-        "Selection::filter" => return selected_by(some.filter("li, p")),
-        "Selection::add" => return selected_by(some.add("b")),
-        "Selection::ids" => number(some.ids()),
-        "Selection::parent" => selected(some.parent()),
-        "Selection::children" => selected(some.children()),
-        "Selection::ancestors" => selected(some.ancestors(None)),
-        "Selection::next_sibling" => selected(some.next_sibling()),
-        "Selection::add_selection" => selected(some.add_selection(some)),
-        "Selection::text" => length(some.text()),
-        "Selection::html" => length(some.html()),
-        "Selection::is" => match some.is(SELECTOR) {
+fn ask(some: &Selection<'_>, page: &Page, call: Asking) -> Option<Size> {
+    Some(match call {
+        Asking::FromIds => selected(Selection::from_ids(&page.document.tree, &[NodeId::root()])),
+        Asking::Select => return selected_by(page.document.select(SELECTOR)),
+        Asking::Find => return selected_by(some.select("b, li")),
+        Asking::Filter => return selected_by(some.filter("li, p")),
+        Asking::Add => return selected_by(some.add("b")),
+        Asking::Ids => number(some.ids()),
+        Asking::Parent => selected(some.parent()),
+        Asking::Children => selected(some.children()),
+        Asking::Ancestors => selected(some.ancestors(None)),
+        Asking::Next => selected(some.next_sibling()),
+        Asking::AddSelection => selected(some.add_selection(some)),
+        Asking::Text => length(some.text()),
+        Asking::Html => length(some.html()),
+        Asking::Is => match some.is(SELECTOR) {
             Ok(_) => Ok(1),
             Err(OutOfMemory) => Err(OutOfMemory),
         },
-        _ => return None,
     })
 }
 
-/// Makes the call of that name.
-fn size_of(alloc: Global, page: &Page, some: &Selection<'_>, name: &str) -> Option<Size> {
-    if let Some(size) = read_markup(alloc, name) {
-        return Some(size);
+/// Makes the call.
+fn size_of(alloc: Global, page: &Page, some: &Selection<'_>, read: Read) -> Option<Size> {
+    match read {
+        Read::Markup(call) => read_markup(alloc, call),
+        Read::Copying(call) => copy(page, call),
+        Read::Selecting(call) => select(page, call),
+        Read::Listing(call) => list(&page.document.tree, call),
+        Read::Writing(call) => write(&page.document.tree, call),
+        Read::Asking(call) => ask(some, page, call),
     }
-    if let Some(size) = copy(page, name) {
-        return Some(size);
-    }
-    if let Some(size) = select(page, name) {
-        return Some(size);
-    }
-    if let Some(size) = list(&page.document.tree, name) {
-        return Some(size);
-    }
-    if let Some(size) = write(&page.document.tree, name) {
-        return Some(size);
-    }
-    ask(some, page, name)
 }
 
 /// Makes a call that reads, with so much memory.
-pub fn reads(alloc: Global, page: &Page, name: &str, memory: Memory) -> Option<Ending> {
+pub fn reads(alloc: Global, page: &Page, read: Read, memory: Memory) -> Option<Ending> {
     let some = page.document.select("p, li, td").ok()?;
-    let wanted = size_of(alloc, page, &some, name)?.ok()?;
+    let wanted = size_of(alloc, page, &some, read)?.ok()?;
     let held = take_memory(alloc, memory)?;
-    let answer = size_of(alloc, page, &some, name);
+    let answer = size_of(alloc, page, &some, read);
     drop(held);
     Some(match answer? {
         Ok(size) => done_if(size == wanted),
