@@ -8,12 +8,13 @@ use dom_query::{
     sanitize,
 };
 use dom_select::matcher::descendants::select_below;
+use named_calls::words::named;
 use std::alloc::Global;
 use std::io::Read;
 use std::time::{Duration, Instant};
 
 /// What is timed.
-#[derive(Clone, Copy, PartialEq, Eq, Debug, Drop)]
+#[derive(Clone, Copy, Drop)]
 enum Call {
     Parse,
     Page,
@@ -99,15 +100,6 @@ const ATTRS: [&str; 12] = [
     "alt", "class", "colspan", "dir", "height", "href", "id", "lang", "rowspan", "src", "title",
     "width",
 ];
-
-fn call_named(name: &str) -> Option<Call> {
-    for (known, call) in CALLS {
-        if known == name {
-            return Some(call);
-        }
-    }
-    None
-}
 
 /// A run of a call: how long it took, and what it counted.
 #[derive(Clone, Copy)]
@@ -358,7 +350,7 @@ fn last_end(source: &str) -> Option<usize> {
 
 /// Prints the best of so many runs.
 fn time(rt: &HostRuntime, page: &Page<'_>, name: &str, runs: u64) -> Option<()> {
-    let call = call_named(name)?;
+    let call = named(&CALLS, name)?;
     let mut best = Duration::MAX;
     let mut count = 0;
     for _ in 0..runs {
@@ -374,8 +366,8 @@ fn time(rt: &HostRuntime, page: &Page<'_>, name: &str, runs: u64) -> Option<()> 
 
 /// Prints what each call counts.
 fn count_all(rt: &HostRuntime, page: &Page<'_>) -> Option<()> {
-    for (name, call) in CALLS {
-        let count = run_once(rt, page, call)?.count;
+    for (name, call) in &CALLS {
+        let count = run_once(rt, page, *call)?.count;
         println!(rt; "{name} {count}").ok()?;
     }
     Some(())
