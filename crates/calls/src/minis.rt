@@ -64,8 +64,8 @@ pub fn find(rt: &HostRuntime, tree: &Tree, line: &str) -> Option<()> {
     let (word, path) = cut(line);
     let id = node_of(word)?;
     let node = NodeRef::new(id, tree);
-    show_nodes_read(rt, "find_descendants", &node.find_descendants(path))?;
-    show_nodes_read(rt, "try_find_descendants", &node.try_find_descendants(path))
+    show_nodes_read(rt, "find_descendants", node.find_descendants(path))?;
+    show_nodes_read(rt, "try_find_descendants", node.try_find_descendants(path))
 }
 
 /// What names, each of a step, find below a node: `N NAME NAME`.
@@ -76,7 +76,7 @@ pub fn find_names(rt: &HostRuntime, tree: &Tree, line: &str) -> Option<()> {
 }
 
 fn find_path(rt: &HostRuntime, node: &NodeRef<'_>, names: &[&str]) -> Option<()> {
-    show_nodes_read(rt, "find", &node.find(names))?;
+    show_nodes_read(rt, "find", node.find(names))?;
     let (nodes, id) = (node.tree.nodes(), node.id);
     let one = Traversal::find_descendant_element(nodes, id, names);
     show_some(rt, "find_descendant_element", one.map(NodeId::value))?;

@@ -104,10 +104,10 @@ pub fn show_nodes(rt: &HostRuntime, what: &str, nodes: &[NodeRef<'_>]) -> Option
 pub fn show_ids_read<F: Drop>(
     rt: &HostRuntime,
     what: &str,
-    ids: &Result<Vec<NodeId>, F>,
+    ids: Result<Vec<NodeId>, F>,
 ) -> Option<()> {
     match ids {
-        Ok(ids) => show_ids(rt, what, ids),
+        Ok(ids) => show_ids(rt, what, &ids),
         Err(_) => None,
     }
 }
@@ -116,10 +116,10 @@ pub fn show_ids_read<F: Drop>(
 pub fn show_nodes_read<F: Drop>(
     rt: &HostRuntime,
     what: &str,
-    nodes: &Result<Vec<NodeRef<'_>>, F>,
+    nodes: Result<Vec<NodeRef<'_>>, F>,
 ) -> Option<()> {
     match nodes {
-        Ok(nodes) => show_nodes(rt, what, nodes),
+        Ok(nodes) => show_nodes(rt, what, &nodes),
         Err(_) => None,
     }
 }

@@ -23,7 +23,7 @@ fn select_by_each(rt: &HostRuntime, tree: &Tree, matcher: &Matcher) -> Option<()
     show_ids_read(
         rt,
         "select_below",
-        &select_below(tree, &NodeId::root(), matcher),
+        select_below(tree, &NodeId::root(), matcher),
     )?;
     list_below(rt, tree, &roots, matcher)?;
     walk_below_root(rt, tree, matcher)?;
@@ -55,9 +55,9 @@ fn list_below(rt: &HostRuntime, tree: &Tree, roots: &[NodeId], matcher: &Matcher
     show_ids_read(
         rt,
         "select_below_all",
-        &select_below_all(tree, roots, matcher),
+        select_below_all(tree, roots, matcher),
     )?;
-    show_nodes_read(rt, "select_nodes", &select_nodes(tree, roots, matcher))?;
+    show_nodes_read(rt, "select_nodes", select_nodes(tree, roots, matcher))?;
     let mut index = TreeIndex::new(tree).ok()?;
     let found = index.select(matcher, roots).ok()?;
     show_nodes(rt, "TreeIndex::select", &found)

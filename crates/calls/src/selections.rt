@@ -3,7 +3,9 @@
 use crate::printing::{
     show, show_flags, show_ids_read, show_nodes, show_read, show_some, show_some_read,
 };
-use dom_query::{Document, DocumentSelect, Matcher, OutOfMemory, Selection, SelectionMd};
+use dom_query::{
+    Document, DocumentSelect, Matcher, OutOfMemory, Selection, SelectionMd, SelectorFault,
+};
 use named_calls::words::cut;
 use std::fmt::Display;
 
@@ -11,7 +13,7 @@ use std::fmt::Display;
 fn show_found<F: Display + Drop>(
     rt: &HostRuntime,
     what: &str,
-    found: &Result<Selection<'_>, F>,
+    found: Result<Selection<'_>, F>,
 ) -> Option<()> {
     match found {
         Ok(found) => show_nodes(rt, what, found.nodes()),
@@ -23,7 +25,7 @@ fn show_found<F: Display + Drop>(
 fn show_tried(
     rt: &HostRuntime,
     what: &str,
-    found: &Result<Option<Selection<'_>>, OutOfMemory>,
+    found: Result<Option<Selection<'_>>, OutOfMemory>,
 ) -> Option<()> {
     match found {
         Ok(Some(found)) => show_nodes(rt, what, found.nodes()),
@@ -34,10 +36,10 @@ fn show_tried(
 
 /// What a document selects by each call: `SELECTOR`.
 pub fn select(rt: &HostRuntime, document: &Document, line: &str) -> Option<()> {
-    show_found(rt, "select", &document.select(line))?;
-    show_found(rt, "nip", &document.nip(line))?;
-    show_found(rt, "select_single", &document.select_single(line))?;
-    show_tried(rt, "try_select", &document.try_select(line))?;
+    show_found(rt, "select", document.select(line))?;
+    show_found(rt, "nip", document.nip(line))?;
+    show_found(rt, "select_single", document.select_single(line))?;
+    show_tried(rt, "try_select", document.try_select(line))?;
     match Matcher::new(rt.alloc(), line) {
         Ok(matcher) => select_by_matcher(rt, document, &matcher),
         Err(fault) => show(rt, "Matcher::new", fault),
@@ -45,9 +47,9 @@ pub fn select(rt: &HostRuntime, document: &Document, line: &str) -> Option<()> {
 }
 
 fn select_by_matcher(rt: &HostRuntime, document: &Document, matcher: &Matcher) -> Option<()> {
-    show_found(rt, "select_matcher", &document.select_matcher(matcher))?;
+    show_found(rt, "select_matcher", document.select_matcher(matcher))?;
     let one = document.select_single_matcher(matcher);
-    show_found(rt, "select_single_matcher", &one)
+    show_found(rt, "select_single_matcher", one)
 }
 
 /// Where each step leads from the nodes that a selector selects: `SELECTOR`.
@@ -56,14 +58,44 @@ pub fn step(rt: &HostRuntime, document: &Document, line: &str) -> Option<()> {
     step_from(rt, &all)
 }
 
+/// A way from nodes to others.
+#[derive(Clone, Copy, Drop)]
+enum Way {
+    Parent,
+    Children,
+    Ancestors,
+    AncestorsTo(usize),
+    Next,
+    Prev,
+    Clone,
+}
+
+const WAYS: [(&str, Way); 7] = [
+    ("parent", Way::Parent),
+    ("children", Way::Children),
+    ("ancestors", Way::Ancestors),
+    ("ancestors 1", Way::AncestorsTo(1)),
+    ("next_sibling", Way::Next),
+    ("prev_sibling", Way::Prev),
+    ("try_clone", Way::Clone),
+];
+
+fn stepped<'a>(all: &Selection<'a>, way: Way) -> Result<Selection<'a>, OutOfMemory> {
+    match way {
+        Way::Parent => all.parent(),
+        Way::Children => all.children(),
+        Way::Ancestors => all.ancestors(None),
+        Way::AncestorsTo(depth) => all.ancestors(Some(depth)),
+        Way::Next => all.next_sibling(),
+        Way::Prev => all.prev_sibling(),
+        Way::Clone => all.try_clone(),
+    }
+}
+
 fn step_from(rt: &HostRuntime, all: &Selection<'_>) -> Option<()> {
-    show_found(rt, "parent", &all.parent())?;
-    show_found(rt, "children", &all.children())?;
-    show_found(rt, "ancestors", &all.ancestors(None))?;
-    show_found(rt, "ancestors 1", &all.ancestors(Some(1)))?;
-    show_found(rt, "next_sibling", &all.next_sibling())?;
-    show_found(rt, "prev_sibling", &all.prev_sibling())?;
-    show_found(rt, "try_clone", &all.try_clone())?;
+    for (name, way) in &WAYS {
+        show_found(rt, name, stepped(all, *way))?;
+    }
     show_nodes(rt, "first", all.first().nodes())?;
     show_nodes(rt, "last", all.last().nodes())?;
     list(rt, all)
@@ -76,7 +108,7 @@ fn list(rt: &HostRuntime, all: &Selection<'_>) -> Option<()> {
     let flags = [("exists", all.exists()), ("is_empty", all.is_empty())];
     show_flags(rt, &flags)?;
     show_some(rt, "get 1", all.get(1).map(|node| node.id.value()))?;
-    show_ids_read(rt, "ids", &all.ids())?;
+    show_ids_read(rt, "ids", all.ids())?;
     for one in all.iter() {
         show_nodes(rt, "iter", one.nodes())?;
     }
@@ -90,17 +122,47 @@ pub fn choose(rt: &HostRuntime, document: &Document, line: &str) -> Option<()> {
     choose_from(rt, &all, choice)
 }
 
-fn choose_from(rt: &HostRuntime, all: &Selection<'_>, choice: &str) -> Option<()> {
-    show_read(rt, "is", all.is(choice))?;
-    show_found(rt, "select", &all.select(choice))?;
-    show_found(rt, "nip", &all.nip(choice))?;
-    show_found(rt, "select_single", &all.select_single(choice))?;
-    show_found(rt, "filter", &all.filter(choice))?;
-    show_found(rt, "add", &all.add(choice))?;
-    show_tried(rt, "try_select", &all.try_select(choice))?;
-    show_tried(rt, "try_filter", &all.try_filter(choice))?;
-    show_tried(rt, "try_add", &all.try_add(choice))?;
-    match Matcher::new(rt.alloc(), choice) {
+/// What a text chooses.
+#[derive(Clone, Copy, Drop)]
+enum Choice {
+    Select,
+    Nip,
+    Single,
+    Filter,
+    Add,
+}
+
+const CHOICES: [(&str, Choice); 5] = [
+    ("select", Choice::Select),
+    ("nip", Choice::Nip),
+    ("select_single", Choice::Single),
+    ("filter", Choice::Filter),
+    ("add", Choice::Add),
+];
+
+fn chosen<'a>(
+    all: &Selection<'a>,
+    choice: Choice,
+    text: &str,
+) -> Result<Selection<'a>, SelectorFault> {
+    match choice {
+        Choice::Select => all.select(text),
+        Choice::Nip => all.nip(text),
+        Choice::Single => all.select_single(text),
+        Choice::Filter => all.filter(text),
+        Choice::Add => all.add(text),
+    }
+}
+
+fn choose_from(rt: &HostRuntime, all: &Selection<'_>, text: &str) -> Option<()> {
+    show_read(rt, "is", all.is(text))?;
+    for (name, choice) in &CHOICES {
+        show_found(rt, name, chosen(all, *choice, text))?;
+    }
+    show_tried(rt, "try_select", all.try_select(text))?;
+    show_tried(rt, "try_filter", all.try_filter(text))?;
+    show_tried(rt, "try_add", all.try_add(text))?;
+    match Matcher::new(rt.alloc(), text) {
         Ok(matcher) => choose_by_matcher(rt, all, &matcher),
         Err(fault) => show(rt, "Matcher::new", fault),
     }
@@ -108,12 +170,12 @@ fn choose_from(rt: &HostRuntime, all: &Selection<'_>, choice: &str) -> Option<()
 
 fn choose_by_matcher(rt: &HostRuntime, all: &Selection<'_>, matcher: &Matcher) -> Option<()> {
     show(rt, "is_matcher", all.is_matcher(matcher))?;
-    show_found(rt, "select_matcher", &all.select_matcher(matcher))?;
+    show_found(rt, "select_matcher", all.select_matcher(matcher))?;
     let one = all.select_single_matcher(matcher);
-    show_found(rt, "select_single_matcher", &one)?;
+    show_found(rt, "select_single_matcher", one)?;
     show_each(rt, all, matcher)?;
-    show_found(rt, "filter_matcher", &all.filter_matcher(matcher))?;
-    show_found(rt, "add_matcher", &all.add_matcher(matcher))
+    show_found(rt, "filter_matcher", all.filter_matcher(matcher))?;
+    show_found(rt, "add_matcher", all.add_matcher(matcher))
 }
 
 /// What a matcher selects below the nodes, one by one; `-` where there are no nodes.
@@ -138,8 +200,8 @@ pub fn combine(rt: &HostRuntime, document: &Document, line: &str) -> Option<()> 
 }
 
 fn show_both<'a>(rt: &HostRuntime, all: &Selection<'a>, other: &Selection<'a>) -> Option<()> {
-    show_found(rt, "filter_selection", &all.filter_selection(other))?;
-    show_found(rt, "add_selection", &all.add_selection(other))?;
+    show_found(rt, "filter_selection", all.filter_selection(other))?;
+    show_found(rt, "add_selection", all.add_selection(other))?;
     show(rt, "is_selection", all.is_selection(other))?;
     println!(rt; "{all:?}").ok()
 }

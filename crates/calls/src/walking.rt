@@ -20,32 +20,32 @@ pub fn walk(rt: &HostRuntime, tree: &Tree, line: &str) -> Option<()> {
 /// The children of nodes: `N,M`.
 pub fn list_children(rt: &HostRuntime, tree: &Tree, line: &str) -> Option<()> {
     for id in &nodes_of(rt.alloc(), line)? {
-        show_ids_read(rt, "child_ids_of", &tree.child_ids_of(id))?;
+        show_ids_read(rt, "child_ids_of", tree.child_ids_of(id))?;
     }
     Some(())
 }
 
 /// Numbers of nodes.
 fn list_numbers(rt: &HostRuntime, tree: &Tree, id: &NodeId) -> Option<()> {
-    show_ids_read(rt, "child_ids_of", &tree.child_ids_of(id))?;
-    show_ids_read(rt, "ancestor_ids_of", &tree.ancestor_ids_of(id, None))?;
-    show_ids_read(rt, "ancestor_ids_of 1", &tree.ancestor_ids_of(id, Some(1)))?;
-    show_ids_read(rt, "descendant_ids_of", &tree.descendant_ids_of(id))
+    show_ids_read(rt, "child_ids_of", tree.child_ids_of(id))?;
+    show_ids_read(rt, "ancestor_ids_of", tree.ancestor_ids_of(id, None))?;
+    show_ids_read(rt, "ancestor_ids_of 1", tree.ancestor_ids_of(id, Some(1)))?;
+    show_ids_read(rt, "descendant_ids_of", tree.descendant_ids_of(id))
 }
 
 /// References to nodes.
 fn list_nodes(rt: &HostRuntime, node: &NodeRef<'_>) -> Option<()> {
-    show_nodes_read(rt, "children", &node.children())?;
-    show_nodes_read(rt, "element_children", &node.element_children())?;
-    show_nodes_read(rt, "ancestors", &node.ancestors(None))?;
-    show_nodes_read(rt, "ancestors 1", &node.ancestors(Some(1)))?;
-    show_nodes_read(rt, "descendants", &node.descendants())
+    show_nodes_read(rt, "children", node.children())?;
+    show_nodes_read(rt, "element_children", node.element_children())?;
+    show_nodes_read(rt, "ancestors", node.ancestors(None))?;
+    show_nodes_read(rt, "ancestors 1", node.ancestors(Some(1)))?;
+    show_nodes_read(rt, "descendants", node.descendants())
 }
 
 /// The same by the node's number, and the nodes beside it.
 fn list_by_number(rt: &HostRuntime, tree: &Tree, id: &NodeId) -> Option<()> {
-    show_nodes_read(rt, "children_of", &tree.children_of(id))?;
-    show_nodes_read(rt, "ancestors_of", &tree.ancestors_of(id, None))?;
+    show_nodes_read(rt, "children_of", tree.children_of(id))?;
+    show_nodes_read(rt, "ancestors_of", tree.ancestors_of(id, None))?;
     show_node(rt, "parent_of", &tree.parent_of(id))?;
     show_node(rt, "first_child_of", &tree.first_child_of(id))?;
     show_node(rt, "last_child_of", &tree.last_child_of(id))?;
