@@ -72,7 +72,7 @@ fn shows_page(rt: &impl Abort, alloc: Global, page: &str, html: &str) -> Result<
 
 #[test]
 fn reads_pages(rt: HostRuntime) -> Result<(), Fail> {
-    for (page, html) in PAGES {
+    for (page, html) in &PAGES {
         shows_page(&rt, rt.alloc(), page, html)?;
     }
     Ok(())

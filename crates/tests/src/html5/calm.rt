@@ -222,14 +222,14 @@ fn is_read_as(alloc: Global, front: &str, back: &str, row: (&str, &str)) -> Opti
 
 #[test]
 fn reads_pages_at_the_border_of_calm_ones(rt: HostRuntime) -> Result<(), Fail> {
-    for row in FRAMES {
-        assert!(rt; is_read_as(rt.alloc(), "", "", row) == Some(true));
+    for row in &FRAMES {
+        assert!(rt; is_read_as(rt.alloc(), "", "", *row) == Some(true));
     }
-    for row in BROKEN {
-        assert!(rt; is_read_as(rt.alloc(), FRONT, BACK, row) == Some(true));
+    for row in &BROKEN {
+        assert!(rt; is_read_as(rt.alloc(), FRONT, BACK, *row) == Some(true));
     }
-    for body in KEPT {
-        assert!(rt; is_read_as(rt.alloc(), FRONT, BACK, (body, body)) == Some(true));
+    for body in &KEPT {
+        assert!(rt; is_read_as(rt.alloc(), FRONT, BACK, (*body, *body)) == Some(true));
     }
     Ok(())
 }

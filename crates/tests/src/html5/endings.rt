@@ -59,7 +59,7 @@ fn changed(alloc: Global, text: &str, at: usize, mark: &str) -> Result<String, F
 
 #[test]
 fn beginnings_of_pages_end(rt: HostRuntime) -> Result<(), Fail> {
-    for text in TEXTS {
+    for text in &TEXTS {
         for at in 0..text.len() {
             ends(&rt, rt.alloc(), text.get(..at).unwrap_or(""))?;
         }
@@ -69,9 +69,9 @@ fn beginnings_of_pages_end(rt: HostRuntime) -> Result<(), Fail> {
 
 #[test]
 fn changed_pages_end(rt: HostRuntime) -> Result<(), Fail> {
-    for text in TEXTS {
+    for text in &TEXTS {
         for at in 0..text.len() {
-            for mark in MARKS {
+            for mark in &MARKS {
                 ends(
                     &rt,
                     rt.alloc(),

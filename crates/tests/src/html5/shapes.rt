@@ -27,10 +27,10 @@ const MADE: [(&str, &str); 4] = [
 
 #[test]
 fn makes_pages(rt: HostRuntime) -> Result<(), Fail> {
-    for (markup, html) in MADE {
+    for (markup, html) in &MADE {
         let mut document = Document::parse(rt.alloc(), markup)?;
         make_page(&mut document.tree)?;
-        assert!(rt; document.html()?.as_str() == html);
+        assert!(rt; document.html()?.as_str() == *html);
     }
     Ok(())
 }

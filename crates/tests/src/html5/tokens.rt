@@ -37,7 +37,7 @@ fn is_token(token: &Option<Token>, kind: &str, text: &str) -> bool {
 #[test]
 fn reads_stretches(rt: HostRuntime) -> Result<(), Fail> {
     let mut tokens = Tokenizer::new(rt.alloc());
-    for (stretch, kind, text) in STRETCHES {
+    for (stretch, kind, text) in &STRETCHES {
         let token = tokens.read_stretch(stretch)?;
         assert!(rt; is_token(&token, kind, text));
     }
@@ -47,7 +47,7 @@ fn reads_stretches(rt: HostRuntime) -> Result<(), Fail> {
 #[test]
 fn reads_tokens(rt: HostRuntime) -> Result<(), Fail> {
     let mut tokens = Tokenizer::new(rt.alloc());
-    for (stretch, kind, text) in STRETCHES {
+    for (stretch, kind, text) in &STRETCHES {
         let mut token = None;
         let rest = tokens.read_token(stretch, &mut token)?;
         assert!(rt; rest.is_empty() && is_token(&token, kind, text));

@@ -24,7 +24,7 @@ fn attr(alloc: Global, local: &str, value: &str) -> Result<Attr, Fail> {
 
 fn two_classes(alloc: Global) -> Result<Attrs, Fail> {
     let mut attrs = Attrs::new(alloc);
-    for value in ["first", "second"] {
+    for value in &["first", "second"] {
         attrs.push(attr(alloc, "class", value)?)?;
     }
     Ok(attrs)
@@ -65,7 +65,7 @@ fn numbers_end_below_the_last_u32(rt: HostRuntime) -> Result<(), Fail> {
 
 /// Shows the messages of the refusals of edits.
 fn shows_edit_faults(rt: &(impl Abort + Alloc<A = Global>), bad: MarkupFault) -> Result<(), Fail> {
-    for (fault, message) in [
+    for (fault, message) in &[
         (EditFault::UnknownNode, "unknown node"),
         (EditFault::NoChildrenHere, "no children here"),
         (EditFault::RootOrFragment, "root or fragment"),

@@ -84,9 +84,9 @@ fn shows_deaf(rt: &(impl Abort + Alloc<A = Global>), args: &[String], markup: &s
 
 #[test]
 fn no_status_waits_on_the_line(rt: HostRuntime) -> Result<(), Fail> {
-    for (texts, markup, status) in DRIVES {
+    for (texts, markup, status) in &DRIVES {
         let args = words(rt.alloc(), texts)?;
-        shows_deaf(&rt, &args, markup, status);
+        shows_deaf(&rt, &args, markup, *status);
     }
     Ok(())
 }
@@ -161,13 +161,13 @@ fn shows_no_reader(
 #[test]
 fn streams_fail(rt: HostRuntime) -> Result<(), Fail> {
     let args = words(rt.alloc(), &["document"])?;
-    for (kind, line) in [
+    for (kind, line) in &[
         (ErrorKind::BrokenPipe, "dq: read failed\n"),
         (ErrorKind::OutOfMemory, "dq: out of memory\n"),
     ] {
-        shows_no_reader(&rt, &args, kind, line);
+        shows_no_reader(&rt, &args, *kind, line);
     }
-    for (word, whole) in [
+    for (word, whole) in &[
         ("html\nselect p\nhtml", "<p>a</p>\n<p>a</p>\n"),
         ("select p\ntext\nformatted", "a\na\n\n\n"),
         ("--md", "a\n"),
@@ -225,11 +225,11 @@ fn shows_stops(
 
 #[test]
 fn runs_stop_where_the_writer_fails(rt: HostRuntime) -> Result<(), Fail> {
-    for script in SCRIPTS {
+    for script in &SCRIPTS {
         let mut whole: Vec<u8> = Vec::new(rt.alloc());
         assert!(rt; run(rt.alloc(), SOURCE, script, &mut whole) == Ok(()));
-        for most in [1, 2, 7, usize::MAX] {
-            shows_stops(&rt, script, whole.as_slice(), most)?;
+        for most in &[1, 2, 7, usize::MAX] {
+            shows_stops(&rt, script, whole.as_slice(), *most)?;
         }
         let (ended, out) = run_into(rt.alloc(), script, (9, 0));
         assert!(rt; ended == Err(RunFault::Write));

@@ -36,7 +36,7 @@ fn texts_of_other_faults(rt: HostRuntime) -> Result<(), Fail> {
     shows(&rt, WriteFault::Write, "write failed")?;
     shows(&rt, WriteFault::Memory, "out of memory")?;
     shows(&rt, OutOfMemory, "out of memory")?;
-    for (fault, want) in [
+    for (fault, want) in &[
         (SelectorFault::Syntax, "bad selector"),
         (SelectorFault::UnknownPseudoClass, "unknown pseudo-class"),
         (SelectorFault::Number, "number out of range"),
@@ -44,7 +44,7 @@ fn texts_of_other_faults(rt: HostRuntime) -> Result<(), Fail> {
         (SelectorFault::TooDeep, "nested too deep"),
         (SelectorFault::Memory, "out of memory"),
     ] {
-        shows(&rt, fault, want)?;
+        shows(&rt, *fault, want)?;
     }
     Ok(())
 }
@@ -68,8 +68,8 @@ const MARKUP_FAULTS: [(MarkupFaultKind, &str); 11] = [
 
 #[test]
 fn texts_of_markup_faults(rt: HostRuntime) -> Result<(), Fail> {
-    for (kind, want) in MARKUP_FAULTS {
-        shows(&rt, kind, want)?;
+    for (kind, want) in &MARKUP_FAULTS {
+        shows(&rt, *kind, want)?;
     }
     let kind = MarkupFaultKind::Unclosed;
     shows(
@@ -88,12 +88,12 @@ fn texts_of_selected_and_minis(rt: HostRuntime) -> Result<(), Fail> {
     shows(&rt, stop, "edit refused after 3 nodes: cycle")?;
     shows(&rt, PageFault::Memory, "out of memory")?;
     shows(&rt, PageFault::TooManyNodes, "too many nodes")?;
-    for (fault, want) in [
+    for (fault, want) in &[
         (MiniFault::NoSelector, "no mini selector"),
         (MiniFault::BadQuotedValue, "bad quoted value"),
         (MiniFault::Memory, "out of memory"),
     ] {
-        shows(&rt, fault, want)?;
+        shows(&rt, *fault, want)?;
     }
     Ok(())
 }
@@ -134,8 +134,8 @@ const RAW_FAULTS: [(ValidateFault, &str); 13] = [
 
 #[test]
 fn texts_of_raw_nodes(rt: HostRuntime) -> Result<(), Fail> {
-    for (fault, want) in RAW_FAULTS {
-        shows(&rt, fault, want)?;
+    for (fault, want) in &RAW_FAULTS {
+        shows(&rt, *fault, want)?;
     }
     Ok(())
 }
