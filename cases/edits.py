@@ -208,33 +208,42 @@ def texts_with(edits, folder):
 
 
 class Refusals:
-    """What earlier runs on this machine had refused, where `rt` keeps what it proved. The name of an entry is a sum of the
-    edit, of the crate with those below it, and of this script. The paths of a crate's functions are kept beside them, since a
-    library has no more of its private functions, and a gate that takes what was proved before doesn't print them."""
+    """What earlier runs on this machine had refused, where `rt` keeps what it proved; a kit whose `rt` keeps nothing has every
+    edit tried. The name of an entry is a sum of the edit, of the crate with those below it, and of this script. The paths of
+    a crate's functions are kept beside them, since a library has no more of its private functions, and a gate that takes what
+    was proved before doesn't print them."""
 
     def __init__(self, rt, crates, anew):
-        self.kept, self.stamp = rt.Kept(crates, anew), lambda crate: rt.stamp_of(crate, {})
-        self.refused, self.script = rt.REFUSED, pathlib.Path(__file__).read_bytes()
+        self.kept = rt.Kept(crates, anew) if hasattr(rt, "Kept") else None
+        self.stamp = lambda crate: rt.stamp_of(crate, {})
+        self.rt, self.script = rt, pathlib.Path(__file__).read_bytes()
 
-    def name(self, crate, edit):
-        """The name under which the refusal of that edit is kept."""
-        return hashlib.sha256(repr((self.stamp(crate), edit.name, edit.text, self.script)).encode()).hexdigest()
+    def tried(self, name):
+        """What is kept under that name, or None."""
+        found = self.kept.tried(name) if self.kept else None
+        return found and found[1]
+
+    def keep_tried(self, name, text):
+        if self.kept:
+            self.kept.keep_tried(name, self.rt.REFUSED, text)
+
+    def name(self, crate, *parts):
+        """The name under which something of the crate is kept."""
+        return hashlib.sha256(repr((self.stamp(crate), *parts)).encode()).hexdigest() if self.kept else ""
 
     def of(self, crate, edit):
         """The line by which an earlier run had the edit refused, or None."""
-        found = self.kept.tried(self.name(crate, edit))
-        return found and found[1]
+        return self.tried(self.name(crate, edit.name, edit.text, self.script))
 
     def keep(self, crate, edit, line):
-        self.kept.keep_tried(self.name(crate, edit), self.refused, line)
+        self.keep_tried(self.name(crate, edit.name, edit.text, self.script), line)
 
     def functions(self, crate, proved):
         """The paths of the crate's functions: those that the gate has just proved, or else those that it proved before."""
-        name = hashlib.sha256(repr(("functions", self.stamp(crate))).encode()).hexdigest()
+        name = self.name(crate, "functions")
         if proved:
-            self.kept.keep_tried(name, self.refused, json.dumps(proved))
-        found = self.kept.tried(name)
-        return proved or (json.loads(found[1]) if found else [])
+            self.keep_tried(name, json.dumps(proved))
+        return proved or json.loads(self.tried(name) or "[]")
 
 
 class Trial:
