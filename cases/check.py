@@ -84,8 +84,9 @@ def gate(clock):
     if rt is None:
         print("check: no command rt: the kit's folder bin must be on the PATH")
         return [(0, 1)]
-    anew = ["--anew"] if "--anew" in sys.argv else []
-    trials, begun, before = edits.Trials(anew=bool(anew)), time.monotonic(), used()
+    trials, begun, before = edits.Trials(anew="--anew" in sys.argv), time.monotonic(), used()
+    # (a kit whose rt keeps nothing shows all anew each time, and has no such word)
+    anew = ["--anew"] if "--anew" in sys.argv and trials.refusals.kept else []
     ran = subprocess.Popen([rt, "ci", *anew], cwd=ROOT, stdout=subprocess.PIPE, stderr=subprocess.STDOUT, text=True)
     last, proved_at, functions = "", begun, []
     for line in ran.stdout:
