@@ -43,12 +43,16 @@ abbrev pub is_empty : List ℕ → Bool
 is_empty [] = true
 is_empty (b ∷ bs) = false
 
+-- the text begins with the value and then `-`
+abbrev pub begins_with_dash : CaseSensitivity → List ℕ → List ℕ → Bool
+begins_with_dash case found value = begins_with case found value && begins (λ c. nat_eq c hyphen) (drop (length value) found)
+
 -- An attribute's value is as the operator says. Nothing begins or ends with an empty value, or contains it, and no word is empty
 -- or has whitespace in it
 abbrev pub compares : AttrOperator → CaseSensitivity → List ℕ → List ℕ → Bool
 compares Equals case found value = same_text case found value
 compares Includes case found value = has_word case value (words_of found)
-compares DashMatch case found value = same_text case found value || (begins_with case found value && begins (λ c. nat_eq c hyphen) (drop (length value) found))
+compares DashMatch case found value = same_text case found value || begins_with_dash case found value
 compares Prefix case found value = not (is_empty value) && begins_with case found value
 compares Suffix case found value = not (is_empty value) && ends_with case found value
 compares Substring case found value = not (is_empty value) && has_within case found value

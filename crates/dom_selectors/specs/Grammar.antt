@@ -1,8 +1,9 @@
 -- The grammar of selectors: which text stands for which list of them. Texts are lists of characters. The context states where in a
 -- selector's text something stands. `Inner` is what stands for a list between parentheses, that of `:has` or another; it is the same
 -- grammar with one depth less, so each layer is said once, of any inner relation, and the depth of 64 is a number that falls.
-use Rattle.std.specs.Prelude.{◌≡◌, ◌<◌, ◌≤◌, ◌+◌, ◌-◌, ℕ, zero, suc, List, [], ◌∷◌, ◌++◌, Bool, true, false, ◌&&◌, ◌||◌, nat_eq, cond, drop, Option, Some, None, MatchBool, MatchOption, Result}
+use Rattle.std.specs.Prelude.{◌≡◌, ◌<◌, ◌≤◌, ◌+◌, ◌-◌, ℕ, zero, suc, List, [], ◌∷◌, ◌++◌, Bool, true, false, ◌&&◌, ◌||◌, nat_eq, cond, drop, Option, Some, None, MatchBool, MatchOption, MatchResult, Result}
 use Rattle.std.specs.Borrow.{Bor}
+use Rattle.std.specs.Global.{Vec}
 use Rattle.std.specs.Char.{is_ascii_whitespace}
 use Rattle.std.specs.List.{list_all}
 use Rattle.dom_nodes.specs.Ascii.{asterisk, colon, comma, dot, greater_than, left_bracket, left_parenthesis, number_sign, plus_sign, right_parenthesis, tilde}
@@ -26,6 +27,8 @@ use Rattle.dom_selectors.specs.Attributes.{SpellsAttribute}
 use Rattle.dom_selectors.specs.Nth.{SpellsNth}
 use Rattle.dom_selectors.specs.Strings.{SpellsString}
 use Rattle.dom_selectors.specs.Syntax.{CompoundSelector, compound, SelectorList, Steps}
+use Rattle.dom_selectors.specs.ValuesAsTrees.{read_selectors}
+use Rattle.dom_selectors.specs.declared.syntax.Selector.{Selector}
 use Rattle.dom_selectors.specs.ListsAsTrees.{Item, simple, listed, parts_among, lists_among, steps_of, selector_list}
 
 abbrev pub is_star : ℕ → Bool
@@ -74,13 +77,17 @@ pub record Opens (depth : ℕ) (text rest : List ℕ) : Type 0 where
   pub opens : text ≡ left_parenthesis ∷ inside
   pub skipped : rest ≡ after_white inside
 
+-- whitespace, and a parenthesis that closes
+abbrev pub Closes : List ℕ → List ℕ → Type 0
+Closes text rest = after_white text ≡ right_parenthesis ∷ rest
+
 -- what is spelled in parentheses, with whitespace round it
 pub record SpellsEnclosed (depth : ℕ) {A : Type 0} (Spells : A → List ℕ → List ℕ → Type 0) (v : A) (text rest : List ℕ) : Type 0 where
   pub inside : List ℕ
   pub opens : Opens depth text inside
   pub after : List ℕ
   pub value : Spells v inside after
-  pub closes : after_white after ≡ right_parenthesis ∷ rest
+  pub closes : Closes after rest
 
 -- where a selector may begin with a combinator, one that has a sign and whitespace, or nothing
 abbrev pub SpellsLead : Bool → Combinator → List ℕ → List ℕ → Type 0
@@ -89,10 +96,14 @@ SpellsLead true v [] rest = (v ≡ Descendant) × (rest ≡ [])
 SpellsLead true v (c ∷ more) rest = MatchOption (combinator_of c) ((v ≡ Descendant) × (rest ≡ c ∷ more)) (λ k. (v ≡ k) × (rest ≡ after_white more))
 
 module _ (context : ParseContext) (Inner : Bool → SelectorList → List ℕ → List ℕ → Type 0) where
-  -- a list in parentheses; that of `:has` stands in no other
+  -- a list in parentheses, that of `:has` or another
+  abbrev pub SpellsInside : Bool → SelectorList → List ℕ → List ℕ → Type 0
+  SpellsInside relative = SpellsEnclosed context.depth (Inner relative)
+
+  -- the list of a pseudo-class; that of `:has` stands in no other
   abbrev pub SpellsListed : Quantifier → Item → List ℕ → List ℕ → Type 0
   SpellsListed quantifier v text rest =
-      (is_relative quantifier && context.in_has ≡ false) × (list : SelectorList) × SpellsEnclosed context.depth (Inner (is_relative quantifier)) list text rest × (v ≡ listed (quantified quantifier list))
+      (is_relative quantifier && context.in_has ≡ false) × (list : SelectorList) × SpellsInside (is_relative quantifier) list text rest × (v ≡ listed (quantified quantifier list))
 
   -- what follows the name of a pseudo-class
   abbrev pub SpellsForm : Pseudo → Item → List ℕ → List ℕ → Type 0
@@ -203,7 +214,11 @@ stands_behind context text TooDeep = context.depth + 1 ≤ how_many left_parenth
 stands_behind context text Syntax = Unit {0}
 stands_behind context text Memory = Unit {0}
 
--- What a call gives that reads something in a context, or what follows a pseudo-class's colon there
+-- a part of the grammar in a context, with the lists that may stand in parentheses there
+abbrev pub within : {S : Type 1} → (context : ParseContext) → (ParseContext → (Bool → SelectorList → List ℕ → List ℕ → Type 0) → S) → S
+within context spells = spells context (SpellsInner context)
+
+-- What a call returns that reads something in a context, or what follows a pseudo-class's colon there
 abbrev pub TakesIn : {T A : Type 0} → ParseContext → Result (T × Bor (List ℕ)) SelectorFault → (T → A) → (A → List ℕ → List ℕ → Type 0) → List ℕ → Type 0
 TakesIn context result read Spells text = Takes result read Spells (stands_for context text) text
 
@@ -214,3 +229,7 @@ TakesBehind context result read Spells text = Takes result read Spells (stands_b
 -- past 2147483647 does, a nested `:has` that two colons do, too deep that 65 opening parentheses do
 abbrev pub Refused : List ℕ → SelectorFault → Type 0
 Refused text fault = Refuses (stands_for whole text) fault ((list : SelectorList) → StandsFor text list → ⊥)
+
+-- What a call that reads a text as a whole returns: the list that the text stands for, or why it stands for none
+abbrev pub Parses : Result (Vec Selector) SelectorFault → List ℕ → Type 0
+Parses result text = MatchResult result (λ list. StandsFor text (read_selectors list)) (λ fault. Refused text fault)

@@ -1,5 +1,6 @@
 -- The grammar of mini selectors: which text stands for which of them, and what is left of it. Texts are in UTF-8.
-use Rattle.std.specs.Prelude.{◌≡◌, ◌≢◌, ℕ, List, [], ◌∷◌, true, false, nat_eq, drop, Option, Some, None, MatchBool}
+use Rattle.std.specs.Prelude.{◌≡◌, ◌≢◌, ℕ, List, [], ◌∷◌, true, false, nat_eq, drop, Option, Some, None, Result, MatchBool, MatchOption, MatchResult}
+use Rattle.std.specs.Borrow.{Bor}
 use Rattle.std.specs.List.{take_while}
 use Rattle.dom_nodes.specs.Ascii.{dot, left_bracket, number_sign, right_bracket}
 use Rattle.dom_selectors.specs.declared.mini_selector.fault.MiniFault.{MiniFault}
@@ -107,6 +108,10 @@ SpellsClasses words text rest = AsMany SpellsClass (λ _. ⊥) words text rest
 abbrev pub SpellsAttrs : List Asked → List ℕ → List ℕ → Type 0
 SpellsAttrs attrs text rest = AsMany SpellsAttr IsBadAttr attrs text rest
 
+-- a bad attribute follows those that can be read
+abbrev pub MeetsBadAttr : List ℕ → Type 0
+MeetsBadAttr text = MeetsBad SpellsAttr IsBadAttr text
+
 -- what stands before the attributes
 pub record SpellsFront (lead : Option Combinator) (name id : Option (List ℕ)) (classes : List (List ℕ)) (text rest : List ℕ) : Type 0 where
   pub after_lead : List ℕ
@@ -132,7 +137,7 @@ pub record IsBadMini (text : List ℕ) : Type 0 where
   pub classes : List (List ℕ)
   pub after_front : List ℕ
   pub front : SpellsFront lead name id classes text after_front
-  pub bad : MeetsBad SpellsAttr IsBadAttr after_front
+  pub bad : MeetsBadAttr after_front
 
 -- a mini selector with blanks round it
 abbrev pub SpellsStep : Mini → List ℕ → List ℕ → Type 0
@@ -168,6 +173,19 @@ ReportsBad Memory bad = Unit {0}
 -- the same of a list, which may be empty
 abbrev pub RefusesPath : MiniFault → List ℕ → Type 0
 RefusesPath fault text = ReportsBad fault (SpellsNone SpellsPath text × IsBadPath text)
+
+-- What a call that reads a part returns: the part and what follows it, nothing where none can be read, or a fault where a bad one is met
+abbrev pub TakesMaybe : {T A : Type 0} → Result (Option (T × Bor (List ℕ))) MiniFault → (T → A) → (A → List ℕ → List ℕ → Type 0) → (List ℕ → Type 0) → List ℕ → Type 0
+TakesMaybe result read Spells IsBad text =
+    MatchResult result (λ found. MatchOption found (IsPlainlyNone Spells IsBad text) (λ p. Spells (read p.0) text p.1.now)) (λ fault. ReportsBad fault (IsBad text))
+
+-- What a call that reads as many parts as it can returns: the parts and what follows them, or a fault where a bad one is met
+abbrev pub TakesMany : {T A : Type 0} → Result (T × Bor (List ℕ)) MiniFault → (T → A) → (A → List ℕ → List ℕ → Type 0) → (List ℕ → Type 0) → List ℕ → Type 0
+TakesMany result read Spells MeetsBad text = MatchResult result (λ p. Spells (read p.0) text p.1.now) (λ fault. ReportsBad fault (MeetsBad text))
+
+-- What a call that reads a text as a whole returns: what it begins with, and what is left of it, or why it begins with nothing
+abbrev pub ParsesFront : {T A : Type 0} → Result (Bor (List ℕ) × T) MiniFault → (T → A) → (A → List ℕ → List ℕ → Type 0) → (MiniFault → List ℕ → Type 0) → List ℕ → Type 0
+ParsesFront result read Spells Refuses text = MatchResult result (λ p. Spells (read p.1) text p.0.now) (λ fault. Refuses fault text)
 
 -- a text has one reading at most, and the same is left of it
 abbrev pub HasOneReading : {A : Type 0} → (A → List ℕ → List ℕ → Type 0) → Type 0

@@ -11,7 +11,7 @@ use Rattle.dom_nodes.specs.declared.node_data.NodeData.{NodeData}
 use Rattle.dom_nodes.specs.Words.{class_words, is_among}
 use Rattle.dom_selectors.specs.declared.syntax.AttrOperator.{AttrOperator}
 use Rattle.dom_selectors.specs.Comparisons.{compares, is_empty}
-use Rattle.dom_selectors.specs.MiniSyntax.{Mini}
+use Rattle.dom_selectors.specs.MiniSyntax.{Asked, Mini}
 
 -- an element of that local name, where one is asked for
 abbrev pub name_holds : Option (List ℕ) → Element → Bool
@@ -35,11 +35,25 @@ abbrev pub asked_holds : Element → List ℕ → Option (AttrOperator × List �
 asked_holds element key None = is_some (attr_of element.attrs key)
 asked_holds element key (Some test) = list_any (attr_passes key test) element.attrs
 
--- the element is all that is asked for; the classes are words of its first attribute `class`
+-- the class is a word of the element's first attribute `class`
+abbrev pub has_class : Element → List ℕ → Bool
+has_class element class = is_among class (class_words element.attrs)
+
+-- it has all of the classes
+abbrev pub classes_hold : List (List ℕ) → Element → Bool
+classes_hold classes element = list_all (λ class. has_class element class) classes
+
+abbrev pub is_as_asked : Element → Asked → Bool
+is_as_asked element asked = asked_holds element asked.key asked.test
+
+-- it has each of the attributes, as asked
+abbrev pub attrs_hold : List Asked → Element → Bool
+attrs_hold attrs element = list_all (λ asked. is_as_asked element asked) attrs
+
+-- the element is all that is asked for
 abbrev pub element_passes : Mini → Element → Bool
 element_passes mini element = name_holds mini.name element && id_holds mini.id element
-    && list_all (λ class. is_among class (class_words element.attrs)) mini.classes
-    && list_all (λ asked. asked_holds element asked.key asked.test) mini.attrs
+    && classes_hold mini.classes element && attrs_hold mini.attrs element
 
 -- it is true of elements alone
 abbrev pub node_passes : Mini → NodeData → Bool

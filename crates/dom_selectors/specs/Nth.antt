@@ -1,5 +1,5 @@
 -- What stands for `an+b`.
-use Rattle.std.specs.Prelude.{◌≡◌, ◌<◌, ◌≤◌, ℕ, List, [], ◌∷◌, Bool, false, ◌&&◌, ◌||◌, nat_eq, cond, drop, MatchBool}
+use Rattle.std.specs.Prelude.{◌≡◌, ◌<◌, ◌≤◌, ℕ, List, ◌∷◌, Bool, false, ◌&&◌, ◌||◌, nat_eq, cond, drop, Option, MatchBool, MatchOption}
 use Rattle.dom_nodes.specs.Ascii.{hyphen, lower_d, lower_e, lower_n, lower_o, lower_v, plus_sign, upper_d, upper_e, upper_n, upper_o, upper_v}
 use Rattle.dom_nodes.specs.declared.indexes.Nth.{Nth}
 use Rattle.dom_nodes.specs.declared.indexes.Signed.{Signed}
@@ -21,6 +21,10 @@ pub record SpellsNumber (v : ℕ) (text rest : List ℕ) : Type 0 where
   pub value : v ≡ number_at text
   pub most : v ≤ greatest_number
   pub rest_is : rest ≡ drop (digits_len text) text
+
+-- this number, or none where it is past the limit
+abbrev pub IsWithinLimit : Option ℕ → ℕ → Type 0
+IsWithinLimit result n = MatchOption result (greatest_number < n) (λ m. (m ≡ n) × (m ≤ greatest_number))
 
 abbrev pub signed : Bool → ℕ → Signed
 signed is_negative n = record { is_negative = is_negative; magnitude = n }

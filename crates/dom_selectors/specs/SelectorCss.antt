@@ -1,7 +1,6 @@
 -- How a selector is written.
 use Rattle.std.specs.Prelude.{ℕ, List, [], ◌∷◌, ◌++◌, Bool, true, false, nat_eq, cond, chars, codes, decimal, encode_utf8_all, Option, None, Some, if◌then◌else◌}
 use Rattle.std.specs.List.{flat_map}
-use Rattle.dom_nodes.specs.Ascii.{backslash, space}
 use Rattle.dom_nodes.specs.declared.case_sensitivity.CaseSensitivity.{CaseSensitivity}
 use Rattle.dom_nodes.specs.declared.case_sensitivity.CaseSensitivity.TheVariants.{CaseSensitive, AsciiCaseInsensitive}
 use Rattle.dom_nodes.specs.declared.indexes.IndexKind.{IndexKind}
@@ -9,7 +8,7 @@ use Rattle.dom_nodes.specs.declared.indexes.IndexKind.TheVariants as kinds
 use Rattle.dom_nodes.specs.declared.indexes.Nth.{Nth}
 use Rattle.dom_nodes.specs.declared.indexes.Signed.{Signed}
 use Rattle.dom_selectors.specs.Characters.{is_name_char, is_name_start, replacement_character}
-use Rattle.dom_selectors.specs.Css.{css_text, hex_of}
+use Rattle.dom_selectors.specs.Css.{css_text, hex_escape}
 use Rattle.dom_selectors.specs.Syntax.{CompoundSelector, compound, NestedLists, no_lists, nested, NestedList, is_list, not_list, has_list, SelectorList, no_selectors, alternative, Steps, no_steps, step}
 use Rattle.dom_selectors.specs.declared.syntax.AttrOperator.{AttrOperator}
 use Rattle.dom_selectors.specs.declared.syntax.AttrOperator.TheVariants.{Equals, Includes, DashMatch, Prefix, Suffix, Substring}
@@ -26,7 +25,7 @@ is_plain false c = is_name_char c
 
 -- a character of an identifier: as it is, U+FFFD for U+0000, any other by its number
 abbrev pub name_char : Bool → ℕ → List ℕ
-name_char is_first c = cond (is_plain is_first c) (c ∷ []) (cond (nat_eq c 0) (replacement_character ∷ []) (backslash ∷ hex_of c ++ space ∷ []))
+name_char is_first c = cond (is_plain is_first c) (c ∷ []) (cond (nat_eq c 0) (replacement_character ∷ []) (hex_escape c))
 
 abbrev pub name_chars : List ℕ → List ℕ
 name_chars [] = []
@@ -66,6 +65,10 @@ kind_css kinds.LastChild = codes ":nth-last-child("
 kind_css kinds.OfType = codes ":nth-of-type("
 kind_css kinds.LastOfType = codes ":nth-last-of-type("
 
+-- a function: its name with the parenthesis, what stands in it, and `)`
+abbrev pub function_css : List ℕ → List ℕ → List ℕ
+function_css name inside = name ++ inside ++ codes ")"
+
 abbrev pub part_css : Part → List ℕ
 part_css Universal = codes "*"
 part_css (Part.«Type» name) = name_css name
@@ -77,9 +80,9 @@ part_css Link = codes ":link"
 part_css Never = codes ":hover"
 part_css Empty = codes ":empty"
 part_css OnlyText = codes ":only-text"
-part_css (HasText text) = codes ":has-text(" ++ css_text text ++ codes ")"
-part_css (Contains text) = codes ":contains(" ++ css_text text ++ codes ")"
-part_css (Position position) = kind_css position.kind ++ nth_css position.nth ++ codes ")"
+part_css (HasText text) = function_css (codes ":has-text(") (css_text text)
+part_css (Contains text) = function_css (codes ":contains(") (css_text text)
+part_css (Position position) = function_css (kind_css position.kind) (nth_css position.nth)
 
 abbrev pub combinator_css : Combinator → List ℕ
 combinator_css Descendant = codes " "
@@ -108,9 +111,9 @@ abbrev mutual
   lists_css (nested list more) = list_css list ++ lists_css more
 
   pub list_css : NestedList → List ℕ
-  list_css (is_list list) = codes ":is(" ++ selectors_css true false list ++ codes ")"
-  list_css (not_list list) = codes ":not(" ++ selectors_css true false list ++ codes ")"
-  list_css (has_list list) = codes ":has(" ++ selectors_css true true list ++ codes ")"
+  list_css (is_list list) = function_css (codes ":is(") (selectors_css true false list)
+  list_css (not_list list) = function_css (codes ":not(") (selectors_css true false list)
+  list_css (has_list list) = function_css (codes ":has(") (selectors_css true true list)
 
   -- the selectors with commas between them, from the first on or from a later one
   pub selectors_css : Bool → Bool → SelectorList → List ℕ
@@ -121,6 +124,10 @@ abbrev mutual
   pub steps_css : Steps → List ℕ
   steps_css no_steps = []
   steps_css (step k c more) = (combinator_css k ++ compound_css c) ++ steps_css more
+
+-- a compound behind its combinator
+abbrev pub step_css : Combinator × CompoundSelector → List ℕ
+step_css s = combinator_css s.0 ++ compound_css s.1
 
 -- a selector, in a relative list or elsewhere
 abbrev pub selector_css : Bool → Combinator × CompoundSelector × Steps → List ℕ

@@ -46,7 +46,7 @@ Decides answer P = MatchBool answer P (P → ⊥)
 abbrev pub same : {A : Type 0} → A → A
 same v = v
 
--- What a call that reads gives: what is spelled at the front of the text and what follows it, or a fault where nothing is spelled
+-- What a call that reads returns: what is spelled at the front of the text and what follows it, or a fault where nothing is spelled
 abbrev pub Takes : {T A : Type 0} → Result (T × Bor (List ℕ)) SelectorFault → (T → A) → (A → List ℕ → List ℕ → Type 0) → (SelectorFault → Type 0) → List ℕ → Type 0
 Takes result read Spells cause text =
     MatchResult result (λ p. Spells (read p.0) text p.1.now) (λ fault. Refuses cause fault (SpellsNone Spells text))
@@ -54,3 +54,16 @@ Takes result read Spells cause text =
 -- the same where no fault is returned
 abbrev pub TakesSome : {T : Type 0} → Option (T × Bor (List ℕ)) → (T → List ℕ → List ℕ → Type 0) → List ℕ → Type 0
 TakesSome result Spells text = MatchOption result (SpellsNone Spells text) (λ p. Spells p.0 text p.1.now)
+
+-- the same where what is spelled is a slice
+abbrev pub TakesSlice : Option (Bor (List ℕ) × Bor (List ℕ)) → (List ℕ → List ℕ → List ℕ → Type 0) → List ℕ → Type 0
+TakesSlice result Spells text = MatchOption result (SpellsNone Spells text) (λ p. Spells p.0.now text p.1.now)
+
+-- what follows a character at the front of the text, or none where it doesn't stand there
+abbrev pub Strips : Option (Bor (List ℕ)) → ℕ → List ℕ → Type 0
+Strips result c text = MatchOption result ((rest : List ℕ) → text ≡ c ∷ rest → ⊥) (λ rest. text ≡ c ∷ rest.now)
+
+-- What a call that skips a sign returns: what follows the sign, as `Follows` says of the text, or a fault where it isn't there
+abbrev pub Skips : Result (Bor (List ℕ)) SelectorFault → (List ℕ → List ℕ → Type 0) → (SelectorFault → Type 0) → List ℕ → Type 0
+Skips result Follows cause text =
+    MatchResult result (λ rest. Follows text rest.now) (λ fault. Refuses cause fault ((rest : List ℕ) → Follows text rest → ⊥))

@@ -1,5 +1,6 @@
 -- The selector that a value of the program is.
 use Rattle.std.specs.Prelude.{◌≡◌, List, [], ◌∷◌, ◌++◌, map}
+use Rattle.std.specs.Global.{Vec}
 use Rattle.dom_selectors.specs.declared.syntax.Combinator.{Combinator}
 use Rattle.dom_selectors.specs.declared.syntax.Part.{Part}
 use Rattle.dom_selectors.specs.declared.syntax.Item as items
@@ -40,6 +41,16 @@ read_step = fold-Step _ _ _ _ nested_layer compound_layer selector_layer step_la
 
 abbrev pub read_list : List Selector → SelectorList
 read_list selectors = selector_list (map read_selector selectors)
+
+abbrev pub read_lists : List Nested → NestedLists
+read_lists lists = lists_of (map read_nested lists)
+
+abbrev pub read_steps : List Step → Steps
+read_steps steps = steps_of (map read_step steps)
+
+-- the list that a vector of selectors is
+abbrev pub read_selectors : Vec Selector → SelectorList
+read_selectors selectors = read_list selectors.items
 
 abbrev pub read_item : items.Item → Item
 read_item (Simple part) = simple part

@@ -1,7 +1,7 @@
 //! Reads attribute parts.
 
-ghost use Rattle.std.specs.Prelude.{◌≡◌, ◌∷◌, ℕ, List, MatchOption, MatchResult};
-ghost use Rattle.dom_selectors.specs.Spelling.{Takes, TakesSome, no_other, same};
+ghost use Rattle.std.specs.Prelude.{◌≡◌};
+ghost use Rattle.dom_selectors.specs.Spelling.{Strips, Takes, TakesSome, no_other, same};
 ghost use Rattle.dom_selectors.specs.Characters.{after_white};
 ghost use Rattle.dom_selectors.specs.Attributes.{operator_of, flag_of, SpellsOperator, SpellsValue};
 ghost use Rattle.dom_selectors.specs.Attributes.{SpellsFlag, SpellsCase, SpellsComparison};
@@ -53,8 +53,7 @@ fn take_operator(text: &[char]) -> Option<(AttrOperator, &[char])>
 
 /// The text without the character at its front, where that is this one.
 pub(crate) fn after_char(text: &[char], c: char) -> Option<&[char]>
-    ensures { MatchOption result ((rest : List ℕ) → text.now ≡ c ∷ rest → ⊥)
-        (λ rest. text.now ≡ c ∷ rest.now) }
+    ensures { Strips result c text.now }
 {
     let Some((first, rest)) = text.split_first() else {
         return None;

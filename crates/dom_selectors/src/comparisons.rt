@@ -1,11 +1,10 @@
 //! Whether an attribute's value is what an attribute part asks for.
 
-ghost use Rattle.std.specs.Prelude.{◌≡◌, ◌&&◌, drop, length, nat_eq};
-ghost use Rattle.dom_nodes.specs.Ascii.{hyphen};
+ghost use Rattle.std.specs.Prelude.{◌≡◌};
 ghost use Rattle.dom_nodes.specs.Words.{words_of};
-ghost use Rattle.dom_selectors.specs.Characters.{begins};
-ghost use Rattle.dom_selectors.specs.Comparisons.{begins_with, compares, ends_with, has_within};
-ghost use Rattle.dom_selectors.specs.Comparisons.{has_word, passes, same_byte, same_text};
+ghost use Rattle.dom_selectors.specs.Comparisons.{begins_with, begins_with_dash, compares};
+ghost use Rattle.dom_selectors.specs.Comparisons.{ends_with, has_within, has_word, passes};
+ghost use Rattle.dom_selectors.specs.Comparisons.{same_byte, same_text};
 
 use crate::syntax::{AttrOperator, Comparison};
 use dom_nodes::case_sensitivity::CaseSensitivity;
@@ -92,8 +91,7 @@ pub fn begins_with(case: CaseSensitivity, text: &[u8], front: &[u8]) -> bool
 
 /// Whether the text begins with the value and then `-`.
 fn begins_with_dash(case: CaseSensitivity, text: &[u8], value: &[u8]) -> bool
-    ensures { result ≡ (begins_with case text.now value.now
-        && begins (λ c. nat_eq c hyphen) (drop (length value.now) text.now)) }
+    ensures { result ≡ begins_with_dash case text.now value.now }
 {
     if text.len() <= value.len() {
         return false;

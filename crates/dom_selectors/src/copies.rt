@@ -1,6 +1,7 @@
 //! Copies of selectors in memory of their own.
 
-ghost use Rattle.std.specs.Prelude.{◌≡◌, ◌++◌, ◌∷◌, [], map, IfOk, OnOk};
+ghost use Rattle.std.specs.Prelude.{◌≡◌, map, IfOk};
+ghost use Rattle.dom_selectors.specs.Adding.{Pushes};
 ghost use Rattle.dom_selectors.specs.ValuesAsTrees.{read_compound, read_nested};
 ghost use Rattle.dom_selectors.specs.ValuesAsTrees.{read_selector, read_step};
 
@@ -67,24 +68,21 @@ fn copy_parts(alloc: Global, parts: &[Part]) -> Result<Vec<Part>, OutOfMemory>
 }
 
 fn push_list(lists: &mut Vec<Nested>, list: Nested) -> Result<(), OutOfMemory>
-    ensures { OnOk result (map read_nested lists.new.items
-        ≡ map read_nested lists.old.items ++ read_nested list ∷ []) }
+    ensures { Pushes read_nested lists.old.items lists.new.items result list }
 {
     lists.push(list)?;
     Ok(())
 }
 
 fn push_step(steps: &mut Vec<Step>, step: Step) -> Result<(), OutOfMemory>
-    ensures { OnOk result (map read_step steps.new.items
-        ≡ map read_step steps.old.items ++ read_step step ∷ []) }
+    ensures { Pushes read_step steps.old.items steps.new.items result step }
 {
     steps.push(step)?;
     Ok(())
 }
 
 fn push_selector(selectors: &mut Vec<Selector>, selector: Selector) -> Result<(), OutOfMemory>
-    ensures { OnOk result (map read_selector selectors.new.items
-        ≡ map read_selector selectors.old.items ++ read_selector selector ∷ []) }
+    ensures { Pushes read_selector selectors.old.items selectors.new.items result selector }
 {
     selectors.push(selector)?;
     Ok(())

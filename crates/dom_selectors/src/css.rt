@@ -1,10 +1,9 @@
 //! Texts and names as CSS writes them.
 
-ghost use Rattle.std.specs.Prelude.{◌≡◌, ◌++◌, ◌∷◌, ◌<◌, [], ℕ, List, chars, encode_utf8_all, IfOk};
-ghost use Rattle.std.specs.Prelude.{OnErr, OnOk, string_bytes};
+ghost use Rattle.std.specs.Prelude.{◌≡◌, ◌<◌, ℕ, List, encode_utf8_all, IfOk, OnErr, string_bytes};
 ghost use Rattle.std.specs.Char.{digit_char};
-ghost use Rattle.dom_nodes.specs.Ascii.{backslash, space};
-ghost use Rattle.dom_selectors.specs.Css.{css_char, css_text, hex_of, is_control};
+ghost use Rattle.dom_selectors.specs.Adding.{Adds};
+ghost use Rattle.dom_selectors.specs.Css.{css_char, css_text, hex_escape, is_control};
 
 use dom_nodes::fault::OutOfMemory;
 use dom_nodes::name::LocalName;
@@ -18,7 +17,7 @@ pub trait ToCss {
 
     /// Writes it behind the text. Where memory is refused the text stays as it was.
     fn to_css(&self, out: &mut String) -> Result<(), OutOfMemory>
-        ensures ok { OnOk result (string_bytes out.new ≡ string_bytes out.old ++ css self.now) }
+        ensures ok { Adds out.old out.new result (css self.now) }
         ensures err { OnErr result (string_bytes out.new ≡ string_bytes out.old) };
 }
 
@@ -103,8 +102,7 @@ fn is_control(c: char) -> bool
 
 /// Adds a character of a string.
 fn push_css(out: &mut String, c: char) -> Result<(), AllocError>
-    ensures { OnOk result
-        (string_bytes out.new ≡ string_bytes out.old ++ encode_utf8_all (css_char c)) }
+    ensures { Adds out.old out.new result (encode_utf8_all (css_char c)) }
 {
     if c == '\0' {
         return out.push('\u{fffd}');
@@ -120,7 +118,7 @@ fn push_css(out: &mut String, c: char) -> Result<(), AllocError>
 
 /// Adds the text as a string.
 pub(crate) fn push_string(out: &mut String, text: &str) -> Result<(), OutOfMemory>
-    ensures { OnOk result (string_bytes out.new ≡ string_bytes out.old ++ css_text text.now) }
+    ensures { Adds out.old out.new result (css_text text.now) }
 {
     let written = in_quotes(*out.allocator(), text)?;
     out.push_str(written.as_str())?;
@@ -130,8 +128,7 @@ pub(crate) fn push_string(out: &mut String, text: &str) -> Result<(), OutOfMemor
 /// Adds a `\`, the number of a character, and a space.
 pub(crate) fn push_number(out: &mut String, c: char) -> Result<(), AllocError>
     requires { c < 256 }
-    ensures { OnOk result (string_bytes out.new
-        ≡ string_bytes out.old ++ encode_utf8_all (backslash ∷ hex_of c ++ space ∷ [])) }
+    ensures { Adds out.old out.new result (encode_utf8_all (hex_escape c)) }
 {
     let number = c as u32;
     out.push('\\')?;

@@ -1,9 +1,8 @@
 //! What is true of every text of selectors. The functions do nothing.
 
-ghost use Rattle.std.specs.Prelude.{◌≡◌, ◌++◌, ℕ, List, map, encode_utf8_all};
-ghost use Rattle.dom_selectors.specs.Strings.{SpellsString};
+ghost use Rattle.std.specs.Prelude.{◌≡◌, ℕ, List};
 ghost use Rattle.dom_selectors.specs.Syntax.{SelectorList};
-ghost use Rattle.dom_selectors.specs.Css.{css_string, shown};
+ghost use Rattle.dom_selectors.specs.Css.{IsReadBack};
 ghost use Rattle.dom_selectors.specs.Grammar.{StandsFor};
 ghost use Rattle.dom_selectors.specs.MiniGrammar.{Excludes, HasOneReading, IsBadMini, IsBadPath};
 ghost use Rattle.dom_selectors.specs.MiniGrammar.{SpellsMini, SpellsPath};
@@ -15,8 +14,7 @@ pub fn one_reading()
 
 /// A text written as a string is read as that text, whatever follows it, with U+FFFD for U+0000.
 pub fn printed_string()
-    ensures { (text rest : List ℕ) →
-        SpellsString (encode_utf8_all (map shown text)) (css_string text ++ rest) rest }
+    ensures { (text : List ℕ) → IsReadBack text }
 {}
 
 /// A text stands for one mini selector at most, and for none where a bad value is met; so does a

@@ -1,10 +1,10 @@
 //! Reads `an+b`.
 
-ghost use Rattle.std.specs.Prelude.{◌≡◌, ◌<◌, ◌≤◌, ℕ, List, MatchOption};
+ghost use Rattle.std.specs.Prelude.{◌≡◌};
 ghost use Rattle.std.specs.Str.Parse.{digits_value};
-ghost use Rattle.dom_selectors.specs.Characters.{begins, digits_len, greatest_number};
-ghost use Rattle.dom_selectors.specs.Nth.{SpellsAfterNumber, SpellsNth, SpellsNumber, SpellsOffset};
-ghost use Rattle.dom_selectors.specs.Nth.{SpellsUnsigned, after_sign, begins_even, begins_odd};
+ghost use Rattle.dom_selectors.specs.Characters.{begins, digits_len};
+ghost use Rattle.dom_selectors.specs.Nth.{IsWithinLimit, SpellsAfterNumber, SpellsNth, SpellsNumber};
+ghost use Rattle.dom_selectors.specs.Nth.{SpellsOffset, SpellsUnsigned, after_sign, begins_even, begins_odd};
 ghost use Rattle.dom_selectors.specs.Nth.{every_second, is_minus, is_n, is_sign, signed};
 ghost use Rattle.dom_selectors.specs.Spelling.{Takes, large_stands, same};
 
@@ -55,8 +55,7 @@ fn digits_len(text: &[char]) -> usize
 
 /// The number that digits write, where it isn't past the limit.
 fn number_of(digits: &[char]) -> Option<u32>
-    ensures { MatchOption result (greatest_number < digits_value 10 digits.now)
-        (λ n. (n ≡ digits_value 10 digits.now) × (n ≤ greatest_number)) }
+    ensures { IsWithinLimit result (digits_value 10 digits.now) }
 {
     let mut number: u32 = 0;
     for c in digits {

@@ -1,29 +1,26 @@
 //! Reads selectors, over their characters.
 
-ghost use Rattle.std.specs.Prelude.{◌≡◌, ◌<◌, ◌++◌, ◌∷◌, [], ℕ, List, chars, map, Bool, true};
-ghost use Rattle.std.specs.Prelude.{false, cond, nat_eq, IfOk, MatchResult, OnOk};
+ghost use Rattle.std.specs.Prelude.{◌≡◌, ◌<◌, ◌++◌, ◌∷◌, [], chars, true};
+ghost use Rattle.std.specs.Prelude.{false, cond, nat_eq, IfOk, OnOk};
 ghost use Rattle.std.specs.Char.{is_ascii_whitespace};
 ghost use Rattle.std.specs.List.{list_all};
-ghost use Rattle.dom_nodes.specs.Ascii.{right_parenthesis};
-ghost use Rattle.dom_selectors.specs.Characters.{after_white, begins};
-ghost use Rattle.dom_selectors.specs.Grammar.{Opens, Refused, StandsFor, TakesBehind, TakesIn};
+ghost use Rattle.dom_selectors.specs.Characters.{begins};
+ghost use Rattle.dom_selectors.specs.Grammar.{Closes, Opens, Parses, TakesBehind, TakesIn};
 ghost use Rattle.dom_selectors.specs.Grammar.{SpellsCombinator, SpellsCompound, SpellsEnclosed};
-ghost use Rattle.dom_selectors.specs.Grammar.{SpellsForm, SpellsInner, SpellsItem, SpellsLater};
+ghost use Rattle.dom_selectors.specs.Grammar.{SpellsForm, SpellsInside, SpellsItem, SpellsLater};
 ghost use Rattle.dom_selectors.specs.Grammar.{SpellsLead, SpellsList, SpellsListed, SpellsPlain};
 ghost use Rattle.dom_selectors.specs.Grammar.{SpellsPseudo, SpellsSelector, SpellsStep, SpellsType};
 ghost use Rattle.dom_selectors.specs.Grammar.{begins_comma, begins_compound, begins_item};
 ghost use Rattle.dom_selectors.specs.Grammar.{begins_open};
 ghost use Rattle.dom_selectors.specs.Grammar.{begins_step, combinator_of, inner_context};
 ghost use Rattle.dom_selectors.specs.Grammar.{is_combinator};
-ghost use Rattle.dom_selectors.specs.Grammar.{is_star, stands_behind, stands_for, whole};
-ghost use Rattle.dom_selectors.specs.ListsAsTrees.{Item, lists_of};
+ghost use Rattle.dom_selectors.specs.Grammar.{is_star, stands_behind, within};
 ghost use Rattle.dom_selectors.specs.Nth.{SpellsNth};
 ghost use Rattle.dom_selectors.specs.Strings.{SpellsString};
-ghost use Rattle.dom_selectors.specs.Spelling.{Refuses, TakesSome, Takes, no_other, same};
+ghost use Rattle.dom_selectors.specs.Spelling.{Skips, TakesSome, Takes, no_other, same};
 ghost use Rattle.dom_selectors.specs.ValuesAsTrees.{PushesItem, lists_then, read_compound};
-ghost use Rattle.dom_selectors.specs.ValuesAsTrees.{read_item};
-ghost use Rattle.dom_selectors.specs.ValuesAsTrees.{read_list, read_nested, read_selector};
-ghost use Rattle.dom_selectors.specs.ValuesAsTrees.{read_step};
+ghost use Rattle.dom_selectors.specs.ValuesAsTrees.{read_item, read_lists, read_nested};
+ghost use Rattle.dom_selectors.specs.ValuesAsTrees.{read_selector, read_selectors, read_step};
 
 use crate::attributes::{after_char, take_attribute};
 use crate::fault::SelectorFault;
@@ -65,9 +62,7 @@ fn begins_open(text: &[char]) -> bool
 
 /// What follows the parenthesis at the front and whitespace.
 fn take_opening(context: ParseContext, text: &[char]) -> Result<&[char], SelectorFault>
-    ensures { MatchResult result (λ rest. Opens context.depth text.now rest.now)
-        (λ fault. Refuses (stands_behind context text.now) fault
-        ((rest : List ℕ) → Opens context.depth text.now rest → ⊥)) }
+    ensures { Skips result (Opens context.depth) (stands_behind context text.now) text.now }
 {
     let Some(inside) = after_char(text, '(') else {
         return Err(SelectorFault::UnknownPseudoClass);
@@ -80,9 +75,7 @@ fn take_opening(context: ParseContext, text: &[char]) -> Result<&[char], Selecto
 
 /// What follows whitespace and the parenthesis that closes.
 fn take_closing(text: &[char]) -> Result<&[char], SelectorFault>
-    ensures { MatchResult result (λ rest. after_white text.now ≡ right_parenthesis ∷ rest.now)
-        (λ fault. Refuses no_other fault
-        ((rest : List ℕ) → after_white text.now ≡ right_parenthesis ∷ rest → ⊥)) }
+    ensures { Skips result Closes no_other text.now }
 {
     match after_char(after_white(text), ')') {
         Some(rest) => Ok(rest),
@@ -148,8 +141,8 @@ fn take_enclosed(
     relative: bool,
     text: &[char],
 ) -> Result<(Vec<Selector>, &[char]), SelectorFault>
-    ensures { TakesBehind context result (λ list. read_list list.items)
-        (SpellsEnclosed context.depth (SpellsInner context relative)) text.now }
+    ensures { TakesBehind context result read_selectors
+        (within context SpellsInside relative) text.now }
 {
     let inside = take_opening(context, text)?;
     let (list, after) = take_list(alloc, inner_context(context, relative), inside)?;
@@ -166,7 +159,7 @@ fn take_listed(
     text: &[char],
 ) -> Result<(Item, &[char]), SelectorFault>
     ensures { TakesBehind context result read_item
-        (SpellsListed context (SpellsInner context) quantifier) text.now }
+        (within context SpellsListed quantifier) text.now }
 {
     let relative = is_relative(quantifier);
     if relative && context.in_has {
@@ -184,8 +177,7 @@ fn take_form(
     pseudo: Pseudo,
     text: &[char],
 ) -> Result<(Item, &[char]), SelectorFault>
-    ensures { TakesBehind context result read_item
-        (SpellsForm context (SpellsInner context) pseudo) text.now }
+    ensures { TakesBehind context result read_item (within context SpellsForm pseudo) text.now }
 {
     match pseudo {
         Pseudo::Plain(bare) => take_plain(context, bare, text),
@@ -208,8 +200,7 @@ fn take_pseudo(
     context: ParseContext,
     text: &[char],
 ) -> Result<(Item, &[char]), SelectorFault>
-    ensures { TakesBehind context result read_item
-        (SpellsPseudo context (SpellsInner context)) text.now }
+    ensures { TakesBehind context result read_item (within context SpellsPseudo) text.now }
 {
     let (name, after) = take_name(alloc, text)?;
     let Some(pseudo) = pseudo_of(name.as_str()) else {
@@ -225,7 +216,7 @@ fn take_item(
     context: ParseContext,
     text: &[char],
 ) -> Result<(Item, &[char]), SelectorFault>
-    ensures { TakesIn context result read_item (SpellsItem context (SpellsInner context)) text.now }
+    ensures { TakesIn context result read_item (within context SpellsItem) text.now }
 {
     let Some((sign, more)) = text.split_first() else {
         return Err(SelectorFault::Syntax);
@@ -273,8 +264,8 @@ fn push_part(parts: &mut Vec<Part>, part: Part) -> Result<(), AllocError>
 }
 
 fn push_list(nested: &mut Vec<Nested>, list: Nested) -> Result<(), AllocError>
-    ensures { OnOk result (lists_of (map read_nested nested.new.items)
-        ≡ lists_then (lists_of (map read_nested nested.old.items)) (read_nested list)) }
+    ensures { OnOk result (read_lists nested.new.items
+        ≡ lists_then (read_lists nested.old.items) (read_nested list)) }
 {
     nested.push(list)?;
     Ok(())
@@ -283,8 +274,8 @@ fn push_list(nested: &mut Vec<Nested>, list: Nested) -> Result<(), AllocError>
 /// Adds a part to the parts, or a list to the lists.
 fn push_item(parts: &mut Vec<Part>, nested: &mut Vec<Nested>, item: Item) -> Result<(), AllocError>
     ensures { OnOk result (PushesItem (read_item item)
-        parts.old.items (lists_of (map read_nested nested.old.items))
-        parts.new.items (lists_of (map read_nested nested.new.items))) }
+        parts.old.items (read_lists nested.old.items)
+        parts.new.items (read_lists nested.new.items)) }
 {
     match item {
         Item::Simple(part) => push_part(parts, part),
@@ -303,8 +294,7 @@ fn take_compound(
     context: ParseContext,
     text: &[char],
 ) -> Result<(Compound, &[char]), SelectorFault>
-    ensures { TakesIn context result read_compound
-        (SpellsCompound context (SpellsInner context)) text.now }
+    ensures { TakesIn context result read_compound (within context SpellsCompound) text.now }
 {
     if !begins_compound(text) {
         return Err(SelectorFault::Syntax);
@@ -374,7 +364,7 @@ fn take_step(
     context: ParseContext,
     text: &[char],
 ) -> Result<(Step, &[char]), SelectorFault>
-    ensures { TakesIn context result read_step (SpellsStep context (SpellsInner context)) text.now }
+    ensures { TakesIn context result read_step (within context SpellsStep) text.now }
 {
     if !begins_step(text) {
         return Err(SelectorFault::Syntax);
@@ -415,8 +405,7 @@ fn take_selector(
     context: ParseContext,
     text: &[char],
 ) -> Result<(Selector, &[char]), SelectorFault>
-    ensures { TakesIn context result read_selector
-        (SpellsSelector context (SpellsInner context)) text.now }
+    ensures { TakesIn context result read_selector (within context SpellsSelector) text.now }
 {
     let (lead, begin) = take_lead(context.is_relative, text);
     let (first, after) = take_compound(alloc, context, begin)?;
@@ -450,8 +439,7 @@ fn take_later(
     context: ParseContext,
     text: &[char],
 ) -> Result<(Selector, &[char]), SelectorFault>
-    ensures { TakesIn context result read_selector
-        (SpellsLater context (SpellsInner context)) text.now }
+    ensures { TakesIn context result read_selector (within context SpellsLater) text.now }
 {
     let Some(rest) = after_char(after_white(text), ',') else {
         return Err(SelectorFault::Syntax);
@@ -466,8 +454,7 @@ fn take_list(
     context: ParseContext,
     text: &[char],
 ) -> Result<(Vec<Selector>, &[char]), SelectorFault>
-    ensures { TakesIn context result (λ list. read_list list.items)
-        (SpellsList context (SpellsInner context)) text.now }
+    ensures { TakesIn context result read_selectors (within context SpellsList) text.now }
 {
     let (first, after) = take_selector(alloc, context, text)?;
     let mut list = Vec::new(alloc);
@@ -496,8 +483,7 @@ pub(crate) fn letters(alloc: Global, text: &str) -> Result<Vec<char>, AllocError
 
 /// The selectors that the characters stand for.
 fn parse(alloc: Global, text: &[char]) -> Result<Vec<Selector>, SelectorFault>
-    ensures { MatchResult result (λ list. StandsFor text.now (read_list list.items))
-        (λ fault. Refused text.now fault) }
+    ensures { Parses result text.now }
 {
     if !has_no_zero(text) {
         return Err(SelectorFault::Syntax);
@@ -518,8 +504,7 @@ fn parse(alloc: Global, text: &[char]) -> Result<Vec<Selector>, SelectorFault>
 /// nothing and has a `:`, `TooDeep` only where it stands for nothing and has 65 `(`, `Memory` where
 /// memory is refused, and `Syntax` where it stands for nothing.
 pub fn parse_selectors(alloc: Global, text: &str) -> Result<Vec<Selector>, SelectorFault>
-    ensures { MatchResult result (λ list. StandsFor (chars text.now) (read_list list.items))
-        (λ fault. Refused (chars text.now) fault) }
+    ensures { Parses result (chars text.now) }
 {
     let letters = letters(alloc, text)?;
     parse(alloc, &letters)

@@ -1,17 +1,19 @@
 //! Selectors as CSS writes them.
 
-ghost use Rattle.std.specs.Prelude.{◌≡◌, ◌++◌, ◌<◌, Bool, false, map, decimal};
+ghost use Rattle.std.specs.Prelude.{◌≡◌, ◌++◌, ◌<◌, false, true};
 ghost use Rattle.std.specs.Prelude.{encode_utf8_all, flat_map};
-ghost use Rattle.std.specs.Prelude.{IfOk, OnOk, codes, if◌then◌else◌, string_bytes, true};
+ghost use Rattle.std.specs.Prelude.{IfOk, codes, if◌then◌else◌, string_bytes};
+ghost use Rattle.dom_selectors.specs.Adding.{Adds};
 ghost use Rattle.dom_selectors.specs.Css.{css_text};
-ghost use Rattle.dom_selectors.specs.ListsAsTrees.{lists_of, steps_of};
 ghost use Rattle.dom_selectors.specs.SelectorCss.{asked_css, case_css, combinator_css, comma_css};
-ghost use Rattle.dom_selectors.specs.SelectorCss.{compound_css, is_plain, kind_css, lead_css};
+ghost use Rattle.dom_selectors.specs.SelectorCss.{compound_css, function_css, is_plain};
+ghost use Rattle.dom_selectors.specs.SelectorCss.{kind_css, lead_css, step_css};
 ghost use Rattle.dom_selectors.specs.SelectorCss.{list_css, lists_css, name_char, name_css};
 ghost use Rattle.dom_selectors.specs.SelectorCss.{nth_css, operator_css, part_css, selector_css};
 ghost use Rattle.dom_selectors.specs.SelectorCss.{selectors_css, signed_css, steps_css};
-ghost use Rattle.dom_selectors.specs.ValuesAsTrees.{read_compound, read_list, read_nested};
-ghost use Rattle.dom_selectors.specs.ValuesAsTrees.{read_selector, read_step};
+ghost use Rattle.dom_selectors.specs.ValuesAsTrees.{read_compound, read_list, read_lists};
+ghost use Rattle.dom_selectors.specs.ValuesAsTrees.{read_nested, read_selector, read_step};
+ghost use Rattle.dom_selectors.specs.ValuesAsTrees.{read_steps};
 
 use crate::css::{ToCss, push_number, push_string};
 use crate::names::{is_name_char, is_name_start};
@@ -38,7 +40,7 @@ impl ToCss for Selector {
 /// The selector's text.
 fn written(alloc: Global, selector: &Selector) -> Result<String, OutOfMemory>
     ensures { IfOk result
-        (λ text. string_bytes text ≡ selector_css false (read_selector selector.now)) }
+        (λ it. string_bytes it ≡ selector_css false (read_selector selector.now)) }
 {
     let mut written = String::new(alloc);
     push_selector(&mut written, false, selector)?;
@@ -46,7 +48,7 @@ fn written(alloc: Global, selector: &Selector) -> Result<String, OutOfMemory>
 }
 
 fn push_text(out: &mut String, text: &str) -> Result<(), OutOfMemory>
-    ensures { OnOk result (string_bytes out.new ≡ string_bytes out.old ++ text.now) }
+    ensures { Adds out.old out.new result text.now }
 {
     out.push_str(text)?;
     Ok(())
@@ -64,8 +66,7 @@ fn is_plain(is_first: bool, c: char) -> bool
 }
 
 fn push_name_char(out: &mut String, c: char, is_first: bool) -> Result<(), AllocError>
-    ensures { OnOk result
-        (string_bytes out.new ≡ string_bytes out.old ++ encode_utf8_all (name_char is_first c)) }
+    ensures { Adds out.old out.new result (encode_utf8_all (name_char is_first c)) }
 {
     if is_plain(is_first, c) {
         return out.push(c);
@@ -78,8 +79,7 @@ fn push_name_char(out: &mut String, c: char, is_first: bool) -> Result<(), Alloc
 
 /// Adds the characters behind the first one.
 fn push_name_chars(out: &mut String, letters: &[char]) -> Result<(), AllocError>
-    ensures { OnOk result (string_bytes out.new
-        ≡ string_bytes out.old ++ encode_utf8_all (flat_map (name_char false) letters.now)) }
+    ensures { Adds out.old out.new result (encode_utf8_all (flat_map (name_char false) letters.now)) }
 {
     for c in letters {
         push_name_char(out, *c, false)?;
@@ -88,7 +88,7 @@ fn push_name_chars(out: &mut String, letters: &[char]) -> Result<(), AllocError>
 }
 
 fn push_name(out: &mut String, name: &str) -> Result<(), OutOfMemory>
-    ensures { OnOk result (string_bytes out.new ≡ string_bytes out.old ++ name_css name.now) }
+    ensures { Adds out.old out.new result (name_css name.now) }
 {
     let letters = letters(*out.allocator(), name)?;
     let Some((first, rest)) = letters.split_first() else {
@@ -122,7 +122,7 @@ fn case_text(case: CaseSensitivity) -> &'static str
 }
 
 fn push_asked(out: &mut String, asked: &Option<Comparison>) -> Result<(), OutOfMemory>
-    ensures { OnOk result (string_bytes out.new ≡ string_bytes out.old ++ asked_css asked.now) }
+    ensures { Adds out.old out.new result (asked_css asked.now) }
 {
     let Some(comparison) = asked else {
         return Ok(());
@@ -133,8 +133,7 @@ fn push_asked(out: &mut String, asked: &Option<Comparison>) -> Result<(), OutOfM
 }
 
 fn push_attribute(out: &mut String, attribute: &Attribute) -> Result<(), OutOfMemory>
-    ensures { OnOk result
-        (string_bytes out.new ≡ string_bytes out.old ++ part_css (Part.Attribute attribute.now)) }
+    ensures { Adds out.old out.new result (part_css (Part.Attribute attribute.now)) }
 {
     push_text(out, "[")?;
     push_name(out, attribute.name.as_str())?;
@@ -150,8 +149,7 @@ fn sign_of<'a>(number: Signed, sign: &'a str) -> &'a str
 }
 
 fn push_signed(out: &mut String, sign: &str, number: Signed) -> Result<(), OutOfMemory>
-    ensures { OnOk result
-        (string_bytes out.new ≡ string_bytes out.old ++ signed_css sign.now number) }
+    ensures { Adds out.old out.new result (signed_css sign.now number) }
 {
     push_text(out, sign_of(number, sign))?;
     let digits = number.magnitude.to_string(*out.allocator())?;
@@ -159,7 +157,7 @@ fn push_signed(out: &mut String, sign: &str, number: Signed) -> Result<(), OutOf
 }
 
 fn push_nth(out: &mut String, nth: Nth) -> Result<(), OutOfMemory>
-    ensures { OnOk result (string_bytes out.new ≡ string_bytes out.old ++ nth_css nth) }
+    ensures { Adds out.old out.new result (nth_css nth) }
 {
     push_signed(out, "", nth.a)?;
     push_text(out, "n")?;
@@ -178,8 +176,7 @@ fn kind_text(kind: IndexKind) -> &'static str
 }
 
 fn push_position(out: &mut String, position: Position) -> Result<(), OutOfMemory>
-    ensures { OnOk result
-        (string_bytes out.new ≡ string_bytes out.old ++ part_css (Part.Position position)) }
+    ensures { Adds out.old out.new result (part_css (Part.Position position)) }
 {
     push_text(out, kind_text(position.kind))?;
     push_nth(out, position.nth)?;
@@ -188,8 +185,7 @@ fn push_position(out: &mut String, position: Position) -> Result<(), OutOfMemory
 
 /// Adds a text that a function asks for, and `)`.
 fn push_asked_text(out: &mut String, function: &str, text: &str) -> Result<(), OutOfMemory>
-    ensures { OnOk result (string_bytes out.new
-        ≡ string_bytes out.old ++ function.now ++ css_text text.now ++ codes ")") }
+    ensures { Adds out.old out.new result (function_css function.now (css_text text.now)) }
 {
     push_text(out, function)?;
     push_string(out, text)?;
@@ -198,15 +194,14 @@ fn push_asked_text(out: &mut String, function: &str, text: &str) -> Result<(), O
 
 /// Adds a name behind a mark.
 fn push_marked(out: &mut String, mark: &str, name: &str) -> Result<(), OutOfMemory>
-    ensures { OnOk result
-        (string_bytes out.new ≡ string_bytes out.old ++ mark.now ++ name_css name.now) }
+    ensures { Adds out.old out.new result (mark.now ++ name_css name.now) }
 {
     push_text(out, mark)?;
     push_name(out, name)
 }
 
 fn push_part(out: &mut String, part: &Part) -> Result<(), OutOfMemory>
-    ensures { OnOk result (string_bytes out.new ≡ string_bytes out.old ++ part_css part.now) }
+    ensures { Adds out.old out.new result (part_css part.now) }
 {
     match part {
         Part::Universal => push_text(out, "*"),
@@ -226,8 +221,7 @@ fn push_part(out: &mut String, part: &Part) -> Result<(), OutOfMemory>
 }
 
 fn push_parts(out: &mut String, parts: &[Part]) -> Result<(), OutOfMemory>
-    ensures { OnOk result
-        (string_bytes out.new ≡ string_bytes out.old ++ flat_map part_css parts.now) }
+    ensures { Adds out.old out.new result (flat_map part_css parts.now) }
 {
     for part in parts {
         push_part(out, part)?;
@@ -271,8 +265,7 @@ fn comma_text(is_first: bool) -> &'static str
 
 #[cycle(writing)]
 fn push_compound(out: &mut String, compound: &Compound) -> Result<(), OutOfMemory>
-    ensures { OnOk result (string_bytes out.new
-        ≡ string_bytes out.old ++ compound_css (read_compound compound.now)) }
+    ensures { Adds out.old out.new result (compound_css (read_compound compound.now)) }
 {
     push_parts(out, &compound.parts)?;
     push_lists(out, &compound.nested)
@@ -280,8 +273,7 @@ fn push_compound(out: &mut String, compound: &Compound) -> Result<(), OutOfMemor
 
 #[cycle(writing)]
 fn push_lists(out: &mut String, lists: &[Nested]) -> Result<(), OutOfMemory>
-    ensures { OnOk result (string_bytes out.new
-        ≡ string_bytes out.old ++ lists_css (lists_of (map read_nested lists.now))) }
+    ensures { Adds out.old out.new result (lists_css (read_lists lists.now)) }
 {
     for list in lists {
         push_list(out, list)?;
@@ -291,8 +283,7 @@ fn push_lists(out: &mut String, lists: &[Nested]) -> Result<(), OutOfMemory>
 
 #[cycle(writing)]
 fn push_list(out: &mut String, list: &Nested) -> Result<(), OutOfMemory>
-    ensures { OnOk result (string_bytes out.new
-        ≡ string_bytes out.old ++ list_css (read_nested list.now)) }
+    ensures { Adds out.old out.new result (list_css (read_nested list.now)) }
 {
     match list {
         Nested::Is(selectors) => push_enclosed(out, ":is(", false, selectors),
@@ -309,8 +300,8 @@ fn push_enclosed(
     is_relative: bool,
     selectors: &[Selector],
 ) -> Result<(), OutOfMemory>
-    ensures { OnOk result (string_bytes out.new ≡ string_bytes out.old ++ function.now
-        ++ selectors_css true is_relative (read_list selectors.now) ++ codes ")") }
+    ensures { Adds out.old out.new result
+        (function_css function.now (selectors_css true is_relative (read_list selectors.now))) }
 {
     push_text(out, function)?;
     push_selectors(out, is_relative, selectors)?;
@@ -323,8 +314,7 @@ fn push_selectors(
     is_relative: bool,
     selectors: &[Selector],
 ) -> Result<(), OutOfMemory>
-    ensures { OnOk result (string_bytes out.new
-        ≡ string_bytes out.old ++ selectors_css true is_relative (read_list selectors.now)) }
+    ensures { Adds out.old out.new result (selectors_css true is_relative (read_list selectors.now)) }
 {
     let mut is_first = true;
     for selector in selectors {
@@ -341,8 +331,7 @@ fn push_selector(
     is_relative: bool,
     selector: &Selector,
 ) -> Result<(), OutOfMemory>
-    ensures { OnOk result (string_bytes out.new
-        ≡ string_bytes out.old ++ selector_css is_relative (read_selector selector.now)) }
+    ensures { Adds out.old out.new result (selector_css is_relative (read_selector selector.now)) }
 {
     push_text(out, lead_text(is_relative, selector.lead))?;
     push_compound(out, &selector.first)?;
@@ -351,8 +340,7 @@ fn push_selector(
 
 #[cycle(writing)]
 fn push_steps(out: &mut String, steps: &[Step]) -> Result<(), OutOfMemory>
-    ensures { OnOk result (string_bytes out.new
-        ≡ string_bytes out.old ++ steps_css (steps_of (map read_step steps.now))) }
+    ensures { Adds out.old out.new result (steps_css (read_steps steps.now)) }
 {
     for step in steps {
         push_step(out, step)?;
@@ -362,8 +350,7 @@ fn push_steps(out: &mut String, steps: &[Step]) -> Result<(), OutOfMemory>
 
 #[cycle(writing)]
 fn push_step(out: &mut String, step: &Step) -> Result<(), OutOfMemory>
-    ensures { OnOk result (string_bytes out.new ≡ string_bytes out.old
-        ++ combinator_css (read_step step.now).0 ++ compound_css (read_step step.now).1) }
+    ensures { Adds out.old out.new result (step_css (read_step step.now)) }
 {
     push_text(out, combinator_text(step.combinator))?;
     push_compound(out, &step.compound)

@@ -1,7 +1,7 @@
 //! Reads strings in quotes.
 
-ghost use Rattle.std.specs.Prelude.{◌≡◌, ◌++◌, ◌∷◌, [], Option, MatchOption, MatchResult, OnOk};
-ghost use Rattle.std.specs.Prelude.{string_bytes, encode_utf8_all};
+ghost use Rattle.std.specs.Prelude.{◌≡◌, ◌∷◌, [], encode_utf8_all};
+ghost use Rattle.dom_selectors.specs.Adding.{Adds};
 ghost use Rattle.dom_selectors.specs.Spelling.{Takes, TakesSome, no_other, same};
 ghost use Rattle.dom_selectors.specs.Strings.{SpellsStringEscape, SpellsPiece, SpellsString};
 ghost use Rattle.dom_selectors.specs.Strings.{after_line_end, goes_on_in, is_quote, present};
@@ -73,8 +73,7 @@ fn goes_on_in(quote: char, text: &[char]) -> bool
 
 /// Adds a character that is there.
 fn push_piece(text: &mut String, piece: Option<char>) -> Result<(), AllocError>
-    ensures { OnOk result (string_bytes text.new
-        ≡ string_bytes text.old ++ encode_utf8_all (present (piece ∷ []))) }
+    ensures { Adds text.old text.new result (encode_utf8_all (present (piece ∷ []))) }
 {
     match piece {
         Some(c) => text.push(c),

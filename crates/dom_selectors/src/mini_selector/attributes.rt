@@ -1,13 +1,13 @@
 //! Reads the attributes of a mini selector.
 
-ghost use Rattle.std.specs.Prelude.{◌≡◌, map, nat_eq, MatchOption, MatchResult};
+ghost use Rattle.std.specs.Prelude.{◌≡◌, map, nat_eq};
 ghost use Rattle.dom_nodes.specs.Ascii.{right_bracket};
 ghost use Rattle.dom_selectors.specs.Characters.{begins};
-ghost use Rattle.dom_selectors.specs.MiniGrammar.{IsBadAttr, IsBadTest, IsPlainlyNone, Maybe};
-ghost use Rattle.dom_selectors.specs.MiniGrammar.{MeetsBad, SpellsAttr, SpellsAttrs, SpellsBare};
-ghost use Rattle.dom_selectors.specs.MiniGrammar.{SpellsQuoted, SpellsTest, ReportsBad};
+ghost use Rattle.dom_selectors.specs.MiniGrammar.{IsBadAttr, IsBadTest, MeetsBadAttr};
+ghost use Rattle.dom_selectors.specs.MiniGrammar.{SpellsAttr, SpellsAttrs, SpellsBare};
+ghost use Rattle.dom_selectors.specs.MiniGrammar.{SpellsQuoted, SpellsTest, TakesMany, TakesMaybe};
 ghost use Rattle.dom_selectors.specs.MiniSyntax.{asked_of, shown_test};
-ghost use Rattle.dom_selectors.specs.Spelling.{SpellsNone};
+ghost use Rattle.dom_selectors.specs.Spelling.{TakesSlice};
 ghost use Rattle.dom_selectors.specs.Strings.{is_quote};
 
 use crate::mini_selector::fault::MiniFault;
@@ -41,8 +41,7 @@ fn begins_bracket(text: &str) -> bool
 
 /// The value in quotes at the front, without them, and what follows it.
 fn take_quoted(text: &str) -> Option<(&str, &str)>
-    ensures { MatchOption result (SpellsNone SpellsQuoted text.now)
-        (λ p. SpellsQuoted p.0.now text.now p.1.now) }
+    ensures { TakesSlice result SpellsQuoted text.now }
 {
     let Some((quote, inside)) = split_ascii(text) else {
         return None;
@@ -62,8 +61,7 @@ fn take_quoted(text: &str) -> Option<(&str, &str)>
 
 /// The bare value at the front, and what follows it.
 fn take_bare(text: &str) -> Option<(&str, &str)>
-    ensures { MatchOption result (SpellsNone SpellsBare text.now)
-        (λ p. SpellsBare p.0.now text.now p.1.now) }
+    ensures { TakesSlice result SpellsBare text.now }
 {
     let (value, rest) = split_before(text, b']');
     if value.is_empty() {
@@ -77,10 +75,7 @@ type Test<'a> = (AttrOperator, &'a str);
 
 /// The test at the front, if there is one, and what follows it.
 fn take_test(text: &str) -> Result<Option<(Test<'_>, &str)>, MiniFault>
-    ensures { MatchResult result
-        (λ found. MatchOption found (IsPlainlyNone SpellsTest IsBadTest text.now)
-        (λ p. SpellsTest (shown_test p.0) text.now p.1.now))
-        (λ fault. ReportsBad fault (IsBadTest text.now)) }
+    ensures { TakesMaybe result shown_test SpellsTest IsBadTest text.now }
 {
     let Some((operator, after)) = take_operator(after_blanks(text)) else {
         return Ok(None);
@@ -100,10 +95,7 @@ fn take_test(text: &str) -> Result<Option<(Test<'_>, &str)>, MiniFault>
 
 /// The attribute at the front, if there is one, and what follows it.
 fn take_attr(text: &str) -> Result<Option<(MiniAttr<'_>, &str)>, MiniFault>
-    ensures { MatchResult result
-        (λ found. MatchOption found (IsPlainlyNone SpellsAttr IsBadAttr text.now)
-        (λ p. SpellsAttr (asked_of p.0) text.now p.1.now))
-        (λ fault. ReportsBad fault (IsBadAttr text.now)) }
+    ensures { TakesMaybe result asked_of SpellsAttr IsBadAttr text.now }
 {
     let Some(inside) = strip(text, '[') else {
         return Ok(None);
@@ -126,8 +118,8 @@ fn take_attr(text: &str) -> Result<Option<(MiniAttr<'_>, &str)>, MiniFault>
 
 /// The attributes at the front, and what follows them.
 pub(crate) fn take_attrs(alloc: Global, text: &str) -> Result<(Vec<MiniAttr<'_>>, &str), MiniFault>
-    ensures { MatchResult result (λ p. SpellsAttrs (map asked_of p.0.items) text.now p.1.now)
-        (λ fault. ReportsBad fault (MeetsBad SpellsAttr IsBadAttr text.now)) }
+    ensures { TakesMany result (λ attrs. map asked_of attrs.items) SpellsAttrs
+        MeetsBadAttr text.now }
 {
     let mut attrs = Vec::new(alloc);
     let mut rest = text;

@@ -1,12 +1,12 @@
 //! Reads mini selectors, and lists of them.
 
-ghost use Rattle.std.specs.Prelude.{◌≡◌, map, IfOk, MatchOption, MatchResult};
 ghost use Rattle.std.specs.Option.{option_copied};
-ghost use Rattle.dom_selectors.specs.MiniGrammar.{IsBadStep, IsPlainlyNone, Maybe, RefusesMini};
+ghost use Rattle.dom_selectors.specs.MiniGrammar.{IsBadStep, Maybe, ParsesFront, RefusesMini};
 ghost use Rattle.dom_selectors.specs.MiniGrammar.{RefusesPath, SpellsClasses, SpellsId, SpellsLead};
 ghost use Rattle.dom_selectors.specs.MiniGrammar.{SpellsMini, SpellsPath, SpellsStep, SpellsWord};
-ghost use Rattle.dom_selectors.specs.MiniGrammar.{ReportsBad};
+ghost use Rattle.dom_selectors.specs.MiniGrammar.{TakesMany, TakesMaybe};
 ghost use Rattle.dom_selectors.specs.MiniSyntax.{texts_of};
+ghost use Rattle.dom_selectors.specs.Spelling.{same};
 
 use crate::mini_selector::attributes::take_attrs;
 use crate::mini_selector::fault::MiniFault;
@@ -47,8 +47,7 @@ fn maybe_id(text: &str) -> (Option<&str>, &str)
 
 /// The classes at the front, and what follows them.
 fn take_classes(alloc: Global, text: &str) -> Result<(Vec<&str>, &str), MiniFault>
-    ensures { MatchResult result (λ p. SpellsClasses (texts_of p.0.items) text.now p.1.now)
-        (λ fault. ReportsBad fault ⊥) }
+    ensures { TakesMany result (λ words. texts_of words.items) SpellsClasses (λ _. ⊥) text.now }
 {
     let mut classes = Vec::new(alloc);
     let mut rest = text;
@@ -63,8 +62,7 @@ fn take_classes(alloc: Global, text: &str) -> Result<(Vec<&str>, &str), MiniFaul
 /// and `BadQuotedValue` where one of its attributes has a value that begins with a quote and is
 /// empty or not closed by that quote.
 pub fn parse_mini_selector(alloc: Global, text: &str) -> Result<(&str, MiniSelector<'_>), MiniFault>
-    ensures { MatchResult result (λ p. SpellsMini p.1 text.now p.0.now)
-        (λ fault. RefusesMini fault text.now) }
+    ensures { ParsesFront result same SpellsMini RefusesMini text.now }
 {
     let (lead, after_lead) = maybe_lead(text);
     let (name, after_name) = maybe_name(after_lead);
@@ -86,10 +84,7 @@ pub fn parse_mini_selector(alloc: Global, text: &str) -> Result<(&str, MiniSelec
 
 /// The mini selector at the front with the blanks round it, if there is one, and what follows it.
 fn take_step(alloc: Global, text: &str) -> Result<Option<(MiniSelector<'_>, &str)>, MiniFault>
-    ensures { MatchResult result
-        (λ found. MatchOption found (IsPlainlyNone SpellsStep IsBadStep text.now)
-        (λ p. SpellsStep p.0 text.now p.1.now))
-        (λ fault. ReportsBad fault (IsBadStep text.now)) }
+    ensures { TakesMaybe result same SpellsStep IsBadStep text.now }
 {
     match parse_mini_selector(alloc, after_blanks(text)) {
         Ok((rest, mini)) => Ok(Some((mini, after_blanks(rest)))),
@@ -104,8 +99,7 @@ pub fn parse_selector_list(
     alloc: Global,
     text: &str,
 ) -> Result<(&str, Vec<MiniSelector<'_>>), MiniFault>
-    ensures { MatchResult result (λ p. SpellsPath p.1.items text.now p.0.now)
-        (λ fault. RefusesPath fault text.now) }
+    ensures { ParsesFront result (λ minis. minis.items) SpellsPath RefusesPath text.now }
 {
     let mut minis = Vec::new(alloc);
     let mut rest = text;

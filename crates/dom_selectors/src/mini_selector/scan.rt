@@ -1,14 +1,13 @@
 //! Fronts of a text: blanks, words, what stands before a character.
 
-ghost use Rattle.std.specs.Prelude.{◌≡◌, ◌<◌, ◌∷◌, ℕ, List, Bool, false, nat_lt, IfSome};
-ghost use Rattle.std.specs.Prelude.{MatchOption};
+ghost use Rattle.std.specs.Prelude.{◌≡◌, ◌<◌, ◌∷◌, false, nat_lt, MatchOption};
 ghost use Rattle.std.specs.List.{prefix_len, take_while};
 ghost use Rattle.dom_selectors.specs.Attributes.{SpellsOperator, operator_of};
 ghost use Rattle.dom_selectors.specs.Grammar.{combinator_of};
 ghost use Rattle.dom_selectors.specs.Characters.{begins};
 ghost use Rattle.dom_selectors.specs.MiniLetters.{after_blanks, after_while, isnt, passes};
 ghost use Rattle.dom_selectors.specs.MiniGrammar.{SpellsLead, SpellsMarked, SpellsWord};
-ghost use Rattle.dom_selectors.specs.Spelling.{SpellsNone};
+ghost use Rattle.dom_selectors.specs.Spelling.{Strips, TakesSlice, TakesSome};
 
 use crate::syntax::{AttrOperator, Combinator};
 
@@ -84,8 +83,7 @@ pub(crate) fn after_blanks(text: &str) -> &str
 /// What follows the letter at the front, if it stands there.
 pub(crate) fn strip(text: &str, letter: char) -> Option<&str>
     requires { letter < 128 }
-    ensures { MatchOption result ((rest : List ℕ) → text.now ≡ letter ∷ rest → ⊥)
-        (λ rest. text.now ≡ letter ∷ rest.now) }
+    ensures { Strips result letter text.now }
 {
     text.strip_prefix(letter)
 }
@@ -104,8 +102,7 @@ pub(crate) fn split_ascii(text: &str) -> Option<(u8, &str)>
 
 /// The word at the front, and what follows it.
 pub(crate) fn take_word(text: &str) -> Option<(&str, &str)>
-    ensures { MatchOption result (SpellsNone SpellsWord text.now)
-        (λ p. SpellsWord p.0.now text.now p.1.now) }
+    ensures { TakesSlice result SpellsWord text.now }
 {
     let (word, rest) = split_run(CharKind::Word, text);
     if word.is_empty() {
@@ -117,8 +114,7 @@ pub(crate) fn take_word(text: &str) -> Option<(&str, &str)>
 /// The word behind the mark at the front, and what follows it.
 pub(crate) fn take_marked(text: &str, mark: char) -> Option<(&str, &str)>
     requires { mark < 128 }
-    ensures { MatchOption result (SpellsNone (SpellsMarked mark) text.now)
-        (λ p. SpellsMarked mark p.0.now text.now p.1.now) }
+    ensures { TakesSlice result (SpellsMarked mark) text.now }
 {
     let Some(more) = strip(text, mark) else {
         return None;
@@ -140,8 +136,7 @@ fn combinator_of(sign: u8) -> Option<Combinator>
 
 /// The combinator at the front, with the blanks round its sign, and what follows it.
 pub(crate) fn take_lead(text: &str) -> Option<(Combinator, &str)>
-    ensures { MatchOption result (SpellsNone SpellsLead text.now)
-        (λ p. SpellsLead p.0 text.now p.1.now) }
+    ensures { TakesSome result SpellsLead text.now }
 {
     let Some((sign, more)) = split_ascii(after_blanks(text)) else {
         return None;
@@ -168,8 +163,7 @@ fn operator_of(sign: u8) -> Option<AttrOperator>
 
 /// The operator at the front, and what follows it.
 pub(crate) fn take_operator(text: &str) -> Option<(AttrOperator, &str)>
-    ensures { MatchOption result (SpellsNone SpellsOperator text.now)
-        (λ p. SpellsOperator p.0 text.now p.1.now) }
+    ensures { TakesSome result SpellsOperator text.now }
 {
     let Some((sign, more)) = split_ascii(text) else {
         return None;

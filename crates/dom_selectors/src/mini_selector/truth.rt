@@ -3,9 +3,9 @@
 ghost use Rattle.std.specs.Prelude.{◌≡◌};
 ghost use Rattle.std.specs.List.{list_all, list_any};
 ghost use Rattle.std.specs.Option.{option_copied};
-ghost use Rattle.dom_nodes.specs.Words.{class_words, is_among};
 ghost use Rattle.dom_selectors.specs.MiniSyntax.{asked_of};
-ghost use Rattle.dom_selectors.specs.MiniTruth.{asked_holds, attr_passes, element_passes, id_holds};
+ghost use Rattle.dom_selectors.specs.MiniTruth.{attr_passes, attrs_hold, is_as_asked};
+ghost use Rattle.dom_selectors.specs.MiniTruth.{classes_hold, element_passes, has_class, id_holds};
 ghost use Rattle.dom_selectors.specs.MiniTruth.{name_holds, node_passes, test_passes};
 
 use crate::comparisons::compares;
@@ -37,8 +37,7 @@ fn id_holds(id: Option<&str>, element: &Element) -> bool
 }
 
 fn classes_hold(classes: &[&str], element: &Element) -> bool
-    ensures { result ≡ list_all
-        (λ class. is_among class.now (class_words element.now.attrs)) classes.now }
+    ensures { result ≡ list_all (λ class. has_class element.now class.now) classes.now }
 {
     classes.iter().all(|class| element.has_class(class))
 }
@@ -66,7 +65,7 @@ fn any_passes(key: &str, operator: AttrOperator, wanted: &str, attrs: &[Attr]) -
 }
 
 fn asked_holds(asked: &MiniAttr<'_>, element: &Element) -> bool
-    ensures { result ≡ asked_holds element.now (asked_of asked.now).key (asked_of asked.now).test }
+    ensures { result ≡ is_as_asked element.now (asked_of asked.now) }
 {
     let Some((operator, wanted)) = asked.test else {
         return element.attr(asked.key).is_some();
@@ -75,23 +74,20 @@ fn asked_holds(asked: &MiniAttr<'_>, element: &Element) -> bool
 }
 
 fn attrs_hold(attrs: &[MiniAttr<'_>], element: &Element) -> bool
-    ensures { result ≡ list_all
-        (λ asked. asked_holds element.now (asked_of asked).key (asked_of asked).test) attrs.now }
+    ensures { result ≡ list_all (λ asked. is_as_asked element.now (asked_of asked)) attrs.now }
 {
     attrs.iter().all(|asked| asked_holds(asked, element))
 }
 
 impl<'a> MiniSelector<'a> {
     fn has_classes(&self, element: &Element) -> bool
-        ensures { result ≡ list_all
-            (λ class. is_among class (class_words element.now.attrs)) self.now.classes }
+        ensures { result ≡ classes_hold self.now.classes element.now }
     {
         classes_hold(self.classes.as_slice(), element)
     }
 
     fn has_attrs(&self, element: &Element) -> bool
-        ensures { result ≡ list_all
-            (λ asked. asked_holds element.now asked.key asked.test) self.now.attrs }
+        ensures { result ≡ attrs_hold self.now.attrs element.now }
     {
         attrs_hold(self.attrs.as_slice(), element)
     }
