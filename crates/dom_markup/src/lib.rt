@@ -3,6 +3,7 @@
 
 pub mod document;
 pub mod escaping;
+mod find;
 pub mod laws;
 mod names;
 mod references;

@@ -3,6 +3,7 @@ ghost use Rattle.std.specs.Prelude.{◌≡◌, ◌≤◌, ℕ, List, None, Some,
 ghost use Rattle.dom_markup.specs.References.{decoded, is_numbered, numeral, reference};
 ghost use Rattle.dom_markup.specs.Referring.{CutsReference};
 
+use crate::find::find_byte;
 use dom_nodes::fault::OutOfMemory;
 use dom_nodes::text::Text;
 use memchr::memchr;
@@ -13,7 +14,7 @@ use std::alloc::Global;
 pub fn decode(alloc: Global, text: &str) -> Result<Text, OutOfMemory>
     ensures { IfOk result (λ read. read ≡ decoded text.now) }
 {
-    let Some(_) = memchr(b'&', text.as_bytes()) else {
+    let Some(_) = find_byte(b'&', text.as_bytes()) else {
         return Text::new(alloc, text);
     };
     decode_references(alloc, text)

@@ -15,7 +15,7 @@ ghost use Rattle.dom_markup.specs.ByteClasses.{passes, PastAttributes, Splits, a
 ghost use Rattle.dom_markup.specs.Plain.{HoldsNoClose};
 
 use crate::document::names::is_letter;
-use memchr::memchr;
+use crate::find::find_byte;
 use std::simd::prelude::*;
 
 /// A class of bytes, of which runs of markup are made.
@@ -134,7 +134,13 @@ pub fn strip(text: &str, letter: char) -> Option<&str>
     requires { letter < 128 }
     ensures { Leaves (λ rest. text.now ≡ letter ∷ rest) result }
 {
-    text.strip_prefix(letter)
+    let [first, ..] = text.as_bytes() else {
+        return None;
+    };
+    if *first as char != letter {
+        return None;
+    }
+    Some(&text[1..])
 }
 
 /// What follows the front, if the text begins with it.
@@ -178,7 +184,7 @@ fn text_len(bytes: &[u8]) -> usize
     ensures { result ≡ length (text_front bytes.now) }
 {
     let mut at = 0;
-    while let Some(found) = memchr(b'<', bytes_from(bytes, at)) {
+    while let Some(found) = find_byte(b'<', bytes_from(bytes, at)) {
         let start = at + found;
         if begins_markup(bytes_from(bytes, start)) {
             return start;
@@ -256,7 +262,7 @@ pub fn split_letter(text: &str, letter: u8) -> Option<(&str, &str)>
     ensures some { IfSome result (λ found. EndsAtByte letter text.now found.0.now found.1.now) }
     ensures none { IfNone result ((front rest : List ℕ) → text.now ≡ front ++ letter ∷ rest → ⊥) }
 {
-    let at = memchr(letter, text.as_bytes())?;
+    let at = find_byte(letter, text.as_bytes())?;
     Some((&text[..at], &text[at + 1..]))
 }
 

@@ -1,14 +1,9 @@
-use Rattle.std.proofs.Common.{◌≡◌, ℕ, List, ◌∷◌, Bor, rules}
-use Rattle.std.proofs.lemmas.Str.Pattern.{strip_prefix_char}
-use Rattle.dom_markup.proofs.grammar.Spans.{IfNone-from_cases}
+use Rattle.std.proofs.Common.{◌∙◌, ap, sym, arith, length, List, ℕ, get_or}
+use Rattle.std.proofs.lemmas.Str.{IsCharBoundary-after_ascii}
 use Rattle.dom_markup.proofs.document.scan.strip.Goals as goal
 
-pub returns : goal.returns
-returns c = record {
-  some = search rules;
-  none =
-      IfNone-from_cases {X = Bor (List ℕ)} c.strip_prefix.result
-      ((rest : List ℕ) → c.args.text.now ≡ c.args.letter ∷ rest → ⊥)
-      (λ x. c.args.text.now ≡ c.args.letter ∷ x.now)
-      (strip_prefix_char c.args.letter c.args.text.now c.strip_prefix.result c.strip_prefix.ensures.cases c.requires);
-}
+pub range_from-requires : goal.range_from-requires
+range_from-requires c =
+    let is = c.as_bytes.ensures.value in
+    λ some. IsCharBoundary-after_ascii c.args.text.now 0 c.utf8.text (omega (arith, c.in-len1-up.len_at_least, ap length is))
+    (omega (arith, c.requires, sym (ap (λ (t : List ℕ). get_or t 0 0) is) ∙ c.if-first-letter.false))

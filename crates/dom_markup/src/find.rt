@@ -1,0 +1,63 @@
+//! Where a byte first stands in a text.
+
+ghost use Rattle.std.specs.Prelude.{◌≡◌, ◌≤◌, ◌<◌, ◌+◌, length, map};
+ghost use Rattle.std.specs.Simd.Lanes.{mask_l};
+ghost use Rattle.memchr.specs.Find.{IsFirst, IsFirstByte, Nowhere, Passes, is_byte};
+
+use std::simd::prelude::*;
+
+/// Which of the bytes are that one, a bit for each.
+#[inline(always)]
+fn places_in(bytes: u8x16, byte: u8) -> u64
+    ensures { result ≡ mask_l (map (is_byte byte) bytes) }
+{
+    bytes.simd_eq(u8x16::splat(byte)).to_bitmask()
+}
+
+/// The first place of the byte among the sixteen from `at` on.
+#[inline(always)]
+fn find_in_lanes(byte: u8, bytes: &[u8], at: usize) -> Option<usize>
+    requires { at + 16 ≤ length bytes.now }
+    ensures { IsFirst (Passes (is_byte byte) bytes.now) at (at + 16) result }
+{
+    let places = places_in(u8x16::from_slice(&bytes[at..]), byte);
+    if places == 0 {
+        return None;
+    }
+    Some(at + places.trailing_zeros() as usize)
+}
+
+/// The first place of the byte, where it stands nowhere before `at`. The last sixteen bytes are
+/// tested at once, also those that were tested before; of fewer one is tested after the other.
+#[inline(always)]
+fn find_at_end(byte: u8, bytes: &[u8], at: usize) -> Option<usize>
+    requires passed { Nowhere (Passes (is_byte byte) bytes.now) 0 at }
+    requires last { length bytes.now < at + 16 }
+    ensures { IsFirstByte (is_byte byte) bytes.now result }
+{
+    if bytes.len() >= 16 {
+        return find_in_lanes(byte, bytes, bytes.len() - 16);
+    }
+    for (index, other) in bytes.iter().enumerate() {
+        if *other == byte {
+            return Some(index);
+        }
+    }
+    None
+}
+
+/// The first place of the byte, for texts that are mostly short: sixteen bytes are tested at once,
+/// with no call.
+#[inline(always)]
+pub fn find_byte(byte: u8, bytes: &[u8]) -> Option<usize>
+    ensures { IsFirstByte (is_byte byte) bytes.now result }
+{
+    let mut at = 0;
+    while bytes.len() - at >= 16 {
+        if let Some(found) = find_in_lanes(byte, bytes, at) {
+            return Some(found);
+        }
+        at += 16;
+    }
+    find_at_end(byte, bytes, at)
+}
