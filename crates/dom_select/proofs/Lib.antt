@@ -1,6 +1,7 @@
 pub mod AnswerLemmas
 pub mod AskLemmas
 pub mod ChildRowLemmas
+pub mod DescentLemmas
 pub mod EndLemmas
 pub mod FollowLemmas
 pub mod HasLemmas

@@ -89,7 +89,7 @@ of_some (Some v) P Q e h = (v, h)
 
 -- where no flag is set, nothing is found
 
-off_below : (k : Combinator) (element : Bool) → flag_below k element false false ≡ false
+pub off_below : (k : Combinator) (element : Bool) → flag_below k element false false ≡ false
 off_below Descendant element = refl
 off_below Child element = refl
 off_below Adjacent element = refl
@@ -120,7 +120,7 @@ none_beside (mini ∷ minis) node [] e = refl
 none_beside (mini ∷ minis) node (true ∷ flags) e = absurd (true≢false e)
 none_beside (mini ∷ minis) node (false ∷ flags) e = ap (λ b. b || is_any (flags_beside minis node false flags)) (off_beside (combinator_of mini) (is_element node)) ∙ none_beside minis node flags e
 
-none_in : (forest : Forest) (minis : List Mini) (flags : List Bool) (t : Trees) → is_any flags ≡ false → led_in forest minis flags t ≡ []
+pub none_in : (forest : Forest) (minis : List Mini) (flags : List Bool) (t : Trees) → is_any flags ≡ false → led_in forest minis flags t ≡ []
 none_in forest minis flags NoTrees e = refl
 none_in forest minis flags (Tree n contents children later) e =
     let node = data_at forest n in

@@ -1,15 +1,18 @@
 -- How a chain of compounds is followed from right to left.
-use Rattle.std.specs.Prelude.{◌≡◌, ◌<◌, ◌≤◌, ◌⊎◌, ℕ, List, [], ◌∷◌, ◌++◌, length}
+use Rattle.std.specs.Prelude.{◌≡◌, ◌<◌, ◌≤◌, ◌⊎◌, ℕ, List, [], ◌∷◌, ◌++◌, Option, IfSome, MatchOption, length, map}
+use Rattle.std.specs.Borrow.{Bor}
 use Rattle.dom_links.specs.Forest.{Forest}
 use Rattle.dom_links.specs.Trees.{ancestors}
 use Rattle.dom_selectors.specs.declared.syntax.Combinator.{Combinator}
 use Rattle.dom_selectors.specs.declared.syntax.Combinator.TheVariants.{Descendant, Child, Adjacent, Sibling}
+use Rattle.dom_selectors.specs.declared.syntax.Step.{Step}
 use Rattle.dom_selectors.specs.ListsAsTrees.{steps_of}
-use Rattle.dom_selectors.specs.ValuesAsTrees.{read_compound}
+use Rattle.dom_selectors.specs.ValuesAsTrees.{read_compound, read_step}
 use Rattle.dom_select.specs.declared.matcher.matches.Chain.{Chain}
+use Rattle.dom_select.specs.declared.matcher.matches.Remainder.{Remainder}
 use Rattle.dom_select.specs.Has.{Begins}
 use Rattle.dom_select.specs.Leftward.{earlier}
-use Rattle.dom_select.specs.Meaning.{Holds, StepsMatch, MayBeOperand, ChainMatches, CombinatorHolds}
+use Rattle.dom_select.specs.Meaning.{ChainMatches, CombinatorHolds, HasType, Holds, MayBeOperand, StepsMatch}
 use Rattle.dom_selectors.specs.Syntax.{CompoundSelector}
 
 -- n may be the first node of the chain
@@ -68,3 +71,23 @@ pub record SuffixMatchesFrom (forest : Forest) (exempt : ℕ) (first : ℕ → T
   pub beside : MayBeOperand forest exempt k at
   pub followed : SuffixMatches forest exempt first (binding_level k) steps left at w
   pub whole : SomeCandidateMatches forest exempt first steps k n → ChainMatches first (steps_of left) forest exempt w
+
+-- the last compound of the chain holds of n
+abbrev pub EndsChain : Chain → List Step → Forest → ℕ → Type 0
+EndsChain chain steps forest n = LastHolds forest chain.exempt (BeginsChain chain forest) (map read_step steps) n
+
+-- n may stand beside the combinator, and bears the name if there is one
+abbrev pub IsCandidate : Option (Bor (List ℕ)) → Combinator → Forest → ℕ → ℕ → Type 0
+IsCandidate name k forest exempt n = MayBeOperand forest exempt k n × IfSome name (λ name. HasType name.now forest n)
+
+-- where the chain was followed to from n, over the steps that bind more tightly; none where it doesn't match at n
+abbrev pub FollowsChain : Chain → List Step → ℕ → Forest → ℕ → Option Remainder → Type 0
+FollowsChain chain steps level forest n followed = MatchOption followed
+    (ChainMatches (BeginsChain chain forest) (steps_of (map read_step steps)) forest chain.exempt n → ⊥)
+    (λ remainder. SuffixMatches forest chain.exempt (BeginsChain chain forest) level (map read_step steps) (map read_step remainder.left.now) n remainder.at)
+
+-- the same from a node that stands to n as the combinator says; none where it matches at no such node
+abbrev pub FollowsCandidate : Chain → List Step → Combinator → Forest → ℕ → Option Remainder → Type 0
+FollowsCandidate chain steps k forest n followed = MatchOption followed
+    (SomeCandidateMatches forest chain.exempt (BeginsChain chain forest) (map read_step steps) k n → ⊥)
+    (λ remainder. SuffixMatchesFrom forest chain.exempt (BeginsChain chain forest) k (map read_step steps) (map read_step remainder.left.now) n remainder.at)

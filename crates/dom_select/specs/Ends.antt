@@ -1,22 +1,28 @@
 -- Names that nodes bear which a selector reaches or means.
-use Rattle.std.specs.Prelude.{ℕ, List, [], ◌∷◌, ◌⊎◌}
+use Rattle.std.specs.Prelude.{ℕ, List, ◌⊎◌, map}
 use Rattle.dom_links.specs.Forest.{Forest}
 use Rattle.dom_selectors.specs.declared.syntax.Combinator.{Combinator}
-use Rattle.dom_selectors.specs.declared.syntax.Part.{Part}
+use Rattle.dom_selectors.specs.declared.syntax.Compound.{Compound}
+use Rattle.dom_selectors.specs.declared.syntax.Step.{Step}
 use Rattle.dom_selectors.specs.ListsAsTrees.{steps_of}
 use Rattle.dom_selectors.specs.Syntax.{CompoundSelector, SelectorList}
+use Rattle.dom_selectors.specs.ValuesAsTrees.{read_compound, read_step}
 use Rattle.dom_select.specs.declared.matcher.has.Start.{Start}
 use Rattle.dom_select.specs.Has.{Begins}
-use Rattle.dom_select.specs.Meaning.{Holds, Means, PartsHold, ChainMatches}
+use Rattle.dom_select.specs.Meaning.{ChainMatches, HasType, Holds, Means}
 
 -- the compound holds only of what bears the name as a type
 abbrev pub ImpliesType : List ℕ → CompoundSelector → Type 0
-ImpliesType name c = (forest : Forest) (n : ℕ) → Holds c forest n → PartsHold (Part.«Type» name ∷ []) forest n
+ImpliesType name c = (forest : Forest) (n : ℕ) → Holds c forest n → HasType name forest n
 
 -- the compounds reach only what bears the name as a type
 abbrev pub SubjectImpliesType : List ℕ → CompoundSelector → List (Combinator × CompoundSelector) → Type 0
-SubjectImpliesType name first steps = (start : Start) (forest : Forest) (exempt n : ℕ) → ChainMatches (Begins start first forest) (steps_of steps) forest exempt n → PartsHold (Part.«Type» name ∷ []) forest n
+SubjectImpliesType name first steps = (start : Start) (forest : Forest) (exempt n : ℕ) → ChainMatches (Begins start first forest) (steps_of steps) forest exempt n → HasType name forest n
+
+-- the same of compounds as the program has them
+abbrev pub IsSubjectType : Compound → List Step → List ℕ → Type 0
+IsSubjectType first steps name = SubjectImpliesType name (read_compound first) (map read_step steps)
 
 -- the selectors mean only what bears one of the names as a type
 abbrev pub SubjectIsAmong : List ℕ → List ℕ → SelectorList → Type 0
-SubjectIsAmong one other list = (forest : Forest) (n : ℕ) → Means list forest n → PartsHold (Part.«Type» one ∷ []) forest n ⊎ PartsHold (Part.«Type» other ∷ []) forest n
+SubjectIsAmong one other list = (forest : Forest) (n : ℕ) → Means list forest n → HasType one forest n ⊎ HasType other forest n

@@ -1,5 +1,5 @@
 -- Where the relative selectors of `:has` begin, and what they can lead to.
-use Rattle.std.specs.Prelude.{if◌then◌else◌, Bool, true, false, Option, Some, None, ◌≡◌, ◌⊎◌, ℕ, List, [], ◌∷◌}
+use Rattle.std.specs.Prelude.{if◌then◌else◌, Bool, true, false, Option, Some, None, ◌≡◌, ◌⊎◌, ℕ, List, [], ◌∷◌, map}
 use Rattle.dom_links.specs.Forest.{Forest}
 use Rattle.dom_links.specs.Lists.{stands_in}
 use Rattle.dom_links.specs.Trees.{walk_below}
@@ -9,8 +9,12 @@ use Rattle.dom_select.specs.declared.matcher.has.Start.TheVariants.{Absolute, Re
 use Rattle.dom_selectors.specs.declared.syntax.Combinator.{Combinator}
 use Rattle.dom_selectors.specs.declared.syntax.Combinator.TheVariants.{Descendant, Child, Adjacent, Sibling}
 use Rattle.dom_links.specs.ListMoves.{element_at}
-use Rattle.dom_select.specs.Meaning.{Holds, IsJoined, ChainMatches}
+use Rattle.dom_select.specs.Meaning.{ChainMatches, Holds, IsJoined, RelativeMatches}
+use Rattle.dom_selectors.specs.declared.syntax.Compound.{Compound}
+use Rattle.dom_selectors.specs.declared.syntax.Step.{Step}
+use Rattle.dom_selectors.specs.ListsAsTrees.{steps_of}
 use Rattle.dom_selectors.specs.Syntax.{CompoundSelector, Steps}
+use Rattle.dom_selectors.specs.ValuesAsTrees.{read_compound, read_step}
 
 -- a first node holds its compound, and where a start is asked it stands to the right of that as the combinator says
 abbrev pub Begins : Start → CompoundSelector → Forest → ℕ → Type 0
@@ -46,3 +50,13 @@ search_roots_from forest k (Some t) = t ∷ (if is_sideways k then later forest 
 -- the compounds lead to a node at or below t
 abbrev pub MatchesWithin : Start → CompoundSelector → Steps → Forest → ℕ → Type 0
 MatchesWithin start first steps forest t = (y : ℕ) × ((y ≡ t) ⊎ (stands_in y (walk_below forest t) ≡ true)) × SelectorMatches start first steps forest y
+
+-- compounds and steps as the program has them: they match at n from the start, at or below t, or at an element from x on
+abbrev pub CompoundsMatch : Start → Compound → List Step → Forest → ℕ → Type 0
+CompoundsMatch start first steps forest n = SelectorMatches start (read_compound first) (steps_of (map read_step steps)) forest n
+
+abbrev pub CompoundsMatchWithin : Start → Compound → List Step → Forest → ℕ → Type 0
+CompoundsMatchWithin start first steps forest t = MatchesWithin start (read_compound first) (steps_of (map read_step steps)) forest t
+
+abbrev pub CompoundsMatchFrom : Combinator → Compound → List Step → Forest → ℕ → Type 0
+CompoundsMatchFrom lead first steps forest x = RelativeMatches lead (read_compound first) (steps_of (map read_step steps)) forest x

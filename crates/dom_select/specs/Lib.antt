@@ -1,8 +1,11 @@
 pub mod Answers
+pub mod ByText
 pub mod Chains
 pub mod Descendants
+pub mod Descents
 pub mod Ends
 pub mod Has
+pub mod KeptIndexes
 pub mod Leftward
 pub mod Marks
 pub mod MatcherIters

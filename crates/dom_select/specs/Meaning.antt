@@ -15,6 +15,14 @@ use Rattle.dom_selectors.specs.Syntax.{CompoundSelector, compound, NestedLists, 
 unfoldable pub PartsHold : List Part → Forest → ℕ → Type 0
 PartsHold parts forest n = (n < length forest.content) × EachHolds parts forest n
 
+-- n is an element that bears the name as a type
+abbrev pub HasType : List ℕ → Forest → ℕ → Type 0
+HasType name forest n = PartsHold (Part.«Type» name ∷ []) forest n
+
+-- the compound is a type and nothing else
+abbrev pub IsTypeAlone : List ℕ → CompoundSelector → Type 0
+IsTypeAlone name c = c ≡ compound (Part.«Type» name ∷ []) no_lists
+
 -- w comes in the list, and no element before it
 abbrev pub ComesFirst : Forest → ℕ → List ℕ → Type 0
 ComesFirst forest w [] = ⊥
@@ -93,4 +101,4 @@ RelativeMatches lead first rest forest x =
 
 -- the selectors mean just the nodes that bear the name as a type
 abbrev pub MeansType : List ℕ → SelectorList → Type 0
-MeansType name list = (forest : Forest) (n : ℕ) → Means list forest n ↔ PartsHold (Part.«Type» name ∷ []) forest n
+MeansType name list = (forest : Forest) (n : ℕ) → Means list forest n ↔ HasType name forest n

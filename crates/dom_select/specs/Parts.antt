@@ -90,3 +90,7 @@ PartHolds Never forest n = passes_at Never forest n
 abbrev pub EachHolds : List Part → Forest → ℕ → Type 0
 EachHolds [] forest n = Unit {0}
 EachHolds (part ∷ parts) forest n = PartHolds part forest n × EachHolds parts forest n
+
+-- where one text at a node or below it contains the other, the texts there contain it joined
+abbrev pub ContainsWhatItHas : Type 0
+ContainsWhatItHas = (forest : Forest) (text : List ℕ) (n : ℕ) → PartHolds (HasText text) forest n → PartHolds (Contains text) forest n

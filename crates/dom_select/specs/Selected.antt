@@ -26,6 +26,10 @@ walks_below forest roots = first_occurrences [] (flat_map (walk_below forest) ro
 unfoldable pub Selected : Forest → List ℕ → SelectorList → List ℕ → Type 0
 Selected forest roots selector matched = FiltersTo (λ n. (element_at forest n ≡ true) × Means selector forest n) (walks_below forest roots) matched
 
+-- a selector selects one list of nodes at most
+abbrev pub SelectsOneList : Type 0
+SelectsOneList = (forest : Forest) (roots : List ℕ) (selector : SelectorList) (a b : List ℕ) → Selected forest roots selector a → Selected forest roots selector b → a ≡ b
+
 -- the nodes matched below the roots are the elements there that the selector means, each once
 pub record IsSelection (forest : Forest) (roots : List ℕ) (selector : SelectorList) (matched : List ℕ) : Type 0 where
   pub below : (n : ℕ) → stands_in n matched ≡ true → stands_in n (flat_map (walk_below forest) roots) ≡ true
@@ -33,3 +37,7 @@ pub record IsSelection (forest : Forest) (roots : List ℕ) (selector : Selector
   pub meant : (n : ℕ) → stands_in n matched ≡ true → Means selector forest n
   pub all : (n : ℕ) → stands_in n (flat_map (walk_below forest) roots) ≡ true → element_at forest n ≡ true → Means selector forest n → stands_in n matched ≡ true
   pub once : IsDistinct matched
+
+-- what a selector selects are those nodes
+abbrev pub SelectsExactly : Type 0
+SelectsExactly = (forest : Forest) (roots : List ℕ) (selector : SelectorList) (matched : List ℕ) → Selected forest roots selector matched → IsSelection forest roots selector matched

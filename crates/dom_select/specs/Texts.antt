@@ -1,11 +1,12 @@
 -- What a node's children are, and the texts at and below it.
-use Rattle.std.specs.Prelude.{ℕ, Bool, false, ◌||◌, ◌&&◌, not, List, [], ◌∷◌, ◌++◌, slice_get}
-use Rattle.std.specs.List.{list_all, list_any}
+use Rattle.std.specs.Prelude.{◌≡◌, ℕ, Bool, true, false, ◌||◌, ◌&&◌, not, List, [], ◌∷◌, ◌++◌, MatchOption, Option, drop, length, slice_get, take}
+use Rattle.std.specs.Borrow.{Bor}
+use Rattle.std.specs.List.{flat_map, list_all, list_any}
 use Rattle.std.specs.Option.{option_map_or}
 use Rattle.dom_nodes.specs.declared.node_data.NodeData.{NodeData}
 use Rattle.dom_nodes.specs.declared.node_data.NodeData.TheVariants.{Text}
 use Rattle.dom_links.specs.Forest.{Forest, children_of}
-use Rattle.dom_links.specs.Texts.{text_of}
+use Rattle.dom_links.specs.Texts.{text_at, text_of}
 use Rattle.dom_links.specs.Trees.{walk_below}
 use Rattle.dom_trees.specs.Views.{is_filled_text}
 use Rattle.dom_selectors.specs.Comparisons.{begins_with, has_within}
@@ -48,3 +49,13 @@ joined_contains_at forest inner n = has_within CaseSensitive (text_of forest n) 
 abbrev pub begins_among : List ℕ → List ℕ → List ℕ → Bool
 begins_among [] next inner = false
 begins_among (a ∷ more) next inner = begins_with CaseSensitive (a ∷ (more ++ next)) inner || begins_among more next inner
+
+-- the texts of the nodes, joined
+abbrev pub texts_at : Forest → List ℕ → List ℕ
+texts_at forest ns = flat_map (text_at forest) ns
+
+-- what is left of the other behind a text, where it goes as the text does as far as both go; none where it doesn't
+abbrev pub IsLeftBehind : List ℕ → List ℕ → Option (Bor (List ℕ)) → Type 0
+IsLeftBehind text inner left = MatchOption left
+    (begins_with CaseSensitive text (take (length text) inner) ≡ false)
+    (λ left. (begins_with CaseSensitive text (take (length text) inner) ≡ true) × (left.now ≡ drop (length text) inner))

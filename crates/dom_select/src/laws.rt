@@ -1,29 +1,24 @@
 //! What is true of every selector. The functions do nothing.
 
-ghost use Rattle.std.specs.Prelude.{◌≡◌, ◌<◌, ℕ, List, length};
+ghost use Rattle.std.specs.Prelude.{◌<◌, ℕ, List, length};
 ghost use Rattle.dom_links.specs.Forest.{Forest};
 ghost use Rattle.dom_links.specs.Sound.{IsForest};
 ghost use Rattle.dom_selectors.specs.MiniSyntax.{Mini};
-ghost use Rattle.dom_selectors.specs.Syntax.{SelectorList};
-ghost use Rattle.dom_selectors.specs.declared.syntax.Part.TheVariants.{Contains, HasText};
 ghost use Rattle.dom_select.specs.MiniPaths.{AreLedTo, IsFound};
-ghost use Rattle.dom_select.specs.Parts.{PartHolds};
-ghost use Rattle.dom_select.specs.Selected.{Selected};
-ghost use Rattle.dom_select.specs.Selected.{IsSelection};
+ghost use Rattle.dom_select.specs.Parts.{ContainsWhatItHas};
+ghost use Rattle.dom_select.specs.Selected.{SelectsExactly, SelectsOneList};
 
 use dom_links::laws::{lines_of_a_forest, trees_of_a_forest};
 pub use dom_selectors::laws::{one_mini_reading, one_reading, printed_string};
 
 /// A selector selects one list of nodes at most.
 pub fn one_selection()
-    ensures { (forest : Forest) (roots : List ℕ) (selector : SelectorList) (a b : List ℕ) →
-        Selected forest roots selector a → Selected forest roots selector b → a ≡ b }
+    ensures { SelectsOneList }
 {}
 
 /// What a selector selects are the elements below the roots that it means, each once.
 pub fn selected_exactly()
-    ensures { (forest : Forest) (roots : List ℕ) (selector : SelectorList) (matched : List ℕ) →
-        Selected forest roots selector matched → IsSelection forest roots selector matched }
+    ensures { SelectsExactly }
 {}
 
 /// What is found from a node are the nodes that the path leads to, each once.
@@ -38,6 +33,5 @@ pub fn found_exactly()
 
 /// Where one text at a node or below it contains another, the texts there contain it joined.
 pub fn contains_what_it_has()
-    ensures { (forest : Forest) (text : List ℕ) (n : ℕ) →
-        PartHolds (HasText text) forest n → PartHolds (Contains text) forest n }
+    ensures { ContainsWhatItHas }
 {}

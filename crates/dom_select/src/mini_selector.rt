@@ -2,5 +2,6 @@
 
 pub use dom_selectors::mini_selector::{fault, parser, selector};
 
+pub(crate) mod descent;
 pub mod extension;
 pub(crate) mod search;

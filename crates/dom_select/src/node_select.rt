@@ -1,6 +1,6 @@
 //! Nodes that are asked whether a selector means them.
 
-ghost use Rattle.std.specs.Prelude.{◌≡◌, ℕ, false, chars, IfOk, MatchBool};
+ghost use Rattle.std.specs.Prelude.{◌≡◌, ℕ, false, IfOk, MatchBool};
 ghost use Rattle.std.specs.List.{list_any};
 ghost use Rattle.dom_nodes.specs.declared.name.Namespace.TheVariants.{Html};
 ghost use Rattle.dom_links.specs.Forest.{Forest};
@@ -9,7 +9,7 @@ ghost use Rattle.dom_trees.specs.Views.{has_local_name, root_element_at};
 ghost use Rattle.dom_selectors.specs.declared.fault.SelectorFault.TheVariants.{Memory};
 ghost use Rattle.dom_selectors.specs.declared.syntax.Part.TheVariants.{Link};
 ghost use Rattle.dom_select.specs.Descendants.{IsMatch};
-ghost use Rattle.dom_selectors.specs.Grammar.{StandsFor};
+ghost use Rattle.dom_select.specs.ByText.{DecidesByText};
 ghost use Rattle.dom_select.specs.NodeAnswers.{has_id_at, has_namespace_at, is_id, pseudo_holds_at};
 ghost use Rattle.dom_select.specs.Parts.{data_passes};
 ghost use Rattle.dom_selectors.specs.Syntax.{SelectorList};
@@ -51,10 +51,7 @@ pub trait NodeSelect {
     /// Whether it is an element that one of the selectors in the text means; false where the text
     /// is outside the grammar.
     fn is(&self, selectors: &str) -> Result<bool, OutOfMemory>
-        ensures { IfOk result (λ answer. MatchBool answer
-            ((list : SelectorList) × StandsFor (chars selectors.now) list × meant self.now list)
-            ((list : SelectorList) → StandsFor (chars selectors.now) list → meant self.now list
-            → ⊥)) };
+        ensures { IfOk result (DecidesByText selectors.now (meant self.now)) };
 
     /// Whether one text at it or below it contains the other.
     fn has_text(&self, text: &str) -> bool

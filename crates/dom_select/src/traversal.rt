@@ -1,12 +1,12 @@
 //! Children and nodes below that are found by their names, over an arena's nodes.
 
-ghost use Rattle.std.specs.Prelude.{◌≡◌, ◌<◌, ◌≤◌, length, IfOk, MatchBool, None};
+ghost use Rattle.std.specs.Prelude.{◌≡◌, ◌≤◌, length, IfOk, None};
 ghost use Rattle.std.specs.Fn.{FnReturnsAt};
 ghost use Rattle.dom_links.specs.Forest.{forest_of};
 ghost use Rattle.dom_links.specs.Sound.{IsSoundArena};
 ghost use Rattle.dom_select.specs.MiniPaths.{IsFoundByNames};
 ghost use Rattle.dom_selectors.specs.MiniSyntax.{texts_of};
-ghost use Rattle.dom_select.specs.Traversals.{FindsChild, IsFailing, IsPassing, child_by_names};
+ghost use Rattle.dom_select.specs.Traversals.{DecidesPassing, FindsByNames, FindsChild};
 ghost use Rattle.dom_trees.specs.Views.{child_named, has_local_name};
 
 use crate::mini_selector::search::follow_names;
@@ -37,9 +37,7 @@ fn is_named(nodes: &[TreeNode], id: NodeId, name: &str) -> bool
 fn passes<F: Fn(&TreeNode) -> bool>(nodes: &[TreeNode], id: NodeId, test: &F) -> bool
     requires sound { IsSoundArena nodes.now }
     requires callable { F.IsAlwaysCallable test.now }
-    ensures { MatchBool result
-        (IsPassing (FnReturnsAt F.Fn test.now) (forest_of nodes.now) id)
-        (IsFailing (FnReturnsAt F.Fn test.now) (forest_of nodes.now) id) }
+    ensures { DecidesPassing (FnReturnsAt F.Fn test.now) (forest_of nodes.now) id result }
 {
     let Some(node) = find_node(nodes, id) else {
         return false;
@@ -92,8 +90,7 @@ impl Traversal {
     /// name, and so on; no name answers the node itself, an unknown number nothing.
     pub fn find_descendant_element(nodes: &[TreeNode], id: NodeId, path: &[&str]) -> Option<NodeId>
         requires { IsSoundArena nodes.now }
-        ensures known { id < length (forest_of nodes.now).content →
-            result ≡ child_by_names (forest_of nodes.now) id (texts_of path.now) }
+        ensures known { FindsByNames (forest_of nodes.now) id (texts_of path.now) result }
         ensures unknown { length (forest_of nodes.now).content ≤ id → result ≡ None }
     {
         find_node(nodes, id)?;

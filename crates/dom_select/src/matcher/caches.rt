@@ -2,6 +2,7 @@
 
 ghost use Rattle.std.specs.Prelude.{◌≡◌, ◌<◌, ◌≤◌, ℕ, MatchOption};
 ghost use Rattle.dom_links.specs.Indexes.{AreIndexes, index_at, index_known};
+ghost use Rattle.dom_select.specs.KeptIndexes.{IsKept};
 
 use dom_links::indexes::{IndexKind, index_at, index_with, note_indexes};
 use dom_nodes::node_id::NodeId;
@@ -175,8 +176,7 @@ fn make_room(known: &mut Vec<u32>, len: usize)
 
 /// The index that is kept for a node.
 fn kept(known: &[u32], id: &NodeId) -> Option<u64>
-    ensures { MatchOption result (Unit {0})
-        (λ index. (0 < index) × (index ≤ 4294967295) × (index ≡ index_known known.now id.now)) }
+    ensures { MatchOption result (Unit {0}) (IsKept known.now id.now) }
 {
     match known.get(id.value()) {
         Some(index) if *index > 0 => Some(u64::from(*index)),

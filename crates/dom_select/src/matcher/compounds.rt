@@ -1,11 +1,10 @@
 //! A compound that is asked of one node, by what its nested lists answered.
 
-ghost use Rattle.std.specs.Prelude.{◌≡◌, ◌+◌, ◌<◌, ◌^◌, map};
+ghost use Rattle.std.specs.Prelude.{◌≡◌, ◌+◌, ◌<◌, ◌^◌};
 ghost use Rattle.std.specs.List.{list_all};
-ghost use Rattle.dom_selectors.specs.ListsAsTrees.{lists_of};
 ghost use Rattle.dom_selectors.specs.Spelling.{Decides};
-ghost use Rattle.dom_selectors.specs.ValuesAsTrees.{read_compound, read_nested};
-ghost use Rattle.dom_select.specs.Answers.{AreAnswers};
+ghost use Rattle.dom_selectors.specs.ValuesAsTrees.{read_compound};
+ghost use Rattle.dom_select.specs.Answers.{AreAnswersAt};
 ghost use Rattle.dom_select.specs.Meaning.{Holds};
 
 use crate::matcher::caches::SelectorCaches;
@@ -23,8 +22,7 @@ pub fn test_compound(
     caches: &mut SelectorCaches<'_>,
     tests: &mut u128,
 ) -> bool
-    requires answers { AreAnswers (lists_of (map read_nested compound.now.nested.items))
-        x.now.tree.now x.now.id nested.now }
+    requires answers { AreAnswersAt compound.now x.now.tree.now x.now.id nested.now }
     requires caches { caches.old ≡ x.now.tree.now }
     requires room { tests.old + 1 < 2 ^ 128 }
     ensures is { Decides result (Holds (read_compound compound.now) x.now.tree.now x.now.id) }

@@ -1,12 +1,13 @@
 //! Which nodes a selector selects.
 
-ghost use Rattle.std.specs.Prelude.{◌≡◌, ◌∷◌, ◌-◌, ◌^◌, [], ℕ, List, length, IfOk, IfSome, IsSome};
-ghost use Rattle.std.specs.Iterator.{Drains, IsFinite, at_most};
+ghost use Rattle.std.specs.Prelude.{◌≡◌, ◌∷◌, ◌-◌, ◌^◌, [], length, IfOk, IfSome, IsSome};
+ghost use Rattle.std.specs.Iterator.{IsFinite, at_most};
 ghost use Rattle.dom_links.specs.Trees.{walk_below};
-ghost use Rattle.dom_select.specs.Descendants.{GivesMatch, IsMatch, ToCome};
+ghost use Rattle.dom_select.specs.Descendants.{FiltersWithin, GivesMatch, IsMatch};
+ghost use Rattle.dom_select.specs.Descendants.{SelectsBelow, SelectsWithin};
 ghost use Rattle.dom_select.specs.Ends.{SubjectIsAmong};
 ghost use Rattle.dom_select.specs.Meaning.{MeansType};
-ghost use Rattle.dom_select.specs.Selected.{FiltersTo, Selected, walks_below};
+ghost use Rattle.dom_select.specs.Selected.{Selected, walks_below};
 ghost use Rattle.dom_selectors.specs.Spelling.{Decides};
 
 use crate::matcher::Matcher;
@@ -58,8 +59,7 @@ impl<'a, 'b> DescendantMatches<'a, 'b> {
         ensures once { result.left ≡ walks_below node.entry.tree.now (node.entry.id ∷ []) }
         ensures tree { result.tree ≡ node.entry.tree }
         ensures selector { result.selector ≡ matcher.now }
-        ensures selected { (ids : List ℕ) → ToCome result ids →
-            Selected node.entry.tree.now (node.entry.id ∷ []) matcher.now ids }
+        ensures selected { SelectsBelow result node.entry.tree.now (node.entry.id ∷ []) matcher.now }
     {
         let NodeRef { id, tree } = node;
         DescendantMatches {
@@ -136,8 +136,7 @@ pub(crate) fn select_below_within(
     matcher: &Matcher,
     steps: u64,
 ) -> Result<Option<Vec<NodeId>>, OutOfMemory>
-    ensures selected { IfOk result (λ found. IfSome found
-        (λ ids. Selected tree.now (root.now ∷ []) matcher.now ids.items)) }
+    ensures selected { SelectsWithin result tree.now (root.now ∷ []) matcher.now }
     ensures no_limit { steps ≡ 2 ^ 64 - 1 → IfOk result (λ found. IsSome found) }
 {
     collect_within(tree, tree.descendant_ids_of_it(root), matcher, steps)
@@ -155,8 +154,7 @@ pub(crate) fn collect_within<I: Iterator<Item = NodeId> + Drop>(
     steps: u64,
 ) -> Result<Option<Vec<NodeId>>, OutOfMemory>
     requires { I.can_next ids × IsFinite (I.remaining ids) }
-    ensures matched { IfOk result (λ found. IfSome found (λ matched. (ns : List ℕ)
-        × Drains I.next_gives ids ns × FiltersTo (IsMatch matcher.now tree.now) ns matched.items)) }
+    ensures matched { FiltersWithin result I.next_gives ids (IsMatch matcher.now tree.now) }
     ensures no_limit { steps ≡ 2 ^ 64 - 1 → IfOk result (λ found. IsSome found) }
 {
     let names = matcher.subject_types();

@@ -1,12 +1,12 @@
 //! Whether the texts at a node and below it, joined, contain a text. They are gone over where they
 //! lie, and take no memory: what is sought may begin in one text and go on in those that follow it.
 
-ghost use Rattle.std.specs.Prelude.{◌≡◌, ◌++◌, drop, false, length, take, true, MatchOption};
-ghost use Rattle.std.specs.List.{flat_map};
+ghost use Rattle.std.specs.Prelude.{◌≡◌, ◌++◌};
 ghost use Rattle.dom_links.specs.Texts.{text_at, text_in};
 ghost use Rattle.dom_nodes.specs.declared.case_sensitivity.CaseSensitivity.TheVariants.{CaseSensitive as with_case};
 ghost use Rattle.dom_selectors.specs.Comparisons.{begins_with};
-ghost use Rattle.dom_select.specs.Texts.{begins_among, joined_contains_at};
+ghost use Rattle.dom_select.specs.Texts.{IsLeftBehind, begins_among, joined_contains_at};
+ghost use Rattle.dom_select.specs.Texts.{texts_at};
 
 use dom_links::iters::DescendantNodes;
 use dom_nodes::case_sensitivity::CaseSensitivity;
@@ -37,10 +37,7 @@ fn text_in(node: &NodeData) -> &[u8]
 /// What is left of the text that is sought behind these bytes, which are its beginning or begin
 /// with it.
 fn left_behind<'a>(text: &[u8], inner: &'a [u8]) -> Option<&'a [u8]>
-    ensures { MatchOption result
-        (begins_with with_case text.now (take (length text.now) inner.now) ≡ false)
-        (λ left. (begins_with with_case text.now (take (length text.now) inner.now) ≡ true)
-        × (left.now ≡ drop (length text.now) inner.now)) }
+    ensures { IsLeftBehind text.now inner.now result }
 {
     let near = inner.len().min(text.len());
     if !begins_with(CaseSensitivity::CaseSensitive, text, &inner[..near]) {
@@ -51,8 +48,7 @@ fn left_behind<'a>(text: &[u8], inner: &'a [u8]) -> Option<&'a [u8]>
 
 /// Whether the texts that the walk still gives, joined, begin with the other.
 fn goes_on(tree: &Tree, rest: DescendantNodes<'_>, inner: &[u8]) -> bool
-    ensures { result ≡ begins_with with_case (flat_map (text_at tree.now) rest.entry.left)
-        inner.now }
+    ensures { result ≡ begins_with with_case (texts_at tree.now rest.entry.left) inner.now }
 {
     let mut left = inner;
     for id in rest {
@@ -69,8 +65,8 @@ fn goes_on(tree: &Tree, rest: DescendantNodes<'_>, inner: &[u8]) -> bool
 
 /// Whether this text, and then those that the walk still gives, begin with the other.
 fn begins_here(tree: &Tree, text: &[u8], rest: &DescendantNodes<'_>, inner: &[u8]) -> bool
-    ensures { result ≡ begins_with with_case (text.now ++ flat_map (text_at tree.now) rest.now.left)
-        inner.now }
+    ensures { result
+        ≡ begins_with with_case (text.now ++ texts_at tree.now rest.now.left) inner.now }
 {
     let Some(behind) = left_behind(text, inner) else {
         return false;
@@ -84,7 +80,7 @@ fn begins_here(tree: &Tree, text: &[u8], rest: &DescendantNodes<'_>, inner: &[u8
 /// Whether the other begins somewhere in this text; it may go on in those that the walk still
 /// gives.
 fn begins_among(tree: &Tree, text: &[u8], rest: &DescendantNodes<'_>, inner: &[u8]) -> bool
-    ensures { result ≡ begins_among text.now (flat_map (text_at tree.now) rest.now.left) inner.now }
+    ensures { result ≡ begins_among text.now (texts_at tree.now rest.now.left) inner.now }
 {
     let mut n = 0;
     while n < text.len() {

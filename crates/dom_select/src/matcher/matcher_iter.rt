@@ -1,10 +1,10 @@
 //! What a selector means below any number of nodes.
 
-ghost use Rattle.std.specs.Prelude.{◌≡◌, ℕ, List, length, map, IfOk};
+ghost use Rattle.std.specs.Prelude.{◌≡◌, length, IfOk};
 ghost use Rattle.std.specs.Iterator.{at_most};
-ghost use Rattle.dom_select.specs.Descendants.{ToCome};
-ghost use Rattle.dom_select.specs.Selected.{Selected, walks_below};
+ghost use Rattle.dom_select.specs.Descendants.{SelectsAll, WalksAll};
 ghost use Rattle.dom_select.specs.MatcherIters.{gives_match, matches_of};
+ghost use Rattle.dom_select.specs.Roots.{node_ids};
 
 use crate::matcher::Matcher;
 use crate::matcher::descendants::DescendantMatches;
@@ -33,13 +33,10 @@ impl<'a, 'b, 'r> MatcherIter<'a, 'b, 'r> {
         roots: &'r [NodeId],
         matcher: &'b Matcher,
     ) -> Result<MatcherIter<'a, 'b, 'r>, OutOfMemory>
-        ensures all { IfOk result
-            (λ it. (matches_of it).left ≡ walks_below tree.entry.now roots.entry.now) }
+        ensures all { WalksAll result matches_of tree.entry.now roots.entry.now }
         ensures tree { IfOk result (λ it. (matches_of it).tree ≡ tree.entry) }
         ensures selector { IfOk result (λ it. (matches_of it).selector ≡ matcher.now) }
-        ensures selected { IfOk result
-            (λ it. (ids : List ℕ) → ToCome (matches_of it) ids
-            → Selected tree.entry.now roots.entry.now matcher.now ids) }
+        ensures selected { SelectsAll result matches_of tree.entry.now roots.entry.now matcher.now }
     {
         match roots {
             [] => Ok(MatcherIter::Empty(tree, matcher)),
@@ -57,13 +54,10 @@ impl<'a, 'b, 'r> MatcherIter<'a, 'b, 'r> {
         nodes: &'r [NodeRef<'a>],
         matcher: &'b Matcher,
     ) -> Result<MatcherIter<'a, 'b, 'r>, OutOfMemory>
-        ensures all { IfOk result (λ it. (matches_of it).left
-            ≡ walks_below tree.entry.now (map (λ node. node.id) nodes.entry.now)) }
+        ensures all { WalksAll result matches_of tree.entry.now (node_ids nodes.entry.now) }
         ensures tree { IfOk result (λ it. (matches_of it).tree ≡ tree.entry) }
         ensures selector { IfOk result (λ it. (matches_of it).selector ≡ matcher.now) }
-        ensures selected { IfOk result
-            (λ it. (ids : List ℕ) → ToCome (matches_of it) ids
-            → Selected tree.entry.now (map (λ node. node.id) nodes.entry.now) matcher.now ids) }
+        ensures selected { SelectsAll result matches_of tree.entry.now (node_ids nodes.entry.now) matcher.now }
     {
         match nodes {
             [] => Ok(MatcherIter::Empty(tree, matcher)),

@@ -3,21 +3,18 @@
 //! the nearest node from which they can be followed is taken and never given up: what stands on the
 //! left of a farther one stands on the left of that one too.
 
-ghost use Rattle.std.specs.Prelude.{◌≡◌, ◌↔◌, ◌∷◌, [], map, IfSome, Some, IsTrue, MatchBool};
-ghost use Rattle.std.specs.Prelude.{◌<◌, MatchOption};
-ghost use Rattle.dom_selectors.specs.ListsAsTrees.{lists_of, steps_of};
+ghost use Rattle.std.specs.Prelude.{◌≡◌, ◌↔◌, ◌∷◌, ◌<◌, [], IfSome, IsTrue, Some, map};
+ghost use Rattle.dom_selectors.specs.ListsAsTrees.{lists_of};
 ghost use Rattle.dom_selectors.specs.Spelling.{Decides};
-ghost use Rattle.dom_select.specs.Leftward.{ends_at};
-ghost use Rattle.dom_select.specs.Meaning.{HasHolds, Holds, ListHolds, ListsHold, MayBeOperand};
-ghost use Rattle.dom_select.specs.Meaning.{RelativeMatches};
-ghost use Rattle.dom_select.specs.Meaning.{Means, MeansType, PartsHold, ChainMatches};
-ghost use Rattle.dom_select.specs.Ends.{ImpliesType, SubjectIsAmong, SubjectImpliesType};
 ghost use Rattle.dom_selectors.specs.ValuesAsTrees.{read_compound, read_list, read_nested};
-ghost use Rattle.dom_selectors.specs.ValuesAsTrees.{read_step};
-ghost use Rattle.dom_selectors.specs.Syntax.{no_lists, compound as the_compound};
-ghost use Rattle.dom_select.specs.Chains.{BeginsChain, LastHolds, SuffixMatches, SuffixMatchesFrom};
-ghost use Rattle.dom_select.specs.Chains.{IsOrPrecedes, SomeCandidateMatches, binding_level};
-ghost use Rattle.dom_select.specs.Has.{SelectorMatches, MatchesWithin, may_be_subject};
+ghost use Rattle.dom_select.specs.Chains.{BeginsChain, EndsChain, FollowsCandidate, FollowsChain};
+ghost use Rattle.dom_select.specs.Chains.{IsCandidate, IsOrPrecedes, binding_level};
+ghost use Rattle.dom_select.specs.Ends.{ImpliesType, IsSubjectType, SubjectIsAmong};
+ghost use Rattle.dom_select.specs.Has.{CompoundsMatch, CompoundsMatchFrom, CompoundsMatchWithin};
+ghost use Rattle.dom_select.specs.Has.{may_be_subject};
+ghost use Rattle.dom_select.specs.Leftward.{ends_at};
+ghost use Rattle.dom_select.specs.Meaning.{HasHolds, HasType, Holds, IsTypeAlone, ListHolds};
+ghost use Rattle.dom_select.specs.Meaning.{ListsHold, Means, MeansType};
 
 use crate::matcher::caches::SelectorCaches;
 use crate::matcher::chains::{binding_level, ends_at, left_of, line_laws, may_be_operand};
@@ -33,8 +30,7 @@ const ALL: usize = 5;
 
 /// The name, where the compound is a type and nothing else.
 pub(crate) fn sole_type_selector(compound: &Compound) -> Option<&SelectorName>
-    ensures { IfSome result
-        (λ name. read_compound compound.now ≡ the_compound (Part.«Type» name.now ∷ []) no_lists) }
+    ensures { IfSome result (λ name. IsTypeAlone name.now (read_compound compound.now)) }
 {
     if !compound.nested.is_empty() {
         return None;
@@ -73,8 +69,7 @@ fn type_selector(compound: &Compound) -> Option<&SelectorName>
 
 /// The name that the last of the compounds begins with, where that is a type.
 fn subject_type<'a>(first: &'a Compound, steps: &'a [Step]) -> Option<&'a SelectorName>
-    ensures { IfSome result
-        (λ name. SubjectImpliesType name.now (read_compound first.now) (map read_step steps.now)) }
+    ensures { IfSome result (λ name. IsSubjectType first.now steps.now name.now) }
 {
     match steps.split_last() {
         None => type_selector(first),
@@ -85,8 +80,7 @@ fn subject_type<'a>(first: &'a Compound, steps: &'a [Step]) -> Option<&'a Select
 /// The type selectors of the subjects of one or two selectors, twice the same of one: each node
 /// that the selectors mean has one of the types. None where a subject has no type selector.
 pub(crate) fn subject_types(selectors: &[Selector]) -> Option<(&SelectorName, &SelectorName)>
-    ensures { IfSome result
-        (λ names. SubjectIsAmong names.0.now names.1.now (read_list selectors.now)) }
+    ensures { IfSome result (λ p. SubjectIsAmong p.0.now p.1.now (read_list selectors.now)) }
 {
     let (selector, more) = selectors.split_first()?;
     let name = subject_type(&selector.first, &selector.rest)?;
@@ -103,8 +97,7 @@ pub(crate) fn subject_types(selectors: &[Selector]) -> Option<(&SelectorName, &S
 /// Whether the number is an element's that bears the name as a type.
 #[inline(always)]
 pub(crate) fn has_type(tree: &Tree, id: &NodeId, name: &SelectorName) -> bool
-    ensures { MatchBool result (PartsHold (Part.«Type» name.now ∷ []) tree.now id.now)
-        (PartsHold (Part.«Type» name.now ∷ []) tree.now id.now → ⊥) }
+    ensures { Decides result (HasType name.now tree.now id.now) }
 {
     match tree.tree_node(id) {
         Some(found) => is_named_node(&found.content, name),
@@ -120,8 +113,8 @@ pub(crate) fn has_neither_type(
     one: &SelectorName,
     other: &SelectorName,
 ) -> bool
-    ensures one { IsTrue result → PartsHold (Part.«Type» one.now ∷ []) tree.now id.now → ⊥ }
-    ensures other { IsTrue result → PartsHold (Part.«Type» other.now ∷ []) tree.now id.now → ⊥ }
+    ensures one { IsTrue result → HasType one.now tree.now id.now → ⊥ }
+    ensures other { IsTrue result → HasType other.now tree.now id.now → ⊥ }
 {
     if has_type(tree, id, one) {
         return false;
@@ -227,9 +220,7 @@ fn relative_matches(
     caches: &mut SelectorCaches<'_>,
     id: NodeId,
 ) -> bool
-    ensures is { IsTrue result
-        ↔ RelativeMatches lead (read_compound first.now) (steps_of (map read_step steps.now))
-        caches.old id }
+    ensures is { IsTrue result ↔ CompoundsMatchFrom lead first.now steps.now caches.old id }
     ensures kept { caches.new ≡ caches.old }
 {
     let tree = caches.tree();
@@ -255,8 +246,7 @@ fn matches_within(
     top: NodeId,
 ) -> bool
     ensures is { Decides result
-        (MatchesWithin start.now (read_compound first.now) (steps_of (map read_step steps.now))
-        caches.old top) }
+        (CompoundsMatchWithin start.now first.now steps.now caches.old top) }
     ensures kept { caches.new ≡ caches.old }
 {
     if chain_matches(start, first, steps, caches, top) {
@@ -290,9 +280,7 @@ fn chain_matches(
     caches: &mut SelectorCaches<'_>,
     id: NodeId,
 ) -> bool
-    ensures is { IsTrue result
-        ↔ SelectorMatches start.now (read_compound first.now) (steps_of (map read_step steps.now))
-        caches.old id }
+    ensures is { IsTrue result ↔ CompoundsMatch start.now first.now steps.now caches.old id }
     ensures kept { caches.new ≡ caches.old }
 {
     if !may_be_subject(start, caches.tree(), id) {
@@ -334,9 +322,7 @@ fn last_holds(
     caches: &mut SelectorCaches<'_>,
     id: NodeId,
 ) -> bool
-    ensures is { Decides result
-        (LastHolds caches.old chain.now.exempt (BeginsChain chain.now caches.old)
-        (map read_step steps.now) id) }
+    ensures is { Decides result (EndsChain chain.now steps.now caches.old id) }
     ensures kept { caches.new ≡ caches.old }
 {
     match steps.split_last() {
@@ -360,8 +346,7 @@ fn is_candidate(
     exempt: NodeId,
     id: NodeId,
 ) -> bool
-    ensures { Decides result (MayBeOperand tree.now exempt combinator id
-        × IfSome name.entry (λ name. PartsHold (Part.«Type» name.now ∷ []) tree.now id)) }
+    ensures { Decides result (IsCandidate name.entry combinator tree.now exempt id) }
 {
     if !may_be_operand(tree, exempt, combinator, id) {
         return false;
@@ -389,11 +374,7 @@ fn match_suffix<'a>(
     id: NodeId,
 ) -> Option<Remainder<'a>>
     requires { IsOrPrecedes caches.old id chain.now.exempt }
-    ensures is { MatchOption result
-        (ChainMatches (BeginsChain chain.now caches.old) (steps_of (map read_step steps.now))
-        caches.old chain.now.exempt id → ⊥)
-        (λ remainder. SuffixMatches caches.old chain.now.exempt (BeginsChain chain.now caches.old)
-        level (map read_step steps.now) (map read_step remainder.left.now) id remainder.at) }
+    ensures is { FollowsChain chain.now steps.now level caches.old id result }
     ensures kept { caches.new ≡ caches.old }
 {
     if !last_holds(chain, steps, caches, id) {
@@ -428,12 +409,7 @@ fn match_from_candidates<'a>(
     id: NodeId,
 ) -> Option<Remainder<'a>>
     requires { IsOrPrecedes caches.old id chain.now.exempt }
-    ensures is { MatchOption result
-        (SomeCandidateMatches caches.old chain.now.exempt (BeginsChain chain.now caches.old)
-        (map read_step steps.now) combinator id → ⊥)
-        (λ remainder. SuffixMatchesFrom caches.old chain.now.exempt
-        (BeginsChain chain.now caches.old) combinator (map read_step steps.now)
-        (map read_step remainder.left.now) id remainder.at) }
+    ensures is { FollowsCandidate chain.now steps.now combinator caches.old id result }
     ensures kept { caches.new ≡ caches.old }
 {
     let name = subject_type(chain.first, steps);

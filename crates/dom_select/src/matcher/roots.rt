@@ -1,6 +1,6 @@
 //! The nodes below which is selected.
 
-ghost use Rattle.std.specs.Prelude.{◌≡◌, ◌∷◌, [], MatchOption};
+ghost use Rattle.std.specs.Iterator.{YieldsFirst};
 ghost use Rattle.dom_select.specs.Roots.{root_ids};
 
 use dom_nodes::node_id::NodeId;
@@ -17,8 +17,7 @@ pub(crate) enum Roots<'a, 'r> {
 
 /// Takes the first node out, and returns its number.
 pub(crate) fn take_first<'a, 'r>(roots: &mut Roots<'a, 'r>) -> Option<NodeId>
-    ensures { MatchOption result ((root_ids roots.old ≡ []) × (root_ids roots.new ≡ []))
-        (λ id. root_ids roots.old ≡ id ∷ root_ids roots.new) }
+    ensures { YieldsFirst root_ids roots.old result roots.new }
 {
     match *roots {
         Roots::Numbers(ids) => {

@@ -1,14 +1,13 @@
 //! What a selector means below several nodes, each node once.
 
-ghost use Rattle.std.specs.Prelude.{◌≡◌, ◌∷◌, [], ℕ, Bool, List, length, map, false, true};
-ghost use Rattle.std.specs.Prelude.{◌-◌, ◌^◌, slice_index_or, slice_set, IfOk, IfSome, IsSome};
-ghost use Rattle.std.specs.Prelude.{MatchBool, MatchOption};
+ghost use Rattle.std.specs.Prelude.{◌≡◌, ◌-◌, ◌^◌, length, IfOk, IsSome};
 ghost use Rattle.std.specs.Iterator.{YieldsFirst, at_most, item_count};
 ghost use Rattle.dom_links.specs.Laws.{AreTrees};
-ghost use Rattle.dom_select.specs.Descendants.{GivesMatch, ToCome};
-ghost use Rattle.dom_select.specs.Marks.{has_mark, left_in};
-ghost use Rattle.dom_select.specs.Roots.{root_ids};
+ghost use Rattle.dom_select.specs.Descendants.{GivesMatch, SelectsAll, SelectsWithin, WalksAll};
+ghost use Rattle.dom_select.specs.Marks.{SetsMark, left_in};
+ghost use Rattle.dom_select.specs.Roots.{node_ids, root_ids};
 ghost use Rattle.dom_select.specs.Selected.{Selected, walks_below};
+ghost use Rattle.dom_selectors.specs.Spelling.{same};
 
 use crate::matcher::Matcher;
 use crate::matcher::caches::SelectorCaches;
@@ -63,8 +62,7 @@ impl<'a, 'r> Iterator for Walks<'a, 'r> {
 
 /// The next node of a walk, if there is one.
 fn next_in(walk: &mut Option<DescendantNodes<'_>>) -> Option<NodeId>
-    ensures { MatchOption result ((left_in walk.old ≡ []) × (left_in walk.new ≡ []))
-        (λ id. left_in walk.old ≡ id ∷ left_in walk.new) }
+    ensures { YieldsFirst left_in walk.old result walk.new }
 {
     match walk {
         Some(walk) => walk.next(),
@@ -107,10 +105,7 @@ impl<'a, 'r> Iterator for FirstOccurrences<'a, 'r> {
 
 /// Marks the number; false where it has a mark.
 fn mark(marks: &mut Vec<bool>, id: NodeId) -> bool
-    ensures { MatchBool result
-        ((has_mark marks.old.items id ≡ false)
-        × (marks.new.items ≡ slice_set marks.old.items id true))
-        ((has_mark marks.old.items id ≡ true) × (marks.new.items ≡ marks.old.items)) }
+    ensures { SetsMark marks.old.items marks.new.items id result }
 {
     let place = id.value();
     if place >= marks.len() {
@@ -158,12 +153,10 @@ impl<'a, 'b, 'r> Matches<'a, 'b, 'r> {
         roots: &'r [NodeId],
         matcher: &'b Matcher,
     ) -> Result<Matches<'a, 'b, 'r>, OutOfMemory>
-        ensures all { IfOk result (λ it. it.left ≡ walks_below tree.entry.now roots.entry.now) }
+        ensures all { WalksAll result same tree.entry.now roots.entry.now }
         ensures tree { IfOk result (λ it. it.tree ≡ tree.entry) }
         ensures selector { IfOk result (λ it. it.selector ≡ matcher.now) }
-        ensures selected { IfOk result
-            (λ it. (ids : List ℕ) → ToCome it ids
-            → Selected tree.entry.now roots.entry.now matcher.now ids) }
+        ensures selected { SelectsAll result same tree.entry.now roots.entry.now matcher.now }
     {
         Matches::below(tree, Roots::Numbers(roots), matcher)
     }
@@ -174,13 +167,10 @@ impl<'a, 'b, 'r> Matches<'a, 'b, 'r> {
         nodes: &'r [NodeRef<'a>],
         matcher: &'b Matcher,
     ) -> Result<Matches<'a, 'b, 'r>, OutOfMemory>
-        ensures all { IfOk result (λ it.
-            it.left ≡ walks_below tree.entry.now (map (λ node. node.id) nodes.entry.now)) }
+        ensures all { WalksAll result same tree.entry.now (node_ids nodes.entry.now) }
         ensures tree { IfOk result (λ it. it.tree ≡ tree.entry) }
         ensures selector { IfOk result (λ it. it.selector ≡ matcher.now) }
-        ensures selected { IfOk result
-            (λ it. (ids : List ℕ) → ToCome it ids
-            → Selected tree.entry.now (map (λ node. node.id) nodes.entry.now) matcher.now ids) }
+        ensures selected { SelectsAll result same tree.entry.now (node_ids nodes.entry.now) matcher.now }
     {
         Matches::below(tree, Roots::Nodes(nodes), matcher)
     }
@@ -190,13 +180,10 @@ impl<'a, 'b, 'r> Matches<'a, 'b, 'r> {
         roots: Roots<'a, 'r>,
         matcher: &'b Matcher,
     ) -> Result<Matches<'a, 'b, 'r>, OutOfMemory>
-        ensures all { IfOk result
-            (λ it. it.left ≡ walks_below tree.entry.now (root_ids roots.entry)) }
+        ensures all { WalksAll result same tree.entry.now (root_ids roots.entry) }
         ensures tree { IfOk result (λ it. it.tree ≡ tree.entry) }
         ensures selector { IfOk result (λ it. it.selector ≡ matcher.now) }
-        ensures selected { IfOk result
-            (λ it. (ids : List ℕ) → ToCome it ids
-            → Selected tree.entry.now (root_ids roots.entry) matcher.now ids) }
+        ensures selected { SelectsAll result same tree.entry.now (root_ids roots.entry) matcher.now }
     {
         Ok(Matches {
             ids: first_occurrences(tree, roots)?,
@@ -254,8 +241,7 @@ pub fn select_within(
     matcher: &Matcher,
     steps: u64,
 ) -> Result<Option<Vec<NodeId>>, OutOfMemory>
-    ensures selected { IfOk result (λ found. IfSome found
-        (λ ids. Selected tree.now roots.now matcher.now ids.items)) }
+    ensures selected { SelectsWithin result tree.now roots.now matcher.now }
     ensures no_limit { steps ≡ 2 ^ 64 - 1 → IfOk result (λ found. IsSome found) }
 {
     match roots {
@@ -271,8 +257,7 @@ fn select_all_within(
     matcher: &Matcher,
     steps: u64,
 ) -> Result<Option<Vec<NodeId>>, OutOfMemory>
-    ensures selected { IfOk result (λ found. IfSome found
-        (λ ids. Selected tree.now roots.now matcher.now ids.items)) }
+    ensures selected { SelectsWithin result tree.now roots.now matcher.now }
     ensures no_limit { steps ≡ 2 ^ 64 - 1 → IfOk result (λ found. IsSome found) }
 {
     let ids = first_occurrences(tree, Roots::Numbers(roots))?;

@@ -8,7 +8,7 @@ ghost use Rattle.dom_selectors.specs.MiniSyntax.{texts_of};
 ghost use Rattle.dom_select.specs.MiniNodes.{mini_holds};
 
 use crate::matcher::MatchNode;
-use crate::mini_selector::search::{follow_names, follow_path};
+use crate::mini_selector::search::{follow, follow_names};
 use dom_nodes::fault::OutOfMemory;
 use dom_nodes::node_id::NodeId;
 use dom_selectors::mini_selector::fault::MiniFault;
@@ -89,7 +89,7 @@ impl<'a> MiniSelect<'a> for NodeRef<'a> {
     {
         let tree = self.tree;
         let (_, minis) = parse_selector_list(tree.allocator(), path)?;
-        let ids = follow_path(tree.allocator(), tree.nodes(), self.id, &minis)?;
+        let ids = follow(tree.allocator(), tree.nodes(), self.id, &minis)?;
         Ok(refs(tree, &ids)?)
     }
 

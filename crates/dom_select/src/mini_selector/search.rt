@@ -13,6 +13,7 @@ ghost use Rattle.dom_select.specs.PathFlags.{flags_beside, is_any, is_led, last_
 ghost use Rattle.dom_select.specs.PathFlags.{one_if, passed_on};
 
 use crate::matcher::has::is_sideways;
+use crate::mini_selector::descent::{follow_down, goes_down};
 use dom_links::iters::{find_node, first_child_id, next_sibling_id};
 use dom_links::laws::{lines_of_a_forest, trees_of_a_forest};
 use dom_nodes::fault::OutOfMemory;
@@ -206,7 +207,23 @@ fn wait_below(nodes: &[TreeNode], id: NodeId, search: &mut PathSearch) -> Result
 }
 
 /// What a path leads to from a node.
-pub(crate) fn follow_path(
+pub(crate) fn follow(
+    alloc: Global,
+    nodes: &[TreeNode],
+    start: NodeId,
+    path: &[MiniSelector<'_>],
+) -> Result<Vec<NodeId>, OutOfMemory>
+    requires { IsSoundArena nodes.now }
+    ensures { IfOk result (λ found. IsFound path.now (forest_of nodes.now) start found.items) }
+{
+    if path.len() > 0 && goes_down(path) {
+        return follow_down(alloc, nodes, start, path);
+    }
+    follow_path(alloc, nodes, start, path)
+}
+
+/// The same of any path, with a flag for each step.
+fn follow_path(
     alloc: Global,
     nodes: &[TreeNode],
     start: NodeId,
@@ -245,7 +262,7 @@ pub(crate) fn follow_names(
         (λ found. IsFoundByNames (texts_of names.now) (forest_of nodes.now) start found.items) }
 {
     let path = path_of(alloc, names)?;
-    follow_path(alloc, nodes, start, &path)
+    follow(alloc, nodes, start, &path)
 }
 
 /// The path of names alone.
