@@ -1,5 +1,5 @@
 -- Matches of the rest of a selector, from the last step to the first.
-use Rattle.std.proofs.Common.{◌≡◌, ◌⊎◌, ◌<◌, ◌≤◌, ◌+◌, ◌*◌, ℕ, List, [], ◌∷◌, ◌++◌, Bool, true, false, true≢false, inl, inr, refl, sym, ap, ◌∙◌, subst, length, map, append_assoc, arith}
+use Rattle.std.proofs.Common.{◌≡◌, ◌⊎◌, ◌<◌, ◌≤◌, ◌+◌, ◌*◌, ℕ, List, [], ◌∷◌, ◌++◌, Bool, true, false, true≢false, inl, inr, refl, sym, ap, ◌∙◌, subst, length, map, append_assoc, drop, get_or, arith}
 use Rattle.std.specs.Prelude.{◌&&◌}
 use Rattle.std.proofs.lemmas.List.{map-append}
 use Rattle.dom_links.specs.Forest.{Forest}
@@ -7,24 +7,25 @@ use Rattle.dom_links.specs.Laws.{AreLines}
 use Rattle.dom_links.specs.ListMoves.{element_at}
 use Rattle.dom_selectors.specs.declared.syntax.Combinator.{Combinator}
 use Rattle.dom_selectors.specs.declared.syntax.Combinator.TheVariants.{Descendant, Child, Adjacent, Sibling}
+use Rattle.dom_selectors.specs.declared.syntax.Selector.{Selector, out-Selector}
 use Rattle.dom_selectors.specs.declared.syntax.Step.{Step}
 use Rattle.dom_selectors.specs.ListsAsTrees.{steps_of}
 use Rattle.dom_selectors.specs.Spelling.{Decides}
-use Rattle.dom_selectors.specs.Syntax.{CompoundSelector, Steps, no_steps, step}
-use Rattle.dom_selectors.specs.ValuesAsTrees.{read_compound, read_step}
+use Rattle.dom_selectors.specs.Syntax.{CompoundSelector, SelectorList, Steps, no_steps, step}
+use Rattle.dom_selectors.specs.ValuesAsTrees.{read_compound, read_list, read_step}
 use Rattle.dom_selectors.proofs.Layers.{read_step_is}
 use Rattle.dom_selectors.proofs.Weights.{compound_weight, steps_weight}
 use Rattle.dom_select.specs.Chains.{Precedes}
 use Rattle.dom_select.specs.Meaning.{Holds, StepsMatch, RelativeMatches, MayBeOperand}
 use Rattle.dom_select.proofs.FollowLemmas.{apart, precedes_then, stands_precedes}
 use Rattle.dom_index.specs.TestCounts.{CompoundTests, AddsTests, RestTests}
-use Rattle.dom_index.specs.CompoundCounts.{compound_count, steps_count}
+use Rattle.dom_index.specs.CompoundCounts.{compound_count, selectors_count, steps_count}
 use Rattle.dom_index.specs.RestMatches.{StepMatches, RestMatches}
 use Rattle.dom_index.specs.NodeSets.{AreOperands, IsSetOf, HasRightOperand, may_be_operand, in_set}
 use Rattle.dom_index.proofs.ChainLemmas.{both_true, holds_inside, decided_true, truth_inside}
 use Rattle.dom_index.proofs.ForwardLemmas.{decided_by}
 use Rattle.dom_index.proofs.TestCountLemmas.{relative_tests}
-use Rattle.dom_index.proofs.ListLemmas.{spent}
+use Rattle.dom_index.proofs.ListLemmas.{selectors_cut, spent}
 
 module _ (forest : Forest) (lines : AreLines forest) where
   -- a node that stands after x is not exempt for it
@@ -177,3 +178,13 @@ steps_asked m old now new all left before s e so_far asked =
     let apart = ap (λ (ss : Chain). steps_count (steps_of ss)) (steps_apart left before s e) ∙ count_last (map read_step before) (s.combinator, read_compound s.compound) in
     let sum = subst (λ (n : ℕ). now + n * m ≤ old + steps_count (steps_of (map read_step all)) * m) apart so_far in
     spent (compound_count (read_compound s.compound)) (steps_count (steps_of (map read_step before))) m old now new (steps_count (steps_of (map read_step all))) sum asked
+
+-- and those that the selectors left may add, behind one whose steps are these
+pub selectors_asked : (m old now new : ℕ) (selectors : List Selector) (i : ℕ) (s : Selector) (steps : List Step) → i < length selectors → s ≡ get_or selectors i s → steps ≡ (out-Selector s).rest.items →
+    now + selectors_count (read_list (drop i selectors)) * m ≤ old + selectors_count (read_list selectors) * m → new ≤ now + (compound_count (read_compound (out-Selector s).first) + steps_count (steps_of (map read_step steps))) * m →
+    new + selectors_count (read_list (drop (i + 1) selectors)) * m ≤ old + selectors_count (read_list selectors) * m
+selectors_asked m old now new selectors i s steps known is same so_far asked =
+    let first = (out-Selector s).first in
+    let sum = subst (λ (list : SelectorList). now + selectors_count list * m ≤ old + selectors_count (read_list selectors) * m) (selectors_cut i selectors s known is) so_far in
+    let one = subst (λ (ss : List Step). new ≤ now + (compound_count (read_compound first) + steps_count (steps_of (map read_step ss))) * m) same asked in
+    spent (compound_count (read_compound first) + steps_count (steps_of (map read_step (out-Selector s).rest.items))) (selectors_count (read_list (drop (i + 1) selectors))) m old now new (selectors_count (read_list selectors)) sum one

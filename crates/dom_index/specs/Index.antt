@@ -1,7 +1,9 @@
 -- The contents of an index of a tree's nodes.
-use Rattle.std.specs.Prelude.{ℕ, ◌≡◌, ◌≤◌, ◌⊎◌, true, List, Some}
+use Rattle.std.specs.Prelude.{ℕ, ◌≡◌, ◌<◌, ◌≤◌, ◌⊎◌, true, List, Option, Some, MatchOption, length}
 use Rattle.std.specs.Borrow.{Bor}
 use Rattle.dom_links.specs.Forest.{Forest}
+use Rattle.dom_nodes.specs.declared.indexes.IndexKind.{IndexKind}
+use Rattle.dom_links.specs.Indexes.{index_at}
 use Rattle.dom_links.specs.Lists.{stands_in}
 use Rattle.dom_links.specs.Trees.{walk_below}
 use Rattle.dom_trees.specs.declared.node_ref.NodeRef.{NodeRef}
@@ -27,3 +29,12 @@ IsAtOrBelow forest n m = (m ≡ n) ⊎ (stands_in m (walk_below forest n) ≡ tr
 pub record IsLastBelow (forest : Forest) (n last : ℕ) : Type 0 where
   pub reached : (m : ℕ) × IsAtOrBelow forest n m × (position forest m ≡ Some last)
   pub greatest : (m other : ℕ) → IsAtOrBelow forest n m → position forest m ≡ Some other → other ≤ last
+
+-- the greatest position at or below n, and none for an unknown number
+abbrev pub GivesLastBelow : Forest → ℕ → Option ℕ → Type 0
+GivesLastBelow forest n result = MatchOption result (length forest.content ≤ n) (λ last. IsLastBelow forest n last)
+
+-- the index of n among its siblings, and none for an unknown number
+abbrev pub GivesIndex : IndexKind → Forest → ℕ → Option ℕ → Type 0
+GivesIndex kind forest n result =
+    MatchOption result (length forest.content ≤ n) (λ index. (n < length forest.content) × (index ≡ index_at kind forest n))

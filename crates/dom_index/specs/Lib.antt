@@ -12,3 +12,5 @@ pub mod BareLists
 pub mod NodeTests
 pub mod Tracks
 pub mod PreparedCompounds
+pub mod SelectorValues
+pub mod PreorderSets

@@ -7,7 +7,7 @@ use Rattle.dom_links.specs.Trees.{ancestors, walk_below}
 use Rattle.dom_links.specs.Walk.{IsWithin}
 use Rattle.dom_index.specs.declared.preorder.Traversal.{Traversal}
 use Rattle.dom_index.specs.TypeBytes.{byte_at, is_type_byte}
-use Rattle.dom_index.specs.Preorder.{above_it, preorder, preorder_to, run_on, run_past}
+use Rattle.dom_index.specs.Preorder.{above_it, preorder, preorder_to, run_on, run_past, starts_run}
 use Rattle.dom_index.specs.NodeSets.{in_set}
 
 abbrev pub number_at : List ℕ → ℕ → ℕ
@@ -32,6 +32,10 @@ pub record AreSubtreeEnds (forest : Forest) (path : List ℕ) (visited ahead : �
   pub long : length subtree_ends ≡ length forest.content
   pub begun : (n : ℕ) → stands_in n path ≡ true → (i : ℕ) × (i < visited) × (number_at (preorder forest) i ≡ n) × (i + 1 + length (walk_below forest n) + length (run_past forest (n ∷ ancestors forest n)) ≡ visited + ahead)
   pub answer : (i : ℕ) → i < visited → stands_in (number_at (preorder forest) i) path ≡ false → number_at subtree_ends (number_at (preorder forest) i) ≡ i + length (walk_below forest (number_at (preorder forest) i))
+
+-- the same where n was visited last: the path is from it up
+abbrev pub AreEndsBehind : Forest → ℕ → ℕ → List ℕ → Type 0
+AreEndsBehind forest n visited subtree_ends = AreSubtreeEnds forest (n ∷ ancestors forest n) visited (length (run_past forest (n ∷ ancestors forest n))) subtree_ends
 
 -- `next` is the next node of a run, if there is one, and the subtree ends are those before it is visited
 pub record AreEndsBefore (forest : Forest) (next : Option ℕ) (visited : ℕ) (subtree_ends : List ℕ) : Type 0 where
@@ -67,6 +71,14 @@ pub record IsOrder (forest : Forest) (order places : List ℕ) : Type 0 where
   pub ordered : (n : ℕ) → n < length forest.content → number_at order (number_at places n) ≡ n
   pub behind_parent : (n m : ℕ) → n < length forest.content → parent forest n ≡ Some m → (m < length forest.content) × (number_at places m < number_at places n)
   pub behind_sibling : (n m : ℕ) → n < length forest.content → before (siblings forest n) n ≡ Some m → (m < length forest.content) × (number_at places m < number_at places n)
+
+-- places that are those of the preorder make it an order
+abbrev pub PlacesMakeOrder : Forest → Type 0
+PlacesMakeOrder forest = (places : List ℕ) → ArePlaces forest (preorder forest) places → IsOrder forest (preorder forest) places
+
+-- a node of an earlier run starts none
+abbrev pub VisitedStartNoRun : Forest → Type 0
+VisitedStartNoRun forest = (n : ℕ) → n < length forest.content → stands_in n (preorder_to forest n) ≡ true → starts_run forest n ≡ false
 
 -- the descendants of each node stand right after it, up to its subtree end
 pub record AreSpans (forest : Forest) (order places subtree_ends : List ℕ) : Type 0 where

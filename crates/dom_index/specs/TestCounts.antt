@@ -1,5 +1,5 @@
 -- The number of tests of a selection by node sets: one for each compound at each node of its set.
-use Rattle.std.specs.Prelude.{ℕ, ◌≡◌, ◌<◌, ◌+◌, ◌^◌, Bool, true, List, length, replicate}
+use Rattle.std.specs.Prelude.{ℕ, ◌≡◌, ◌<◌, ◌+◌, ◌^◌, Bool, true, List, Result, IfOk, length, replicate}
 use Rattle.std.specs.List.{count_by}
 use Rattle.dom_links.specs.Forest.{Forest}
 use Rattle.dom_selectors.specs.Syntax.{CompoundSelector, compound, NestedLists, no_lists, nested, NestedList, is_list, not_list, has_list, SelectorList, no_selectors, alternative, Steps, no_steps, step}
@@ -84,3 +84,15 @@ RelativeTests first rest forest tests =
 -- so many tests were added to `old`, as far as they can be counted
 abbrev pub AddsTests : ℕ → ℕ → (ℕ → Type 0) → Type 0
 AddsTests old new Asks = (asked : ℕ) × Asks asked × (old + asked < 2 ^ 128 → new ≡ old + asked)
+
+-- so many, if there is a result
+abbrev pub Counts : {T E : Type 0} → Result T E → ℕ → ℕ → (ℕ → Type 0) → Type 0
+Counts result old new Asks = IfOk result (λ _. AddsTests old new Asks)
+
+-- a test for each node of the set
+abbrev pub IsCardinality : List Bool → ℕ → Type 0
+IsCardinality table tests = tests ≡ cardinality table
+
+-- the tests of a selection among all nodes
+abbrev pub SelectionTests : SelectorList → Forest → ℕ → Type 0
+SelectionTests list forest tests = SelectorsTests list forest (everywhere forest) tests

@@ -1,17 +1,18 @@
 -- Selectors in a traversal.
-use Rattle.std.specs.Prelude.{ℕ, ◌≡◌, ◌⊎◌, ◌+◌, ◌++◌, Bool, true, List, [], ◌∷◌, Option, Some, length, map, slice_get}
+use Rattle.std.specs.Prelude.{ℕ, ◌≡◌, ◌⊎◌, ◌+◌, ◌++◌, Bool, true, List, [], ◌∷◌, Option, Some, length, map, slice_get, take}
 use Rattle.dom_links.specs.Forest.{Forest, parent}
 use Rattle.dom_links.specs.ListMoves.{element_at}
 use Rattle.dom_links.specs.Lists.{first}
 use Rattle.dom_links.specs.Trees.{ancestors}
 use Rattle.dom_selectors.specs.declared.syntax.Combinator.{Combinator}
 use Rattle.dom_selectors.specs.declared.syntax.Selector.{Selector, out-Selector}
+use Rattle.dom_selectors.specs.Spelling.{Decides}
 use Rattle.dom_selectors.specs.Syntax.{CompoundSelector}
 use Rattle.dom_selectors.specs.ValuesAsTrees.{read_compound, read_step}
 use Rattle.dom_index.specs.declared.chains.Chain.{Chain}
 use Rattle.dom_index.specs.declared.node_tests.NodeTest.{NodeTest}
 use Rattle.dom_index.specs.declared.streaming.Rows.{Rows}
-use Rattle.dom_index.specs.FlagRows.{AreFlags, AreRows, AreUpward, StepsReach, compound_at, top}
+use Rattle.dom_index.specs.FlagRows.{AreFlags, AreRows, AreUpward, PropagatesFrom, StepsReach, compound_at, top}
 use Rattle.dom_index.specs.NodeTests.{IsReady}
 
 -- the steps of a chain, and its first compound
@@ -34,6 +35,11 @@ ArePrepared chains = (i : ℕ) (chain : Chain) → slice_get chains i ≡ Some c
 abbrev pub FlagsBelow : Chain → Forest → Option ℕ → List Bool → Type 0
 FlagsBelow chain forest above flags = AreFlags forest (first_in chain) (steps_in chain) above flags
 
+-- the flag of the step of that number at the children of n
+abbrev pub IsStepFlag : Chain → Forest → ℕ → ℕ → Bool → Type 0
+IsStepFlag chain forest n i flag =
+    (s : Combinator × CompoundSelector) → slice_get (steps_in chain) i ≡ Some s → Decides flag (PropagatesFrom forest s.0 (StepsReach forest (first_in chain) (take i (steps_in chain))) (Some n))
+
 -- the flags are those at a node of the forest, which the caches are of
 pub record AreFlagsAt (chain : Chain) (forest : Forest) (n : ℕ) (flags : List Bool) (caches : Forest) : Type 0 where
   pub prepared : IsPrepared chain
@@ -43,6 +49,14 @@ pub record AreFlagsAt (chain : Chain) (forest : Forest) (n : ℕ) (flags : List 
 -- the flags are the rows of the nodes of the path
 abbrev pub IsTracked : Chain → Forest → List ℕ → List Bool → Type 0
 IsTracked chain forest path flags = AreRows forest (first_in chain) (steps_in chain) path flags
+
+-- the last row of the flags of any path: those at the children of its last node
+abbrev pub IsLastRow : Chain → List Bool → List Bool → Type 0
+IsLastRow chain flags row = (forest : Forest) (path : List ℕ) → IsTracked chain forest path flags → FlagsBelow chain forest (top path) row
+
+-- where the rows were those of a forest, so are the new ones
+abbrev pub StaysTracked : Chain → Rows → Rows → Type 0
+StaysTracked chain old new = (forest : Forest) → IsTracked chain forest old.path.items old.flags.items → IsTracked chain forest new.path.items new.flags.items
 
 -- the selector matches the node
 abbrev pub Reaches : Chain → Forest → ℕ → Type 0

@@ -1,12 +1,16 @@
 -- Type bytes of nodes, and type filters of compounds.
-use Rattle.std.specs.Prelude.{not, ℕ, ◌≡◌, ◌<◌, ◌==◌, ◌&&◌, ◌||◌, nat_lt, Bool, true, List, Some, length, slice_get, slice_index_or}
+use Rattle.std.specs.Prelude.{not, ℕ, ◌≡◌, ◌<◌, ◌==◌, ◌&&◌, ◌||◌, nat_lt, Bool, true, List, Option, Some, IfSome, length, slice_get, slice_index_or}
 use Rattle.std.specs.Str.{bytes_eq}
 use Rattle.dom_nodes.specs.declared.node_data.NodeData.{NodeData}
 use Rattle.dom_nodes.specs.declared.node_data.NodeData.TheVariants.{Element}
+use Rattle.dom_nodes.specs.declared.name.Namespace.{Namespace}
 use Rattle.dom_nodes.specs.KnownNames.{known_name}
 use Rattle.dom_links.specs.Forest.{Forest}
+use Rattle.dom_selectors.specs.declared.syntax.Compound.{Compound}
+use Rattle.dom_selectors.specs.Spelling.{Decides}
 use Rattle.dom_selectors.specs.Syntax.{CompoundSelector, compound, NestedLists, no_lists}
 use Rattle.dom_select.specs.Meaning.{Holds}
+use Rattle.dom_select.specs.Parts.{name_within}
 use Rattle.dom_index.specs.declared.type_filter.TypeFilter.{TypeFilter}
 use Rattle.dom_index.specs.NodeSets.{in_set}
 
@@ -57,3 +61,20 @@ pub record IsTypeFilterOf (c : CompoundSelector) (wanted : TypeFilter) : Type 0 
   pub needs : (forest : Forest) (n : ℕ) (node : NodeData) → slice_get forest.content n ≡ Some node → Holds c forest n → HasKnownName wanted.number node
   pub suffices : wanted.is_all ≡ true → (forest : Forest) (n : ℕ) (node : NodeData) → slice_get forest.content n ≡ Some node → HasKnownName wanted.number node → Holds c forest n
   pub alone : wanted.is_all ≡ true → lists_in c ≡ no_lists
+
+-- in every namespace a type selector of that name asks for the known name of that number
+abbrev pub IsNumberOf : List ℕ → ℕ → Type 0
+IsNumberOf name number = (number < 247) × ((ns : Namespace) → name_within ns name ≡ known_name number)
+
+-- the compound is one part and nothing else
+abbrev pub IsOnePart : Compound → Type 0
+IsOnePart c = (length c.parts.items ≡ 1) × (length c.nested.items ≡ 0)
+
+-- whether a compound with the type filter matches n
+abbrev pub IsDecidedByType : Forest → ℕ → Option TypeFilter → Bool → Type 0
+IsDecidedByType forest n wanted answer = (c : CompoundSelector) → IfSome wanted (IsTypeFilterOf c) → Decides answer (Holds c forest n)
+
+-- the same of each node with that type byte
+abbrev pub IsDecidedByByte : ℕ → Option TypeFilter → Bool → Type 0
+IsDecidedByByte byte wanted answer =
+    (c : CompoundSelector) (forest : Forest) (n : ℕ) → HasTypeByte forest n byte → IfSome wanted (IsTypeFilterOf c) → Decides answer (Holds c forest n)

@@ -1,12 +1,11 @@
 //! The elements of a set below some nodes, in the order of the traversals.
 
 ghost use Rattle.std.specs.Prelude.{◌≡◌, ◌<◌, ◌++◌, ◌&&◌, ℕ, length, true, IfOk, OnOk};
-ghost use Rattle.std.specs.List.{flat_map};
 ghost use Rattle.dom_links.specs.ListMoves.{element_at};
 ghost use Rattle.dom_links.specs.Lists.{stands_in};
 ghost use Rattle.dom_links.specs.Trees.{walk_below};
-ghost use Rattle.dom_index.specs.Collected.{collected, set_left};
 ghost use Rattle.dom_index.specs.NodeSets.{in_set};
+ghost use Rattle.dom_index.specs.PreorderSets.{collected_at, collected_below, left_at};
 
 use crate::preorder::{Preorder, below};
 use crate::type_filter::is_element_at;
@@ -22,8 +21,8 @@ pub(crate) fn collect_matches(
     table: Vec<bool>,
 ) -> Result<Vec<NodeId>, OutOfMemory>
     requires { length table.items ≡ length preorder.now.tree.now.content }
-    ensures { IfOk result (λ found. found.items ≡ collected preorder.now.tree.now table.items
-        (flat_map (walk_below preorder.now.tree.now) roots.now)) }
+    ensures { IfOk result (λ found.
+        found.items ≡ collected_below preorder.now table.items roots.now) }
 {
     let mut table = table;
     let mut found = Vec::new(preorder.tree.allocator());
@@ -42,10 +41,9 @@ fn collect_below(
 ) -> Result<(), OutOfMemory>
     requires { length table.old.items ≡ length preorder.now.tree.now.content }
     ensures long { length table.new.items ≡ length table.old.items }
-    ensures added { OnOk result (found.new.items ≡ found.old.items ++ collected
-        preorder.now.tree.now table.old.items (walk_below preorder.now.tree.now root)) }
-    ensures left { OnOk result (table.new.items
-        ≡ set_left preorder.now.tree.now table.old.items (walk_below preorder.now.tree.now root)) }
+    ensures added { OnOk result
+        (found.new.items ≡ found.old.items ++ collected_at preorder.now table.old.items root) }
+    ensures left { OnOk result (table.new.items ≡ left_at preorder.now table.old.items root) }
 {
     walk_laws(preorder.tree);
     let row = below(preorder, root);

@@ -5,9 +5,9 @@ ghost use Rattle.std.specs.Prelude.{◌≡◌, ◌<◌, ◌+◌, length, IfOk, I
 ghost use Rattle.dom_selectors.specs.declared.syntax.Combinator.TheVariants.{Descendant};
 ghost use Rattle.dom_select.specs.Leftward.{left_of};
 ghost use Rattle.dom_links.specs.Forest.{parent};
-ghost use Rattle.dom_index.specs.Orders.{IsEnd, number_at};
-ghost use Rattle.dom_index.specs.NodeSets.{HasLeftOperand, HasRightOperand, IsSetOf, reached_from};
-ghost use Rattle.dom_index.specs.NodeSets.{propagates, with_node};
+ghost use Rattle.dom_index.specs.NodeSets.{propagates, reached_from, with_node};
+ghost use Rattle.dom_index.specs.PreorderSets.{HaveLeftOperand, HaveRightOperand, IsFurthestEnd};
+ghost use Rattle.dom_index.specs.PreorderSets.{place_of};
 
 use crate::preorder::{Preorder, forest_laws};
 use crate::type_filter::is_element_at;
@@ -87,8 +87,7 @@ pub(crate) fn step_forward(
     table: &[bool],
 ) -> Result<Vec<bool>, OutOfMemory>
     requires { length table.now ≡ length preorder.now.tree.now.content }
-    ensures { IfOk result (λ flags. IsSetOf flags.items (length preorder.now.tree.now.content)
-        (HasLeftOperand preorder.now.tree.now combinator table.now)) }
+    ensures { IfOk result (HaveLeftOperand preorder.now combinator table.now) }
 {
     match combinator {
         Combinator::Descendant => descendants_of(preorder, table),
@@ -100,8 +99,7 @@ pub(crate) fn step_forward(
 /// descendants.
 fn descendants_of(preorder: &Preorder<'_>, table: &[bool]) -> Result<Vec<bool>, OutOfMemory>
     requires { length table.now ≡ length preorder.now.tree.now.content }
-    ensures { IfOk result (λ flags. IsSetOf flags.items (length preorder.now.tree.now.content)
-        (HasLeftOperand preorder.now.tree.now Descendant table.now)) }
+    ensures { IfOk result (HaveLeftOperand preorder.now Descendant table.now) }
 {
     forest_laws(preorder.tree);
     let order = preorder.order.as_slice();
@@ -120,10 +118,8 @@ fn descendants_of(preorder: &Preorder<'_>, table: &[bool]) -> Result<Vec<bool>, 
 fn extend_end(preorder: &Preorder<'_>, table: &[bool], n: usize, end: usize) -> usize
     requires known { n < length preorder.now.tree.now.content }
     requires long { length table.now ≡ length preorder.now.tree.now.content }
-    requires ends { IsEnd preorder.now.tree.now preorder.now.places.items
-        preorder.now.subtree_ends.items table.now (number_at preorder.now.places.items n) end }
-    ensures { IsEnd preorder.now.tree.now preorder.now.places.items preorder.now.subtree_ends.items
-        table.now (number_at preorder.now.places.items n + 1) result }
+    requires ends { IsFurthestEnd preorder.now table.now (place_of preorder.now n) end }
+    ensures { IsFurthestEnd preorder.now table.now (place_of preorder.now n + 1) result }
 {
     if !table[n] {
         return end;
@@ -142,8 +138,7 @@ fn propagate_forward(
     table: &[bool],
 ) -> Result<Vec<bool>, OutOfMemory>
     requires { length table.now ≡ length preorder.now.tree.now.content }
-    ensures { IfOk result (λ flags. IsSetOf flags.items (length preorder.now.tree.now.content)
-        (HasLeftOperand preorder.now.tree.now combinator table.now)) }
+    ensures { IfOk result (HaveLeftOperand preorder.now combinator table.now) }
 {
     forest_laws(preorder.tree);
     let order = preorder.order.as_slice();
@@ -166,8 +161,7 @@ pub(crate) fn step_backward(
     table: &[bool],
 ) -> Result<Vec<bool>, OutOfMemory>
     requires { length table.now ≡ length preorder.now.tree.now.content }
-    ensures { IfOk result (λ flags. IsSetOf flags.items (length preorder.now.tree.now.content)
-        (HasRightOperand preorder.now.tree.now combinator table.now)) }
+    ensures { IfOk result (HaveRightOperand preorder.now combinator table.now) }
 {
     forest_laws(preorder.tree);
     let order = preorder.order.as_slice();

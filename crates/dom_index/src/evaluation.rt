@@ -1,19 +1,17 @@
 //! The set of the nodes that match a selector, compound by compound.
 
-ghost use Rattle.std.specs.Prelude.{◌≡◌, ◌≤◌, ◌+◌, ◌*◌, true, length, map, IfOk};
-ghost use Rattle.dom_selectors.specs.ListsAsTrees.{lists_of, steps_of};
-ghost use Rattle.dom_selectors.specs.ValuesAsTrees.{read_compound, read_list, read_nested};
-ghost use Rattle.dom_selectors.specs.ValuesAsTrees.{read_step};
-ghost use Rattle.dom_select.specs.Meaning.{Holds, HasHolds, RelativeMatches, ListHolds, ListsHold};
-ghost use Rattle.dom_select.specs.Meaning.{Means, ChainMatches};
-ghost use Rattle.dom_index.specs.TestCounts.{AddsTests, CompoundTests, HasTests};
-ghost use Rattle.dom_index.specs.TestCounts.{IsFilteredByCompound, RelativeTests};
-ghost use Rattle.dom_index.specs.TestCounts.{ListTests, ListsTests, RestTests, SelectorTests};
-ghost use Rattle.dom_index.specs.TestCounts.{SelectorsTests};
-ghost use Rattle.dom_index.specs.CompoundCounts.{compound_count, list_count, lists_count};
-ghost use Rattle.dom_index.specs.CompoundCounts.{selectors_count, steps_count};
+ghost use Rattle.std.specs.Prelude.{◌≡◌, ◌≤◌, ◌+◌, ◌*◌, length, IfOk};
+ghost use Rattle.dom_selectors.specs.ValuesAsTrees.{read_list, read_nested, read_steps};
+ghost use Rattle.dom_select.specs.Meaning.{HasHolds, ListHolds, Means};
+ghost use Rattle.dom_index.specs.PreorderSets.{ChainAsks, CompoundAsks, HasAsks, HasWanted};
+ghost use Rattle.dom_index.specs.PreorderSets.{IsFiltered, IsSetWhere, ListAsks, ListsAsk};
+ghost use Rattle.dom_index.specs.PreorderSets.{RelativeAsks, RestAsks, SelectorsAsk, node_count};
 ghost use Rattle.dom_index.specs.RestMatches.{RestMatches};
-ghost use Rattle.dom_index.specs.NodeSets.{IsSetOf, IsSetWithin, in_set};
+ghost use Rattle.dom_index.specs.SelectorValues.{ChainHolds, CompoundHolds, NestedHold};
+ghost use Rattle.dom_index.specs.SelectorValues.{RelativeHolds, compounds_among, compounds_behind};
+ghost use Rattle.dom_index.specs.SelectorValues.{compounds_in, compounds_listed, compounds_nested};
+ghost use Rattle.dom_index.specs.SelectorValues.{compounds_of};
+ghost use Rattle.dom_index.specs.TestCounts.{Counts};
 
 use crate::combinators::{step_backward, step_forward};
 use crate::node_set::{
@@ -34,12 +32,10 @@ fn compound_set(
     tests: &mut u128,
 ) -> Result<Vec<bool>, OutOfMemory>
     requires { length wanted.items ≡ length preorder.now.tree.now.content }
-    ensures table { IfOk result (λ table. IsFilteredByCompound (read_compound compound.now)
-        preorder.now.tree.now wanted.items table.items) }
-    ensures counted { IfOk result (λ _. AddsTests tests.old tests.new
-        (CompoundTests (read_compound compound.now) preorder.now.tree.now wanted.items)) }
-    ensures tests { tests.new ≤ tests.old
-        + compound_count (read_compound compound.now) * length preorder.now.tree.now.content }
+    ensures table { IfOk result (IsFiltered preorder.now wanted.items (CompoundHolds compound.now)) }
+    ensures counted { Counts result tests.old tests.new
+        (CompoundAsks compound.now preorder.now wanted.items) }
+    ensures tests { tests.new ≤ tests.old + compounds_in compound.now * node_count preorder.now }
 {
     let asked = member_count(&wanted);
     let mut named = wanted;
@@ -62,14 +58,11 @@ fn lists_set(
     tests: &mut u128,
 ) -> Result<Vec<bool>, OutOfMemory>
     requires { length wanted.items ≡ length preorder.now.tree.now.content }
-    ensures table { IfOk result (λ table. IsSetOf table.items (length preorder.now.tree.now.content)
-        (λ n. (in_set wanted.items n ≡ true)
-        × ListsHold (lists_of (map read_nested lists.now)) preorder.now.tree.now n)) }
-    ensures counted { IfOk result (λ _. AddsTests tests.old tests.new
-        (ListsTests (lists_of (map read_nested lists.now)) preorder.now.tree.now wanted.items)) }
-    ensures tests { tests.new ≤ tests.old
-        + lists_count (lists_of (map read_nested lists.now))
-        * length preorder.now.tree.now.content }
+    ensures table { IfOk result
+        (IsFiltered preorder.now wanted.items (NestedHold lists.now)) }
+    ensures counted { Counts result tests.old tests.new
+        (ListsAsk lists.now preorder.now wanted.items) }
+    ensures tests { tests.new ≤ tests.old + compounds_nested lists.now * node_count preorder.now }
 {
     let mut table = wanted;
     for list in lists {
@@ -88,13 +81,11 @@ fn nested_set(
     tests: &mut u128,
 ) -> Result<Vec<bool>, OutOfMemory>
     requires { length wanted.now ≡ length preorder.now.tree.now.content }
-    ensures table { IfOk result (λ table. IsSetWithin wanted.now table.items
-        (length preorder.now.tree.now.content)
-        (ListHolds (read_nested list.now) preorder.now.tree.now)) }
-    ensures counted { IfOk result (λ _. AddsTests tests.old tests.new
-        (ListTests (read_nested list.now) preorder.now.tree.now wanted.now)) }
-    ensures tests { tests.new ≤ tests.old
-        + list_count (read_nested list.now) * length preorder.now.tree.now.content }
+    ensures table { IfOk result
+        (HasWanted preorder.now wanted.now (ListHolds (read_nested list.now))) }
+    ensures counted { Counts result tests.old tests.new
+        (ListAsks list.now preorder.now wanted.now) }
+    ensures tests { tests.new ≤ tests.old + compounds_listed list.now * node_count preorder.now }
 {
     match list {
         Nested::Is(selectors) => list_set(preorder, selectors, wanted, tests),
@@ -116,13 +107,11 @@ pub(crate) fn list_set(
     tests: &mut u128,
 ) -> Result<Vec<bool>, OutOfMemory>
     requires { length wanted.now ≡ length preorder.now.tree.now.content }
-    ensures table { IfOk result (λ table. IsSetWithin wanted.now table.items
-        (length preorder.now.tree.now.content)
-        (Means (read_list selectors.now) preorder.now.tree.now)) }
-    ensures counted { IfOk result (λ _. AddsTests tests.old tests.new
-        (SelectorsTests (read_list selectors.now) preorder.now.tree.now wanted.now)) }
-    ensures tests { tests.new ≤ tests.old
-        + selectors_count (read_list selectors.now) * length preorder.now.tree.now.content }
+    ensures table { IfOk result
+        (HasWanted preorder.now wanted.now (Means (read_list selectors.now))) }
+    ensures counted { Counts result tests.old tests.new
+        (SelectorsAsk selectors.now preorder.now wanted.now) }
+    ensures tests { tests.new ≤ tests.old + compounds_among selectors.now * node_count preorder.now }
 {
     let mut table = vec![in preorder.tree.allocator(); false; preorder.order.len()]?;
     for selector in selectors {
@@ -143,17 +132,12 @@ fn selector_set(
     tests: &mut u128,
 ) -> Result<Vec<bool>, OutOfMemory>
     requires { length wanted.now ≡ length preorder.now.tree.now.content }
-    ensures table { IfOk result (λ table. IsSetWithin wanted.now table.items
-        (length preorder.now.tree.now.content)
-        (λ n. ChainMatches (Holds (read_compound first.now) preorder.now.tree.now)
-        (steps_of (map read_step steps.now)) preorder.now.tree.now n n)) }
-    ensures counted { IfOk result (λ _. AddsTests tests.old tests.new
-        (SelectorTests (read_compound first.now) (steps_of (map read_step steps.now))
-        preorder.now.tree.now wanted.now)) }
+    ensures table { IfOk result
+        (HasWanted preorder.now wanted.now (ChainHolds first.now steps.now)) }
+    ensures counted { Counts result tests.old tests.new
+        (ChainAsks first.now steps.now preorder.now wanted.now) }
     ensures tests { tests.new ≤ tests.old
-        + (compound_count (read_compound first.now)
-        + steps_count (steps_of (map read_step steps.now)))
-        * length preorder.now.tree.now.content }
+        + compounds_of first.now steps.now * node_count preorder.now }
 {
     forest_laws(preorder.tree);
     let mut here = vec![in preorder.tree.allocator(); true; preorder.order.len()]?;
@@ -176,12 +160,9 @@ fn has_set(
     selectors: &[Selector],
     tests: &mut u128,
 ) -> Result<Vec<bool>, OutOfMemory>
-    ensures table { IfOk result (λ table. IsSetOf table.items (length preorder.now.tree.now.content)
-        (HasHolds (read_list selectors.now) preorder.now.tree.now)) }
-    ensures counted { IfOk result (λ _. AddsTests tests.old tests.new
-        (HasTests (read_list selectors.now) preorder.now.tree.now)) }
-    ensures tests { tests.new ≤ tests.old
-        + selectors_count (read_list selectors.now) * length preorder.now.tree.now.content }
+    ensures table { IfOk result (IsSetWhere preorder.now (HasHolds (read_list selectors.now))) }
+    ensures counted { Counts result tests.old tests.new (HasAsks selectors.now preorder.now) }
+    ensures tests { tests.new ≤ tests.old + compounds_among selectors.now * node_count preorder.now }
 {
     let mut table = vec![in preorder.tree.allocator(); false; preorder.order.len()]?;
     for selector in selectors {
@@ -206,16 +187,11 @@ fn relative_set(
     steps: &[Step],
     tests: &mut u128,
 ) -> Result<Vec<bool>, OutOfMemory>
-    ensures table { IfOk result (λ table. IsSetOf table.items (length preorder.now.tree.now.content)
-        (RelativeMatches lead (read_compound first.now) (steps_of (map read_step steps.now))
-        preorder.now.tree.now)) }
-    ensures counted { IfOk result (λ _. AddsTests tests.old tests.new
-        (RelativeTests (read_compound first.now) (steps_of (map read_step steps.now))
-        preorder.now.tree.now)) }
+    ensures table { IfOk result (IsSetWhere preorder.now (RelativeHolds lead first.now steps.now)) }
+    ensures counted { Counts result tests.old tests.new
+        (RelativeAsks first.now steps.now preorder.now) }
     ensures tests { tests.new ≤ tests.old
-        + (compound_count (read_compound first.now)
-        + steps_count (steps_of (map read_step steps.now)))
-        * length preorder.now.tree.now.content }
+        + compounds_of first.now steps.now * node_count preorder.now }
 {
     forest_laws(preorder.tree);
     let wanted = rest_set(preorder, steps, tests)?;
@@ -230,13 +206,9 @@ fn rest_set(
     steps: &[Step],
     tests: &mut u128,
 ) -> Result<Vec<bool>, OutOfMemory>
-    ensures table { IfOk result (λ table. IsSetOf table.items (length preorder.now.tree.now.content)
-        (RestMatches (steps_of (map read_step steps.now)) preorder.now.tree.now)) }
-    ensures counted { IfOk result (λ _. AddsTests tests.old tests.new
-        (RestTests (steps_of (map read_step steps.now)) preorder.now.tree.now)) }
-    ensures tests { tests.new ≤ tests.old
-        + steps_count (steps_of (map read_step steps.now))
-        * length preorder.now.tree.now.content }
+    ensures table { IfOk result (IsSetWhere preorder.now (RestMatches (read_steps steps.now))) }
+    ensures counted { Counts result tests.old tests.new (RestAsks steps.now preorder.now) }
+    ensures tests { tests.new ≤ tests.old + compounds_behind steps.now * node_count preorder.now }
 {
     let mut table = elements(preorder)?;
     let mut left = steps;

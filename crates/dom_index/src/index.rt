@@ -1,14 +1,13 @@
 //! An index of a tree's nodes.
 
-ghost use Rattle.std.specs.Prelude.{◌≡◌, ◌<◌, ◌≤◌, ◌*◌, [], length, slice_get, IfOk, MatchOption};
+ghost use Rattle.std.specs.Prelude.{◌≡◌, ◌≤◌, ◌*◌, length, slice_get, IfOk};
 ghost use Rattle.std.specs.Iterator.{YieldsFirst, item_count};
-ghost use Rattle.dom_links.specs.Indexes.{index_at};
 ghost use Rattle.dom_links.specs.Lists.{stands_in};
 ghost use Rattle.dom_links.specs.Trees.{walk_below};
 ghost use Rattle.dom_select.specs.Selected.{Selected};
-ghost use Rattle.dom_index.specs.TestCounts.{AddsTests, SelectorsTests, everywhere};
+ghost use Rattle.dom_index.specs.TestCounts.{Counts, SelectionTests};
 ghost use Rattle.dom_index.specs.CompoundCounts.{selectors_count};
-ghost use Rattle.dom_index.specs.Index.{Finds, IsLastBelow};
+ghost use Rattle.dom_index.specs.Index.{Finds, GivesIndex, GivesLastBelow};
 ghost use Rattle.dom_index.specs.Preorder.{position};
 
 use crate::collect::{collect_matches, walk_laws};
@@ -75,8 +74,7 @@ impl<'a> TreeIndex<'a> {
     ) -> Result<Vec<NodeRef<'a>>, OutOfMemory>
         ensures found { IfOk result (λ found.
             Finds self.old.tree roots.now matcher.now found.items) }
-        ensures asked { IfOk result (λ _. AddsTests 0 self.new.tests
-            (SelectorsTests matcher.now self.old.tree.now (everywhere self.old.tree.now))) }
+        ensures asked { Counts result 0 self.new.tests (SelectionTests matcher.now self.old.tree.now) }
         ensures tests { self.new.tests
             ≤ selectors_count matcher.now * length self.old.tree.now.content }
         ensures kept { self.new.tree ≡ self.old.tree }
@@ -93,8 +91,7 @@ impl<'a> TreeIndex<'a> {
     ) -> Result<Vec<NodeId>, OutOfMemory>
         ensures found { IfOk result (λ ids.
             Selected self.old.tree.now roots.now matcher.now ids.items) }
-        ensures asked { IfOk result (λ _. AddsTests 0 self.new.tests
-            (SelectorsTests matcher.now self.old.tree.now (everywhere self.old.tree.now))) }
+        ensures asked { Counts result 0 self.new.tests (SelectionTests matcher.now self.old.tree.now) }
         ensures tests { self.new.tests
             ≤ selectors_count matcher.now * length self.old.tree.now.content }
         ensures kept { self.new.tree ≡ self.old.tree }
@@ -115,8 +112,7 @@ impl<'a> TreeIndex<'a> {
 
     /// The greatest position at or below a node; None for an unknown number.
     pub fn last_below(&self, id: &NodeId) -> Option<usize>
-        ensures { MatchOption result (length self.now.tree.now.content ≤ id.now)
-            (λ last. IsLastBelow self.now.tree.now id.now last) }
+        ensures { GivesLastBelow self.now.tree.now id.now result }
     {
         subtree_end_at(&self.preorder, id.value())
     }
@@ -132,9 +128,7 @@ impl<'a> TreeIndex<'a> {
     /// of a kind makes a table of that kind, if memory isn't refused, and each call writes there
     /// what it counts.
     pub fn index_at(&mut self, id: &NodeId, kind: IndexKind) -> Option<u64>
-        ensures is { MatchOption result (length self.old.tree.now.content ≤ id.now)
-            (λ index. (id.now < length self.old.tree.now.content)
-            × (index ≡ index_at kind self.old.tree.now id.now)) }
+        ensures is { GivesIndex kind self.old.tree.now id.now result }
         ensures kept { self.new ≡ self.old }
     {
         if id.value() >= self.preorder.order.len() {
@@ -162,8 +156,7 @@ fn position_at(preorder: &Preorder<'_>, n: usize) -> Option<usize>
 
 /// The subtree end of the node of that number.
 fn subtree_end_at(preorder: &Preorder<'_>, n: usize) -> Option<usize>
-    ensures { MatchOption result (length preorder.now.tree.now.content ≤ n)
-        (λ last. IsLastBelow preorder.now.tree.now n last) }
+    ensures { GivesLastBelow preorder.now.tree.now n result }
 {
     written(&preorder.subtree_ends, n)
 }

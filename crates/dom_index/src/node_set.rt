@@ -1,18 +1,16 @@
 //! Sets of nodes as one flag for each node, and their operations.
 
-ghost use Rattle.std.specs.Prelude.{◌≡◌, ◌<◌, ◌≤◌, ◌+◌, ◌^◌, ℕ, true, length, map, IfOk};
+ghost use Rattle.std.specs.Prelude.{◌≡◌, ◌<◌, ◌≤◌, ◌+◌, ◌^◌, true, length, IfOk};
 ghost use Rattle.dom_selectors.specs.declared.syntax.Combinator.TheVariants.{Sibling};
-ghost use Rattle.dom_selectors.specs.ListsAsTrees.{lists_of};
-ghost use Rattle.dom_selectors.specs.Syntax.{no_lists};
-ghost use Rattle.dom_selectors.specs.ValuesAsTrees.{read_compound, read_nested};
 ghost use Rattle.dom_links.specs.ListMoves.{element_at};
 ghost use Rattle.dom_selectors.specs.Spelling.{Decides};
-ghost use Rattle.dom_select.specs.Meaning.{Holds, ListsHold};
-ghost use Rattle.dom_index.specs.TestCounts.{IsFilteredByCompound, AddsTests, cardinality};
-ghost use Rattle.dom_index.specs.TypeBytes.{AreElements, lists_in};
+ghost use Rattle.dom_index.specs.NodeSets.{AreOperands, IsComplement, IsIntersection, IsUnion};
+ghost use Rattle.dom_index.specs.PreorderSets.{AllListsHold, AllMatch, IsFiltered, IsSetWhere};
+ghost use Rattle.dom_index.specs.PreorderSets.{LacksNoMatch};
 ghost use Rattle.dom_index.specs.PreparedCompounds.{IsPreparedAt};
-ghost use Rattle.dom_index.specs.NodeSets.{AllHold, AreOperands, IsComplement, IsIntersection};
-ghost use Rattle.dom_index.specs.NodeSets.{IsPrefiltered, IsSetOf, IsUnion, in_set};
+ghost use Rattle.dom_index.specs.SelectorValues.{CompoundHolds};
+ghost use Rattle.dom_index.specs.TestCounts.{Counts, IsCardinality, cardinality};
+ghost use Rattle.dom_index.specs.TypeBytes.{AreElements};
 
 use crate::preorder::{Preorder, numbered};
 use crate::type_filter::{
@@ -33,13 +31,9 @@ pub(crate) fn filter_by_compound(
     tests: &mut u128,
 ) -> Result<Vec<bool>, OutOfMemory>
     requires wanted { length wanted.items ≡ length preorder.now.tree.now.content }
-    requires lists { (n : ℕ) → n < length preorder.now.tree.now.content
-        → in_set wanted.items n ≡ true →
-        ListsHold (lists_of (map read_nested compound.now.nested.items)) preorder.now.tree.now n }
-    ensures table { IfOk result (λ table. IsFilteredByCompound (read_compound compound.now)
-        preorder.now.tree.now wanted.items table.items) }
-    ensures counted { IfOk result (λ _.
-        AddsTests tests.old tests.new (λ asked. asked ≡ cardinality wanted.items)) }
+    requires lists { AllListsHold preorder.now compound.now.nested.items wanted.items }
+    ensures table { IfOk result (IsFiltered preorder.now wanted.items (CompoundHolds compound.now)) }
+    ensures counted { Counts result tests.old tests.new (IsCardinality wanted.items) }
     ensures tests { tests.new ≤ tests.old + cardinality wanted.items }
 {
     let prepared = PreparedCompound {
@@ -78,8 +72,8 @@ fn compound_holds(
 ) -> bool
     requires prepared { IsPreparedAt preorder.now.tree.now n prepared.now caches.old }
     requires room { asked.old + 1 < 2 ^ 128 }
-    ensures is { Decides result (Holds (read_compound prepared.now.compound.now)
-        preorder.now.tree.now n) }
+    ensures is { Decides result
+        (CompoundHolds prepared.now.compound.now preorder.now.tree.now n) }
     ensures kept { caches.new ≡ caches.old }
     ensures counted { asked.new ≡ asked.old + 1 }
 {
@@ -93,8 +87,7 @@ fn compound_holds(
 
 /// The elements.
 pub(crate) fn elements(preorder: &Preorder<'_>) -> Result<Vec<bool>, OutOfMemory>
-    ensures { IfOk result (λ table. IsSetOf table.items (length preorder.now.tree.now.content)
-        (λ n. element_at preorder.now.tree.now n ≡ true)) }
+    ensures { IfOk result (IsSetWhere preorder.now (λ forest n. element_at forest n ≡ true)) }
 {
     let mut table = vec![in preorder.tree.allocator(); false; preorder.order.len()]?;
     mark_elements(&preorder.type_bytes, &mut table);
@@ -131,10 +124,8 @@ pub(crate) fn filter_by_type(
     table: &mut Vec<bool>,
 ) -> bool
     requires { length table.old.items ≡ length preorder.now.tree.now.content }
-    ensures asked { IsPrefiltered preorder.now.tree.now (read_compound compound.now) table.new.items
-        table.old.items }
-    ensures answer { result ≡ true → (lists_in (read_compound compound.now) ≡ no_lists)
-        × AllHold preorder.now.tree.now (read_compound compound.now) table.new.items }
+    ensures asked { LacksNoMatch preorder.now compound.now table.new.items table.old.items }
+    ensures answer { result ≡ true → AllMatch preorder.now compound.now table.new.items }
 {
     let Some(wanted) = type_filter_of(compound) else {
         return false;

@@ -1,17 +1,17 @@
 //! Tests of a compound at one node, where its nested lists are of compounds alone.
 
-ghost use Rattle.std.specs.Prelude.{◌≡◌, ◌<◌, length, map, slice_get, true, IfOk, IfSome};
+ghost use Rattle.std.specs.Prelude.{◌≡◌, ◌<◌, length, slice_get, true, IfOk, IfSome};
 ghost use Rattle.std.specs.Prelude.{Some};
 ghost use Rattle.dom_nodes.specs.declared.node_data.NodeData.{NodeData};
 ghost use Rattle.dom_links.specs.ListMoves.{element_at};
-ghost use Rattle.dom_selectors.specs.ListsAsTrees.{lists_of};
 ghost use Rattle.dom_selectors.specs.Spelling.{Decides};
-ghost use Rattle.dom_selectors.specs.Syntax.{CompoundSelector, no_lists};
-ghost use Rattle.dom_selectors.specs.ValuesAsTrees.{read_compound, read_list, read_nested};
-ghost use Rattle.dom_select.specs.Meaning.{Holds, ListHolds, ListsHold, Means};
+ghost use Rattle.dom_selectors.specs.Syntax.{no_lists};
+ghost use Rattle.dom_selectors.specs.ValuesAsTrees.{read_lists, read_compound, read_list, read_nested};
+ghost use Rattle.dom_select.specs.Meaning.{Holds, ListHolds, Means};
 ghost use Rattle.dom_index.specs.BareLists.{AreBare, AreBareLists, IsBareList};
 ghost use Rattle.dom_index.specs.NodeTests.{IsReady};
-ghost use Rattle.dom_index.specs.TypeBytes.{IsTypeFilterOf, is_type_byte, lists_in};
+ghost use Rattle.dom_index.specs.SelectorValues.{NestedHold};
+ghost use Rattle.dom_index.specs.TypeBytes.{IsDecidedByType, is_type_byte, lists_in};
 
 use crate::type_filter::{NO_ELEMENT, TypeFilter, decided, type_byte, type_filter_of};
 use dom_links::iters::node_at;
@@ -67,7 +67,7 @@ pub(crate) struct NodeTest<'c> {
 impl<'c> NodeTest<'c> {
     /// The test of a compound, prepared for the nodes of a tree.
     pub(crate) fn new(compound: &'c Compound, tree: &Tree) -> Result<NodeTest<'c>, OutOfMemory>
-        requires { AreBareLists (lists_of (map read_nested compound.now.nested.items)) }
+        requires { AreBareLists (read_lists compound.now.nested.items) }
         ensures ready { IfOk result IsReady }
         ensures compound { IfOk result (λ test. test.compound ≡ compound.entry) }
     {
@@ -115,8 +115,7 @@ impl<'c> NodeTest<'c> {
 /// Whether a compound with this type filter matches the node, where the type byte decides that.
 #[inline(always)]
 fn decided_at(visited: &Visited<'_>, wanted: Option<TypeFilter>) -> Option<bool>
-    ensures { IfSome result (λ answer. (c : CompoundSelector) → IfSome wanted (IsTypeFilterOf c)
-        → Decides answer (Holds c visited.now.tree.now visited.now.id)) }
+    ensures { IfSome result (IsDecidedByType visited.now.tree.now visited.now.id wanted) }
 {
     decided(visited.byte, wanted)
 }
@@ -127,10 +126,9 @@ pub(crate) fn lists_match(
     node: &NodeRef<'_>,
     caches: &mut SelectorCaches<'_>,
 ) -> bool
-    requires bare { AreBareLists (lists_of (map read_nested lists.now)) }
+    requires bare { AreBareLists (read_lists lists.now) }
     requires caches { caches.old ≡ node.now.tree.now }
-    ensures is { Decides result
-        (ListsHold (lists_of (map read_nested lists.now)) node.now.tree.now node.now.id) }
+    ensures is { Decides result (NestedHold lists.now node.now.tree.now node.now.id) }
     ensures kept { caches.new ≡ caches.old }
 {
     for list in lists {

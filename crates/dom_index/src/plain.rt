@@ -1,8 +1,7 @@
 //! Plain selectors: descendant and child combinators alone, and nested lists of compounds alone.
 
-ghost use Rattle.std.specs.Prelude.{◌≡◌, map, true};
-ghost use Rattle.dom_selectors.specs.ListsAsTrees.{lists_of};
-ghost use Rattle.dom_selectors.specs.ValuesAsTrees.{read_list, read_nested};
+ghost use Rattle.std.specs.Prelude.{◌≡◌, true};
+ghost use Rattle.dom_selectors.specs.ValuesAsTrees.{read_list, read_lists, read_nested};
 ghost use Rattle.dom_index.specs.BareLists.{AreBare, AreBareLists, IsBareList};
 ghost use Rattle.dom_index.specs.FlagRows.{IsUpward};
 ghost use Rattle.dom_index.specs.NodeTests.{ArePlain, IsPlain};
@@ -51,7 +50,7 @@ fn is_upward(combinator: Combinator) -> bool
 
 /// Whether nested lists are of compounds alone.
 fn lists_are_bare(lists: &[Nested]) -> bool
-    ensures { result ≡ true → AreBareLists (lists_of (map read_nested lists.now)) }
+    ensures { result ≡ true → AreBareLists (read_lists lists.now) }
 {
     for list in lists {
         if !list_is_bare(list) {

@@ -1,17 +1,17 @@
 //! The preorder of a tree's nodes.
 
-ghost use Rattle.std.specs.Prelude.{◌≡◌, ◌<◌, ◌≤◌, ◌+◌, ◌∷◌, ℕ, List, [], length, map, true};
-ghost use Rattle.std.specs.Prelude.{false, IfOk, Some};
+ghost use Rattle.std.specs.Prelude.{◌≡◌, ◌<◌, ◌≤◌, ◌+◌, ◌∷◌, ℕ, [], length, map, true};
+ghost use Rattle.std.specs.Prelude.{IfOk, Some};
 ghost use Rattle.dom_links.specs.Forest.{children_of, parent};
 ghost use Rattle.dom_links.specs.Laws.{AreLines, AreTrees};
 ghost use Rattle.dom_links.specs.Lists.{IsDistinct, first, stands_in};
 ghost use Rattle.dom_links.specs.Sound.{IsForest};
 ghost use Rattle.dom_links.specs.Trees.{ancestors, walk_below};
 ghost use Rattle.dom_index.specs.TypeBytes.{AreTypeBytes};
-ghost use Rattle.dom_index.specs.Orders.{AreEndsBefore, AreSubtreeEnds, ArePlaces, AreSpans};
-ghost use Rattle.dom_index.specs.Orders.{HasVisitedTo, IsAt, IsOrder, IsTraversed};
-ghost use Rattle.dom_index.specs.Preorder.{preorder, preorder_to, run_on, run_past};
-ghost use Rattle.dom_index.specs.Preorder.{starts_run};
+ghost use Rattle.dom_index.specs.Orders.{AreEndsBefore, AreEndsBehind, AreSpans, HasVisitedTo};
+ghost use Rattle.dom_index.specs.Orders.{IsAt, IsOrder, IsTraversed, PlacesMakeOrder};
+ghost use Rattle.dom_index.specs.Orders.{VisitedStartNoRun};
+ghost use Rattle.dom_index.specs.Preorder.{preorder, run_on, run_past, starts_run};
 
 use crate::type_filter::{NO_ELEMENT, type_byte};
 use dom_links::iters::{node_at, parent_id, predict_next, prev_sibling_id};
@@ -118,8 +118,7 @@ impl Traversal {
 fn end_subtrees(tree: &Tree, id: NodeId, last: u32, subtree_ends: &mut Vec<u32>) -> Option<NodeId>
     requires known { id < length tree.now.content }
     requires visited { last < length tree.now.content }
-    requires ended { AreSubtreeEnds tree.now (id ∷ ancestors tree.now id) (last + 1) (length
-        (run_past tree.now (id ∷ ancestors tree.now id))) subtree_ends.old.items }
+    requires ended { AreEndsBehind tree.now id (last + 1) subtree_ends.old.items }
     ensures next { run_past tree.now (id ∷ ancestors tree.now id) ≡ run_on tree.now result }
     ensures ends { AreEndsBefore tree.now result (last + 1) subtree_ends.new.items }
 {
@@ -163,8 +162,7 @@ fn visit_tree(tree: &Tree) -> Result<Traversal, OutOfMemory>
 
 /// States that a node of an earlier run starts none. It does nothing.
 fn started_laws(tree: &Tree)
-    ensures { (n : ℕ) → n < length tree.now.content
-        → stands_in n (preorder_to tree.now n) ≡ true → starts_run tree.now n ≡ false }
+    ensures { VisitedStartNoRun tree.now }
 {
     forest_laws(tree);
 }
@@ -252,8 +250,7 @@ fn order_laws(tree: &Tree)
         → n < length tree.now.content }
     ensures all { (n : ℕ) → n < length tree.now.content
         → stands_in n (preorder tree.now) ≡ true }
-    ensures order { (places : List ℕ) → ArePlaces tree.now (preorder tree.now) places
-        → IsOrder tree.now (preorder tree.now) places }
+    ensures order { PlacesMakeOrder tree.now }
 {
     forest_laws(tree);
 }

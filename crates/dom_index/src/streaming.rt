@@ -1,20 +1,18 @@
 //! Selection below a node in one traversal. A node that the last compound of a selector matches
 //! asks for flags: for each node of the path to it, whether the steps are reached at its children.
 
-ghost use Rattle.std.specs.Prelude.{◌≡◌, ◌<◌, ◌+◌, ◌∷◌, ◌++◌, ℕ, [], List, length, take};
-ghost use Rattle.std.specs.Prelude.{slice_get, true, IfOk, IfSome, OnOk, Some};
-ghost use Rattle.dom_links.specs.Forest.{Forest, parent};
+ghost use Rattle.std.specs.Prelude.{◌≡◌, ◌<◌, ◌+◌, ◌∷◌, ◌++◌, [], length, take, IfOk};
+ghost use Rattle.std.specs.Prelude.{IfSome, OnOk, Some};
+ghost use Rattle.dom_links.specs.Forest.{parent};
 ghost use Rattle.dom_links.specs.Trees.{walk_below};
-ghost use Rattle.dom_selectors.specs.declared.syntax.Combinator.{Combinator};
 ghost use Rattle.dom_selectors.specs.Spelling.{Decides};
-ghost use Rattle.dom_selectors.specs.Syntax.{CompoundSelector};
 ghost use Rattle.dom_selectors.specs.ValuesAsTrees.{read_list};
 ghost use Rattle.dom_select.specs.Selected.{FiltersTo, Selected};
-ghost use Rattle.dom_index.specs.FlagRows.{PropagatesFrom, StepsReach, is_deep, reached_at, top};
+ghost use Rattle.dom_index.specs.FlagRows.{is_deep, reached_at, top};
 ghost use Rattle.dom_index.specs.NodeTests.{ArePlain};
 ghost use Rattle.dom_index.specs.Tracks.{AreFlagsAt, AreFollowing, ArePrepared, AreTracked};
-ghost use Rattle.dom_index.specs.Tracks.{FlagsBelow, IsFollowing, IsOnWay, IsReached, IsTracked};
-ghost use Rattle.dom_index.specs.Tracks.{Reaches, SomeReaches, first_in, steps_in};
+ghost use Rattle.dom_index.specs.Tracks.{FlagsBelow, IsFollowing, IsLastRow, IsOnWay, IsReached};
+ghost use Rattle.dom_index.specs.Tracks.{IsStepFlag, Reaches, SomeReaches, StaysTracked};
 
 use crate::chains::{Chain, prepare_all};
 use crate::node_tests::Visited;
@@ -79,9 +77,7 @@ fn step_flag(
 ) -> bool
     requires step { i < length chain.now.steps.now }
     requires at { AreFlagsAt chain.now visited.now.tree.now visited.now.id flags.now caches.old }
-    ensures is { (s : Combinator × CompoundSelector) → slice_get (steps_in chain.now) i ≡ Some s
-        → Decides result (PropagatesFrom visited.now.tree.now s.0 (StepsReach visited.now.tree.now
-        (first_in chain.now) (take i (steps_in chain.now))) (Some visited.now.id)) }
+    ensures is { IsStepFlag chain.now visited.now.tree.now visited.now.id i result }
     ensures kept { caches.new ≡ caches.old }
 {
     forest_laws(visited.tree);
@@ -120,8 +116,7 @@ fn fill_row(
 /// The last row: the flags at a child of the path's last node, or at a node that has no parent.
 #[inline(always)]
 fn last_row<'r>(chain: &Chain<'_>, flags: &'r [bool]) -> &'r [bool]
-    ensures { (forest : Forest) (path : List ℕ) → IsTracked chain.now forest path flags.now
-        → FlagsBelow chain.now forest (top path) result.now }
+    ensures { IsLastRow chain.now flags.now result.now }
 {
     let start = flags.len().saturating_sub(chain.steps.len());
     &flags[start..]
@@ -206,9 +201,7 @@ fn find_missing(
 #[inline(always)]
 fn cut(chain: &Chain<'_>, rows: &mut Rows, depth: usize)
     ensures path { rows.new.path.items ≡ take depth rows.old.path.items }
-    ensures tracked { (forest : Forest)
-        → IsTracked chain.now forest rows.old.path.items rows.old.flags.items
-        → IsTracked chain.now forest rows.new.path.items rows.new.flags.items }
+    ensures tracked { StaysTracked chain.now rows.old rows.new }
 {
     while rows.path.len() > depth {
         let _passed = rows.path.pop();

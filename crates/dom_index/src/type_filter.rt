@@ -1,17 +1,11 @@
 //! One byte for the type of each node, and filters by it.
 
-ghost use Rattle.std.specs.Prelude.{◌≡◌, ◌<◌, length, ℕ, true, IfSome};
-ghost use Rattle.dom_selectors.specs.Spelling.{Decides};
-ghost use Rattle.dom_selectors.specs.Syntax.{CompoundSelector};
-ghost use Rattle.dom_select.specs.Meaning.{Holds};
-ghost use Rattle.dom_links.specs.Forest.{Forest};
+ghost use Rattle.std.specs.Prelude.{◌≡◌, ◌<◌, length, true, IfSome};
 ghost use Rattle.dom_links.specs.ListMoves.{element_at};
 ghost use Rattle.dom_selectors.specs.ValuesAsTrees.{read_compound};
-ghost use Rattle.dom_nodes.specs.KnownNames.{known_name};
-ghost use Rattle.dom_select.specs.Parts.{name_within};
-ghost use Rattle.dom_nodes.specs.declared.name.Namespace.{Namespace};
-ghost use Rattle.dom_index.specs.TypeBytes.{HaveKnownTypes, IsFilteredByType, IsTypeFilterOf};
-ghost use Rattle.dom_index.specs.TypeBytes.{HasTypeByte, is_type_byte};
+ghost use Rattle.dom_index.specs.TypeBytes.{HaveKnownTypes, IsDecidedByByte, IsDecidedByType};
+ghost use Rattle.dom_index.specs.TypeBytes.{IsFilteredByType, IsNumberOf, IsOnePart};
+ghost use Rattle.dom_index.specs.TypeBytes.{IsTypeFilterOf, is_type_byte};
 
 use crate::preorder::Preorder;
 use dom_nodes::node_data::NodeData;
@@ -54,8 +48,7 @@ pub(crate) struct TypeFilter {
 
 /// The number of the name that elements of every namespace have to match a type selector.
 fn type_number(name: &SelectorName) -> Option<u8>
-    ensures { IfSome result (λ number. (number < 247)
-        × ((ns : Namespace) → name_within ns name.now ≡ known_name number)) }
+    ensures { IfSome result (IsNumberOf name.now) }
 {
     let folded = name.folded();
     if folded.as_str() != name.as_str() {
@@ -78,8 +71,7 @@ pub(crate) fn type_filter_of(compound: &Compound) -> Option<TypeFilter>
 
 /// Whether the compound is one part and nothing else.
 fn is_one_part(compound: &Compound) -> bool
-    ensures { result ≡ true → (length compound.now.parts.items ≡ 1)
-        × (length compound.now.nested.items ≡ 0) }
+    ensures { result ≡ true → IsOnePart compound.now }
 {
     if !compound.nested.is_empty() {
         return false;
@@ -114,9 +106,7 @@ pub(crate) fn have_known_types(table: &[bool], bytes: &[u8]) -> bool
 /// Whether a compound with this type filter matches a node, where its type byte decides that.
 #[inline(always)]
 pub(crate) fn decided(byte: u8, wanted: Option<TypeFilter>) -> Option<bool>
-    ensures { IfSome result (λ answer. (c : CompoundSelector) (forest : Forest) (n : ℕ)
-        → HasTypeByte forest n byte → IfSome wanted (IsTypeFilterOf c)
-        → Decides answer (Holds c forest n)) }
+    ensures { IfSome result (IsDecidedByByte byte wanted) }
 {
     let wanted = wanted?;
     if byte == UNKNOWN {
@@ -138,8 +128,7 @@ pub(crate) fn decided_by_type(
     wanted: Option<TypeFilter>,
 ) -> Option<bool>
     requires { n < length preorder.now.tree.now.content }
-    ensures { IfSome result (λ answer. (c : CompoundSelector) → IfSome wanted (IsTypeFilterOf c)
-        → Decides answer (Holds c preorder.now.tree.now n)) }
+    ensures { IfSome result (IsDecidedByType preorder.now.tree.now n wanted) }
 {
     decided(preorder.type_bytes[n], wanted)
 }

@@ -15,22 +15,16 @@ use Rattle.dom_index.specs.NodeSets.{IsIntersection, IsUnion, IsSetOf, IsSetWith
 use Rattle.std.proofs.lemmas.Result.{IfOk-weaker}
 use Rattle.dom_index.proofs.TestCountLemmas.{Asking, NextAsks, asking_end, asking_from, asking_last, asking_more, asks_first, asks_last, tests_relative, asks_more, asks_selectors, counts_compound, kept_decided, relative_tests, left_fewer, most_of_compound, ok_both}
 use Rattle.dom_index.proofs.ChainLemmas.{Chain, chain_last, chain_next, chain_start}
-use Rattle.dom_index.proofs.RestLemmas.{going_on, step_decided, some_decided, steps_apart, steps_asked, weight_last}
+use Rattle.dom_index.proofs.RestLemmas.{going_on, selectors_asked, step_decided, some_decided, steps_apart, steps_asked, weight_last}
 use Rattle.dom_index.proofs.ListLemmas.{Anywhere, Narrowed, Wanted, Widened, enough, lists_cut, narrowed_more, selectors_cut, spent, steps_ahead, widened_more}
 use Rattle.dom_index.proofs.evaluation.+evaluation.Goals as goal
 
 pub list_set-returns-in_err-answer-clause-tests : goal.list_set-returns-in_err-answer-clause-tests
 list_set-returns-in_err-answer-clause-tests t c =
     let selectors = c.args.selectors.now in
-    let m = length c.args.preorder.now.tree.now.content in
-    let s = out-Selector c.selector-item.result in
     let i = c.loop-selector.selector-index in
-    let top : ℕ = c.args.tests.now + selectors_count (read_list selectors) * m in
-    let cut = selectors_cut i selectors c.selector-item.result (omega arith) c.selector-item.is in
-    let before = subst (λ z. c.loop-selector.tests + selectors_count z * m ≤ top) cut c.loop-selector.invariant.tests in
-    let asked = subst (λ (ss : List Step). c.selector_set.new.tests ≤ c.loop-selector.tests + (compound_count (read_compound s.first) + steps_count (steps_of (map read_step ss))) * m) c.deref.ensures.value c.selector_set.ensures.tests in
-    enough (selectors_count (read_list (drop (i + 1) selectors))) m c.selector_set.new.tests top
-    (spent (compound_count (read_compound s.first) + steps_count (steps_of (map read_step s.rest.items))) (selectors_count (read_list (drop (i + 1) selectors))) m c.args.tests.now c.loop-selector.tests c.selector_set.new.tests (selectors_count (read_list selectors)) before asked)
+    enough (selectors_count (read_list (drop (i + 1) selectors))) (length c.args.preorder.now.tree.now.content) c.selector_set.new.tests _
+    (selectors_asked (length c.args.preorder.now.tree.now.content) c.args.tests.now c.loop-selector.tests c.selector_set.new.tests selectors i c.selector-item.result c.deref.result.now (omega arith) c.selector-item.is c.deref.ensures.value c.loop-selector.invariant.tests c.selector_set.ensures.tests)
 
 pub list_set-loop-selector-preserved : goal.list_set-loop-selector-preserved
 list_set-loop-selector-preserved t c =
@@ -39,10 +33,7 @@ list_set-loop-selector-preserved t c =
     let m = length forest.content in
     let s = out-Selector c.selector-item.result in
     let i = c.loop-selector.selector-index in
-    let top : ℕ = c.args.tests.now + selectors_count (read_list selectors) * m in
     let cut = selectors_cut i selectors c.selector-item.result (omega arith) c.selector-item.is in
-    let before = subst (λ z. c.loop-selector.tests + selectors_count z * m ≤ top) cut c.loop-selector.invariant.tests in
-    let asked = subst (λ (ss : List Step). c.selector_set.new.tests ≤ c.loop-selector.tests + (compound_count (read_compound s.first) + steps_count (steps_of (map read_step ss))) * m) c.deref.ensures.value c.selector_set.ensures.tests in
     let wanted = c.args.wanted.now in
     let answer = subst (λ (ss : List Step). IsSetWithin wanted c.in_ok-answer.answer.items m (λ n. ChainMatches (Holds (read_compound s.first) forest) (steps_of (map read_step ss)) forest n n)) c.deref.ensures.value c.in_ok-answer.ensures.table in
     let light = ap selectors_weight cut in
@@ -55,22 +46,16 @@ list_set-loop-selector-preserved t c =
           (SelectorsTests (read_list (drop (i + 1) selectors)) forest wanted) (subst (λ z. Asking c.args.tests.now c.loop-selector.tests (SelectorsTests (read_list selectors) forest wanted) (SelectorsTests z forest wanted)) cut c.loop-selector.invariant.asking)
           (subst (λ (ss : List Step). AddsTests c.loop-selector.tests c.selector_set.new.tests (SelectorTests (read_compound s.first) (steps_of (map read_step ss)) forest wanted)) c.deref.ensures.value c.in_ok-answer.ensures.counted)
           (asks_selectors s.lead (read_compound s.first) (steps_of (map read_step s.rest.items)) (read_list (drop (i + 1) selectors)) forest wanted);
-      tests = spent (compound_count (read_compound s.first) + steps_count (steps_of (map read_step s.rest.items))) (selectors_count (read_list (drop (i + 1) selectors))) m c.args.tests.now c.loop-selector.tests c.selector_set.new.tests (selectors_count (read_list selectors)) before asked;
+      tests = selectors_asked m c.args.tests.now c.loop-selector.tests c.selector_set.new.tests selectors i c.selector-item.result c.deref.result.now (omega arith) c.selector-item.is c.deref.ensures.value c.loop-selector.invariant.tests c.selector_set.ensures.tests;
       light = omega arith;
     }
 
 pub has_set-returns-in_err-answer-clause-tests : goal.has_set-returns-in_err-answer-clause-tests
 has_set-returns-in_err-answer-clause-tests t c =
     let selectors = c.args.selectors.now in
-    let m = length c.args.preorder.now.tree.now.content in
-    let s = out-Selector c.selector-item.result in
     let i = c.loop-selector.selector-index in
-    let top : ℕ = c.args.tests.now + selectors_count (read_list selectors) * m in
-    let cut = selectors_cut i selectors c.selector-item.result (omega arith) c.selector-item.is in
-    let before = subst (λ z. c.loop-selector.tests + selectors_count z * m ≤ top) cut c.loop-selector.invariant.tests in
-    let asked = subst (λ (ss : List Step). c.relative_set.new.tests ≤ c.loop-selector.tests + (compound_count (read_compound s.first) + steps_count (steps_of (map read_step ss))) * m) c.deref.ensures.value c.relative_set.ensures.tests in
-    enough (selectors_count (read_list (drop (i + 1) selectors))) m c.relative_set.new.tests top
-    (spent (compound_count (read_compound s.first) + steps_count (steps_of (map read_step s.rest.items))) (selectors_count (read_list (drop (i + 1) selectors))) m c.args.tests.now c.loop-selector.tests c.relative_set.new.tests (selectors_count (read_list selectors)) before asked)
+    enough (selectors_count (read_list (drop (i + 1) selectors))) (length c.args.preorder.now.tree.now.content) c.relative_set.new.tests _
+    (selectors_asked (length c.args.preorder.now.tree.now.content) c.args.tests.now c.loop-selector.tests c.relative_set.new.tests selectors i c.selector-item.result c.deref.result.now (omega arith) c.selector-item.is c.deref.ensures.value c.loop-selector.invariant.tests c.relative_set.ensures.tests)
 
 pub has_set-loop-selector-preserved : goal.has_set-loop-selector-preserved
 has_set-loop-selector-preserved t c =
@@ -79,10 +64,7 @@ has_set-loop-selector-preserved t c =
     let m = length forest.content in
     let s = out-Selector c.selector-item.result in
     let i = c.loop-selector.selector-index in
-    let top : ℕ = c.args.tests.now + selectors_count (read_list selectors) * m in
     let cut = selectors_cut i selectors c.selector-item.result (omega arith) c.selector-item.is in
-    let before = subst (λ z. c.loop-selector.tests + selectors_count z * m ≤ top) cut c.loop-selector.invariant.tests in
-    let asked = subst (λ (ss : List Step). c.relative_set.new.tests ≤ c.loop-selector.tests + (compound_count (read_compound s.first) + steps_count (steps_of (map read_step ss))) * m) c.deref.ensures.value c.relative_set.ensures.tests in
     let answer = subst (λ (ss : List Step). IsSetOf c.in_ok-answer.answer.items m (RelativeMatches s.lead (read_compound s.first) (steps_of (map read_step ss)) forest)) c.deref.ensures.value c.in_ok-answer.ensures.table in
     let light = ap selectors_weight cut in
     let less = c.loop-selector.invariant.light in
@@ -94,7 +76,7 @@ has_set-loop-selector-preserved t c =
           (HasTests (read_list (drop (i + 1) selectors)) forest) (subst (λ z. Asking c.args.tests.now c.loop-selector.tests (HasTests (read_list selectors) forest) (HasTests z forest)) cut c.loop-selector.invariant.asking)
           (subst (λ (ss : List Step). AddsTests c.loop-selector.tests c.relative_set.new.tests (RelativeTests (read_compound s.first) (steps_of (map read_step ss)) forest)) c.deref.ensures.value c.in_ok-answer.ensures.counted)
           (tests_relative s.lead (read_compound s.first) (steps_of (map read_step s.rest.items)) (read_list (drop (i + 1) selectors)) forest);
-      tests = spent (compound_count (read_compound s.first) + steps_count (steps_of (map read_step s.rest.items))) (selectors_count (read_list (drop (i + 1) selectors))) m c.args.tests.now c.loop-selector.tests c.relative_set.new.tests (selectors_count (read_list selectors)) before asked;
+      tests = selectors_asked m c.args.tests.now c.loop-selector.tests c.relative_set.new.tests selectors i c.selector-item.result c.deref.result.now (omega arith) c.selector-item.is c.deref.ensures.value c.loop-selector.invariant.tests c.relative_set.ensures.tests;
       light = omega arith;
     }
 
