@@ -1,5 +1,5 @@
 -- What all that stands at the top is put into.
-use Rattle.std.proofs.Common.{ℕ, ◌≡◌, ◌<◌, ◌≤◌, ◌+◌, true, List, [], ◌∷◌, ◌++◌, Some, refl, sym, ap, ◌∙◌, arith, cond, length, Result, Ok, Err, OnOk}
+use Rattle.std.proofs.Common.{ℕ, ◌≡◌, ◌<◌, ◌+◌, true, List, [], ◌∷◌, ◌++◌, Some, refl, sym, ap, ◌∙◌, arith, cond, length, Result, Ok, Err, OnOk}
 use Rattle.std.specs.Prelude.{◌==◌, codes, filter, not, slice_get}
 use Rattle.std.proofs.lemmas.List.{get_or_past, length-map, length_push}
 use Rattle.std.proofs.lemmas.Bool.{eq-eqb, ne_eqb}

@@ -1,6 +1,6 @@
 -- What stands in a page.
 use Rattle.std.proofs.Common.{ℕ, ◌≡◌, ◌⊎◌, inl, inr, true, false, Bool, List, [], ◌∷◌, Option, None, Some, refl, sym, ap, ◌∙◌, cond}
-use Rattle.std.specs.Prelude.{◌==◌, ◌&&◌, ◌||◌, codes, filter, find, length, not, slice_get}
+use Rattle.std.specs.Prelude.{◌==◌, ◌&&◌, codes, filter, find, length, not, slice_get}
 use Rattle.std.specs.Option.{option_and_then, option_map, option_map_or}
 use Rattle.std.specs.Str.{bytes_eq}
 use Rattle.std.proofs.lemmas.Bool.{cases_Bool, or_cases, true≢false}

@@ -2,3 +2,4 @@ pub mod Shape
 pub mod ElementKinds
 pub mod Calm
 pub mod Scopes
+pub mod Elements

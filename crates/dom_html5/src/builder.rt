@@ -1,10 +1,8 @@
 //! The state of tree construction.
 
 use crate::fault::PageFault;
-use crate::formatting::ActiveFormatting;
-use crate::stack::{Open, OpenElements};
-use dom_markup::document::Document;
-use dom_nodes::node_id::NodeId;
+use crate::growing::{GrowingTree, Placing};
+use crate::stack::Open;
 use html5_tokens::tokenizer::State;
 use std::alloc::Global;
 
@@ -50,27 +48,16 @@ pub type Step = Result<Next, PageFault>;
 #[derive(Drop)]
 pub struct TreeBuilder {
     pub alloc: Global,
-    pub document: Document,
+    pub tree: GrowingTree,
+    pub placing: Placing,
     pub mode: Mode,
     /// The mode that a text element or a table's characters return to.
     pub original: Mode,
     pub template_modes: Vec<Mode>,
-    pub open: OpenElements,
-    pub formatting: ActiveFormatting,
-    /// The head element pointer.
-    pub head: Option<NodeId>,
-    /// The form element pointer.
-    pub form: Option<NodeId>,
-    /// The context element of a fragment.
-    pub context: Option<Open>,
     pub frameset_ok: bool,
-    /// Whether foster parenting is on.
-    pub foster: bool,
     /// Whether a line feed that comes next is dropped.
     pub skip_line_feed: bool,
     pub scripting: bool,
-    /// So many elements may lie in one another.
-    pub max_depth: usize,
     /// Whether the document is in quirks mode.
     pub quirks: bool,
     /// The pending table characters.
@@ -81,23 +68,20 @@ pub struct TreeBuilder {
 }
 
 impl TreeBuilder {
-    pub fn new(alloc: Global, document: Document, scripting: bool) -> TreeBuilder {
+    pub fn new(alloc: Global, tree: GrowingTree, scripting: bool) -> TreeBuilder {
         TreeBuilder {
             alloc,
-            document,
+            tree,
+            placing: Placing {
+                foster: false,
+                max_depth: usize::MAX,
+            },
             mode: Mode::Initial,
             original: Mode::InBody,
             template_modes: Vec::new(alloc),
-            open: OpenElements::new(alloc),
-            formatting: ActiveFormatting::new(alloc),
-            head: None,
-            form: None,
-            context: None,
             frameset_ok: true,
-            foster: false,
             skip_line_feed: false,
             scripting,
-            max_depth: usize::MAX,
             quirks: false,
             table_text: String::new(alloc),
             table_text_has_letters: false,
@@ -117,14 +101,14 @@ impl TreeBuilder {
 
     /// The adjusted current node.
     pub fn adjusted_current(&self) -> Option<Open> {
-        match self.context {
-            Some(context) if self.open.len() == 1 => Some(context),
-            _ => self.open.current(),
+        match self.tree.context() {
+            Some(context) if self.tree.open().len() == 1 => Some(context),
+            _ => self.tree.open().current(),
         }
     }
 
     /// How often a token is reprocessed at most, before the rules for "in body" take it.
     pub fn turns(&self) -> usize {
-        self.open.len().saturating_mul(4).saturating_add(64)
+        self.tree.open().len().saturating_mul(4).saturating_add(64)
     }
 }

@@ -264,7 +264,7 @@ impl TreeBuilder {
     }
 
     fn is_in_table(&self) -> bool {
-        let Some(open) = self.open.current() else {
+        let Some(open) = self.tree.open().current() else {
             return false;
         };
         open.ns == Ns::Html
@@ -281,9 +281,9 @@ impl TreeBuilder {
             self.original = self.mode;
             return self.again_in(Mode::InTableText);
         }
-        self.foster = true;
+        self.placing.foster = true;
         let step = self.body_run(kind, text);
-        self.foster = false;
+        self.placing.foster = false;
         step
     }
 
@@ -309,9 +309,9 @@ impl TreeBuilder {
         if !self.table_text_has_letters {
             return self.put_text(text.as_str());
         }
-        self.foster = true;
+        self.placing.foster = true;
         let step = self.body_run(Run::Letters, text.as_str());
-        self.foster = false;
+        self.placing.foster = false;
         step?;
         Ok(())
     }

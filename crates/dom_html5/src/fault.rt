@@ -1,5 +1,8 @@
 //! Why a page isn't read.
 
+ghost use Rattle.std.specs.Prelude.{◌≡◌, Err, IfErr, MatchResult, Ok};
+ghost use Rattle.dom_html5.specs.Elements.{IsLimit, limit_of};
+
 use dom_nodes::fault::{EditFault, OutOfMemory};
 use dom_nodes::node_id::NodeId;
 use std::alloc::{AllocError, AllocFailed};
@@ -33,21 +36,28 @@ impl From<OutOfMemory> for PageFault {
     }
 }
 
-/// What an edit comes to. One that is refused for another reason than a limit leaves the tree as it
-/// was, and the text is read on.
-pub fn settled(done: Result<(), EditFault>) -> Result<(), PageFault> {
+/// What an edit comes to that limits alone refuse.
+pub fn settled(done: Result<(), EditFault>) -> Result<(), PageFault>
+    requires { IfErr done IsLimit }
+    ensures { MatchResult result (λ _. done ≡ Ok tt) (λ fault. done ≡ Err (limit_of fault)) }
+{
     match done {
+        Ok(()) => Ok(()),
         Err(EditFault::Memory) => Err(PageFault::Memory),
         Err(EditFault::TooManyNodes) => Err(PageFault::TooManyNodes),
-        _ => Ok(()),
+        Err(_) => unreachable!(),
     }
 }
 
 /// What making a node comes to, which limits alone refuse.
-pub fn made(id: Result<NodeId, EditFault>) -> Result<NodeId, PageFault> {
+pub fn made(id: Result<NodeId, EditFault>) -> Result<NodeId, PageFault>
+    requires { IfErr id IsLimit }
+    ensures { MatchResult result (λ n. id ≡ Ok n) (λ fault. id ≡ Err (limit_of fault)) }
+{
     match id {
         Ok(id) => Ok(id),
+        Err(EditFault::Memory) => Err(PageFault::Memory),
         Err(EditFault::TooManyNodes) => Err(PageFault::TooManyNodes),
-        Err(_) => Err(PageFault::Memory),
+        Err(_) => unreachable!(),
     }
 }

@@ -80,17 +80,17 @@ impl TreeBuilder {
         };
         self.insert_in(ns, name, tag)?;
         if tag.self_closing {
-            self.open.pop();
+            self.tree.pop();
         }
         Ok(Next::Done)
     }
 
     fn pop_foreign(&mut self) {
-        for _ in 0..self.open.len() {
-            match self.open.current() {
+        for _ in 0..self.tree.open().len() {
+            match self.tree.open().current() {
                 Some(open)
                     if open.ns != Ns::Html && !open.is_text_point() && !open.is_html_point() => {
-                    self.open.pop();
+                    self.tree.pop();
                 }
                 _ => return,
             }
@@ -102,9 +102,9 @@ impl TreeBuilder {
             self.pop_foreign();
             return self.html_tag(name, tag);
         }
-        let count = self.open.len();
+        let count = self.tree.open().len();
         for place in (0..count).rev() {
-            let Some(open) = self.open.get(place) else {
+            let Some(open) = self.tree.open().get(place) else {
                 return Ok(Next::Done);
             };
             if open.ns == Ns::Html && place.saturating_add(1) < count {
@@ -113,8 +113,8 @@ impl TreeBuilder {
             if place == 0 {
                 return Ok(Next::Done);
             }
-            if self.has_name(open.id, tag.name.as_str()) {
-                self.open.truncate(place);
+            if self.tree.has_name(&open, tag.name.as_str()) {
+                self.tree.truncate(place);
                 return Ok(Next::Done);
             }
         }

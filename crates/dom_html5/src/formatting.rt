@@ -1,5 +1,10 @@
 //! The list of active formatting elements.
 
+ghost use Rattle.std.specs.Prelude.{◌≡◌, [], ◌∷◌, ◌++◌, Contains, IfSome, OnErr, OnOk};
+ghost use Rattle.std.specs.Prelude.{insert, remove, slice_set};
+ghost use Rattle.std.specs.Option.{option_to_list};
+ghost use Rattle.dom_html5.specs.declared.formatting.Entry.TheVariants.{Element as AnEntry};
+
 use crate::fault::PageFault;
 use crate::name::Name;
 use crate::stack::Open;
@@ -57,7 +62,9 @@ fn are_same(tree: &Tree, one: NodeId, other: NodeId) -> bool {
 }
 
 impl ActiveFormatting {
-    pub fn new(alloc: Global) -> ActiveFormatting {
+    pub fn new(alloc: Global) -> ActiveFormatting
+        ensures { result.entries.items ≡ [] }
+    {
         ActiveFormatting {
             entries: Vec::new(alloc),
         }
@@ -67,25 +74,24 @@ impl ActiveFormatting {
         self.entries.len()
     }
 
-    pub fn get(&self, index: usize) -> Option<Entry> {
+    pub fn get(&self, index: usize) -> Option<Entry>
+        ensures { IfSome result (Contains self.now.entries.items) }
+    {
         self.entries.get(index).copied()
     }
 
-    fn push_entry(&mut self, entry: Entry) -> Result<(), PageFault> {
+    /// Adds an entry.
+    pub fn push(&mut self, entry: Entry) -> Result<(), PageFault>
+        ensures ok { let old = self.old.entries.items in
+            OnOk result (self.new.entries.items ≡ old ++ entry ∷ []) }
+        ensures err { OnErr result (self.new.entries.items ≡ self.old.entries.items) }
+    {
         self.entries.push(entry)?;
         Ok(())
     }
 
-    /// Adds an element. Of four that are the same since the last marker the oldest goes.
-    pub fn push(&mut self, tree: &Tree, open: Open) -> Result<(), PageFault> {
-        if let Some(index) = self.third_same(tree, open.id) {
-            self.remove_at(index);
-        }
-        self.push_entry(Entry::Element(open))
-    }
-
     /// The third entry since the last marker, from the end, that is the same element.
-    fn third_same(&self, tree: &Tree, id: NodeId) -> Option<usize> {
+    pub fn third_same(&self, tree: &Tree, id: NodeId) -> Option<usize> {
         let mut same: usize = 0;
         for index in (0..self.entries.len()).rev() {
             let Some(Entry::Element(other)) = self.get(index) else {
@@ -101,50 +107,37 @@ impl ActiveFormatting {
         None
     }
 
-    pub fn push_marker(&mut self) -> Result<(), PageFault> {
-        self.push_entry(Entry::Marker)
+    /// Takes the last entry off the list.
+    pub fn take(&mut self) -> Option<Entry>
+        ensures { self.old.entries.items ≡ self.new.entries.items ++ option_to_list result }
+    {
+        self.entries.pop()
     }
 
-    pub fn clear_to_marker(&mut self) {
-        for _ in 0..self.entries.len() {
-            match self.entries.pop() {
-                Some(Entry::Element(_)) => {}
-                _ => return,
-            }
-        }
-    }
-
-    pub fn replace(&mut self, index: usize, open: &Open) {
+    pub fn replace(&mut self, index: usize, element: &Open)
+        ensures { let old = self.old.entries.items in
+            self.new.entries.items ≡ slice_set old index (AnEntry element.now) }
+    {
         if let Some(entry) = self.entries.get_mut(index) {
-            *entry = Entry::Element(*open);
+            *entry = Entry::Element(*element);
         }
     }
 
-    pub fn insert(&mut self, index: usize, open: &Open) -> Result<(), PageFault> {
+    pub fn insert(&mut self, index: usize, element: &Open) -> Result<(), PageFault>
+        ensures ok { let old = self.old.entries.items in
+            OnOk result (self.new.entries.items ≡ insert old index (AnEntry element.now)) }
+        ensures err { OnErr result (self.new.entries.items ≡ self.old.entries.items) }
+    {
         let index = index.min(self.entries.len());
-        self.entries.insert(index, Entry::Element(*open))?;
+        self.entries.insert(index, Entry::Element(*element))?;
         Ok(())
     }
 
-    pub fn remove_at(&mut self, index: usize) {
+    pub fn remove_at(&mut self, index: usize)
+        ensures { self.new.entries.items ≡ remove self.old.entries.items index }
+    {
         if index < self.entries.len() {
             let _ = self.entries.remove(index);
-        }
-    }
-
-    pub fn remove(&mut self, id: NodeId) {
-        if let Some(index) = self.index_of(id) {
-            self.remove_at(index);
-        }
-    }
-
-    /// Removes an entry; returns where a bookmark then is.
-    pub fn remove_before(&mut self, index: usize, bookmark: usize) -> usize {
-        self.remove_at(index);
-        if index < bookmark {
-            bookmark.saturating_sub(1)
-        } else {
-            bookmark
         }
     }
 

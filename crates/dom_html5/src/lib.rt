@@ -2,18 +2,20 @@
 #![tactic(auto)]
 
 mod adjusting;
-mod adoption;
 mod attributes;
 mod builder;
+mod bytes;
 mod calm;
 mod chars;
 mod fault;
 mod foreign;
 mod formatting;
+mod growing;
 mod inserting;
 pub mod laws;
 mod modes;
 mod name;
+mod pointers;
 mod quirks;
 mod reading;
 mod sets;

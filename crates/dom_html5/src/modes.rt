@@ -11,10 +11,9 @@ mod tables;
 mod template;
 
 use crate::builder::{Mode, Next, Step, TreeBuilder};
-use crate::fault::{PageFault, settled};
+use crate::fault::PageFault;
 use crate::name::Name;
 use dom_markup::document::QuirksMode;
-use dom_markup::document::sink::TreeSink;
 use dom_nodes::name::LocalName;
 use html5_tokens::token::{Doctype, Tag, TagKind};
 use html5_tokens::tokenizer::State;
@@ -78,7 +77,7 @@ impl TreeBuilder {
 
     /// The end tag of an element whose text ends.
     fn text_tag(&mut self) -> Step {
-        self.open.pop();
+        self.tree.pop();
         self.done_in(self.original)
     }
 
@@ -98,13 +97,9 @@ impl TreeBuilder {
         }
         match self.mode {
             Mode::Initial | Mode::BeforeHtml | Mode::AfterAfterBody | Mode::AfterAfterFrameset => {
-                let root = self.document.get_document();
-                self.put_comment_in(root, text)
+                self.tree.put_comment_at_top(text)
             }
-            Mode::AfterBody => match self.open.get(0) {
-                Some(html) => self.put_comment_in(html.id, text),
-                None => Ok(()),
-            },
+            Mode::AfterBody => self.tree.put_comment_in_html(text),
             _ => self.put_comment(text),
         }
     }
@@ -116,13 +111,12 @@ impl TreeBuilder {
             return Ok(());
         }
         let mode = crate::quirks::mode_of(doctype);
-        self.document.set_quirks_mode(mode);
+        self.tree.set_quirks_mode(mode);
         self.quirks = mode == QuirksMode::Quirks;
         let name = text_of(&doctype.name);
         let public_id = text_of(&doctype.public_id);
         let system_id = text_of(&doctype.system_id);
-        let sink = &mut self.document;
-        settled(sink.append_doctype_to_document(name, public_id, system_id))?;
+        self.tree.put_doctype([name, public_id, system_id])?;
         self.mode = Mode::BeforeHtml;
         Ok(())
     }
@@ -147,7 +141,7 @@ impl TreeBuilder {
             Mode::InHeadNoscript => self.leave_noscript(),
             Mode::AfterHead => self.imply_body(),
             Mode::Text => {
-                self.open.pop();
+                self.tree.pop();
                 self.again_in(self.original)
             }
             Mode::AfterBody
@@ -163,11 +157,11 @@ impl TreeBuilder {
 
     /// The text ends in a template.
     fn template_end(&mut self) -> Step {
-        if !self.open.has(Name::Template) {
+        if !self.tree.open().has(Name::Template) {
             return Ok(Next::Done);
         }
-        self.open.pop_to(Name::Template);
-        self.formatting.clear_to_marker();
+        self.tree.pop_to(Name::Template);
+        self.tree.clear_to_marker();
         let _ = self.template_modes.pop();
         self.reset_mode();
         Ok(Next::Again)

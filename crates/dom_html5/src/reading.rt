@@ -9,14 +9,14 @@ ghost use Rattle.dom_html5.specs.Calm.{IsCalmPage, ReadsCalm, SpellsCalmPage};
 ghost use Rattle.dom_html5.specs.Shape.{IsPage, ReadsPage};
 
 use crate::builder::{Mode, TreeBuilder};
+use crate::bytes::Waiting;
 use crate::calm::read_calm;
 use crate::fault::PageFault;
-use crate::inserting::Place;
+use crate::growing::GrowingTree;
 use crate::name::Name;
 use crate::shape::make_page;
-use crate::stack::{Ns, Open};
+use crate::stack::Ns;
 use dom_markup::document::Document;
-use dom_markup::document::sink::TreeSink;
 use dom_nodes::name::LocalName;
 use html5_tokens::parse_error::ErrorAt;
 use html5_tokens::token::TokenKind;
@@ -61,7 +61,8 @@ pub enum Context<'a> {
 pub struct PageParser {
     builder: TreeBuilder,
     tokens: Tokenizer,
-    fault: Option<PageFault>,
+    pub(crate) waiting: Waiting,
+    pub(crate) fault: Option<PageFault>,
     is_fragment: bool,
 }
 
@@ -149,10 +150,10 @@ fn state_in(name: Name, scripting: bool) -> State {
 /// The least bound on depth: `html`, `body`, and one more.
 const LEAST_DEPTH: usize = 3;
 
-fn builder_of(alloc: Global, document: Document, options: Options) -> TreeBuilder {
-    let mut builder = TreeBuilder::new(alloc, document, options.scripting);
+fn builder_of(alloc: Global, tree: GrowingTree, options: Options) -> TreeBuilder {
+    let mut builder = TreeBuilder::new(alloc, tree, options.scripting);
     if let Some(depth) = options.max_depth {
-        builder.max_depth = depth.max(LEAST_DEPTH);
+        builder.placing.max_depth = depth.max(LEAST_DEPTH);
     }
     builder
 }
@@ -171,12 +172,13 @@ impl PageParser {
     pub fn new(alloc: Global, options: Options) -> Result<PageParser, PageFault>
         ensures { IfOk result ReadsPage }
     {
-        let document = Document::new(alloc)?;
+        let tree = GrowingTree::page(alloc)?;
         let mut tokens = Tokenizer::new(alloc);
         tokens.report_errors(options.errors);
         Ok(PageParser {
-            builder: builder_of(alloc, document, options),
+            builder: builder_of(alloc, tree, options),
             tokens,
+            waiting: Waiting::new(alloc),
             fault: None,
             is_fragment: false,
         })
@@ -188,10 +190,8 @@ impl PageParser {
         context: Context<'_>,
         options: Options,
     ) -> Result<PageParser, PageFault> {
-        let Ok(document) = Document::fragment_sink(alloc) else {
-            return Err(PageFault::Memory);
-        };
-        let mut builder = builder_of(alloc, document, options);
+        let tree = GrowingTree::fragment(alloc)?;
+        let mut builder = builder_of(alloc, tree, options);
         builder.begin_fragment(context)?;
         let mut tokens = Tokenizer::new(alloc);
         tokens.report_errors(options.errors);
@@ -200,6 +200,7 @@ impl PageParser {
         Ok(PageParser {
             builder,
             tokens,
+            waiting: Waiting::new(alloc),
             fault: None,
             is_fragment: true,
         })
@@ -213,11 +214,24 @@ impl PageParser {
         if let Some(fault) = self.fault {
             return Err(fault);
         }
-        let read = self.read(piece);
+        let read = self.read_text(piece);
         if let Err(fault) = read {
             self.fault = Some(fault);
         }
         read
+    }
+
+    /// Reads a piece of the text behind the bytes that are still waiting.
+    fn read_text(&mut self, piece: &str) -> Result<(), PageFault>
+        ensures { ReadsPage self.old → ReadsPage self.new }
+    {
+        self.read_waiting()?;
+        self.read(piece)
+    }
+
+    /// The allocator.
+    pub(crate) fn alloc(&self) -> Global {
+        self.builder.alloc
     }
 
     /// The document, once all pieces are read.
@@ -227,11 +241,12 @@ impl PageParser {
         if let Some(fault) = self.fault {
             return Err(fault);
         }
+        self.read_waiting()?;
         self.read_end()?;
         if self.is_fragment {
-            return Ok(self.builder.document);
+            return Ok(self.builder.tree.into_document());
         }
-        page_of(self.builder.document)
+        page_of(self.builder.tree.into_document())
     }
 
     /// Reads the end of the text.
@@ -247,7 +262,7 @@ impl PageParser {
         self.builder.note_errors(&self.tokens.take_errors())
     }
 
-    fn read(&mut self, piece: &str) -> Result<(), PageFault>
+    pub(crate) fn read(&mut self, piece: &str) -> Result<(), PageFault>
         ensures { ReadsPage self.old → ReadsPage self.new }
     {
         let mut rest = piece;
@@ -299,7 +314,7 @@ impl PageParser {
 impl TreeBuilder {
     /// How the tokenizer reads the contents of the context element.
     fn first_state(&self) -> State {
-        match self.context {
+        match self.tree.context() {
             Some(context) if context.ns == Ns::Html => state_in(context.name, self.scripting),
             _ => State::Data,
         }
@@ -309,7 +324,7 @@ impl TreeBuilder {
     fn note_errors(&mut self, errors: &[ErrorAt]) -> Result<(), PageFault> {
         for ErrorAt { offset, error } in errors {
             let note = format!(in self.alloc; "{offset}: {error}")?;
-            self.document.parse_error(note.as_str())?;
+            self.tree.note_error(note.as_str())?;
         }
         Ok(())
     }
@@ -317,30 +332,20 @@ impl TreeBuilder {
     /// Opens the element `html` of a fragment, and sets what its context element asks for.
     fn begin_fragment(&mut self, context: Context<'_>) -> Result<(), PageFault> {
         let tag = self.bare_tag("html")?;
-        let root = self.create(Ns::Html, Name::Html, &tag)?;
-        let top = self.document.get_document();
-        let id = root.id;
-        self.put(Place::EndOf(top), id)?;
-        self.open.push(&root)?;
+        self.tree.insert_html(&tag)?;
         let (ns, written) = match context {
             Context::Html(name) => (Ns::Html, name),
             Context::Svg(name) => (Ns::Svg, name),
             Context::MathMl(name) => (Ns::MathMl, name),
         };
         let name = Name::of(&LocalName::folded(self.alloc, written)?);
-        self.context = Some(Open {
-            id,
-            ns,
-            name,
-            holds_html: false,
-        });
+        self.tree.set_context(ns, name);
         if ns == Ns::Html && name == Name::Template {
             self.push_template_mode(Mode::InTemplate)?;
         }
         self.reset_mode();
         if ns == Ns::Html && name == Name::Form {
-            // A form that isn't open: the root stands for it.
-            self.form = Some(top);
+            self.tree.set_context_form();
         }
         Ok(())
     }

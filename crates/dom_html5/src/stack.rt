@@ -1,8 +1,12 @@
 //! The stack of open elements.
 
+ghost use Rattle.std.specs.Prelude.{◌≡◌, [], ◌∷◌, ◌++◌, Contains, IfSome, OnErr, OnOk};
+ghost use Rattle.std.specs.Prelude.{insert, remove, slice_set};
+ghost use Rattle.std.specs.Option.{option_to_list};
+
 use crate::fault::PageFault;
 use crate::name::{COUNT, Name};
-use crate::sets::{Scope, has_implied_end, has_implied_end_thoroughly, is_heading, is_special};
+use crate::sets::{Scope, is_heading, is_special};
 use dom_nodes::node_id::NodeId;
 use std::alloc::Global;
 
@@ -38,7 +42,9 @@ pub struct OpenElements {
 }
 
 impl OpenElements {
-    pub fn new(alloc: Global) -> OpenElements {
+    pub fn new(alloc: Global) -> OpenElements
+        ensures { result.elements.items ≡ [] }
+    {
         OpenElements {
             elements: Vec::new(alloc),
             counts: [0; COUNT],
@@ -53,12 +59,16 @@ impl OpenElements {
         self.elements.as_slice()
     }
 
-    pub fn get(&self, place: usize) -> Option<Open> {
+    pub fn get(&self, place: usize) -> Option<Open>
+        ensures { IfSome result (Contains self.now.elements.items) }
+    {
         self.elements.get(place).copied()
     }
 
     /// The current node.
-    pub fn current(&self) -> Option<Open> {
+    pub fn current(&self) -> Option<Open>
+        ensures { IfSome result (Contains self.now.elements.items) }
+    {
         self.elements.last().copied()
     }
 
@@ -69,7 +79,9 @@ impl OpenElements {
         }
     }
 
-    fn count(&mut self, open: &Open, more: bool) {
+    fn count(&mut self, open: &Open, more: bool)
+        ensures { self.new.elements ≡ self.old.elements }
+    {
         if open.ns == Ns::Html
             && let Some(count) = self.counts.get_mut(open.name as usize)
         {
@@ -81,58 +93,54 @@ impl OpenElements {
         }
     }
 
-    pub fn push(&mut self, open: &Open) -> Result<(), PageFault> {
-        self.elements.push(*open)?;
-        self.count(open, true);
+    pub fn push(&mut self, element: &Open) -> Result<(), PageFault>
+        ensures ok { let old = self.old.elements.items in
+            OnOk result (self.new.elements.items ≡ old ++ element.now ∷ []) }
+        ensures err { OnErr result (self.new.elements.items ≡ self.old.elements.items) }
+    {
+        self.elements.push(*element)?;
+        self.count(element, true);
         Ok(())
     }
 
     /// Takes the current node off the stack.
-    pub fn take(&mut self) -> Option<Open> {
+    pub fn take(&mut self) -> Option<Open>
+        ensures { self.old.elements.items ≡ self.new.elements.items ++ option_to_list result }
+    {
         let open = self.elements.pop()?;
         self.count(&open, false);
         Some(open)
     }
 
-    pub fn pop(&mut self) {
-        let _ = self.take();
-    }
-
-    /// Keeps the first elements alone.
-    pub fn truncate(&mut self, count: usize) {
-        for _ in count..self.elements.len() {
-            self.pop();
-        }
-    }
-
-    pub fn remove_at(&mut self, place: usize) {
+    pub fn remove_at(&mut self, place: usize)
+        ensures { self.new.elements.items ≡ remove self.old.elements.items place }
+    {
         if place < self.elements.len() {
             let open = self.elements.remove(place);
             self.count(&open, false);
         }
     }
 
-    pub fn remove(&mut self, id: NodeId) {
-        if let Some(place) = self.place_of(id) {
-            self.remove_at(place);
-        }
-    }
-
-    pub fn replace(&mut self, place: usize, open: &Open) {
-        let Some(old) = self.get(place) else {
+    pub fn replace(&mut self, place: usize, element: &Open)
+        ensures { self.new.elements.items ≡ slice_set self.old.elements.items place element.now }
+    {
+        let Some(entry) = self.elements.get_mut(place) else {
             return;
         };
+        let old = *entry;
+        *entry = *element;
         self.count(&old, false);
-        self.count(open, true);
-        if let Some(entry) = self.elements.get_mut(place) {
-            *entry = *open;
-        }
+        self.count(element, true);
     }
 
-    pub fn insert(&mut self, place: usize, open: &Open) -> Result<(), PageFault> {
+    pub fn insert(&mut self, place: usize, element: &Open) -> Result<(), PageFault>
+        ensures ok { let old = self.old.elements.items in
+            OnOk result (self.new.elements.items ≡ insert old place element.now) }
+        ensures err { OnErr result (self.new.elements.items ≡ self.old.elements.items) }
+    {
         let place = place.min(self.elements.len());
-        self.elements.insert(place, *open)?;
-        self.count(open, true);
+        self.elements.insert(place, *element)?;
+        self.count(element, true);
         Ok(())
     }
 
@@ -207,107 +215,16 @@ impl OpenElements {
         false
     }
 
-    /// The special element nearest above a place of the stack, and where it stands.
-    pub fn furthest_block(&self, place: usize) -> Option<(usize, Open)> {
+    /// Where the special element nearest above a place of the stack stands.
+    pub fn furthest_block(&self, place: usize) -> Option<usize> {
         for index in place.saturating_add(1)..self.elements.len() {
             if let Some(open) = self.get(index)
                 && is_special(&open)
             {
-                return Some((index, open));
+                return Some(index);
             }
         }
         None
-    }
-
-    /// Pops elements up to the topmost one of that name, and that too.
-    pub fn pop_to(&mut self, name: Name) {
-        for _ in 0..self.elements.len() {
-            match self.take() {
-                Some(open) if open.is_html(name) => return,
-                _ => {}
-            }
-        }
-    }
-
-    pub fn pop_to_heading(&mut self) {
-        for _ in 0..self.elements.len() {
-            match self.take() {
-                Some(open) if open.ns == Ns::Html && is_heading(open.name) => return,
-                _ => {}
-            }
-        }
-    }
-
-    pub fn pop_to_cell(&mut self) {
-        for _ in 0..self.elements.len() {
-            match self.take() {
-                Some(open) if open.is_html(Name::Td) || open.is_html(Name::Th) => return,
-                _ => {}
-            }
-        }
-    }
-
-    pub fn generate_implied_end_tags(&mut self, except: Option<Name>) {
-        for _ in 0..self.elements.len() {
-            match self.current() {
-                Some(open)
-                    if open.ns == Ns::Html
-                        && has_implied_end(open.name)
-                        && Some(open.name) != except => {
-                    self.pop();
-                }
-                _ => return,
-            }
-        }
-    }
-
-    pub fn generate_all_implied_end_tags(&mut self) {
-        for _ in 0..self.elements.len() {
-            match self.current() {
-                Some(open) if open.ns == Ns::Html && has_implied_end_thoroughly(open.name) => {
-                    self.pop();
-                }
-                _ => return,
-            }
-        }
-    }
-
-    pub fn close_p(&mut self) {
-        self.generate_implied_end_tags(Some(Name::P));
-        self.pop_to(Name::P);
-    }
-
-    pub fn close_p_in_button_scope(&mut self) {
-        if self.in_scope(Name::P, Scope::Button) {
-            self.close_p();
-        }
-    }
-
-    pub fn clear_to_table(&mut self) {
-        for _ in 0..self.elements.len() {
-            match self.current() {
-                Some(open) if is_table_context(&open) => return,
-                _ => self.pop(),
-            }
-        }
-    }
-
-    pub fn clear_to_table_body(&mut self) {
-        for _ in 0..self.elements.len() {
-            match self.current() {
-                Some(open) if is_table_body_context(&open) => return,
-                _ => self.pop(),
-            }
-        }
-    }
-
-    pub fn clear_to_row(&mut self) {
-        for _ in 0..self.elements.len() {
-            match self.current() {
-                Some(open) if is_row_context(&open) => return,
-                _ => self.pop(),
-            }
-        }
     }
 
     /// The mode of a `select` that stands at a place: whether it lies in a table.
@@ -325,20 +242,4 @@ impl OpenElements {
         }
         false
     }
-}
-
-fn is_table_context(open: &Open) -> bool {
-    open.ns == Ns::Html && matches!(open.name, Name::Table | Name::Template | Name::Html)
-}
-
-fn is_table_body_context(open: &Open) -> bool {
-    open.ns == Ns::Html
-        && matches!(
-            open.name,
-            Name::Tbody | Name::Tfoot | Name::Thead | Name::Template | Name::Html
-        )
-}
-
-fn is_row_context(open: &Open) -> bool {
-    open.ns == Ns::Html && matches!(open.name, Name::Tr | Name::Template | Name::Html)
 }

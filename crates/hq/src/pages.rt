@@ -6,8 +6,7 @@ use crate::options::{Options, Reading};
 use crate::output::print_matches;
 use crate::tree::print_tree;
 use dom_query::{
-    Context, Document, MarkupFault, MarkupFaultKind, NodeId, Options as PageOptions,
-    parse_page_bytes, parse_page_fragment,
+    Document, MarkupFault, MarkupFaultKind, NodeId, Options as PageOptions, PageParser,
 };
 use std::alloc::Global;
 use std::fs;
@@ -27,8 +26,7 @@ pub fn print_file<W: Write>(
     options: &Options<'_>,
     out: &mut W,
 ) -> Result<bool, Fault> {
-    let bytes = read_file(rt, name)?;
-    let document = read_page(rt.alloc(), &bytes, options.reading)?;
+    let document = read_document(rt, name, options.reading)?;
     let mut page = Page { name, document };
     clean(&mut page.document, options)?;
     match &options.selector {
@@ -59,40 +57,77 @@ fn is_of_fragment(reading: Reading<'_>) -> bool {
     }
 }
 
-/// The bytes of a file.
-fn read_file(rt: &HostRuntime, name: &str) -> Result<Vec<u8>, Fault> {
-    if name != "-" {
-        return fs::read(rt, name).map_err(Fault::File);
+/// How many bytes are read at once.
+const PIECE: usize = 64 * 1024;
+
+/// The document that a file stands for; `-` is standard input.
+fn read_document(rt: &HostRuntime, name: &str, reading: Reading<'_>) -> Result<Document, Fault> {
+    if name == "-" {
+        return read_from(rt.alloc(), &mut rt.stdin(), reading);
     }
-    let mut bytes = Vec::new(rt.alloc());
-    match rt.stdin().read_to_end(&mut bytes) {
-        Ok(_) => Ok(bytes),
+    match fs::open(rt, name) {
+        Ok(mut file) => read_from(rt.alloc(), &mut file, reading),
         Err(fault) => Err(Fault::File(fault)),
     }
 }
 
-/// The document that bytes stand for.
-fn read_page(alloc: Global, bytes: &[u8], reading: Reading<'_>) -> Result<Document, Fault> {
+/// The document that the bytes of a reader stand for.
+fn read_from<R: Read>(
+    alloc: Global,
+    reader: &mut R,
+    reading: Reading<'_>,
+) -> Result<Document, Fault> {
     match reading {
-        Reading::Explicit => read_explicit(alloc, bytes),
+        Reading::Explicit => read_explicit(alloc, reader),
         Reading::Page { context, scripting } => {
             let options = PageOptions {
                 scripting,
                 ..PageOptions::default()
             };
-            match context {
-                None => Ok(parse_page_bytes(alloc, bytes, options)?),
-                Some(context) => read_fragment(alloc, bytes, context, options),
-            }
+            let parser = match context {
+                None => PageParser::new(alloc, options)?,
+                Some(context) => PageParser::for_fragment(alloc, context, options)?,
+            };
+            read_pieces(alloc, reader, parser)
         }
     }
 }
 
+/// The document of a page that is read in pieces.
+fn read_pieces<R: Read>(
+    alloc: Global,
+    reader: &mut R,
+    parser: PageParser,
+) -> Result<Document, Fault> {
+    let mut parser = parser;
+    let mut room = vec![in alloc; 0; PIECE]?;
+    for _ in 0..u64::MAX {
+        let count = read_some(reader, &mut room)?;
+        if count == 0 {
+            break;
+        }
+        parser.feed_bytes(&room[..count])?;
+    }
+    Ok(parser.finish()?)
+}
+
+/// Reads what there is, and returns how many bytes; 0 at the end.
+fn read_some<R: Read>(reader: &mut R, room: &mut [u8]) -> Result<usize, Fault> {
+    match reader.read(room) {
+        Ok(count) => Ok(count),
+        Err(fault) => Err(Fault::File(fault)),
+    }
+}
+
 /// The document that explicit markup spells.
-fn read_explicit(alloc: Global, bytes: &[u8]) -> Result<Document, Fault> {
-    let text = match str::from_utf8(bytes) {
+fn read_explicit<R: Read>(alloc: Global, reader: &mut R) -> Result<Document, Fault> {
+    let mut bytes = Vec::new(alloc);
+    if let Err(fault) = reader.read_to_end(&mut bytes) {
+        return Err(Fault::File(fault));
+    }
+    let text = match str::from_utf8(&bytes) {
         Ok(text) => text,
-        Err(fault) => return Err(not_utf8(bytes, fault.valid_up_to())),
+        Err(fault) => return Err(not_utf8(&bytes, fault.valid_up_to())),
     };
     match Document::parse(alloc, text) {
         Ok(document) => Ok(document),
@@ -123,19 +158,4 @@ fn not_utf8(bytes: &[u8], at: usize) -> Fault {
         }
     }
     Fault::Bytes { line, column }
-}
-
-/// The fragment that bytes stand for inside an element.
-fn read_fragment(
-    alloc: Global,
-    bytes: &[u8],
-    context: Context<'_>,
-    options: PageOptions,
-) -> Result<Document, Fault> {
-    let bytes = match bytes.strip_prefix(b"\xef\xbb\xbf") {
-        Some(rest) => rest,
-        None => bytes,
-    };
-    let text = String::from_utf8_lossy(alloc, bytes)?;
-    Ok(parse_page_fragment(alloc, text.as_str(), context, options)?)
 }

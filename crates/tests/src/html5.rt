@@ -3,6 +3,7 @@
 
 mod calm;
 mod endings;
+mod pieces;
 mod shapes;
 mod tokens;
 

@@ -11,7 +11,7 @@ impl TreeBuilder {
             if is_start(tag) {
                 return self.add_html_attrs(tag);
             }
-            if self.context.is_none() {
+            if self.tree.context().is_none() {
                 self.mode = Mode::AfterAfterBody;
             }
             return Ok(Next::Done);
@@ -39,9 +39,9 @@ impl TreeBuilder {
                 _ => Ok(Next::Done),
             };
         }
-        if name == Name::Frameset && self.open.len() > 1 {
-            self.open.pop();
-            if self.context.is_none() && !self.open.current_is(Name::Frameset) {
+        if name == Name::Frameset && self.tree.open().len() > 1 {
+            self.tree.pop();
+            if self.tree.context().is_none() && !self.tree.open().current_is(Name::Frameset) {
                 self.mode = Mode::AfterFrameset;
             }
         }

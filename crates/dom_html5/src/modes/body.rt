@@ -2,13 +2,11 @@
 
 use super::groups::{Group, group_of};
 use super::is_start;
-use crate::attributes::{attrs_of, is_hidden};
+use crate::attributes::is_hidden;
 use crate::builder::{Mode, Next, Step, TreeBuilder};
-use crate::fault::settled;
 use crate::name::Name;
 use crate::sets::{Scope, is_heading, is_special};
 use crate::stack::{Ns, Open};
-use dom_markup::document::sink::TreeSink;
 use html5_tokens::token::Tag;
 use html5_tokens::tokenizer::State;
 
@@ -29,7 +27,7 @@ impl TreeBuilder {
             Group::Body => self.start_body(tag),
             Group::Frameset => self.start_frameset(tag),
             Group::Block | Group::P => {
-                self.open.close_p_in_button_scope();
+                self.tree.close_p_in_button_scope();
                 self.insert_done(name, tag)
             }
             Group::Heading => self.start_heading(name, tag),
@@ -71,7 +69,7 @@ impl TreeBuilder {
     fn start_text(&mut self, group: Group, name: Name, tag: &Tag) -> Step {
         match group {
             Group::Plaintext => {
-                self.open.close_p_in_button_scope();
+                self.tree.close_p_in_button_scope();
                 self.switch = Some(State::Plaintext);
                 self.insert_done(name, tag)
             }
@@ -81,7 +79,7 @@ impl TreeBuilder {
                 self.insert_text_element(name, tag, State::Rcdata)
             }
             Group::Xmp => {
-                self.open.close_p_in_button_scope();
+                self.tree.close_p_in_button_scope();
                 self.reconstruct()?;
                 self.frameset_ok = false;
                 self.insert_text_element(name, tag, State::Rawtext)
@@ -107,24 +105,23 @@ impl TreeBuilder {
     }
 
     fn start_body(&mut self, tag: &Tag) -> Step {
-        if let Some(body) = self.open.get(1)
+        if let Some(body) = self.tree.open().get(1)
             && body.is_html(Name::Body)
-            && !self.open.has(Name::Template)
+            && !self.tree.open().has(Name::Template)
         {
             self.frameset_ok = false;
-            let attrs = attrs_of(self.alloc, Ns::Html, tag.attrs.as_slice())?;
-            settled(self.document.add_attrs_if_missing(&body.id, attrs))?;
+            self.tree.add_attrs(1, tag)?;
         }
         Ok(Next::Done)
     }
 
     fn start_frameset(&mut self, tag: &Tag) -> Step {
-        if let Some(body) = self.open.get(1)
+        if let Some(body) = self.tree.open().get(1)
             && body.is_html(Name::Body)
             && self.frameset_ok
         {
-            settled(self.document.remove_from_parent(&body.id))?;
-            self.open.truncate(1);
+            self.tree.cut_out(1);
+            self.tree.truncate(1);
             self.insert(Name::Frameset, tag)?;
             return self.done_in(Mode::InFrameset);
         }
@@ -132,32 +129,32 @@ impl TreeBuilder {
     }
 
     fn start_heading(&mut self, name: Name, tag: &Tag) -> Step {
-        self.open.close_p_in_button_scope();
-        if let Some(open) = self.open.current()
+        self.tree.close_p_in_button_scope();
+        if let Some(open) = self.tree.open().current()
             && open.ns == Ns::Html
             && is_heading(open.name)
         {
-            self.open.pop();
+            self.tree.pop();
         }
         self.insert_done(name, tag)
     }
 
     fn start_pre(&mut self, name: Name, tag: &Tag) -> Step {
-        self.open.close_p_in_button_scope();
+        self.tree.close_p_in_button_scope();
         self.skip_line_feed = true;
         self.frameset_ok = false;
         self.insert_done(name, tag)
     }
 
     fn start_form(&mut self, tag: &Tag) -> Step {
-        let in_template = self.open.has(Name::Template);
-        if self.form.is_some() && !in_template {
+        let in_template = self.tree.open().has(Name::Template);
+        if self.tree.has_form() && !in_template {
             return Ok(Next::Done);
         }
-        self.open.close_p_in_button_scope();
-        let open = self.insert(Name::Form, tag)?;
+        self.tree.close_p_in_button_scope();
+        self.insert(Name::Form, tag)?;
         if !in_template {
-            self.form = Some(open.id);
+            self.tree.set_form();
         }
         Ok(Next::Done)
     }
@@ -166,16 +163,16 @@ impl TreeBuilder {
     fn start_item(&mut self, name: Name, tag: &Tag) -> Step {
         self.frameset_ok = false;
         if let Some(item) = self.item_before(name) {
-            self.open.generate_implied_end_tags(Some(item));
-            self.open.pop_to(item);
+            self.tree.generate_implied_end_tags(Some(item));
+            self.tree.pop_to(item);
         }
-        self.open.close_p_in_button_scope();
+        self.tree.close_p_in_button_scope();
         self.insert_done(name, tag)
     }
 
     /// The item that one of that name ends.
     fn item_before(&self, name: Name) -> Option<Name> {
-        for open in self.open.as_slice().iter().rev() {
+        for open in self.tree.open().as_slice().iter().rev() {
             if is_item_like(open, name) {
                 return Some(open.name);
             }
@@ -187,9 +184,9 @@ impl TreeBuilder {
     }
 
     fn start_button(&mut self, tag: &Tag) -> Step {
-        if self.open.in_scope(Name::Button, Scope::Default) {
-            self.open.generate_implied_end_tags(None);
-            self.open.pop_to(Name::Button);
+        if self.tree.open().in_scope(Name::Button, Scope::Default) {
+            self.tree.generate_implied_end_tags(None);
+            self.tree.pop_to(Name::Button);
         }
         self.reconstruct()?;
         self.frameset_ok = false;
@@ -197,18 +194,18 @@ impl TreeBuilder {
     }
 
     fn start_a(&mut self, tag: &Tag) -> Step {
-        if let Some(open) = self.formatting.named(Name::A) {
+        if let Some(open) = self.tree.formatting_named(Name::A) {
             let id = open.id;
             self.adopt(Name::A)?;
-            self.formatting.remove(id);
-            self.open.remove(id);
+            self.tree.remove_formatting(id);
+            self.tree.remove(id);
         }
         self.start_formatting(Name::A, tag)
     }
 
     fn start_nobr(&mut self, tag: &Tag) -> Step {
         self.reconstruct()?;
-        if self.open.in_scope(Name::Nobr, Scope::Default) {
+        if self.tree.open().in_scope(Name::Nobr, Scope::Default) {
             self.adopt(Name::Nobr)?;
         }
         self.start_formatting(Name::Nobr, tag)
@@ -216,22 +213,22 @@ impl TreeBuilder {
 
     fn start_formatting(&mut self, name: Name, tag: &Tag) -> Step {
         self.reconstruct()?;
-        let open = self.insert(name, tag)?;
-        self.formatting.push(&self.document.tree, open)?;
+        self.insert(name, tag)?;
+        self.tree.push_formatting()?;
         Ok(Next::Done)
     }
 
     fn start_object(&mut self, name: Name, tag: &Tag) -> Step {
         self.reconstruct()?;
         self.insert(name, tag)?;
-        self.formatting.push_marker()?;
+        self.tree.push_marker()?;
         self.frameset_ok = false;
         Ok(Next::Done)
     }
 
     fn start_table(&mut self, tag: &Tag) -> Step {
         if !self.quirks {
-            self.open.close_p_in_button_scope();
+            self.tree.close_p_in_button_scope();
         }
         self.insert(Name::Table, tag)?;
         self.frameset_ok = false;
@@ -255,7 +252,7 @@ impl TreeBuilder {
     }
 
     fn start_hr(&mut self, tag: &Tag) -> Step {
-        self.open.close_p_in_button_scope();
+        self.tree.close_p_in_button_scope();
         self.insert_void(Name::Hr, tag)?;
         self.frameset_ok = false;
         Ok(Next::Done)
@@ -277,16 +274,16 @@ impl TreeBuilder {
     }
 
     fn start_option(&mut self, name: Name, tag: &Tag) -> Step {
-        if self.open.current_is(Name::Option) {
-            self.open.pop();
+        if self.tree.open().current_is(Name::Option) {
+            self.tree.pop();
         }
         self.reconstruct()?;
         self.insert_done(name, tag)
     }
 
     fn start_ruby(&mut self, name: Name, tag: &Tag, except: Option<Name>) -> Step {
-        if self.open.in_scope(Name::Ruby, Scope::Default) {
-            self.open.generate_implied_end_tags(except);
+        if self.tree.open().in_scope(Name::Ruby, Scope::Default) {
+            self.tree.generate_implied_end_tags(except);
         }
         self.insert_done(name, tag)
     }
@@ -295,7 +292,7 @@ impl TreeBuilder {
         self.reconstruct()?;
         self.insert_in(ns, name, tag)?;
         if tag.self_closing {
-            self.open.pop();
+            self.tree.pop();
         }
         Ok(Next::Done)
     }

@@ -3,7 +3,8 @@
 use super::groups::{Group, group_of};
 use crate::builder::{Mode, Next, Step, TreeBuilder};
 use crate::name::Name;
-use crate::sets::Scope;
+use crate::sets::{Scope, is_special};
+use crate::stack::{Ns, Open};
 use html5_tokens::token::Tag;
 
 impl TreeBuilder {
@@ -11,7 +12,7 @@ impl TreeBuilder {
         match group_of(name) {
             Group::Template => self.end_template(),
             Group::Body => {
-                if self.open.in_scope(Name::Body, Scope::Default) {
+                if self.tree.open().in_scope(Name::Body, Scope::Default) {
                     self.mode = Mode::AfterBody;
                 }
                 Ok(Next::Done)
@@ -35,49 +36,49 @@ impl TreeBuilder {
     }
 
     fn end_html(&mut self) -> Step {
-        if self.open.in_scope(Name::Body, Scope::Default) {
+        if self.tree.open().in_scope(Name::Body, Scope::Default) {
             return self.again_in(Mode::AfterBody);
         }
         Ok(Next::Done)
     }
 
     fn end_block(&mut self, name: Name) -> Step {
-        if self.open.in_scope(name, Scope::Default) {
-            self.open.generate_implied_end_tags(None);
-            self.open.pop_to(name);
+        if self.tree.open().in_scope(name, Scope::Default) {
+            self.tree.generate_implied_end_tags(None);
+            self.tree.pop_to(name);
         }
         Ok(Next::Done)
     }
 
     fn end_p(&mut self) -> Step {
-        if !self.open.in_scope(Name::P, Scope::Button) {
+        if !self.tree.open().in_scope(Name::P, Scope::Button) {
             self.insert_implied(Name::P, "p")?;
         }
-        self.open.close_p();
+        self.tree.close_p();
         Ok(Next::Done)
     }
 
     fn end_item(&mut self, name: Name, scope: Scope) -> Step {
-        if self.open.in_scope(name, scope) {
-            self.open.generate_implied_end_tags(Some(name));
-            self.open.pop_to(name);
+        if self.tree.open().in_scope(name, scope) {
+            self.tree.generate_implied_end_tags(Some(name));
+            self.tree.pop_to(name);
         }
         Ok(Next::Done)
     }
 
     fn end_heading(&mut self) -> Step {
-        if self.open.heading_in_scope() {
-            self.open.generate_implied_end_tags(None);
-            self.open.pop_to_heading();
+        if self.tree.open().heading_in_scope() {
+            self.tree.generate_implied_end_tags(None);
+            self.tree.pop_to_heading();
         }
         Ok(Next::Done)
     }
 
     fn end_object(&mut self, name: Name) -> Step {
-        if self.open.in_scope(name, Scope::Default) {
-            self.open.generate_implied_end_tags(None);
-            self.open.pop_to(name);
-            self.formatting.clear_to_marker();
+        if self.tree.open().in_scope(name, Scope::Default) {
+            self.tree.generate_implied_end_tags(None);
+            self.tree.pop_to(name);
+            self.tree.clear_to_marker();
         }
         Ok(Next::Done)
     }
@@ -93,16 +94,42 @@ impl TreeBuilder {
     }
 
     fn end_form(&mut self) -> Step {
-        if self.open.has(Name::Template) {
+        if self.tree.open().has(Name::Template) {
             return self.end_block(Name::Form);
         }
-        let Some(form) = self.form.take() else {
-            return Ok(Next::Done);
-        };
-        if self.open.node_in_scope(form) {
-            self.open.generate_implied_end_tags(None);
-            self.open.remove(form);
-        }
+        self.tree.end_form();
         Ok(Next::Done)
+    }
+
+    /// Any other end tag: what is open up to an element of that name is closed, unless a special
+    /// one lies between.
+    pub fn any_other_end(&mut self, name: Name, tag: &Tag) {
+        if !self.tree.open().has(name) {
+            return;
+        }
+        if let Some(place) = self.named_below_special(name, tag) {
+            self.tree.truncate(place);
+        }
+    }
+
+    fn named_below_special(&self, name: Name, tag: &Tag) -> Option<usize> {
+        let mut place = self.tree.open().len();
+        for open in self.tree.open().as_slice().iter().rev() {
+            place = place.saturating_sub(1);
+            if self.is_named(open, name, tag) {
+                return Some(place);
+            }
+            if is_special(open) {
+                return None;
+            }
+        }
+        None
+    }
+
+    fn is_named(&self, open: &Open, name: Name, tag: &Tag) -> bool {
+        if open.ns != Ns::Html || open.name != name {
+            return false;
+        }
+        name != Name::Other || self.tree.has_name(open, tag.name.as_str())
     }
 }

@@ -2,41 +2,30 @@
 
 use super::groups::is_metadata;
 use super::is_start;
-use crate::attributes::attrs_of;
 use crate::builder::{Mode, Next, Step, TreeBuilder};
-use crate::fault::{PageFault, settled};
-use crate::inserting::Place;
+use crate::fault::PageFault;
 use crate::name::Name;
-use crate::stack::{Ns, Open};
 use dom_markup::document::QuirksMode;
-use dom_markup::document::sink::TreeSink;
 use html5_tokens::token::Tag;
 use html5_tokens::tokenizer::State;
 
 impl TreeBuilder {
     pub fn leave_initial(&mut self) -> Step {
-        self.document.set_quirks_mode(QuirksMode::Quirks);
+        self.tree.set_quirks_mode(QuirksMode::Quirks);
         self.quirks = true;
         self.again_in(Mode::BeforeHtml)
     }
 
-    fn insert_html(&mut self, tag: &Tag) -> Result<(), PageFault> {
-        let html = self.create(Ns::Html, Name::Html, tag)?;
-        let root = self.document.get_document();
-        self.put(Place::EndOf(root), html.id)?;
-        self.open.push(&html)
-    }
-
     pub fn imply_html(&mut self) -> Step {
         let tag = self.bare_tag("html")?;
-        self.insert_html(&tag)?;
+        self.tree.insert_html(&tag)?;
         self.again_in(Mode::BeforeHead)
     }
 
     pub fn before_html_tag(&mut self, name: Name, tag: &Tag) -> Step {
         if is_start(tag) {
             if name == Name::Html {
-                self.insert_html(tag)?;
+                self.tree.insert_html(tag)?;
                 return self.done_in(Mode::BeforeHead);
             }
             return self.imply_html();
@@ -48,8 +37,8 @@ impl TreeBuilder {
     }
 
     pub fn imply_head(&mut self) -> Step {
-        let head = self.insert_implied(Name::Head, "head")?;
-        self.head = Some(head.id);
+        self.insert_implied(Name::Head, "head")?;
+        self.tree.set_head();
         self.again_in(Mode::InHead)
     }
 
@@ -58,8 +47,8 @@ impl TreeBuilder {
             return match name {
                 Name::Html => self.add_html_attrs(tag),
                 Name::Head => {
-                    let head = self.insert(name, tag)?;
-                    self.head = Some(head.id);
+                    self.insert(name, tag)?;
+                    self.tree.set_head();
                     self.done_in(Mode::InHead)
                 }
                 _ => self.imply_head(),
@@ -73,22 +62,19 @@ impl TreeBuilder {
 
     /// A start tag `html` inside the document.
     pub fn add_html_attrs(&mut self, tag: &Tag) -> Step {
-        if !self.open.has(Name::Template)
-            && let Some(html) = self.open.get(0)
-        {
-            let attrs = attrs_of(self.alloc, Ns::Html, tag.attrs.as_slice())?;
-            settled(self.document.add_attrs_if_missing(&html.id, attrs))?;
+        if !self.tree.open().has(Name::Template) {
+            self.tree.add_attrs(0, tag)?;
         }
         Ok(Next::Done)
     }
 
     pub fn leave_head(&mut self) -> Step {
-        self.open.pop();
+        self.tree.pop();
         self.again_in(Mode::AfterHead)
     }
 
     pub fn leave_noscript(&mut self) -> Step {
-        self.open.pop();
+        self.tree.pop();
         self.again_in(Mode::InHead)
     }
 
@@ -102,7 +88,7 @@ impl TreeBuilder {
             Name::Script => self.insert_text_element(name, tag, State::Script),
             Name::Template => {
                 self.insert(name, tag)?;
-                self.formatting.push_marker()?;
+                self.tree.push_marker()?;
                 self.frameset_ok = false;
                 self.push_template_mode(Mode::InTemplate)?;
                 self.done_in(Mode::InTemplate)
@@ -120,10 +106,10 @@ impl TreeBuilder {
     }
 
     pub fn end_template(&mut self) -> Step {
-        if self.open.has(Name::Template) {
-            self.open.generate_all_implied_end_tags();
-            self.open.pop_to(Name::Template);
-            self.formatting.clear_to_marker();
+        if self.tree.open().has(Name::Template) {
+            self.tree.generate_all_implied_end_tags();
+            self.tree.pop_to(Name::Template);
+            self.tree.clear_to_marker();
             let _ = self.template_modes.pop();
             self.reset_mode();
         }
@@ -146,7 +132,7 @@ impl TreeBuilder {
         }
         match name {
             Name::Head => {
-                self.open.pop();
+                self.tree.pop();
                 self.done_in(Mode::AfterHead)
             }
             Name::Body | Name::Html | Name::Br => self.leave_head(),
@@ -171,7 +157,7 @@ impl TreeBuilder {
         }
         match name {
             Name::Noscript => {
-                self.open.pop();
+                self.tree.pop();
                 self.done_in(Mode::InHead)
             }
             Name::Br => self.leave_noscript(),
@@ -211,17 +197,12 @@ impl TreeBuilder {
 
     /// An element that belongs into the head, behind it.
     fn in_head_again(&mut self, name: Name, tag: &Tag) -> Step {
-        let Some(head) = self.head else {
+        if !self.tree.has_head() {
             return Ok(Next::Done);
-        };
-        self.open.push(&Open {
-            id: head,
-            ns: Ns::Html,
-            name: Name::Head,
-            holds_html: false,
-        })?;
+        }
+        self.tree.open_head()?;
         let step = self.head_element(name, tag)?;
-        self.open.remove(head);
+        self.tree.close_head();
         Ok(step)
     }
 }

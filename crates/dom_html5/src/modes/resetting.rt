@@ -11,11 +11,11 @@ impl TreeBuilder {
     }
 
     fn mode_of_stack(&self) -> Mode {
-        let mut place = self.open.len();
-        for open in self.open.as_slice().iter().rev() {
+        let mut place = self.tree.open().len();
+        for open in self.tree.open().as_slice().iter().rev() {
             place = place.saturating_sub(1);
             let last = place == 0;
-            let open = match self.context {
+            let open = match self.tree.context() {
                 Some(context) if last => context,
                 _ => *open,
             };
@@ -43,9 +43,9 @@ impl TreeBuilder {
             Name::Head if !last => Some(Mode::InHead),
             Name::Body => Some(Mode::InBody),
             Name::Frameset => Some(Mode::InFrameset),
-            Name::Html => Some(match self.head {
-                None => Mode::BeforeHead,
-                Some(_) => Mode::AfterHead,
+            Name::Html => Some(match self.tree.has_head() {
+                false => Mode::BeforeHead,
+                true => Mode::AfterHead,
             }),
             _ if last => Some(Mode::InBody),
             _ => None,
@@ -61,7 +61,7 @@ impl TreeBuilder {
     }
 
     fn select_mode(&self, last: bool, place: usize) -> Mode {
-        if !last && self.open.is_select_in_table(place) {
+        if !last && self.tree.open().is_select_in_table(place) {
             Mode::InSelectInTable
         } else {
             Mode::InSelect

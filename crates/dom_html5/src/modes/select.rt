@@ -8,10 +8,10 @@ use html5_tokens::token::Tag;
 
 impl TreeBuilder {
     fn end_select(&mut self) -> bool {
-        if !self.open.in_scope(Name::Select, Scope::Select) {
+        if !self.tree.open().in_scope(Name::Select, Scope::Select) {
             return false;
         }
-        self.open.pop_to(Name::Select);
+        self.tree.pop_to(Name::Select);
         self.reset_mode();
         true
     }
@@ -22,22 +22,22 @@ impl TreeBuilder {
         }
         match name {
             Name::Optgroup => {
-                if self.open.current_is(Name::Option) {
-                    let count = self.open.len();
-                    if let Some(open) = self.open.get(count.saturating_sub(2))
+                if self.tree.open().current_is(Name::Option) {
+                    let count = self.tree.open().len();
+                    if let Some(open) = self.tree.open().get(count.saturating_sub(2))
                         && open.is_html(Name::Optgroup)
                     {
-                        self.open.pop();
+                        self.tree.pop();
                     }
                 }
-                if self.open.current_is(Name::Optgroup) {
-                    self.open.pop();
+                if self.tree.open().current_is(Name::Optgroup) {
+                    self.tree.pop();
                 }
                 Ok(Next::Done)
             }
             Name::Option => {
-                if self.open.current_is(Name::Option) {
-                    self.open.pop();
+                if self.tree.open().current_is(Name::Option) {
+                    self.tree.pop();
                 }
                 Ok(Next::Done)
             }
@@ -54,15 +54,15 @@ impl TreeBuilder {
         match name {
             Name::Html => self.add_html_attrs(tag),
             Name::Option | Name::Optgroup | Name::Hr => {
-                if self.open.current_is(Name::Option) {
-                    self.open.pop();
+                if self.tree.open().current_is(Name::Option) {
+                    self.tree.pop();
                 }
-                if name != Name::Option && self.open.current_is(Name::Optgroup) {
-                    self.open.pop();
+                if name != Name::Option && self.tree.open().current_is(Name::Optgroup) {
+                    self.tree.pop();
                 }
                 self.insert(name, tag)?;
                 if name == Name::Hr {
-                    self.open.pop();
+                    self.tree.pop();
                 }
                 Ok(Next::Done)
             }
@@ -94,8 +94,8 @@ impl TreeBuilder {
         ) {
             return self.select_tag(name, tag);
         }
-        if is_start(tag) || self.open.in_scope(name, Scope::Table) {
-            self.open.pop_to(Name::Select);
+        if is_start(tag) || self.tree.open().in_scope(name, Scope::Table) {
+            self.tree.pop_to(Name::Select);
             self.reset_mode();
             return Ok(Next::Again);
         }

@@ -56,19 +56,19 @@ impl TreeBuilder {
 
     /// Ends a table, if there is one.
     fn end_table(&mut self) -> bool {
-        if !self.open.in_scope(Name::Table, Scope::Table) {
+        if !self.tree.open().in_scope(Name::Table, Scope::Table) {
             return false;
         }
-        self.open.pop_to(Name::Table);
+        self.tree.pop_to(Name::Table);
         self.reset_mode();
         true
     }
 
     /// What doesn't belong into a table is read by the rules for "in body", with foster parenting.
     fn fostered(&mut self, name: Name, tag: &Tag) -> Step {
-        self.foster = true;
+        self.placing.foster = true;
         let step = self.body_tag(name, tag);
-        self.foster = false;
+        self.placing.foster = false;
         step
     }
 
@@ -90,10 +90,10 @@ impl TreeBuilder {
     }
 
     fn start_table_part(&mut self, name: Name, tag: &Tag) -> Step {
-        self.open.clear_to_table();
+        self.tree.clear_to_table();
         match name {
             Name::Caption => {
-                self.formatting.push_marker()?;
+                self.tree.push_marker()?;
                 self.insert(name, tag)?;
                 self.done_in(Mode::InCaption)
             }
@@ -117,22 +117,22 @@ impl TreeBuilder {
     }
 
     fn start_table_form(&mut self, tag: &Tag) -> Step {
-        if !self.open.has(Name::Template) && self.form.is_none() {
-            let form = self.insert(Name::Form, tag)?;
-            self.form = Some(form.id);
-            self.open.pop();
+        if !self.tree.open().has(Name::Template) && !self.tree.has_form() {
+            self.insert(Name::Form, tag)?;
+            self.tree.set_form();
+            self.tree.pop();
         }
         Ok(Next::Done)
     }
 
     /// Ends a caption, if there is one.
     fn end_caption(&mut self) -> bool {
-        if !self.open.in_scope(Name::Caption, Scope::Table) {
+        if !self.tree.open().in_scope(Name::Caption, Scope::Table) {
             return false;
         }
-        self.open.generate_implied_end_tags(None);
-        self.open.pop_to(Name::Caption);
-        self.formatting.clear_to_marker();
+        self.tree.generate_implied_end_tags(None);
+        self.tree.pop_to(Name::Caption);
+        self.tree.clear_to_marker();
         self.mode = Mode::InTable;
         true
     }
@@ -161,10 +161,10 @@ impl TreeBuilder {
 
     /// Ends a column group, if it is the current node.
     pub fn leave_column_group(&mut self) -> Next {
-        if !self.open.current_is(Name::Colgroup) {
+        if !self.tree.open().current_is(Name::Colgroup) {
             return Next::Done;
         }
-        self.open.pop();
+        self.tree.pop();
         self.mode = Mode::InTable;
         Next::Again
     }
@@ -193,14 +193,14 @@ impl TreeBuilder {
     }
 
     fn has_section_in_scope(&self) -> bool {
-        self.open.in_scope(Name::Tbody, Scope::Table)
-            || self.open.in_scope(Name::Thead, Scope::Table)
-            || self.open.in_scope(Name::Tfoot, Scope::Table)
+        self.tree.open().in_scope(Name::Tbody, Scope::Table)
+            || self.tree.open().in_scope(Name::Thead, Scope::Table)
+            || self.tree.open().in_scope(Name::Tfoot, Scope::Table)
     }
 
     fn end_section(&mut self) {
-        self.open.clear_to_table_body();
-        self.open.pop();
+        self.tree.clear_to_table_body();
+        self.tree.pop();
         self.mode = Mode::InTable;
     }
 
@@ -220,7 +220,7 @@ impl TreeBuilder {
         match name {
             Name::Table => Ok(self.leave_section()),
             _ if is_section(name) => {
-                if self.open.in_scope(name, Scope::Table) {
+                if self.tree.open().in_scope(name, Scope::Table) {
                     self.end_section();
                 }
                 Ok(Next::Done)
@@ -233,12 +233,12 @@ impl TreeBuilder {
     fn table_body_start(&mut self, name: Name, tag: &Tag) -> Step {
         match name {
             Name::Tr => {
-                self.open.clear_to_table_body();
+                self.tree.clear_to_table_body();
                 self.insert(name, tag)?;
                 self.done_in(Mode::InRow)
             }
             Name::Th | Name::Td => {
-                self.open.clear_to_table_body();
+                self.tree.clear_to_table_body();
                 self.insert_implied(Name::Tr, "tr")?;
                 self.again_in(Mode::InRow)
             }
@@ -249,11 +249,11 @@ impl TreeBuilder {
 
     /// Ends a row, if there is one.
     fn leave_row(&mut self) -> Next {
-        if !self.open.in_scope(Name::Tr, Scope::Table) {
+        if !self.tree.open().in_scope(Name::Tr, Scope::Table) {
             return Next::Done;
         }
-        self.open.clear_to_row();
-        self.open.pop();
+        self.tree.clear_to_row();
+        self.tree.pop();
         self.mode = Mode::InTableBody;
         Next::Again
     }
@@ -269,7 +269,7 @@ impl TreeBuilder {
             }
             Name::Table => Ok(self.leave_row()),
             _ if is_section(name) => {
-                if self.open.in_scope(name, Scope::Table) {
+                if self.tree.open().in_scope(name, Scope::Table) {
                     return Ok(self.leave_row());
                 }
                 Ok(Next::Done)
@@ -281,9 +281,9 @@ impl TreeBuilder {
 
     fn row_start(&mut self, name: Name, tag: &Tag) -> Step {
         if is_cell(name) {
-            self.open.clear_to_row();
+            self.tree.clear_to_row();
             self.insert(name, tag)?;
-            self.formatting.push_marker()?;
+            self.tree.push_marker()?;
             return self.done_in(Mode::InCell);
         }
         if is_table_part(name) {
@@ -294,14 +294,15 @@ impl TreeBuilder {
 
     /// Ends the cell that is open.
     fn close_cell(&mut self) {
-        self.open.generate_implied_end_tags(None);
-        self.open.pop_to_cell();
-        self.formatting.clear_to_marker();
+        self.tree.generate_implied_end_tags(None);
+        self.tree.pop_to_cell();
+        self.tree.clear_to_marker();
         self.mode = Mode::InRow;
     }
 
     fn has_cell_in_scope(&self) -> bool {
-        self.open.in_scope(Name::Td, Scope::Table) || self.open.in_scope(Name::Th, Scope::Table)
+        self.tree.open().in_scope(Name::Td, Scope::Table)
+            || self.tree.open().in_scope(Name::Th, Scope::Table)
     }
 
     pub fn cell_tag(&mut self, name: Name, tag: &Tag) -> Step {
@@ -324,7 +325,7 @@ impl TreeBuilder {
         if name != Name::Table && name != Name::Tr && !is_section(name) {
             return self.body_tag(name, tag);
         }
-        let ends = self.open.in_scope(name, Scope::Table);
+        let ends = self.tree.open().in_scope(name, Scope::Table);
         if ends {
             self.close_cell();
         }
@@ -332,10 +333,10 @@ impl TreeBuilder {
     }
 
     fn end_cell(&mut self, name: Name) -> Step {
-        if self.open.in_scope(name, Scope::Table) {
-            self.open.generate_implied_end_tags(None);
-            self.open.pop_to(name);
-            self.formatting.clear_to_marker();
+        if self.tree.open().in_scope(name, Scope::Table) {
+            self.tree.generate_implied_end_tags(None);
+            self.tree.pop_to(name);
+            self.tree.clear_to_marker();
             self.mode = Mode::InRow;
         }
         Ok(Next::Done)

@@ -1,4 +1,4 @@
-use Rattle.std.proofs.Common.{◌≡◌, ℕ, false, sym, subst, ◌∙◌}
+use Rattle.std.proofs.Common.{◌≡◌, false, sym, subst, ◌∙◌}
 use Rattle.dom_links.specs.Forest.{children_of}
 use Rattle.dom_markup.specs.Html.{html_of}
 use Rattle.dom_markup.specs.Plain.{text_of_trees}

@@ -1,0 +1,138 @@
+//! Pages whose bytes come in pieces.
+
+ghost use Rattle.std.specs.Prelude.{◌≡◌, ◌≤◌, length};
+ghost use Rattle.dom_html5.specs.Shape.{ReadsPage};
+
+use crate::fault::PageFault;
+use crate::reading::PageParser;
+use std::alloc::Global;
+use std::mem;
+
+/// The bytes of a page that can't be read yet: those of a character that isn't whole.
+#[derive(Drop)]
+pub(crate) struct Waiting {
+    bytes: Vec<u8>,
+    /// Whether bytes were read before, so that no byte order mark comes any more.
+    is_begun: bool,
+}
+
+impl Waiting {
+    /// Before the first piece.
+    pub(crate) fn new(alloc: Global) -> Waiting {
+        Waiting {
+            bytes: Vec::new(alloc),
+            is_begun: false,
+        }
+    }
+
+    /// The bytes without a byte order mark, if they are the first ones.
+    fn without_mark<'b>(&mut self, bytes: &'b [u8]) -> &'b [u8] {
+        if self.is_begun || bytes.is_empty() {
+            return bytes;
+        }
+        self.is_begun = true;
+        match bytes.strip_prefix(b"\xef\xbb\xbf") {
+            Some(rest) => rest,
+            None => bytes,
+        }
+    }
+}
+
+/// How many bytes the character takes that begins with this byte.
+fn char_len(first: u8) -> usize {
+    match first {
+        0xc2..=0xdf => 2,
+        0xe0..=0xef => 3,
+        0xf0..=0xf4 => 4,
+        _ => 1,
+    }
+}
+
+/// How many bytes come before a character at the end that may go on in the next piece.
+fn whole_len(bytes: &[u8]) -> usize
+    ensures { result ≤ length bytes.now }
+{
+    for back in 1..4 {
+        if back > bytes.len() {
+            break;
+        }
+        let at = bytes.len() - back;
+        let byte = bytes[at];
+        if byte & 0xc0 != 0x80 {
+            return if char_len(byte) > back {
+                at
+            } else {
+                bytes.len()
+            };
+        }
+    }
+    bytes.len()
+}
+
+impl PageParser {
+    /// Reads the next bytes of a page in UTF-8, as a file or a connection gives them; the pieces
+    /// may be cut anywhere. As by `parse_page_bytes`, a byte order mark at the beginning is dropped,
+    /// and U+FFFD takes the place of what isn't UTF-8. After an `Err` nothing is read any more.
+    pub fn feed_bytes(&mut self, piece: &[u8]) -> Result<(), PageFault>
+        ensures { ReadsPage self.old → ReadsPage self.new }
+    {
+        if let Some(fault) = self.fault {
+            return Err(fault);
+        }
+        let read = self.read_bytes(piece);
+        if let Err(fault) = read {
+            self.fault = Some(fault);
+        }
+        read
+    }
+
+    fn read_bytes(&mut self, piece: &[u8]) -> Result<(), PageFault>
+        ensures { ReadsPage self.old → ReadsPage self.new }
+    {
+        if self.waiting.bytes.is_empty() {
+            return self.read_whole(piece);
+        }
+        self.waiting.bytes.extend_from_slice(piece)?;
+        let bytes = self.take_waiting();
+        self.read_whole(&bytes)
+    }
+
+    /// Reads the whole characters, and has the others wait.
+    fn read_whole(&mut self, bytes: &[u8]) -> Result<(), PageFault>
+        ensures { ReadsPage self.old → ReadsPage self.new }
+    {
+        let (whole, rest) = bytes.split_at(whole_len(bytes));
+        let whole = self.waiting.without_mark(whole);
+        self.read_decoded(whole)?;
+        self.waiting.bytes.extend_from_slice(rest)?;
+        Ok(())
+    }
+
+    /// Reads the bytes that are still waiting, since no more come.
+    pub(crate) fn read_waiting(&mut self) -> Result<(), PageFault>
+        ensures { ReadsPage self.old → ReadsPage self.new }
+    {
+        if self.waiting.bytes.is_empty() {
+            return Ok(());
+        }
+        let bytes = self.take_waiting();
+        self.read_decoded(&bytes)
+    }
+
+    fn take_waiting(&mut self) -> Vec<u8>
+        ensures { ReadsPage self.old → ReadsPage self.new }
+    {
+        let alloc = self.alloc();
+        mem::replace(&mut self.waiting.bytes, Vec::new(alloc))
+    }
+
+    fn read_decoded(&mut self, bytes: &[u8]) -> Result<(), PageFault>
+        ensures { ReadsPage self.old → ReadsPage self.new }
+    {
+        if let Ok(text) = str::from_utf8(bytes) {
+            return self.read(text);
+        }
+        let text = String::from_utf8_lossy(self.alloc(), bytes)?;
+        self.read(text.as_str())
+    }
+}

@@ -1,0 +1,276 @@
+//! The tree that tree construction builds, and what it holds of it: the stack of open elements, the
+//! list of active formatting elements, the head and the form element pointer.
+
+ghost use Rattle.std.specs.Prelude.{◌≡◌};
+
+mod adopting;
+mod edits;
+mod placing;
+mod popping;
+
+use crate::fault::PageFault;
+use crate::formatting::{ActiveFormatting, Entry};
+use crate::name::Name;
+use crate::pointers::FormPointer;
+use crate::stack::{Ns, Open, OpenElements};
+use dom_links::gap::Gap;
+use dom_markup::document::sink::TreeSink;
+use dom_markup::document::{Document, QuirksMode};
+use dom_nodes::node_id::NodeId;
+use edits::{add_attrs, cut_out, put_comment, put_copy, put_doctype, put_element, put_text};
+use html5_tokens::token::Tag;
+pub use placing::Placing;
+use placing::gap;
+use std::alloc::Global;
+use std::marker::Model;
+
+/// A document that is built. A contract sees it as the forest of its tree. Each number that it
+/// holds is the number of an element: no number comes in from outside.
+#[derive(Drop)]
+pub struct GrowingTree {
+    document: Document,
+    open: OpenElements,
+    formatting: ActiveFormatting,
+    head: Option<NodeId>,
+    form: FormPointer,
+    /// The context element of a fragment, with the number of the root that stands for it.
+    context: Option<Open>,
+}
+
+impl Model for GrowingTree {
+    ghost use Rattle.dom_links.specs.Forest.{Forest};
+    ghost use Rattle.dom_html5.specs.Elements.{AreElements};
+
+    ghost Value = { Forest };
+
+    ghost view = { λ t. t.document.tree };
+
+    ghost invariant = { λ t. AreElements t.document.tree t.open.elements.items
+        t.formatting.entries.items t.head t.form t.context };
+}
+
+impl GrowingTree {
+    /// A page with nothing in it.
+    pub fn page(alloc: Global) -> Result<GrowingTree, PageFault> {
+        let document = Document::new(alloc)?;
+        Ok(GrowingTree {
+            document,
+            open: OpenElements::new(alloc),
+            formatting: ActiveFormatting::new(alloc),
+            head: None,
+            form: FormPointer::None,
+            context: None,
+        })
+    }
+
+    /// A fragment with nothing in it.
+    pub fn fragment(alloc: Global) -> Result<GrowingTree, PageFault> {
+        let document = Document::fragment_sink(alloc)?;
+        Ok(GrowingTree {
+            document,
+            open: OpenElements::new(alloc),
+            formatting: ActiveFormatting::new(alloc),
+            head: None,
+            form: FormPointer::None,
+            context: None,
+        })
+    }
+
+    pub fn into_document(self) -> Document {
+        self.document
+    }
+
+    /// The stack of open elements.
+    pub fn open(&self) -> &OpenElements {
+        &self.open
+    }
+
+    pub fn has_head(&self) -> bool {
+        self.head.is_some()
+    }
+
+    pub fn has_form(&self) -> bool {
+        !self.form.is_none()
+    }
+
+    pub fn context(&self) -> Option<Open> {
+        self.context
+    }
+
+    /// The last formatting element of that name since the last marker.
+    pub fn formatting_named(&self, name: Name) -> Option<Open> {
+        self.formatting.named(name)
+    }
+
+    /// Whether the local name of an element is that one, whatever the case.
+    pub fn has_name(&self, element: &Open, name: &str) -> bool {
+        match self.document.elem_name(&element.id) {
+            Some(known) => known.local().as_str().eq_ignore_ascii_case(name),
+            None => false,
+        }
+    }
+
+    pub fn set_quirks_mode(&mut self, mode: QuirksMode) {
+        self.document.set_quirks_mode(mode);
+    }
+
+    /// Notes a parse error in the document.
+    pub fn note_error(&mut self, message: &str) -> Result<(), PageFault> {
+        self.document.parse_error(message)?;
+        Ok(())
+    }
+
+    /// Inserts the element of a tag, and opens it.
+    pub fn insert(
+        &mut self,
+        placing: Placing,
+        ns: Ns,
+        name: Name,
+        tag: &Tag,
+    ) -> Result<(), PageFault> {
+        let gap = gap(&self.document.tree, &self.open, placing);
+        let open = put_element(&mut self.document.tree, gap, ns, name, tag)?;
+        self.open.push(&open)
+    }
+
+    /// Puts the element `html` at the top, and opens it.
+    pub fn insert_html(&mut self, tag: &Tag) -> Result<(), PageFault> {
+        let gap = Gap::EndOf(self.document.tree.root_id());
+        let open = put_element(&mut self.document.tree, gap, Ns::Html, Name::Html, tag)?;
+        self.open.push(&open)
+    }
+
+    /// Makes the current node the one that stands for the context element.
+    pub fn set_context(&mut self, ns: Ns, name: Name) {
+        let Some(root) = self.open.current() else {
+            return;
+        };
+        self.context = Some(Open {
+            id: root.id,
+            ns,
+            name,
+            holds_html: false,
+        });
+    }
+
+    /// Makes the current node the head.
+    pub fn set_head(&mut self) {
+        if let Some(head) = self.open.current() {
+            self.head = Some(head.id);
+        }
+    }
+
+    /// Opens the head again.
+    pub fn open_head(&mut self) -> Result<(), PageFault> {
+        let Some(head) = self.head else {
+            return Ok(());
+        };
+        self.open.push(&Open {
+            id: head,
+            ns: Ns::Html,
+            name: Name::Head,
+            holds_html: false,
+        })
+    }
+
+    /// Takes the head off the stack, wherever it stands.
+    pub fn close_head(&mut self) {
+        if let Some(head) = self.head {
+            self.remove(head);
+        }
+    }
+
+    /// Makes the current node the form.
+    pub fn set_form(&mut self) {
+        if let Some(form) = self.open.current() {
+            self.form = FormPointer::Element(form.id);
+        }
+    }
+
+    /// Makes the context element the form.
+    pub fn set_context_form(&mut self) {
+        self.form = FormPointer::Context;
+    }
+
+    /// Ends the form, if it is in scope; no form is known then.
+    pub fn end_form(&mut self) {
+        let form = self.form;
+        self.form = FormPointer::None;
+        if let FormPointer::Element(id) = form
+            && self.open.node_in_scope(id)
+        {
+            self.generate_implied_end_tags(None);
+            self.remove(id);
+        }
+    }
+
+    /// Inserts characters. The document itself holds none.
+    pub fn put_text(&mut self, placing: Placing, text: &str) -> Result<(), PageFault> {
+        let gap = gap(&self.document.tree, &self.open, placing);
+        let at_top = is_at_top(&gap);
+        if at_top && self.context.is_none() {
+            return Ok(());
+        }
+        put_text(&mut self.document.tree, gap, text)
+    }
+
+    /// Inserts a comment.
+    pub fn put_comment(&mut self, placing: Placing, text: &str) -> Result<(), PageFault> {
+        let gap = gap(&self.document.tree, &self.open, placing);
+        put_comment(&mut self.document.tree, gap, text)
+    }
+
+    /// Puts a comment at the end of what stands at the top.
+    pub fn put_comment_at_top(&mut self, text: &str) -> Result<(), PageFault> {
+        let gap = Gap::EndOf(self.document.tree.root_id());
+        put_comment(&mut self.document.tree, gap, text)
+    }
+
+    /// Puts a comment at the end of the outermost element.
+    pub fn put_comment_in_html(&mut self, text: &str) -> Result<(), PageFault> {
+        let Some(html) = self.open.get(0) else {
+            return Ok(());
+        };
+        put_comment(&mut self.document.tree, Gap::EndOf(html.id), text)
+    }
+
+    /// Puts a doctype at the end of what stands at the top: name, public and system identifier.
+    pub fn put_doctype(&mut self, parts: [&str; 3]) -> Result<(), PageFault> {
+        put_doctype(&mut self.document.tree, parts)
+    }
+
+    /// Adds the attributes of a tag to the element at a place of the stack.
+    pub fn add_attrs(&mut self, place: usize, tag: &Tag) -> Result<(), PageFault> {
+        let Some(open) = self.open.get(place) else {
+            return Ok(());
+        };
+        add_attrs(&mut self.document.tree, open.id, tag)
+    }
+
+    /// Cuts the element at a place of the stack out of the tree.
+    pub fn cut_out(&mut self, place: usize) {
+        if let Some(open) = self.open.get(place) {
+            cut_out(&mut self.document.tree, open.id);
+        }
+    }
+
+    /// Opens a copy of a formatting element, which takes its place in the list.
+    pub fn open_again(&mut self, index: usize, placing: Placing) -> Result<(), PageFault> {
+        let Some(Entry::Element(open)) = self.formatting.get(index) else {
+            return Ok(());
+        };
+        let gap = gap(&self.document.tree, &self.open, placing);
+        let copy = put_copy(&mut self.document.tree, gap, open)?;
+        self.open.push(&copy)?;
+        self.formatting.replace(index, &copy);
+        Ok(())
+    }
+}
+
+/// Whether a gap is at the end of what stands at the top.
+fn is_at_top(gap: &Gap) -> bool {
+    match gap {
+        Gap::EndOf(parent) => *parent == NodeId::root(),
+        _ => false,
+    }
+}
