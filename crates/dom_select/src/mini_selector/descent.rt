@@ -1,5 +1,5 @@
-//! What a path of steps without signs leads to from a node: one traversal, which knows of each node
-//! how many steps lead, one after the other, to nodes above it. A node is tested for one step.
+//! Paths of descendant steps alone: one traversal holds for each node how many of the steps are
+//! matched above it, each below the one before. A node is tested for one step.
 
 ghost use Rattle.std.specs.Prelude.{◌≡◌, ◌<◌, ◌++◌, None, [], false, length, true, IfOk, OnOk};
 ghost use Rattle.dom_links.specs.Forest.{forest_of};
@@ -17,7 +17,7 @@ use dom_selectors::mini_selector::selector::MiniSelector;
 use dom_selectors::syntax::Combinator;
 use std::alloc::Global;
 
-/// A node that is still to be visited, and how many steps lead to nodes above it.
+/// A node that is still to be visited, and how many steps are matched above it.
 type Waiting = (NodeId, usize);
 
 /// Whether all nodes below are right operands of the combinator.
@@ -30,15 +30,15 @@ fn is_deep(combinator: Combinator) -> bool
     }
 }
 
-/// Whether each step leads to all nodes below.
+/// Whether each step is a descendant step.
 pub(crate) fn goes_down(path: &[MiniSelector<'_>]) -> bool
     ensures { result ≡ goes_down path.now }
 {
     path.iter().all(|mini| is_deep(mini.combinator()))
 }
 
-/// How many steps lead to the node or to nodes above it, but for the last step; `passed` lead to
-/// nodes above it. The node is found, where all lead to it.
+/// How many steps are matched at the node or above it, but for the last step; `passed` are above
+/// it. A node that the last step matches then is added.
 #[inline(always)]
 fn count_passed(
     path: &[MiniSelector<'_>],
@@ -94,7 +94,7 @@ fn go_on(
     Ok(Some(id))
 }
 
-/// What a path that goes down leads to from a node.
+/// The nodes that a path of descendant steps finds below a node.
 pub(crate) fn follow_down(
     alloc: Global,
     nodes: &[TreeNode],
