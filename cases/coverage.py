@@ -38,7 +38,10 @@ def end_of_block(text, at):
 
 def body_at(text, at):
     """The body of the function whose name ends there: the first block that isn't a clause's. None where it has none."""
-    while found := re.compile(r"\b(requires|ensures|ghost)\b|[{;]").search(text, at):
+    while found := re.compile(r"\b(requires|ensures|ghost)\b|\[[^][{}]*\]|[{;]").search(text, at):
+        if found[0].startswith("["):
+            at = found.end()
+            continue
         if found[0] == ";":
             return None
         start = text.index("{", found.start())

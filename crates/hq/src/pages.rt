@@ -103,10 +103,13 @@ fn read_pieces<R: Read>(
     let mut room = vec![in alloc; 0; PIECE]?;
     for _ in 0..u64::MAX {
         let count = read_some(reader, &mut room)?;
-        if count == 0 {
+        let Some(piece) = room.get(..count) else {
+            break;
+        };
+        if piece.is_empty() {
             break;
         }
-        parser.feed_bytes(&room[..count])?;
+        parser.feed_bytes(piece)?;
     }
     Ok(parser.finish()?)
 }

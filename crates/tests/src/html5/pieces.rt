@@ -1,5 +1,7 @@
 //! The bytes of a page in pieces, cut anywhere, are read as the same bytes whole.
 
+ghost use Rattle.std.specs.Prelude.{◌<◌};
+
 use super::{OPTIONS, has_html};
 use dom_html5::{PageFault, PageParser, parse_page_bytes};
 use dom_query::Document;
@@ -19,7 +21,9 @@ const BYTES: [&[u8]; 8] = [
     b"\x80\x80\x80\x80\xf0\x9d\x84",
 ];
 
-fn in_pieces(alloc: Global, bytes: &[u8], size: usize) -> Result<Document, PageFault> {
+fn in_pieces(alloc: Global, bytes: &[u8], size: usize) -> Result<Document, PageFault>
+    requires { 0 < size }
+{
     let mut parser = PageParser::new(alloc, OPTIONS)?;
     for piece in bytes.chunks(size) {
         parser.feed_bytes(piece)?;
