@@ -39,10 +39,18 @@ fn change(rt: &HostRuntime, document: &mut Document, group: &str, line: &str) ->
         "sink-make" => sinks::make(rt, document, line),
         "sink-put" => sinks::put(rt, document, line),
         "sink-change" => sinks::change(rt, document, line),
+        _ => mend(rt, document, group, line),
+    }
+}
+
+/// Makes a call that changes the document, whatever the line is.
+fn mend(rt: &HostRuntime, document: &mut Document, group: &str, line: &str) -> Option<()> {
+    match group {
         "sink-note" => sinks::note(rt, document, line),
         "normalize" => pages::normalize(rt, document),
-        _ => read(rt, document, group, line),
+        _ => return read(rt, document, group, line),
     }
+    Some(())
 }
 
 /// Makes a call that reads the document.
@@ -51,11 +59,10 @@ fn read(rt: &HostRuntime, document: &Document, group: &str, line: &str) -> Optio
         "page" => pages::read(rt, document),
         "print" => pages::print_page(rt, document),
         "texts" => pages::print_texts(rt, document),
-        "texts-without" => pages::print_without(rt, document, line),
         "html" => pages::print_html(rt, document),
         "clone" => pages::print_copy(rt, document),
-        "to-fragment" => pages::make_fragment(rt, document, line),
-        "sink-ask" => sinks::ask(rt, document, line),
+        "places" => indexes::show_places(rt, &document.tree),
+        "tests" => selecting::count_tests(rt, &document.tree, line),
         "select" => selecting::select(rt, document, line),
         "selection" => selections::select(rt, document, line),
         "step" => selections::step(rt, document, line),
@@ -63,13 +70,18 @@ fn read(rt: &HostRuntime, document: &Document, group: &str, line: &str) -> Optio
         "combine" => selections::combine(rt, document, line),
         "selected" => selections::read(rt, document, line),
         "path" => minis::follow(rt, document, line),
-        _ => read_tree(rt, &document.tree, group, line),
+        _ => return read_nodes(rt, document, group, line),
     }
+    Some(())
 }
 
-/// Makes a call that reads the tree.
-fn read_tree(rt: &HostRuntime, tree: &Tree, group: &str, line: &str) -> Option<()> {
+/// Makes a call that reads nodes of the document.
+fn read_nodes(rt: &HostRuntime, document: &Document, group: &str, line: &str) -> Option<()> {
+    let tree = &document.tree;
     match group {
+        "texts-without" => pages::print_without(rt, document, line),
+        "to-fragment" => pages::make_fragment(rt, document, line),
+        "sink-ask" => sinks::ask(rt, document, line),
         "read" => reading::read(rt, tree, line),
         "around" => reading::look_around(rt, tree, line),
         "children" => walking::list_children(rt, tree, line),
@@ -87,13 +99,11 @@ fn read_tree(rt: &HostRuntime, tree: &Tree, group: &str, line: &str) -> Option<(
 fn ask(rt: &HostRuntime, tree: &Tree, group: &str, line: &str) -> Option<()> {
     match group {
         "select-below" => selecting::select_below_several(rt, tree, line),
-        "tests" => selecting::count_tests(rt, tree, line),
         "ask" => selecting::ask(rt, tree, line),
         "kinds" => asking::show_kinds(rt, tree, line),
         "named" => asking::show_named(rt, tree, line),
         "pseudos" => asking::show_pseudos(rt, tree, line),
         "index" => indexes::ask(rt, tree, line),
-        "places" => indexes::show_places(rt, tree),
         "find" => minis::find(rt, tree, line),
         "names" => minis::find_names(rt, tree, line),
         "mini-is" => minis::is_meant(rt, tree, line),
@@ -111,17 +121,25 @@ fn write(rt: &HostRuntime, group: &str, line: &str) -> Option<()> {
         "tokens" => texts::cut_tokens(rt, line),
         "fault-of" => selecting::show_fault(rt, line),
         "css" => css::write_selectors(rt, line),
-        "css-of" => css::write_values(rt, line),
         "debug" => css::print_selector(rt, line),
-        "debug-of" => css::print_values(rt, line),
         "mini" => minis::read(rt, line),
         "minis" => minis::read_list(rt, line),
-        "chunk" => texts::escape_chunk(rt, line),
-        "cell" => texts::escape_cell(rt, line),
         "escape" => texts::escape_value(rt, line),
         "fence" => texts::measure_fence(rt, line),
-        "list" => texts::number_list(rt, line),
         "mark" => texts::read_mark(rt, line),
+        _ => return make(rt, group, line),
+    }
+    Some(())
+}
+
+/// Makes a call of a text alone, which it may not fit.
+fn make(rt: &HostRuntime, group: &str, line: &str) -> Option<()> {
+    match group {
+        "css-of" => css::write_values(rt, line),
+        "debug-of" => css::print_values(rt, line),
+        "chunk" => texts::escape_chunk(rt, line),
+        "cell" => texts::escape_cell(rt, line),
+        "list" => texts::number_list(rt, line),
         _ => None,
     }
 }

@@ -19,7 +19,8 @@ pub fn call(rt: &HostRuntime, tree: &mut Tree, line: &str) -> Option<()> {
     } else {
         changed(&mut nodes, call, words)?
     };
-    show_edit(rt, call, edit)
+    show_edit(rt, call, edit);
+    Some(())
 }
 
 fn given(

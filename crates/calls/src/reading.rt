@@ -9,16 +9,18 @@ pub fn read(rt: &HostRuntime, tree: &Tree, line: &str) -> Option<()> {
     let (number, word) = cut(line);
     let node = tree.get_unchecked(&node_of(number)?);
     if !word.is_empty() {
-        return read_named(rt, &node, word);
+        read_named(rt, &node, word);
+        return Some(());
     }
-    read_kind(rt, &node)?;
-    query(rt, &node)?;
-    read_element(rt, &node)?;
-    read_texts(rt, &node)
+    read_kind(rt, &node);
+    query(rt, &node);
+    read_element(rt, &node);
+    read_texts(rt, &node);
+    Some(())
 }
 
 /// Which kind of node it is.
-fn read_kind(rt: &HostRuntime, node: &NodeRef<'_>) -> Option<()> {
+fn read_kind(rt: &HostRuntime, node: &NodeRef<'_>) {
     let flags = [
         ("is_document", node.is_document()),
         ("is_fragment", node.is_fragment()),
@@ -31,72 +33,73 @@ fn read_kind(rt: &HostRuntime, node: &NodeRef<'_>) -> Option<()> {
         ("may_have_children", node.may_have_children()),
         ("is_nonempty_text", node.is_nonempty_text()),
     ];
-    show_flags(rt, &flags)
+    show_flags(rt, &flags);
 }
 
 /// What closures answer of it.
-fn query(rt: &HostRuntime, node: &NodeRef<'_>) -> Option<()> {
-    show_some(rt, "query", node.query(|it| it.is_text()))?;
-    show(rt, "query_or", node.query_or(false, |it| it.is_text()))
+fn query(rt: &HostRuntime, node: &NodeRef<'_>) {
+    show_some(rt, "query", node.query(|it| it.is_text()));
+    show(rt, "query_or", node.query_or(false, |it| it.is_text()));
 }
 
 /// What it has as an element.
-fn read_element(rt: &HostRuntime, node: &NodeRef<'_>) -> Option<()> {
-    show_some(rt, "node_name", node.node_name())?;
+fn read_element(rt: &HostRuntime, node: &NodeRef<'_>) {
+    show_some(rt, "node_name", node.node_name());
     show_some(
         rt,
         "element_ref",
         node.element_ref().map(|it| it.node_name()),
-    )?;
+    );
     show_some(
         rt,
         "qual_name_ref",
         node.qual_name_ref().map(|name| name.local().as_str()),
-    )?;
-    show(rt, "attrs", node.attrs().len())?;
-    show_some(rt, "class", node.class())?;
-    show_some(rt, "id_attr", node.id_attr())?;
-    show_some(rt, "base_uri", node.base_uri())
+    );
+    show(rt, "attrs", node.attrs().len());
+    show_some(rt, "class", node.class());
+    show_some(rt, "id_attr", node.id_attr());
+    show_some(rt, "base_uri", node.base_uri());
 }
 
 /// What it has of a name.
-fn read_named(rt: &HostRuntime, node: &NodeRef<'_>, word: &str) -> Option<()> {
+fn read_named(rt: &HostRuntime, node: &NodeRef<'_>, word: &str) {
     let flags = [
         ("has_name", node.has_name(word)),
         ("has_class", node.has_class(word)),
         ("has_attr", node.has_attr(word)),
     ];
-    show_flags(rt, &flags)?;
-    show_some(rt, "attr", node.attr(word))?;
+    show_flags(rt, &flags);
+    show_some(rt, "attr", node.attr(word));
     let value = node.attr_or("id", "default");
-    println!(rt; "attr_or: {value}").ok()
+    println!(rt; "attr_or: {value}").ok();
 }
 
 /// The texts that are read of it.
-fn read_texts(rt: &HostRuntime, node: &NodeRef<'_>) -> Option<()> {
-    show_read(rt, "text", node.text())?;
-    show_read(rt, "immediate_text", node.immediate_text())?;
-    show(rt, "normalized_char_count", node.normalized_char_count())
+fn read_texts(rt: &HostRuntime, node: &NodeRef<'_>) {
+    show_read(rt, "text", node.text());
+    show_read(rt, "immediate_text", node.immediate_text());
+    show(rt, "normalized_char_count", node.normalized_char_count());
 }
 
 /// The nodes around a node: `N`.
 pub fn look_around(rt: &HostRuntime, tree: &Tree, line: &str) -> Option<()> {
     let node = tree.get_unchecked(&node_of(line)?);
-    show_node(rt, "parent", &node.parent())?;
-    show_node(rt, "first_child", &node.first_child())?;
-    show_node(rt, "last_child", &node.last_child())?;
-    show_node(rt, "next_sibling", &node.next_sibling())?;
-    show_node(rt, "prev_sibling", &node.prev_sibling())?;
-    show_node(rt, "last_sibling", &node.last_sibling())?;
-    look_for_elements(rt, &node)
+    show_node(rt, "parent", &node.parent());
+    show_node(rt, "first_child", &node.first_child());
+    show_node(rt, "last_child", &node.last_child());
+    show_node(rt, "next_sibling", &node.next_sibling());
+    show_node(rt, "prev_sibling", &node.prev_sibling());
+    show_node(rt, "last_sibling", &node.last_sibling());
+    look_for_elements(rt, &node);
+    Some(())
 }
 
 /// The elements around it.
-fn look_for_elements(rt: &HostRuntime, node: &NodeRef<'_>) -> Option<()> {
-    show_node(rt, "parent_element", &node.parent_element())?;
-    show_node(rt, "next_element_sibling", &node.next_element_sibling())?;
-    show_node(rt, "next_sibling_element", &node.next_sibling_element())?;
-    show_node(rt, "prev_element_sibling", &node.prev_element_sibling())?;
-    show_node(rt, "prev_sibling_element", &node.prev_sibling_element())?;
-    show_node(rt, "first_element_child", &node.first_element_child())
+fn look_for_elements(rt: &HostRuntime, node: &NodeRef<'_>) {
+    show_node(rt, "parent_element", &node.parent_element());
+    show_node(rt, "next_element_sibling", &node.next_element_sibling());
+    show_node(rt, "next_sibling_element", &node.next_sibling_element());
+    show_node(rt, "prev_element_sibling", &node.prev_element_sibling());
+    show_node(rt, "prev_sibling_element", &node.prev_sibling_element());
+    show_node(rt, "first_element_child", &node.first_element_child());
 }

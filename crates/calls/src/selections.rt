@@ -1,61 +1,57 @@
 //! Calls of `Selection` and of `DocumentSelect`.
 
 use crate::printing::{
-    show, show_flags, show_ids_read, show_nodes, show_read, show_some, show_some_read,
+    begin, end, show, show_flags, show_ids_read, show_next, show_nodes, show_read, show_some,
+    show_some_read,
 };
 use dom_query::{
-    Document, DocumentSelect, Matcher, OutOfMemory, Selection, SelectionMd, SelectorFault,
+    Document, DocumentSelect, Matcher, MatcherIter, OutOfMemory, Selection, SelectionMd,
+    SelectorFault,
 };
 use named_calls::words::cut;
 use std::fmt::Display;
 
 /// Prints the nodes of a selection, or the fault in its place.
-fn show_found<F: Display + Drop>(
-    rt: &HostRuntime,
-    what: &str,
-    found: Result<Selection<'_>, F>,
-) -> Option<()> {
+fn show_found<F: Display + Drop>(rt: &HostRuntime, what: &str, found: Result<Selection<'_>, F>) {
     match found {
         Ok(found) => show_nodes(rt, what, found.nodes()),
-        Err(fault) => println!(rt; "{what}: {fault}").ok(),
+        Err(fault) => show(rt, what, fault),
     }
 }
 
 /// Prints the nodes of a selection, or `-` where there is none.
-fn show_tried(
-    rt: &HostRuntime,
-    what: &str,
-    found: Result<Option<Selection<'_>>, OutOfMemory>,
-) -> Option<()> {
+fn show_tried(rt: &HostRuntime, what: &str, found: Result<Option<Selection<'_>>, OutOfMemory>) {
     match found {
         Ok(Some(found)) => show_nodes(rt, what, found.nodes()),
         Ok(None) => show(rt, what, "-"),
-        Err(_) => None,
+        Err(fault) => show(rt, what, fault),
     }
 }
 
 /// What a document selects by each call: `SELECTOR`.
-pub fn select(rt: &HostRuntime, document: &Document, line: &str) -> Option<()> {
-    show_found(rt, "select", document.select(line))?;
-    show_found(rt, "nip", document.nip(line))?;
-    show_found(rt, "select_single", document.select_single(line))?;
-    show_tried(rt, "try_select", document.try_select(line))?;
+pub fn select(rt: &HostRuntime, document: &Document, line: &str) {
+    show_found(rt, "select", document.select(line));
+    show_found(rt, "nip", document.nip(line));
+    show_found(rt, "select_single", document.select_single(line));
+    show_tried(rt, "try_select", document.try_select(line));
     match Matcher::new(rt.alloc(), line) {
         Ok(matcher) => select_by_matcher(rt, document, &matcher),
         Err(fault) => show(rt, "Matcher::new", fault),
     }
 }
 
-fn select_by_matcher(rt: &HostRuntime, document: &Document, matcher: &Matcher) -> Option<()> {
-    show_found(rt, "select_matcher", document.select_matcher(matcher))?;
+fn select_by_matcher(rt: &HostRuntime, document: &Document, matcher: &Matcher) {
+    show_found(rt, "select_matcher", document.select_matcher(matcher));
     let one = document.select_single_matcher(matcher);
-    show_found(rt, "select_single_matcher", one)
+    show_found(rt, "select_single_matcher", one);
 }
 
 /// Where each step leads from the nodes that a selector selects: `SELECTOR`.
-pub fn step(rt: &HostRuntime, document: &Document, line: &str) -> Option<()> {
-    let all = document.select(line).ok()?;
-    step_from(rt, &all)
+pub fn step(rt: &HostRuntime, document: &Document, line: &str) {
+    match document.select(line) {
+        Ok(all) => step_from(rt, &all),
+        Err(fault) => show(rt, "select", fault),
+    }
 }
 
 /// A way from nodes to others.
@@ -92,34 +88,35 @@ fn stepped<'a>(all: &Selection<'a>, way: Way) -> Result<Selection<'a>, OutOfMemo
     }
 }
 
-fn step_from(rt: &HostRuntime, all: &Selection<'_>) -> Option<()> {
+fn step_from(rt: &HostRuntime, all: &Selection<'_>) {
     for (name, way) in &WAYS {
-        show_found(rt, name, stepped(all, *way))?;
+        show_found(rt, name, stepped(all, *way));
     }
-    show_nodes(rt, "first", all.first().nodes())?;
-    show_nodes(rt, "last", all.last().nodes())?;
-    list(rt, all)
+    show_nodes(rt, "first", all.first().nodes());
+    show_nodes(rt, "last", all.last().nodes());
+    list(rt, all);
 }
 
 /// The nodes of a selection as a list.
-fn list(rt: &HostRuntime, all: &Selection<'_>) -> Option<()> {
-    show(rt, "length", all.length())?;
-    show(rt, "size", all.size())?;
+fn list(rt: &HostRuntime, all: &Selection<'_>) {
+    show(rt, "length", all.length());
+    show(rt, "size", all.size());
     let flags = [("exists", all.exists()), ("is_empty", all.is_empty())];
-    show_flags(rt, &flags)?;
-    show_some(rt, "get 1", all.get(1).map(|node| node.id.value()))?;
-    show_ids_read(rt, "ids", all.ids())?;
+    show_flags(rt, &flags);
+    show_some(rt, "get 1", all.get(1).map(|node| node.id.value()));
+    show_ids_read(rt, "ids", all.ids());
     for one in all.iter() {
-        show_nodes(rt, "iter", one.nodes())?;
+        show_nodes(rt, "iter", one.nodes());
     }
-    Some(())
 }
 
 /// What a selector chooses from the nodes that another selects: `CHOICE SELECTOR`.
-pub fn choose(rt: &HostRuntime, document: &Document, line: &str) -> Option<()> {
+pub fn choose(rt: &HostRuntime, document: &Document, line: &str) {
     let (choice, text) = cut(line);
-    let all = document.select(text).ok()?;
-    choose_from(rt, &all, choice)
+    match document.select(text) {
+        Ok(all) => choose_from(rt, &all, choice),
+        Err(fault) => show(rt, "select", fault),
+    }
 }
 
 /// What a text chooses.
@@ -154,86 +151,91 @@ fn chosen<'a>(
     }
 }
 
-fn choose_from(rt: &HostRuntime, all: &Selection<'_>, text: &str) -> Option<()> {
-    show_read(rt, "is", all.is(text))?;
+fn choose_from(rt: &HostRuntime, all: &Selection<'_>, text: &str) {
+    show_read(rt, "is", all.is(text));
     for (name, choice) in &CHOICES {
-        show_found(rt, name, chosen(all, *choice, text))?;
+        show_found(rt, name, chosen(all, *choice, text));
     }
-    show_tried(rt, "try_select", all.try_select(text))?;
-    show_tried(rt, "try_filter", all.try_filter(text))?;
-    show_tried(rt, "try_add", all.try_add(text))?;
+    show_tried(rt, "try_select", all.try_select(text));
+    show_tried(rt, "try_filter", all.try_filter(text));
+    show_tried(rt, "try_add", all.try_add(text));
     match Matcher::new(rt.alloc(), text) {
         Ok(matcher) => choose_by_matcher(rt, all, &matcher),
         Err(fault) => show(rt, "Matcher::new", fault),
     }
 }
 
-fn choose_by_matcher(rt: &HostRuntime, all: &Selection<'_>, matcher: &Matcher) -> Option<()> {
-    show(rt, "is_matcher", all.is_matcher(matcher))?;
-    show_found(rt, "select_matcher", all.select_matcher(matcher))?;
+fn choose_by_matcher(rt: &HostRuntime, all: &Selection<'_>, matcher: &Matcher) {
+    show(rt, "is_matcher", all.is_matcher(matcher));
+    show_found(rt, "select_matcher", all.select_matcher(matcher));
     let one = all.select_single_matcher(matcher);
-    show_found(rt, "select_single_matcher", one)?;
-    show_each(rt, all, matcher)?;
-    show_found(rt, "filter_matcher", all.filter_matcher(matcher))?;
-    show_found(rt, "add_matcher", all.add_matcher(matcher))
+    show_found(rt, "select_single_matcher", one);
+    match all.select_matcher_iter(matcher) {
+        Ok(Some(matches)) => show_each(rt, matches),
+        Ok(None) => show(rt, "select_matcher_iter", "-"),
+        Err(fault) => show(rt, "select_matcher_iter", fault),
+    }
+    show_found(rt, "filter_matcher", all.filter_matcher(matcher));
+    show_found(rt, "add_matcher", all.add_matcher(matcher));
 }
 
-/// What a matcher selects below the nodes, one by one; `-` where there are no nodes.
-fn show_each(rt: &HostRuntime, all: &Selection<'_>, matcher: &Matcher) -> Option<()> {
-    let Some(matches) = all.select_matcher_iter(matcher).ok()? else {
-        return show(rt, "select_matcher_iter", "-");
-    };
-    print!(rt; "select_matcher_iter:").ok()?;
+/// What a matcher selects below the nodes, one by one.
+fn show_each(rt: &HostRuntime, matches: MatcherIter<'_, '_, '_>) {
+    begin(rt, "select_matcher_iter");
     for node in matches {
-        let value = node.id.value();
-        print!(rt; " {value}").ok()?;
+        show_next(rt, node.id);
     }
-    println!(rt; "").ok()
+    end(rt);
 }
 
 /// What the nodes of two selectors make together: `OTHER SELECTOR`.
-pub fn combine(rt: &HostRuntime, document: &Document, line: &str) -> Option<()> {
+pub fn combine(rt: &HostRuntime, document: &Document, line: &str) {
     let (other, text) = cut(line);
-    let all = document.select(text).ok()?;
-    let other = document.select(other).ok()?;
-    show_both(rt, &all, &other)
+    match (document.select(text), document.select(other)) {
+        (Ok(all), Ok(other)) => show_both(rt, &all, &other),
+        _ => show(rt, "select", "refused"),
+    }
 }
 
-fn show_both<'a>(rt: &HostRuntime, all: &Selection<'a>, other: &Selection<'a>) -> Option<()> {
-    show_found(rt, "filter_selection", all.filter_selection(other))?;
-    show_found(rt, "add_selection", all.add_selection(other))?;
-    show(rt, "is_selection", all.is_selection(other))?;
-    println!(rt; "{all:?}").ok()
+fn show_both<'a>(rt: &HostRuntime, all: &Selection<'a>, other: &Selection<'a>) {
+    show_found(rt, "filter_selection", all.filter_selection(other));
+    show_found(rt, "add_selection", all.add_selection(other));
+    show(rt, "is_selection", all.is_selection(other));
+    println!(rt; "{all:?}").ok();
 }
 
 /// What is read of the nodes that a selector selects: `NAME SELECTOR`.
-pub fn read(rt: &HostRuntime, document: &Document, line: &str) -> Option<()> {
+pub fn read(rt: &HostRuntime, document: &Document, line: &str) {
     let (name, text) = cut(line);
-    let all = document.select(text).ok()?;
-    read_first(rt, &all, name)?;
-    read_texts(rt, &all)
+    match document.select(text) {
+        Ok(all) => {
+            read_first(rt, &all, name);
+            read_texts(rt, &all);
+        }
+        Err(fault) => show(rt, "select", fault),
+    }
 }
 
-fn read_first(rt: &HostRuntime, all: &Selection<'_>, name: &str) -> Option<()> {
-    show(rt, "attrs", all.attrs().len())?;
-    show_some(rt, "attr", all.attr(name))?;
+fn read_first(rt: &HostRuntime, all: &Selection<'_>, name: &str) {
+    show(rt, "attrs", all.attrs().len());
+    show_some(rt, "attr", all.attr(name));
     let value = all.attr_or("id", "default");
-    println!(rt; "attr_or: {value}").ok()?;
-    show_some(rt, "id", all.id())?;
-    show_some(rt, "class", all.class())?;
+    println!(rt; "attr_or: {value}").ok();
+    show_some(rt, "id", all.id());
+    show_some(rt, "class", all.class());
     let flags = [
         ("has_attr", all.has_attr(name)),
         ("has_class", all.has_class(name)),
     ];
-    show_flags(rt, &flags)
+    show_flags(rt, &flags);
 }
 
-fn read_texts(rt: &HostRuntime, all: &Selection<'_>) -> Option<()> {
-    show_read(rt, "text", all.text())?;
-    show_read(rt, "immediate_text", all.immediate_text())?;
-    show_read(rt, "formatted_text", all.formatted_text())?;
-    show_read(rt, "html", all.html())?;
-    show_read(rt, "inner_html", all.inner_html())?;
-    show_some_read(rt, "try_html", all.try_html())?;
-    show_some_read(rt, "try_inner_html", all.try_inner_html())
+fn read_texts(rt: &HostRuntime, all: &Selection<'_>) {
+    show_read(rt, "text", all.text());
+    show_read(rt, "immediate_text", all.immediate_text());
+    show_read(rt, "formatted_text", all.formatted_text());
+    show_read(rt, "html", all.html());
+    show_read(rt, "inner_html", all.inner_html());
+    show_some_read(rt, "try_html", all.try_html());
+    show_some_read(rt, "try_inner_html", all.try_inner_html());
 }

@@ -1,6 +1,6 @@
 //! Calls of `TreeSink` on a `Document`.
 
-use crate::printing::{show, show_answer, show_edit, show_some};
+use crate::printing::{show, show_edit, show_read, show_some};
 use dom_query::{
     Attr, Attrs, Document, EditFault, ElementFlags, LocalName, NameParts, Namespace, NodeId,
     NodeOrText, QualName, QuirksMode, Text, TreeSink,
@@ -18,7 +18,8 @@ pub fn make(rt: &HostRuntime, document: &mut Document, line: &str) -> Option<()>
         "create_pi" => document.create_pi(name, rest),
         _ => return None,
     };
-    show_answer(rt, call, made.map(NodeId::value))
+    show_read(rt, call, made.map(NodeId::value));
+    Some(())
 }
 
 /// Makes an element with these attributes: a template, where the name is `template`, and one that
@@ -95,7 +96,8 @@ pub fn put(rt: &HostRuntime, document: &mut Document, line: &str) -> Option<()> 
         }
         _ => return None,
     };
-    show_edit(rt, call, edit)
+    show_edit(rt, call, edit);
+    Some(())
 }
 
 /// The node whose number this is, or else a text.
@@ -121,32 +123,33 @@ pub fn change(rt: &HostRuntime, document: &mut Document, line: &str) -> Option<(
         "reparent_children" => document.reparent_children(&id, &node_of(words)?),
         _ => return None,
     };
-    show_edit(rt, call, edit)
+    show_edit(rt, call, edit);
+    Some(())
 }
 
 /// Notes an error and the mode, and prints what the document has of them.
-pub fn note(rt: &HostRuntime, document: &mut Document, error: &str) -> Option<()> {
-    document.parse_error(error).ok()?;
+pub fn note(rt: &HostRuntime, document: &mut Document, error: &str) {
+    if let Err(fault) = document.parse_error(error) {
+        show(rt, "parse_error", fault);
+    }
     document.set_quirks_mode(QuirksMode::LimitedQuirks);
     for error in document.errors.as_slice() {
-        show(rt, "error", error.as_str())?;
+        show(rt, "error", error.as_str());
     }
-    show(
-        rt,
-        "limited quirks",
-        document.quirks_mode == QuirksMode::LimitedQuirks,
-    )
+    let is_limited = document.quirks_mode == QuirksMode::LimitedQuirks;
+    show(rt, "limited quirks", is_limited);
 }
 
 /// What a sink answers of a node: `N`.
 pub fn ask(rt: &HostRuntime, document: &Document, line: &str) -> Option<()> {
     let id = node_of(line)?;
     let root = document.get_document();
-    show(rt, "same_node", document.same_node(&id, &root))?;
+    show(rt, "same_node", document.same_node(&id, &root));
     let name = document.elem_name(&id).map(|name| name.local().as_str());
-    show_some(rt, "elem_name", name)?;
+    show_some(rt, "elem_name", name);
     let contents = document.get_template_contents(&id);
-    show_some(rt, "get_template_contents", contents.map(NodeId::value))?;
+    show_some(rt, "get_template_contents", contents.map(NodeId::value));
     let is_marked = document.is_mathml_annotation_xml_integration_point(&id);
-    show(rt, "is_mathml_annotation_xml_integration_point", is_marked)
+    show(rt, "is_mathml_annotation_xml_integration_point", is_marked);
+    Some(())
 }

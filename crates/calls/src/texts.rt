@@ -3,64 +3,71 @@
 use crate::printing::{show, show_read};
 use dom_md::formatting::formatted_node;
 use dom_query::{
-    EmphasisScope, FormatOpts, ListContext, ListKind, MDSerializer, NodeMd, NodeRef, Tokens, Tree,
-    escape_table_cell_inplace, fence_len, html_escape, push_escaped_chunk, serialize_md,
+    EmphasisScope, FormatOpts, ListContext, ListKind, MDSerializer, NodeMd, NodeRef, Token, Tokens,
+    Tree, escape_table_cell_inplace, fence_len, html_escape, push_escaped_chunk, serialize_md,
 };
 use named_calls::words::{cut, node_of, words_of};
 
 /// The Markdown of a node, by each call: `N`.
 pub fn write_node(rt: &HostRuntime, tree: &Tree, line: &str) -> Option<()> {
     let node = NodeRef::new(node_of(line)?, tree);
-    show_read(rt, "md", node.md(None))?;
-    show_read(rt, "serialize_md", serialize_md(&node, false, None))?;
-    let with_node = serialize_md(&node, true, None).ok()?;
-    show(rt, "serialize_md with the node", with_node)?;
+    show_read(rt, "md", node.md(None));
+    show_read(rt, "serialize_md", serialize_md(&node, false, None));
+    let with_node = serialize_md(&node, true, None);
+    show_read(rt, "serialize_md with the node", with_node);
     let serializer = MDSerializer::new(&node, None);
-    show_read(rt, "MDSerializer", serializer.serialize(true))
+    show_read(rt, "MDSerializer", serializer.serialize(true));
+    Some(())
 }
 
 /// The Markdown of a node without the elements of some names, by each call: `N NAME NAME ..`.
 pub fn write_without(rt: &HostRuntime, tree: &Tree, line: &str) -> Option<()> {
     let (word, names) = cut(line);
     let node = NodeRef::new(node_of(word)?, tree);
-    let names = words_of(rt.alloc(), names)?;
-    show_read(rt, "md", node.md(Some(&names)))?;
-    let text = serialize_md(&node, false, Some(&names)).ok()?;
-    show(rt, "serialize_md", text)?;
-    let serializer = MDSerializer::new(&node, Some(&names));
-    show_read(rt, "MDSerializer", serializer.serialize(false))
+    show_without(rt, &node, &words_of(rt.alloc(), names)?);
+    Some(())
+}
+
+fn show_without(rt: &HostRuntime, node: &NodeRef<'_>, names: &[&str]) {
+    show_read(rt, "md", node.md(Some(names)));
+    show_read(rt, "serialize_md", serialize_md(node, false, Some(names)));
+    let serializer = MDSerializer::new(node, Some(names));
+    show_read(rt, "MDSerializer", serializer.serialize(false));
 }
 
 /// The formatted text of a node: `N`.
 pub fn format(rt: &HostRuntime, tree: &Tree, line: &str) -> Option<()> {
     let node = NodeRef::new(node_of(line)?, tree);
-    show_read(rt, "formatted_text", node.formatted_text())?;
-    show_read(rt, "formatted_node", formatted_node(&node))
+    show_read(rt, "formatted_text", node.formatted_text());
+    show_read(rt, "formatted_node", formatted_node(&node));
+    Some(())
 }
 
 /// A chunk of text, escaped: `TEXT`.
 pub fn escape_chunk(rt: &HostRuntime, text: &str) -> Option<()> {
     let mut chunk = String::from_str(rt.alloc(), "x").ok()?;
     push_escaped_chunk(&mut chunk, text, true, true).ok()?;
-    show(rt, "push_escaped_chunk", chunk.as_str())
+    show(rt, "push_escaped_chunk", chunk.as_str());
+    Some(())
 }
 
 /// A cell of a table, escaped: `TEXT`.
 pub fn escape_cell(rt: &HostRuntime, text: &str) -> Option<()> {
     let mut cell = String::from_str(rt.alloc(), text).ok()?;
     escape_table_cell_inplace(&mut cell).ok()?;
-    show(rt, "escape_table_cell_inplace", cell.as_str())
+    show(rt, "escape_table_cell_inplace", cell.as_str());
+    Some(())
 }
 
 /// A text, escaped as the value of an attribute: `TEXT`.
-pub fn escape_value(rt: &HostRuntime, text: &str) -> Option<()> {
-    show_read(rt, "html_escape", html_escape(rt.alloc(), text))
+pub fn escape_value(rt: &HostRuntime, text: &str) {
+    show_read(rt, "html_escape", html_escape(rt.alloc(), text));
 }
 
 /// How long the fence of a text is: `TEXT`.
-pub fn measure_fence(rt: &HostRuntime, text: &str) -> Option<()> {
-    show(rt, "fence_len 1", fence_len(text, 1))?;
-    show(rt, "fence_len 3", fence_len(text, 3))
+pub fn measure_fence(rt: &HostRuntime, text: &str) {
+    show(rt, "fence_len 1", fence_len(text, 1));
+    show(rt, "fence_len 3", fence_len(text, 3));
 }
 
 /// A list that is numbered from here on at this offset, and one with marks: `NUMBER OFFSET`.
@@ -68,37 +75,38 @@ pub fn number_list(rt: &HostRuntime, line: &str) -> Option<()> {
     let (number, offset) = cut(line);
     let opts = FormatOpts::new().offset(offset.parse::<usize>().ok()?);
     let mut list = ListContext::new(opts, ListKind::Ol(number.parse::<u32>().ok()?));
-    show_list(rt, &list)?;
+    show_list(rt, &list);
     list.advance_ol_number();
-    show_list(rt, &list)?;
-    show_list(rt, &ListContext::new(opts, ListKind::Ul))?;
+    show_list(rt, &list);
+    show_list(rt, &ListContext::new(opts, ListKind::Ul));
     let end = list.linebreak();
     println!(rt; "linebreak: {end:?}").ok()
 }
 
-fn show_list(rt: &HostRuntime, list: &ListContext) -> Option<()> {
-    show_read(rt, "prefix", list.prefix(rt.alloc()))?;
-    show(rt, "offset", list.opts.offset)?;
-    show(rt, "list_indent_len", list.list_indent_len())
+fn show_list(rt: &HostRuntime, list: &ListContext) {
+    show_read(rt, "prefix", list.prefix(rt.alloc()));
+    show(rt, "offset", list.opts.offset);
+    show(rt, "list_indent_len", list.list_indent_len());
 }
 
 /// What a mark of emphasis stands for: `MARK`.
-pub fn read_mark(rt: &HostRuntime, mark: &str) -> Option<()> {
+pub fn read_mark(rt: &HostRuntime, mark: &str) {
     let scope = EmphasisScope::from(mark);
-    show(rt, "italic", scope.contains(EmphasisScope::ITALIC))?;
-    show(rt, "bold", scope.contains(EmphasisScope::BOLD))
+    show(rt, "italic", scope.contains(EmphasisScope::ITALIC));
+    show(rt, "bold", scope.contains(EmphasisScope::BOLD));
 }
 
 /// The tokens of a text: `TEXT`.
-pub fn cut_tokens(rt: &HostRuntime, text: &str) -> Option<()> {
+pub fn cut_tokens(rt: &HostRuntime, text: &str) {
     for token in Tokens::new(text) {
         match token {
-            Ok(token) => {
-                let (kind, start, end) = (token.kind, token.start, token.end);
-                println!(rt; "{kind:?} {start} {end}: {}", token.text).ok()?;
-            }
-            Err(fault) => println!(rt; "{fault}").ok()?,
-        }
+            Ok(token) => show_token(rt, &token),
+            Err(fault) => println!(rt; "{fault}").ok(),
+        };
     }
-    Some(())
+}
+
+fn show_token(rt: &HostRuntime, token: &Token<'_>) -> Option<()> {
+    let (kind, start, end) = (token.kind, token.start, token.end);
+    println!(rt; "{kind:?} {start} {end}: {}", token.text).ok()
 }

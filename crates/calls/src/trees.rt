@@ -1,6 +1,6 @@
 //! Calls of `Tree` that change it: moves, new nodes, texts and copies.
 
-use crate::printing::{show, show_answer, show_edit, show_ids};
+use crate::printing::{show_edit, show_ids_read, show_read};
 use dom_query::{EditFault, NodeEdit, NodeId, Place, Text, Tree};
 use named_calls::node_calls::edited;
 use named_calls::tree_calls::{cut_out, made, moved};
@@ -15,21 +15,24 @@ pub fn move_nodes(rt: &HostRuntime, tree: &mut Tree, line: &str) -> Option<()> {
         Some(other) => moved(tree, call, &id, &other)?,
         None => cut_out(tree, call, &id)?,
     };
-    show_edit(rt, call, edit)
+    show_edit(rt, call, edit);
+    Some(())
 }
 
 /// A call at a node that is lent: `N CALL WORDS`.
 pub fn edit_node(rt: &HostRuntime, tree: &mut Tree, line: &str) -> Option<()> {
     let (_, rest) = cut(line);
     let (call, _) = cut(rest);
-    show_edit(rt, call, edited(tree, line)?)
+    show_edit(rt, call, edited(tree, line)?);
+    Some(())
 }
 
 /// A new node: `CALL TEXT`.
 pub fn make_node(rt: &HostRuntime, tree: &mut Tree, line: &str) -> Option<()> {
     let (call, text) = cut(line);
     let made = made(tree, call, text)?;
-    show_answer(rt, call, made.map(NodeId::value))
+    show_read(rt, call, made.map(NodeId::value));
+    Some(())
 }
 
 /// A change of a node: `CALL N TEXT`.
@@ -46,7 +49,8 @@ pub fn change_node(rt: &HostRuntime, tree: &mut Tree, line: &str) -> Option<()> 
         }
         _ => return None,
     };
-    show_edit(rt, call, edit)
+    show_edit(rt, call, edit);
+    Some(())
 }
 
 /// Puts other contents into a node.
@@ -62,8 +66,9 @@ pub fn copy_nodes(rt: &HostRuntime, tree: &mut Tree, line: &str) -> Option<()> {
     let ids = nodes_of(tree.allocator(), words)?;
     match node_of(at) {
         Some(at) => show_edit(rt, call, put(tree, call, &ids, &at)?),
-        None => show_copies(rt, tree, call, &ids),
+        None => show_ids_read(rt, call, copied(tree, call, &ids)?),
     }
+    Some(())
 }
 
 /// Puts copies of nodes of this tree, or of one that is the same, behind the children of another.
@@ -76,17 +81,10 @@ fn put(tree: &mut Tree, call: &str, ids: &[NodeId], at: &NodeId) -> Option<Resul
 }
 
 /// Copies nodes of this tree, or of one that is the same, which then stand alone.
-fn show_copies(rt: &HostRuntime, tree: &mut Tree, call: &str, ids: &[NodeId]) -> Option<()> {
-    let made = match call {
-        "copy_nodes" => tree.copy_nodes(ids),
-        "merge" => {
-            let other = tree.try_clone().ok()?;
-            tree.merge(&other, ids)
-        }
-        _ => return None,
-    };
-    match made {
-        Ok(made) => show_ids(rt, call, &made),
-        Err(fault) => show(rt, call, fault),
+fn copied(tree: &mut Tree, call: &str, ids: &[NodeId]) -> Option<Result<Vec<NodeId>, EditFault>> {
+    if call == "copy_nodes" {
+        return Some(tree.copy_nodes(ids));
     }
+    let other = tree.try_clone().ok()?;
+    Some(tree.merge(&other, ids))
 }
