@@ -36,14 +36,8 @@ namespace_is (Other a) (Other b) h = ap Other ((bytes_eq-Decides a b).0 h)
 namespace_is _ _ h = absurd (true≢false (sym h))
 
 namespace_same : (a : Namespace) → same_namespace a a ≡ true
-namespace_same Namespace.None = refl
-namespace_same Html = refl
-namespace_same Svg = refl
-namespace_same MathMl = refl
-namespace_same XLink = refl
-namespace_same Xml = refl
-namespace_same XmlNs = refl
 namespace_same (Other a) = (bytes_eq-Decides a a).1 refl
+namespace_same _ = refl
 
 name_is : (a b : NameParts) → same_name a b ≡ true → a ≡ b
 name_is a b h =
