@@ -3,8 +3,8 @@ use Rattle.std.specs.Prelude.{ℕ, ◌≡◌, ◌<◌, List, Option, Some, lengt
 use Rattle.std.specs.Option.{IfSome}
 use Rattle.dom_nodes.specs.declared.node_data.TreeNode.{TreeNode}
 use Rattle.dom_links.specs.Lists.{stands_in, last}
-use Rattle.dom_links.specs.Forest.{parent_link, prev_link, next_link, first_link, last_link, contents_of, arena_ids, chain}
-use Rattle.dom_links.specs.Writes.{Joined}
+use Rattle.dom_links.specs.Forest.{parent_link, prev_link, next_link, first_link, last_link, chain}
+use Rattle.dom_links.specs.Writes.{Joined, Relinked}
 use Rattle.dom_links.specs.declared.ops.moves.InsertionPoint.{InsertionPoint}
 
 -- a node and all that follow it by next links
@@ -22,15 +22,10 @@ pub record IsPointIn (count : ℕ) (point : InsertionPoint) : Type 0 where
   pub right : IfSome point.right (λ n. n < count)
 
 -- the nodes now name this parent
-pub record ParentsSet (old new : List TreeNode) (moved : List ℕ) (owner : Option ℕ) : Type 0 where
-  pub same_length : length new ≡ length old
-  pub contents : contents_of new ≡ contents_of old
-  pub ids : arena_ids new ≡ arena_ids old
-  pub parents : (n : ℕ) → parent_link new n ≡ (if stands_in n moved then owner else parent_link old n)
-  pub prevs : (n : ℕ) → prev_link new n ≡ prev_link old n
-  pub nexts : (n : ℕ) → next_link new n ≡ next_link old n
-  pub firsts : (n : ℕ) → first_link new n ≡ first_link old n
-  pub lasts : (n : ℕ) → last_link new n ≡ last_link old n
+abbrev pub ParentsSet : List TreeNode → List TreeNode → List ℕ → Option ℕ → Type 0
+ParentsSet old new moved owner =
+    Relinked old new (λ n. if stands_in n moved then owner else parent_link old n) (next_link old) (prev_link old)
+    (first_link old) (last_link old)
 
 -- x and all that follow it now stand between left and right below owner
 pub record RunAttached (old new : List TreeNode) (x : ℕ) (owner left right : Option ℕ) : Type 0 where

@@ -22,15 +22,15 @@ one_more_set old nodes met owner i at d set h e =
       same_length = length-set nodes i node ∙ set.same_length;
       contents = map-kept (λ x. x.content) nodes i node d h refl ∙ set.contents;
       ids = map-kept (λ x. x.id) nodes i node d h refl ∙ set.ids;
-      parents = λ n. link-set (λ x. x.parent) nodes i node n h ∙ rw (set.parents n, stands_in-append met (at ∷ []) n, one-stands at n, e)
+      parents = λ n. link-set (λ x. x.parent) nodes i node h n ∙ rw (set.parents n, stands_in-append met (at ∷ []) n, one-stands at n, e)
           (elim (at == n) as (λ t. cond t owner (cond (stands_in n met) owner (parent_link old n)) ≡ cond (stands_in n met || t) owner (parent_link old n)) [
             | true ↦ (elim (stands_in n met) as (λ u. owner ≡ cond (u || true) owner (parent_link old n)) [ true ↦ refl | false ↦ refl ])
             | false ↦ (elim (stands_in n met) as (λ u. cond u owner (parent_link old n) ≡ cond (u || false) owner (parent_link old n)) [ true ↦ refl | false ↦ refl ])
           ]);
-      prevs = λ n. link-kept (λ x. x.prev_sibling) nodes i node d n h refl ∙ set.prevs n;
-      nexts = λ n. link-kept (λ x. x.next_sibling) nodes i node d n h refl ∙ set.nexts n;
-      firsts = λ n. link-kept (λ x. x.first_child) nodes i node d n h refl ∙ set.firsts n;
-      lasts = λ n. link-kept (λ x. x.last_child) nodes i node d n h refl ∙ set.lasts n;
+      prevs = λ n. link-kept (λ x. x.prev_sibling) nodes i node d h refl n ∙ set.prevs n;
+      nexts = λ n. link-kept (λ x. x.next_sibling) nodes i node d h refl n ∙ set.nexts n;
+      firsts = λ n. link-kept (λ x. x.first_child) nodes i node d h refl n ∙ set.firsts n;
+      lasts = λ n. link-kept (λ x. x.last_child) nodes i node d h refl n ∙ set.lasts n;
     }
 
 -- so many steps from x on, the nodes met so far have the parent, and `next` leads to the rest
