@@ -1,8 +1,6 @@
 -- Nodes are cut out and put elsewhere.
 pub mod Attach
 pub mod Cuts
-pub mod Fills
-pub mod Gaps
 pub mod Kept
 pub mod Acyclicity
 pub mod BlockLists
@@ -16,3 +14,5 @@ pub mod TwoSteps
 pub mod Unwrapping
 pub mod Dissolving
 pub mod Stripping
+pub mod OneCuts
+pub mod Owners

@@ -12,7 +12,7 @@ use Rattle.dom_links.specs.Forest.{StandsOnce, AreLinks, forest_of, children_of,
 use Rattle.dom_links.specs.Sound.{IsSoundArena, IsForest, IsHostAncestor, one_step, then_step, IsParentOrHost, contents_at}
 use Rattle.dom_links.specs.Validation.{LinkPath, one_link, Ends, LinksHold, LinksKnown, Agrees, IsLinked, ContentsHold, link_at, parent_or_host, contents_link}
 use Rattle.dom_links.proofs.forest.Places.{cases_Option, siblings_child, siblings_run}
-use Rattle.dom_links.proofs.moves.Fills.{owner_found, owner_none}
+use Rattle.dom_links.proofs.moves.Owners.{owner_found, owner_none}
 use Rattle.dom_links.proofs.forest.Grown.{within}
 use Rattle.dom_links.proofs.forest.Climbs.{fragment_is_top}
 use Rattle.dom_links.proofs.forest.Chains.{numbered, length-numbered}

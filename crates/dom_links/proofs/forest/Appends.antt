@@ -13,8 +13,8 @@ use Rattle.dom_links.specs.Growth.{with_node, lone, MayAppend}
 use Rattle.dom_links.proofs.forest.Neighbours.{without_one-none}
 use Rattle.dom_links.proofs.forest.Places.{children_mapped, get_or-map_all, length-map_from}
 use Rattle.dom_links.proofs.moves.Cuts.{one-stands}
-use Rattle.dom_links.proofs.moves.Fills.{in_own_run}
-use Rattle.dom_links.proofs.moves.Gaps.{Alone}
+use Rattle.dom_links.proofs.moves.Owners.{in_own_run}
+use Rattle.dom_links.proofs.moves.Owners.{Alone}
 use Rattle.dom_links.proofs.moves.Acyclicity.{further}
 use Rattle.dom_links.proofs.forest.Climbs.{contents_at-known}
 use Rattle.dom_links.proofs.forest.Grown.{slice_get-there, new_parentless, run-new, parent-more, contents-more, step-more, ways-more}

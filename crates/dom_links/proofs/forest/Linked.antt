@@ -16,7 +16,7 @@ use Rattle.dom_links.specs.Growth.{new_node, with_node, with_child, Appended}
 use Rattle.dom_links.specs.Writes.{Joined, LeftSet, LinkedLast, RightSet}
 use Rattle.dom_links.specs.ListWrites.{ParentsSet, RunAttached, next_chain}
 use Rattle.dom_links.proofs.moves.Cuts.{length-contents, one-stands}
-use Rattle.dom_links.proofs.moves.Gaps.{Alone}
+use Rattle.dom_links.proofs.moves.Owners.{Alone}
 use Rattle.dom_links.proofs.forest.Chains.{forest_of-arena}
 use Rattle.dom_links.proofs.moves.Kept.{forest-moved}
 use Rattle.dom_links.proofs.moves.BlockMoves.{run_put}

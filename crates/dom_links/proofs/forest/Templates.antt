@@ -15,7 +15,7 @@ use Rattle.dom_links.specs.Sound.{IsParentOrHost, IsHostAncestor, one_step, then
 use Rattle.dom_links.specs.Growth.{with_node, with_child, with_lone_template, with_template, Created, CreatedTemplate, MayAppend, MayAppendTemplate, AppendedTemplate}
 use Rattle.dom_links.proofs.forest.Places.{get_or-map_all, length-map_from}
 use Rattle.dom_links.proofs.moves.Cuts.{length-contents, one-stands}
-use Rattle.dom_links.proofs.moves.Gaps.{Alone}
+use Rattle.dom_links.proofs.moves.Owners.{Alone}
 use Rattle.dom_links.proofs.forest.Climbs.{contents_at-known}
 use Rattle.dom_links.proofs.moves.Kept.{forest-moved}
 use Rattle.dom_links.proofs.forest.Depth.{parent_inside}
@@ -191,75 +191,53 @@ no_contents forest m c past e = elim (contents-more Fragment forest m c e) [
   | inr new ↦ (let is = new.1 in cc)
 ]
 
-pub template_kept : (forest : Forest) (t : ℕ) (content : NodeData) → IsForest forest → MayAppendTemplate forest t content → IsForest (with_template t content forest)
-template_kept forest t content good may =
-    let n = length forest.content in
+-- a text at the end gives way to a node with contents, and the fragment that these are comes behind it
+filled : (xs : List NodeData) (children runs : List (List ℕ)) (content : NodeData) → IsForest (record { content = xs ++ Text [] ∷ []; children = children; runs = runs }) →
+    is_top content ≡ false → contents_named content ≡ Some (length xs + 1) →
+    IsForest (with_node Fragment (record { content = xs ++ content ∷ []; children = children; runs = runs }))
+filled xs children runs content good no_top named =
+    let n = length xs in
     let plain : NodeData = Text [] in
-    let inner : Forest = with_child t plain forest in
+    let inner : Forest = record { content = xs ++ plain ∷ []; children = children; runs = runs } in
     let outer : Forest = with_node Fragment inner in
-    let fine : MayAppend forest t plain = record { target_known = may.target_known; open_here = may.open_here; no_top = refl; free = λ c e. cc; apart = λ c e. cc } in
-    let kept : IsForest inner = child_kept forest t plain good fine in
-    let whole : IsForest outer = forest-more Fragment inner kept (λ c e. cc) in
-    let more = length_push forest.content plain in
-    let other = length_push forest.content content in
-    let all : List NodeData = (forest.content ++ content ∷ []) ++ Fragment ∷ [] in
-    let one : all ≡ forest.content ++ content ∷ (Fragment ∷ []) = append_assoc forest.content (content ∷ []) (Fragment ∷ []) in
-    let two : outer.content ≡ forest.content ++ plain ∷ (Fragment ∷ []) = append_assoc forest.content (plain ∷ []) (Fragment ∷ []) in
+    let whole : IsForest outer = forest-more Fragment inner good (λ c e. cc) in
+    let more = length_push xs plain in
+    let other = length_push xs content in
+    let all : List NodeData = (xs ++ content ∷ []) ++ Fragment ∷ [] in
+    let one : all ≡ xs ++ content ∷ (Fragment ∷ []) = append_assoc xs (content ∷ []) (Fragment ∷ []) in
+    let two : outer.content ≡ xs ++ plain ∷ (Fragment ∷ []) = append_assoc xs (plain ∷ []) (Fragment ∷ []) in
     let held : Held all outer content n (n + 1) = record {
-      long = length_push (forest.content ++ content ∷ []) Fragment ∙ (omega (arith, more, other, length_push (forest.content ++ plain ∷ []) Fragment));
-      same = λ m. rw (one, two) (swapped forest.content (Fragment ∷ []) content plain m);
-      no_top = may.no_top;
-      named = may.named;
+      long = length_push (xs ++ content ∷ []) Fragment ∙ (omega (arith, more, other, length_push (xs ++ plain ∷ []) Fragment));
+      same = λ m. rw (one, two) (swapped xs (Fragment ∷ []) content plain m);
+      no_top = no_top;
+      named = named;
       not_root = λ e. absurd (omega (arith, e));
-      fragment = ap (λ o. option_map_or is_fragment o false) (slice_get-there (forest.content ++ plain ∷ []) Fragment (n + 1) (omega (arith, more)));
+      fragment = ap (λ o. option_map_or is_fragment o false) (slice_get-there (xs ++ plain ∷ []) Fragment (n + 1) (omega (arith, more)));
       unnamed = λ m e. elim (contents-more Fragment inner m (n + 1) e) [
-        | inl old ↦ (let known = within is_fragment inner.content (n + 1) (kept.contents_known m (n + 1) old).1 in absurd (omega (arith, more)))
+        | inl old ↦ (let known = within is_fragment inner.content (n + 1) (good.contents_known m (n + 1) old).1 in absurd (omega (arith, more)))
         | inr new ↦ (let is = new.1 in cc)
       ];
       ends = λ k s. elim s [
-        | inl up ↦ (let known = parent_inside inner k (n + 1) kept (sym (parent-more Fragment inner k) ∙ up) in absurd (omega (arith, more)))
+        | inl up ↦ (let known = parent_inside inner k (n + 1) good (sym (parent-more Fragment inner k) ∙ up) in absurd (omega (arith, more)))
         | inr has ↦ no_contents inner (n + 1) k (omega (arith, more)) has
       ];
       apart = λ e. absurd (omega (arith, e));
     } in
-    let same : length (forest.content ++ plain ∷ []) ≡ length (forest.content ++ content ∷ []) = more ∙ sym other in
-    let build : ℕ → Forest = λ k. record { content = all; children = outer.children; runs = inner.runs ++ (k ∷ []) ∷ [] } in
+    let same : length (xs ++ plain ∷ []) ≡ length (xs ++ content ∷ []) = more ∙ sym other in
+    let build : ℕ → Forest = λ k. record { content = all; children = outer.children; runs = runs ++ (k ∷ []) ∷ [] } in
     subst IsForest (ap build same) (held_forest all outer content n (n + 1) whole held)
+
+pub template_kept : (forest : Forest) (t : ℕ) (content : NodeData) → IsForest forest → MayAppendTemplate forest t content → IsForest (with_template t content forest)
+template_kept forest t content good may =
+    let inner : Forest = with_child t (Text []) forest in
+    let fine : MayAppend forest t (Text []) = record { target_known = may.target_known; open_here = may.open_here; no_top = refl; free = λ c e. cc; apart = λ c e. cc } in
+    filled forest.content inner.children inner.runs content (child_kept forest t (Text []) good fine) may.no_top may.named
 
 -- the same where both stand alone
 pub lone_template_kept : (forest : Forest) (content : NodeData) → IsForest forest → is_top content ≡ false → contents_named content ≡ Some (length forest.content + 1) → IsForest (with_node Fragment (with_node content forest))
 lone_template_kept forest content good no_top named =
-    let n = length forest.content in
-    let plain : NodeData = Text [] in
-    let inner : Forest = with_node plain forest in
-    let outer : Forest = with_node Fragment inner in
-    let kept : IsForest inner = forest-more plain forest good (λ c e. cc) in
-    let whole : IsForest outer = forest-more Fragment inner kept (λ c e. cc) in
-    let more = length_push forest.content plain in
-    let other = length_push forest.content content in
-    let all : List NodeData = (forest.content ++ content ∷ []) ++ Fragment ∷ [] in
-    let one : all ≡ forest.content ++ content ∷ (Fragment ∷ []) = append_assoc forest.content (content ∷ []) (Fragment ∷ []) in
-    let two : outer.content ≡ forest.content ++ plain ∷ (Fragment ∷ []) = append_assoc forest.content (plain ∷ []) (Fragment ∷ []) in
-    let held : Held all outer content n (n + 1) = record {
-      long = length_push (forest.content ++ content ∷ []) Fragment ∙ (omega (arith, more, other, length_push (forest.content ++ plain ∷ []) Fragment));
-      same = λ m. rw (one, two) (swapped forest.content (Fragment ∷ []) content plain m);
-      no_top = no_top;
-      named = named;
-      not_root = λ e. absurd (omega (arith, e));
-      fragment = ap (λ o. option_map_or is_fragment o false) (slice_get-there (forest.content ++ plain ∷ []) Fragment (n + 1) (omega (arith, more)));
-      unnamed = λ m e. elim (contents-more Fragment inner m (n + 1) e) [
-        | inl old ↦ (let known = within is_fragment inner.content (n + 1) (kept.contents_known m (n + 1) old).1 in absurd (omega (arith, more)))
-        | inr new ↦ (let is = new.1 in cc)
-      ];
-      ends = λ k s. elim s [
-        | inl up ↦ (let known = parent_inside inner k (n + 1) kept (sym (parent-more Fragment inner k) ∙ up) in absurd (omega (arith, more)))
-        | inr has ↦ no_contents inner (n + 1) k (omega (arith, more)) has
-      ];
-      apart = λ e. absurd (omega (arith, e));
-    } in
-    let same : length (forest.content ++ plain ∷ []) ≡ length (forest.content ++ content ∷ []) = more ∙ sym other in
-    let build : ℕ → Forest = λ k. record { content = all; children = outer.children; runs = inner.runs ++ (k ∷ []) ∷ [] } in
-    subst IsForest (ap build same) (held_forest all outer content n (n + 1) whole held)
+    let inner : Forest = with_node (Text []) forest in
+    filled forest.content inner.children inner.runs content (forest-more (Text []) forest good (λ c e. cc)) no_top named
 
 pub appended_template : (old mid one new : List TreeNode) (t x : ℕ) (content : NodeData) → IsArenaOf (forest_of old) old → x ≡ length old → t < length old → Created old mid content → Created mid one Fragment → Moved one new (end_of t) x →
     AppendedTemplate old new t content

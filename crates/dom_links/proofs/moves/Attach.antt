@@ -1,15 +1,12 @@
--- What is read at a node of an arena, and a node that was cut out.
-use Rattle.std.proofs.Common.{ℕ, ◌≡◌, ◌<◌, true, List, [], ◌∷◌, Option, refl, sym, ◌∙◌, arith, length, get_or}
+-- What is read at a node of an arena.
+use Rattle.std.proofs.Common.{ℕ, ◌≡◌, ◌<◌, List, Option, sym, ◌∙◌, arith, length, get_or}
 use Rattle.std.specs.Option.{IfSome}
-use Rattle.std.proofs.lemmas.Bool.{eq-eqb}
 use Rattle.dom_nodes.specs.declared.node_data.TreeNode.{TreeNode}
-use Rattle.dom_links.specs.Lists.{stands_in, first, last, after, before}
-use Rattle.dom_links.specs.Forest.{Forest, StandsOnce, IsArenaOf, children_of, parent, siblings}
-use Rattle.dom_links.specs.Moves.{cut}
+use Rattle.dom_links.specs.Lists.{first, last, after, before}
+use Rattle.dom_links.specs.Forest.{Forest, IsArenaOf, children_of, parent, siblings}
 use Rattle.dom_links.proofs.forest.Neighbours.{first-stands, last-stands}
 use Rattle.dom_links.proofs.forest.Written.{link-read}
-use Rattle.dom_links.proofs.moves.Cuts.{length-contents, one-stands, parent-cut, run-cut, if_some}
-use Rattle.dom_links.proofs.moves.Gaps.{Alone}
+use Rattle.dom_links.proofs.moves.Cuts.{length-contents, if_some}
 
 -- what is read at a node is the forest's
 pub read_parent : (forest : Forest) (nodes : List TreeNode) (i x : ℕ) (d : TreeNode) → IsArenaOf forest nodes → x < length nodes → i ≡ x → (get_or nodes i d).parent ≡ parent forest x
@@ -36,12 +33,3 @@ pub last_known : (forest : Forest) (nodes : List TreeNode) (t : ℕ) (o : Option
 last_known forest nodes t o arena e =
     let long : length nodes ≡ length forest.content = length-contents forest nodes arena.links in
     if_some o (λ m. m < length nodes) (λ m some. let there : m < length forest.content = (arena.once.in_children t m (last-stands (children_of forest t) m (sym e ∙ some))).0 in omega arith)
-
-pub alone-cut : (forest : Forest) (x : ℕ) → StandsOnce forest → x < length forest.content → Alone (cut (x ∷ []) forest) x
-alone-cut forest x once h =
-    let here : stands_in x (x ∷ []) ≡ true = one-stands x x ∙ eq-eqb x x refl in
-    record {
-      known = h;
-      no_parent = rw (parent-cut (x ∷ []) forest x, here) refl;
-      alone = run-cut (x ∷ []) forest x (omega (arith, once.runs_each)) ∙ rw here refl;
-    }

@@ -1,5 +1,5 @@
 -- A list of nodes is cut out of its lists: where the numbers then stand, and which links they then have.
-use Rattle.std.proofs.Common.{ℕ, ◌≡◌, ◌<◌, true, false, List, [], ◌++◌, Option, Some, None, refl, sym, ap, ◌∙◌, subst, arith, cond, inl, inr, length}
+use Rattle.std.proofs.Common.{ℕ, ◌≡◌, ◌<◌, true, false, List, [], ◌∷◌, ◌++◌, Option, Some, None, refl, sym, ap, ◌∙◌, subst, arith, cond, inl, inr, length}
 use Rattle.std.specs.Prelude.{◌==◌, ◌||◌, ◌&&◌, not}
 use Rattle.std.specs.Option.{is_none}
 use Rattle.std.proofs.lemmas.List.{length-map}
@@ -11,9 +11,9 @@ use Rattle.dom_links.specs.Moves.{cut}
 use Rattle.dom_links.specs.Writes.{Joined}
 pub use Rattle.dom_links.specs.ListMoves.{AreNodes}
 use Rattle.dom_links.specs.ListWrites.{ParentsSet, next_chain}
-use Rattle.dom_links.proofs.forest.Neighbours.{stands_in-append, stands_in-without, distinct-without, distinct_parts, names-true, names-same, first-stands, last-stands}
+use Rattle.dom_links.proofs.forest.Neighbours.{stands_in-append, stands_in-without, distinct-without, distinct_parts, names-true, names-same, not_named, first-stands, last-stands}
 use Rattle.dom_links.proofs.forest.Places.{cases_Option, siblings_child, siblings_run, siblings_once, Beside, beside, length-map_from}
-use Rattle.dom_links.proofs.moves.Cuts.{children-cut, parent-cut, run-cut, run-cut_past, length-contents}
+use Rattle.dom_links.proofs.moves.Cuts.{children-cut, parent-cut, run-cut, run-cut_past, length-contents, one_known}
 use Rattle.dom_links.proofs.forest.Chains.{chain_all}
 use Rattle.dom_links.proofs.moves.BlockLists.{Apart, apart_back, without_none, without_end, after-cut_end, after-end, before-cut_end, before-end, first-cut_end}
 
@@ -95,6 +95,13 @@ once-cut_list forest moved once are =
       no_run = λ p n h. no_run-cut forest moved once p n h;
     }
 
+-- a node is a list of nodes
+pub one_node : (forest : Forest) (x : ℕ) → x < length forest.content → AreNodes forest (x ∷ [])
+one_node forest x known = record { once = (refl, tt); known = one_known forest x known }
+
+pub once-cut : (forest : Forest) (x : ℕ) → StandsOnce forest → x < length forest.content → StandsOnce (cut (x ∷ []) forest)
+once-cut forest x once known = once-cut_list forest (x ∷ []) once (one_node forest x known)
+
 -- x and the nodes after it in its list
 pub record IsTail (forest : Forest) (x : ℕ) (front moved : List ℕ) : Type 0 where
   pub known : x < length forest.content
@@ -145,10 +152,7 @@ pub after-cut_list : (forest : Forest) (x n : ℕ) (front moved : List ℕ) → 
     after (siblings (cut moved forest) n) n ≡ cond (names (last front) n) None (after (siblings forest n) n)
 after-cut_list forest x n front moved once tail h =
     let facts = tail_facts forest x front moved once tail in
-    let not_last : stands_in n front ≡ false → names (last front) n ≡ false = λ f. elim (cases_Bool (names (last front) n)) [
-      | inr g ↦ g
-      | inl t ↦ absurd (true≢false (sym (last-stands front n (names-true (last front) n t)) ∙ f))
-    ] in
+    let not_last = not_named (last front) front n (last-stands front) in
     elim (cases_Bool (stands_in n moved)) [
       | inl t ↦ (let off : stands_in n front ≡ false = apart_back front moved facts.apart n t in
           rw (siblings-cut_in forest moved n once h t, inside_row forest x n front moved once tail t, not_last off) (sym (after-end front moved n off)))
@@ -167,10 +171,7 @@ before-cut_list forest x n front moved once tail h =
     elim (cases_Bool (stands_in n moved)) [
       | inl t ↦ rw (siblings-cut_in forest moved n once h t, inside_row forest x n front moved once tail t)
           (before-end front moved x n facts.are.once tail.starts t)
-      | inr out ↦ (let other : (x == n) ≡ false = elim (cases_Bool (x == n)) [
-        | inr g ↦ g
-        | inl t ↦ absurd (true≢false (sym (first-stands moved n (tail.starts ∙ names-true (Some x) n t)) ∙ out))
-      ] in
+      | inr out ↦ (let other : (x == n) ≡ false = not_named (Some x) moved n (λ m e. first-stands moved m (tail.starts ∙ e)) out in
           elim (cases_Bool (stands_in n front)) [
             | inl s ↦ rw (siblings-cut_out forest moved n once h out, front_row forest x n front moved once tail s, without_end moved front facts.apart, other)
                 (sym (before-cut_end front moved n out))
@@ -225,10 +226,7 @@ next_chain-tail forest old shortened opened x front moved once links tail join o
     chain_all (next_link opened) moved (length opened) facts.are.once
     (λ n s. (let known : n < length forest.content = facts.are.known n s in
     let off : stands_in n front ≡ false = apart_back front moved facts.apart n s in
-    let other : names (last front) n ≡ false = elim (cases_Bool (names (last front) n)) [
-      | inr g ↦ g
-      | inl t ↦ absurd (true≢false (sym (last-stands front n (names-true (last front) n t)) ∙ off))
-    ] in
+    let other = not_named (last front) front n (last-stands front) off in
     open'.nexts n ∙ join.nexts n ∙ rw (other, links.nexts n (omega arith), inside_row forest x n front moved once tail s) (after-end front moved n off)))
     (λ n s. (let known : n < length forest.content = facts.are.known n s in omega arith))
 

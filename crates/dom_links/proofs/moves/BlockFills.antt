@@ -8,10 +8,10 @@ use Rattle.dom_nodes.specs.declared.node_data.TreeNode.{TreeNode}
 use Rattle.dom_links.specs.Lists.{stands_in, IsDistinct, first, last, after, before, names}
 use Rattle.dom_links.specs.Forest.{Forest, StandsOnce, AreLinks, IsArenaOf, children_of, run_of, parent, siblings, run_under, next_link, chain}
 use Rattle.dom_links.specs.ListWrites.{RunAttached, next_chain}
-use Rattle.dom_links.proofs.forest.Neighbours.{distinct_parts, names-true, names-same, first-stands, last-stands}
+use Rattle.dom_links.proofs.forest.Neighbours.{distinct_parts, names-true, names-same, not_named, first-stands, last-stands}
 use Rattle.dom_links.proofs.forest.Places.{cases_Option, siblings_child, siblings_run}
 use Rattle.dom_links.proofs.moves.Cuts.{length-contents}
-use Rattle.dom_links.proofs.moves.Fills.{owner_same, owner_none, owner_found, no_child, in_own_run}
+use Rattle.dom_links.proofs.moves.Owners.{owner_same, owner_none, owner_found, no_child, in_own_run}
 use Rattle.dom_links.proofs.forest.Chains.{chain_all}
 use Rattle.dom_links.proofs.moves.BlockLists.{Apart, stands_in-block, distinct-block, not_front, not_back, after-inside, after-outside, before-inside, before-outside, first-block, last-block}
 use Rattle.dom_links.proofs.moves.BlockCuts.{AreNodes}
@@ -92,34 +92,19 @@ siblings-put_out forest filled moved owner front back n once fill h e =
 siblings-lone : (forest : Forest) (moved : List ℕ) (n : ℕ) → AreAlone forest moved → stands_in n moved ≡ true → siblings forest n ≡ moved
 siblings-lone forest moved n lone s = siblings_run forest n (lone.no_parent n s) ∙ lone.alone n s
 
-not_named_last : (front : List ℕ) (n : ℕ) → stands_in n front ≡ false → names (last front) n ≡ false
-not_named_last front n f = elim (cases_Bool (names (last front) n)) [
-  | inr g ↦ g
-  | inl t ↦ absurd (true≢false (sym (last-stands front n (names-true (last front) n t)) ∙ f))
-]
-
-not_named_first : (back : List ℕ) (n : ℕ) → stands_in n back ≡ false → names (first back) n ≡ false
-not_named_first back n f = elim (cases_Bool (names (first back) n)) [
-  | inr g ↦ g
-  | inl t ↦ absurd (true≢false (sym (first-stands back n (names-true (first back) n t)) ∙ f))
-]
-
 pub after-put : (forest filled : Forest) (moved : List ℕ) (owner : Option ℕ) (front back : List ℕ) (x y n : ℕ) → StandsOnce forest → FilledList forest filled moved owner front back → first moved ≡ Some x → last moved ≡ Some y → n < length forest.content →
     after (siblings filled n) n ≡ cond (y == n) (first back) (cond (names (last front) n) (Some x) (after (siblings forest n) n))
 after-put forest filled moved owner front back x y n once fill starts ends h =
     let parts = distinct_parts front back fill.row_once in
     elim (cases_Bool (stands_in n moved)) [
       | inl t ↦ (let off : stands_in n front ≡ false = not_front front back n (fill.not_inside n t) in
-          rw (siblings-put_in forest filled moved owner front back n once fill t, siblings-lone forest moved n fill.lone t, not_named_last front n off)
+          rw (siblings-put_in forest filled moved owner front back n once fill t, siblings-lone forest moved n fill.lone t, not_named (last front) front n (last-stands front) off)
           (after-inside front moved back n fill.lone.are.once off t ∙ ap (λ o. cond (names o n) (first back) (after moved n)) ends))
-      | inr out ↦ (let other : (y == n) ≡ false = elim (cases_Bool (y == n)) [
-        | inr g ↦ g
-        | inl t ↦ absurd (true≢false (sym (last-stands moved n (ends ∙ names-true (Some y) n t)) ∙ out))
-      ] in
+      | inr out ↦ (let other : (y == n) ≡ false = not_named (Some y) moved n (λ m e. last-stands moved m (ends ∙ e)) out in
           rw (other, siblings-put_out forest filled moved owner front back n once fill h out)
           (elim (cases_Bool (stands_in n (front ++ back))) [
             | inl t ↦ rw (t, (fill.row_is n t).2) (after-outside front moved back x n parts.0 starts out)
-            | inr g ↦ rw (g, not_named_last front n (not_front front back n g)) refl
+            | inr g ↦ rw (g, not_named (last front) front n (last-stands front) (not_front front back n g)) refl
           ]))
     ]
 
@@ -129,16 +114,13 @@ before-put forest filled moved owner front back x y n once fill starts ends h =
     let parts = distinct_parts front back fill.row_once in
     elim (cases_Bool (stands_in n moved)) [
       | inl t ↦ (let off : stands_in n back ≡ false = not_back front back n (fill.not_inside n t) in
-          rw (siblings-put_in forest filled moved owner front back n once fill t, siblings-lone forest moved n fill.lone t, not_named_first back n off)
+          rw (siblings-put_in forest filled moved owner front back n once fill t, siblings-lone forest moved n fill.lone t, not_named (first back) back n (first-stands back) off)
           (before-inside front moved back n fill.lone.are.once off t ∙ ap (λ o. cond (names o n) (last front) (before moved n)) starts))
-      | inr out ↦ (let other : (x == n) ≡ false = elim (cases_Bool (x == n)) [
-        | inr g ↦ g
-        | inl t ↦ absurd (true≢false (sym (first-stands moved n (starts ∙ names-true (Some x) n t)) ∙ out))
-      ] in
+      | inr out ↦ (let other : (x == n) ≡ false = not_named (Some x) moved n (λ m e. first-stands moved m (starts ∙ e)) out in
           rw (other, siblings-put_out forest filled moved owner front back n once fill h out)
           (elim (cases_Bool (stands_in n (front ++ back))) [
             | inl t ↦ rw (t, (fill.row_is n t).2) (before-outside front moved back y n parts.1 ends out)
-            | inr g ↦ rw (g, not_named_first back n (not_back front back n g)) refl
+            | inr g ↦ rw (g, not_named (first back) back n (first-stands back) (not_back front back n g)) refl
           ]))
     ]
 

@@ -8,36 +8,37 @@ use Rattle.dom_links.specs.Forest.{Forest, StandsOnce, children_of, run_of, pare
 use Rattle.dom_links.specs.Moves.{Gap, end_of, front_of, before_node, after_node, children_with, run_with, put}
 use Rattle.dom_links.proofs.forest.Neighbours.{names-true, names-same, Around}
 use Rattle.dom_links.proofs.forest.Places.{cases_Option, siblings_child, siblings_run, siblings_once, Beside, beside, get_or-map_all, get_or-map_past, length-map_from}
-use Rattle.dom_links.proofs.moves.Fills.{in_own_run, no_child}
+use Rattle.dom_links.proofs.moves.Owners.{in_own_run, no_child}
 use Rattle.dom_links.proofs.moves.BlockFills.{AreAlone, FilledList}
 
-pub before_split_list : (front back : List ℕ) (t : ℕ) (moved : List ℕ) → stands_in t front ≡ false → put_before t moved (front ++ t ∷ back) ≡ front ++ (moved ++ t ∷ back)
-before_split_list [] back t moved h = rw (eq-eqb t t refl) refl
-before_split_list (n ∷ front) back t moved h =
+-- what puts nodes beside t goes past the numbers before it
+past : (put_in : List ℕ → List ℕ) (t : ℕ) → ((n : ℕ) (ns : List ℕ) → (n == t) ≡ false → put_in (n ∷ ns) ≡ n ∷ put_in ns) → (front rest : List ℕ) → stands_in t front ≡ false → put_in (front ++ rest) ≡ front ++ put_in rest
+past put_in t skips [] rest h = refl
+past put_in t skips (n ∷ front) rest h =
     let two = or_parts (n == t) (stands_in t front) h in
-    let off : (n == t) ≡ false = two.0 in
-    rw off (ap (λ ns. n ∷ ns) (before_split_list front back t moved two.1))
+    skips n (front ++ rest) two.0 ∙ ap (λ ns. n ∷ ns) (past put_in t skips front rest two.1)
+
+past_before : (t : ℕ) (moved front rest : List ℕ) → stands_in t front ≡ false → put_before t moved (front ++ rest) ≡ front ++ put_before t moved rest
+past_before t moved = past (put_before t moved) t (λ n ns off. rw off refl)
+
+past_after : (t : ℕ) (moved front rest : List ℕ) → stands_in t front ≡ false → put_after t moved (front ++ rest) ≡ front ++ put_after t moved rest
+past_after t moved = past (put_after t moved) t (λ n ns off. rw off refl)
+
+pub before_split_list : (front back : List ℕ) (t : ℕ) (moved : List ℕ) → stands_in t front ≡ false → put_before t moved (front ++ t ∷ back) ≡ front ++ (moved ++ t ∷ back)
+before_split_list front back t moved h =
+    let here : put_before t moved (t ∷ back) ≡ moved ++ t ∷ back = rw (eq-eqb t t refl) refl in
+    past_before t moved front (t ∷ back) h ∙ ap (λ ns. front ++ ns) here
 
 pub before_none_list : (ns : List ℕ) (t : ℕ) (moved : List ℕ) → stands_in t ns ≡ false → put_before t moved ns ≡ ns
-before_none_list [] t moved h = refl
-before_none_list (n ∷ ns) t moved h =
-    let two = or_parts (n == t) (stands_in t ns) h in
-    let off : (n == t) ≡ false = two.0 in
-    rw off (ap (λ ms. n ∷ ms) (before_none_list ns t moved two.1))
+before_none_list ns t moved h = ap (put_before t moved) (sym (append-nil ns)) ∙ past_before t moved ns [] h ∙ append-nil ns
 
 pub after_split_list : (front back : List ℕ) (t : ℕ) (moved : List ℕ) → stands_in t front ≡ false → put_after t moved (front ++ t ∷ back) ≡ (front ++ t ∷ []) ++ (moved ++ back)
-after_split_list [] back t moved h = rw (eq-eqb t t refl) refl
-after_split_list (n ∷ front) back t moved h =
-    let two = or_parts (n == t) (stands_in t front) h in
-    let off : (n == t) ≡ false = two.0 in
-    rw off (ap (λ ns. n ∷ ns) (after_split_list front back t moved two.1))
+after_split_list front back t moved h =
+    let here : put_after t moved (t ∷ back) ≡ t ∷ (moved ++ back) = rw (eq-eqb t t refl) refl in
+    past_after t moved front (t ∷ back) h ∙ ap (λ ns. front ++ ns) here ∙ sym (append_assoc front (t ∷ []) (moved ++ back))
 
 pub after_absent_list : (ns : List ℕ) (t : ℕ) (moved : List ℕ) → stands_in t ns ≡ false → put_after t moved ns ≡ ns
-after_absent_list [] t moved h = refl
-after_absent_list (n ∷ ns) t moved h =
-    let two = or_parts (n == t) (stands_in t ns) h in
-    let off : (n == t) ≡ false = two.0 in
-    rw off (ap (λ ms. n ∷ ms) (after_absent_list ns t moved two.1))
+after_absent_list ns t moved h = ap (put_after t moved) (sym (append-nil ns)) ∙ past_after t moved ns [] h ∙ append-nil ns
 
 -- the moved nodes are not in the list of another node
 not_beside : (forest : Forest) (moved : List ℕ) (t n : ℕ) → StandsOnce forest → AreAlone forest moved → stands_in t moved ≡ false → t < length forest.content → stands_in n moved ≡ true → stands_in n (siblings forest t) ≡ false

@@ -199,18 +199,18 @@ list_moved old new gap moved are arena =
       kept = λ allowed good. subst IsForest (sym is) (forest-moved_list (forest_of old) gap moved good are allowed);
     }
 
--- cutting out nodes that don't stay where they are keeps a forest
+-- cutting out nodes keeps a forest, where one that stays where it is is cut out alone
 
 pub cut_parents : (forest : Forest) (moved : List ℕ) → ReparentedList forest (cut moved forest) moved None
 cut_parents forest moved = record { parents = λ n. parent-cut moved forest n; contents = λ n. refl }
 
-pub forest-cut_list : (forest : Forest) (moved : List ℕ) → IsForest forest → AreNodes forest moved → EachOf moved (λ x. stays forest x ≡ false) → IsForest (cut moved forest)
-forest-cut_list forest moved good are moves = record {
+pub forest-cut_out : (forest : Forest) (moved : List ℕ) → IsForest forest → AreNodes forest moved → EachOf moved (λ n. stays forest n ≡ true → moved ≡ n ∷ []) → IsForest (cut moved forest)
+forest-cut_out forest moved good are lone = record {
   once = once-cut_list forest moved good.once are;
   rooted = good.rooted;
   alone = λ n hn s. (let was = good.alone n hn s in
       elim (cases_Bool (stands_in n moved)) [
-        | inl t ↦ absurd (true≢false (sym s ∙ moves n t))
+        | inl t ↦ (parent-cut moved forest n ∙ rw t refl, run-cut moved forest n (omega (arith, good.once.runs_each)) ∙ rw t (lone n t s))
         | inr g ↦ (parent-cut moved forest n ∙ rw g was.0, run-cut moved forest n (omega (arith, good.once.runs_each)) ∙ rw (g, was.1) (rw g refl))
       ]);
   parents_allow = λ p n some. elim (cases_Bool (stands_in n moved)) [
@@ -221,6 +221,9 @@ forest-cut_list forest moved good are moves = record {
   contents_once = good.contents_once;
   acyclic = no_circle_list forest (cut moved forest) moved None (cut_parents forest moved) good.acyclic (λ o is x s below. cc);
 }
+
+pub forest-cut_list : (forest : Forest) (moved : List ℕ) → IsForest forest → AreNodes forest moved → EachOf moved (λ x. stays forest x ≡ false) → IsForest (cut moved forest)
+forest-cut_list forest moved good are moves = forest-cut_out forest moved good are (λ n s t. absurd (true≢false (sym t ∙ moves n s)))
 
 -- children don't stay where they are
 pub children_move : (forest : Forest) (x : ℕ) → IsForest forest → EachOf (children_of forest x) (λ n. stays forest n ≡ false)

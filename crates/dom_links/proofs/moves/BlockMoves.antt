@@ -2,7 +2,7 @@
 use Rattle.std.proofs.Common.{ℕ, ◌≡◌, ◌<◌, true, false, List, [], ◌∷◌, ◌++◌, Option, Some, None, refl, sym, ap, ◌∙◌, subst, arith, cond, length}
 use Rattle.std.specs.Prelude.{◌==◌}
 use Rattle.std.specs.Option.{IfSome}
-use Rattle.std.proofs.lemmas.Bool.{eq-eqb, eqb-true, ne_eqb, or_parts}
+use Rattle.std.proofs.lemmas.Bool.{eq-eqb, eqb-true, or_parts}
 use Rattle.dom_nodes.specs.declared.node_data.TreeNode.{TreeNode}
 use Rattle.dom_links.specs.declared.gap.Moving.{Moving}
 use Rattle.dom_links.specs.declared.gap.Moving.TheVariants.{Node, WithLater, WholeList}
@@ -19,7 +19,7 @@ use Rattle.dom_links.proofs.forest.Places.{siblings_child, siblings_once, Beside
 use Rattle.dom_links.proofs.moves.Cuts.{length-contents, one-stands, parent_known, prev_known, next_known}
 use Rattle.dom_links.proofs.moves.Attach.{first_known, last_known}
 use Rattle.dom_links.proofs.forest.Chains.{forest_of-arena}
-use Rattle.dom_links.proofs.moves.BlockCuts.{AreNodes, IsTail, TailFacts, tail_facts, arena-cut_list}
+use Rattle.dom_links.proofs.moves.BlockCuts.{AreNodes, one_node, IsTail, TailFacts, tail_facts, arena-cut_list}
 use Rattle.dom_links.proofs.moves.BlockFills.{AreAlone, arena-put}
 use Rattle.dom_links.proofs.moves.BlockGaps.{put-end_of, put-front_of, put-before, put-after}
 use Rattle.dom_links.proofs.moves.BlockKept.{alone-cut_list, list_moved}
@@ -142,14 +142,8 @@ right_known forest nodes (after_node t) o arena h e = next_known forest nodes t 
 
 -- the nodes that are moved are cut out, and put at a gap
 
-pub no_other : (t x : ℕ) → (x ≡ t → ⊥) → stands_in t (x ∷ []) ≡ false
-no_other t x ne = one-stands x t ∙ ne_eqb x t ne
-
 pub moved_are : (forest : Forest) (moving : Moving) → StandsOnce forest → moving_id moving < length forest.content → AreNodes forest (moved_nodes forest moving)
-moved_are forest (Node x) once h = record {
-  once = (refl, tt);
-  known = λ n s. subst (λ (k : ℕ). k < length forest.content) (eqb-true x n (sym (one-stands x n) ∙ s)) h;
-}
+moved_are forest (Node x) once h = one_node forest x h
 moved_are forest (WithLater x) once h = later_are forest x once h
 moved_are forest (WholeList x) once h = record { once = siblings_once forest x once; known = λ n s. Beside.known (beside forest x n once s) }
 

@@ -11,13 +11,13 @@ use Rattle.dom_links.specs.Sound.{one_step, then_step, Allowed, IsForest, MayPla
 use Rattle.dom_links.specs.ListMoves.{AllowedList, MovedList, ChildrenRemoved, Reparents, MayWrap, Replaced, Wrapped, Unwrapped, element_at, element_above, wrapper, without_wrapper, with_later}
 use Rattle.dom_links.proofs.forest.Neighbours.{around, first-stands}
 use Rattle.dom_links.proofs.forest.Places.{cases_Option, siblings_once}
-use Rattle.dom_links.proofs.moves.Cuts.{once-cut}
-use Rattle.dom_links.proofs.moves.Attach.{alone-cut}
-use Rattle.dom_links.proofs.moves.Fills.{parent-filled_same, parent-filled_other}
-use Rattle.dom_links.proofs.moves.Gaps.{filled-before}
+use Rattle.dom_links.proofs.moves.Cuts.{no_other, one_here}
+use Rattle.dom_links.proofs.moves.BlockCuts.{once-cut, one_node}
+use Rattle.dom_links.proofs.moves.BlockFills.{parent-put_in, parent-put_out}
+use Rattle.dom_links.proofs.moves.BlockGaps.{put-before}
 use Rattle.dom_links.proofs.forest.Depth.{parent_inside}
 use Rattle.dom_links.proofs.walks.SiblingWalks.{not_beside_below}
-use Rattle.dom_links.proofs.moves.BlockKept.{children_are, children_move, children_removed, list_moved}
+use Rattle.dom_links.proofs.moves.BlockKept.{alone-cut_list, children_are, children_move, children_removed, list_moved}
 use Rattle.dom_links.proofs.moves.BlockMoves.{all_children}
 
 -- no node at all is cut out or put anywhere
@@ -108,14 +108,16 @@ replaces old middle new t x beside' out = record {
 
 pub one_parent : (forest : Forest) (x w : ℕ) → StandsOnce forest → Allowed forest (before_node x) w → parent (moved_to (w ∷ []) (before_node x) forest) w ≡ parent (moved_to (w ∷ []) (before_node x) forest) x
 one_parent forest x w once allowed =
-    let middle = cut (w ∷ []) forest in
-    let after' = moved_to (w ∷ []) (before_node x) forest in
+    let moved : List ℕ = w ∷ [] in
+    let middle = cut moved forest in
+    let after' = moved_to moved (before_node x) forest in
     let once' = once-cut forest w once allowed.known in
     let known : x < length middle.content = allowed.target_known in
+    let out = no_other x w (MayPlace.apart allowed.may) in
     let parts = around x (siblings middle x) (siblings_once middle x once') (once'.placed x known) in
-    let fill = filled-before middle w x once' (alone-cut forest w once allowed.known) (MayPlace.apart allowed.may) known parts in
-    parent-filled_same middle after' w (parent middle x) parts.front (x ∷ parts.back) once' fill
-    ∙ sym (parent-filled_other middle after' w (parent middle x) parts.front (x ∷ parts.back) x fill (MayPlace.apart allowed.may))
+    let fill = put-before middle moved x once' (alone-cut_list forest moved once (one_node forest w allowed.known)) out known parts in
+    parent-put_in middle after' moved (parent middle x) parts.front (x ∷ parts.back) w once' fill (one_here w)
+    ∙ sym (parent-put_out middle after' moved (parent middle x) parts.front (x ∷ parts.back) x fill out)
 
 pub into_wrapper : (forest : Forest) (x w : ℕ) → IsForest forest → MayWrap forest x w → IsForest (moved_to (w ∷ []) (before_node x) forest) → Allowed (moved_to (w ∷ []) (before_node x) forest) (end_of w) x
 into_wrapper forest x w good may good' =

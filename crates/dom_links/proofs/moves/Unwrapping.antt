@@ -12,10 +12,12 @@ use Rattle.dom_nodes.specs.Kinds.{is_element}
 use Rattle.dom_links.specs.ListMoves.{IsBare, element_at, wrapper, wrapped, unwrapped, without_wrapper}
 use Rattle.dom_links.proofs.forest.Neighbours.{around, stands_in-append, without-append, without_one-none}
 use Rattle.dom_links.proofs.forest.Places.{siblings_once, get_or-map_all, get_or-map_past, length-map_from}
-use Rattle.dom_links.proofs.moves.Cuts.{children-cut, parent-cut, run-cut, one-stands, once-cut}
-use Rattle.dom_links.proofs.moves.Attach.{alone-cut}
-use Rattle.dom_links.proofs.moves.Fills.{parent-filled_same, parent-filled_other, once-filled, only_one, no_child}
-use Rattle.dom_links.proofs.moves.Gaps.{before_split, before_none, filled-before, filled-end_of}
+use Rattle.dom_links.proofs.moves.Cuts.{children-cut, no_other, one_here, parent-cut, run-cut, one-stands}
+use Rattle.dom_links.proofs.moves.BlockCuts.{once-cut, one_node}
+use Rattle.dom_links.proofs.moves.BlockFills.{once-put, parent-put_in, parent-put_out}
+use Rattle.dom_links.proofs.moves.BlockGaps.{before_none_list, before_split_list, put-before, put-end_of}
+use Rattle.dom_links.proofs.moves.BlockKept.{alone-cut_list}
+use Rattle.dom_links.proofs.moves.Owners.{only_one, no_child}
 use Rattle.dom_links.proofs.forest.Grown.{within}
 use Rattle.dom_links.proofs.forest.Depth.{step_inside}
 use Rattle.dom_links.proofs.moves.BlockLists.{not_front, not_back}
@@ -58,19 +60,19 @@ run_put forest gap y n h =
 -- a node that isn't y, beside t
 run_beside : (forest : Forest) (t y n : ℕ) → n < length forest.runs → (y ≡ n → ⊥) → run_of (moved_to (y ∷ []) (before_node t) forest) n ≡ put_before t (y ∷ []) (without (y ∷ []) (run_of forest n))
 run_beside forest t y n h ne =
-    let out : stands_in n (y ∷ []) ≡ false = one-stands y n ∙ ne_eqb y n ne in
+    let out : stands_in n (y ∷ []) ≡ false = no_other n y ne in
     run_put forest (before_node t) y n h ∙ rw (out, run-cut (y ∷ []) forest n h, out) refl
 
 -- y itself, beside t
 run_beside_it : (forest : Forest) (t y : ℕ) → y < length forest.runs → t < length forest.runs → (y ≡ t → ⊥) → run_of (moved_to (y ∷ []) (before_node t) forest) y ≡ put_before t (y ∷ []) (without (y ∷ []) (run_of forest t))
 run_beside_it forest t y h ht ne =
-    let out : stands_in t (y ∷ []) ≡ false = one-stands y t ∙ ne_eqb y t ne in
-    let here : stands_in y (y ∷ []) ≡ true = one-stands y y ∙ eq-eqb y y refl in
+    let out : stands_in t (y ∷ []) ≡ false = no_other t y ne in
+    let here : stands_in y (y ∷ []) ≡ true = one_here y in
     run_put forest (before_node t) y y h ∙ rw (here, run-cut (y ∷ []) forest t ht, out) refl
 
 run_into : (forest : Forest) (t y n : ℕ) → n < length forest.runs → (y ≡ n → ⊥) → run_of (moved_to (y ∷ []) (end_of t) forest) n ≡ without (y ∷ []) (run_of forest n)
 run_into forest t y n h ne =
-    let out : stands_in n (y ∷ []) ≡ false = one-stands y n ∙ ne_eqb y n ne in
+    let out : stands_in n (y ∷ []) ≡ false = no_other n y ne in
     run_put forest (end_of t) y n h ∙ rw (out, run-cut (y ∷ []) forest n h, out) refl
 
 -- there and back
@@ -90,7 +92,7 @@ absent front back y z ne f b =
 there_and_back : (x w : ℕ) (ns : List ℕ) → (x ≡ w → ⊥) → IsDistinct ns → stands_in w ns ≡ false →
     without (w ∷ []) (put_before w (x ∷ []) (without (x ∷ []) (without (x ∷ []) (put_before x (w ∷ []) (without (w ∷ []) ns))))) ≡ ns
 there_and_back x w ns ne once out = elim (cases_Bool (stands_in x ns)) [
-  | inr f ↦ rw (without_one-none ns w out, before_none ns x w f, without_one-none ns x f, without_one-none ns x f, before_none ns w x out, without_one-none ns w out) refl
+  | inr f ↦ rw (without_one-none ns w out, before_none_list ns x (w ∷ []) f, without_one-none ns x f, without_one-none ns x f, before_none_list ns w (x ∷ []) out, without_one-none ns w out) refl
   | inl t ↦ (let parts = around x ns once t in
       let front = parts.front in
       let back = parts.back in
@@ -98,10 +100,10 @@ there_and_back x w ns ne once out = elim (cases_Bool (stands_in x ns)) [
       let w_front : stands_in w front ≡ false = not_front front (x ∷ back) w out' in
       let w_rest : stands_in w (x ∷ back) ≡ false = not_back front (x ∷ back) w out' in
       let w_back : stands_in w back ≡ false = (or_parts (x == w) (stands_in w back) w_rest).1 in
-      let there : put_before x (w ∷ []) (front ++ x ∷ back) ≡ front ++ w ∷ x ∷ back = before_split front back x w parts.not_front in
+      let there : put_before x (w ∷ []) (front ++ x ∷ back) ≡ front ++ w ∷ x ∷ back = before_split_list front back x (w ∷ []) parts.not_front in
       let gone : without (x ∷ []) (front ++ w ∷ x ∷ back) ≡ front ++ w ∷ back = without_second front back x w ne parts.not_front parts.not_back in
       let still : without (x ∷ []) (front ++ w ∷ back) ≡ front ++ w ∷ back = without_one-none (front ++ w ∷ back) x (absent front back x w ne parts.not_front parts.not_back) in
-      let again : put_before w (x ∷ []) (front ++ w ∷ back) ≡ front ++ x ∷ w ∷ back = before_split front back w x w_front in
+      let again : put_before w (x ∷ []) (front ++ w ∷ back) ≡ front ++ x ∷ w ∷ back = before_split_list front back w (x ∷ []) w_front in
       let out_again : without (w ∷ []) (front ++ x ∷ w ∷ back) ≡ front ++ x ∷ back = without_second front back w x (λ e. ne (sym e)) w_front w_back in
       ap (λ ms. without (w ∷ []) (put_before w (x ∷ []) (without (x ∷ []) (without (x ∷ []) (put_before x (w ∷ []) ms))))) (without_one-none ns w out ∙ parts.is)
       ∙ ap (λ ms. without (w ∷ []) (put_before w (x ∷ []) (without (x ∷ []) (without (x ∷ []) ms)))) there
@@ -113,7 +115,7 @@ there_and_back x w ns ne once out = elim (cases_Bool (stands_in x ns)) [
 -- the same, on a list without both
 both_absent : (x w : ℕ) (ns : List ℕ) → stands_in x ns ≡ false → stands_in w ns ≡ false →
     without (w ∷ []) (put_before w (x ∷ []) (without (x ∷ []) (without (x ∷ []) (put_before x (w ∷ []) (without (w ∷ []) ns))))) ≡ ns
-both_absent x w ns f out = rw (without_one-none ns w out, before_none ns x w f, without_one-none ns x f, without_one-none ns x f, before_none ns w x out, without_one-none ns w out) refl
+both_absent x w ns f out = rw (without_one-none ns w out, before_none_list ns x (w ∷ []) f, without_one-none ns x f, without_one-none ns x f, before_none_list ns w (x ∷ []) out, without_one-none ns w out) refl
 
 same_forest : (one two : Forest) → one.content ≡ two.content → one.children ≡ two.children → one.runs ≡ two.runs → one ≡ two
 same_forest one two e f g =
@@ -156,18 +158,18 @@ parents_wrapped forest x p w b =
     let beside = moved_to (w ∷ []) (before_node x) forest in
     let once' = once-cut forest w once b.w_known in
     let parts = around x (siblings middle x) (siblings_once middle x once') (once'.placed x b.x_known) in
-    let fill = filled-before middle w x once' (alone-cut forest w once b.w_known) (λ e. b.differ (sym e)) b.x_known parts in
-    let out : stands_in x (w ∷ []) ≡ false = one-stands w x ∙ ne_eqb w x (λ e. b.differ (sym e)) in
-    let beside_w : parent beside w ≡ Some p = parent-filled_same middle beside w (parent middle x) parts.front (x ∷ parts.back) once' fill ∙ parent-cut (w ∷ []) forest x ∙ rw out b.above in
-    let once'' = once-filled middle beside w (parent middle x) parts.front (x ∷ parts.back) once' fill in
+    let out = no_other x w (λ e. b.differ (sym e)) in
+    let fill = put-before middle (w ∷ []) x once' (alone-cut_list forest (w ∷ []) once (one_node forest w b.w_known)) out b.x_known parts in
+    let beside_w : parent beside w ≡ Some p = parent-put_in middle beside (w ∷ []) (parent middle x) parts.front (x ∷ parts.back) w once' fill (one_here w) ∙ parent-cut (w ∷ []) forest x ∙ rw out b.above in
+    let once'' = once-put middle beside (w ∷ []) (parent middle x) parts.front (x ∷ parts.back) once' fill in
     let between = cut (x ∷ []) beside in
     let inside = wrapped x w forest in
     let cut_once = once-cut beside x once'' b.x_known in
-    let fill' = filled-end_of between x w cut_once (alone-cut beside x once'' b.x_known) b.w_known in
-    let out' : stands_in w (x ∷ []) ≡ false = one-stands x w ∙ ne_eqb x w b.differ in
+    let fill' = put-end_of between (x ∷ []) w cut_once (alone-cut_list beside (x ∷ []) once'' (one_node beside x b.x_known)) b.w_known in
+    let out' = no_other w x b.differ in
     record {
-      of_x = parent-filled_same between inside x (Some w) (children_of between w) [] cut_once fill';
-      of_w = parent-filled_other between inside x (Some w) (children_of between w) [] w fill' b.differ ∙ parent-cut (x ∷ []) beside w ∙ rw out' beside_w;
+      of_x = parent-put_in between inside (x ∷ []) (Some w) (children_of between w) [] x cut_once fill' (one_here x);
+      of_w = parent-put_out between inside (x ∷ []) (Some w) (children_of between w) [] w fill' out' ∙ parent-cut (x ∷ []) beside w ∙ rw out' beside_w;
     }
 
 wrapper_wrapped : (forest : Forest) (x p w : ℕ) → Bare forest x p w → wrapper (wrapped x w forest) x ≡ Some w

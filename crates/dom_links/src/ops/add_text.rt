@@ -91,7 +91,7 @@ fn put_new_text(nodes: &mut Vec<TreeNode>, gap: Gap, text: &str) -> Result<(), E
 }
 
 /// Moves one node to a gap.
-#[tactic(auto, using(crate::proofs::moves::BlockMoves::no_other))]
+#[tactic(auto, using(crate::proofs::moves::Cuts::no_other))]
 fn put_alone(nodes: &mut [TreeNode], gap: Gap, x: NodeId)
     requires sound { IsSoundArena nodes.old }
     requires allowed { Allowed (forest_of nodes.old) gap x }

@@ -65,7 +65,7 @@ pub fn remove_children(nodes: &mut [TreeNode], x: NodeId)
 }
 
 /// Puts a node right before another, and cuts that one out.
-#[tactic(auto, using(crate::proofs::moves::BlockMoves::no_other))]
+#[tactic(auto, using(crate::proofs::moves::Cuts::no_other))]
 pub fn replace_with(nodes: &mut [TreeNode], t: NodeId, x: NodeId)
     requires linked { IsArenaOf (forest_of nodes.old) nodes.old }
     requires target_known { t < length nodes.old }
@@ -78,7 +78,7 @@ pub fn replace_with(nodes: &mut [TreeNode], t: NodeId, x: NodeId)
 }
 
 /// Puts w right before x, and then x to the end of the children of w.
-#[tactic(auto, using(crate::proofs::moves::BlockMoves::no_other))]
+#[tactic(auto, using(crate::proofs::moves::Cuts::no_other))]
 pub fn wrap_node(nodes: &mut [TreeNode], x: NodeId, w: NodeId)
     requires linked { IsArenaOf (forest_of nodes.old) nodes.old }
     requires known { x < length nodes.old }

@@ -78,7 +78,7 @@ fn replace_children(nodes: &mut Vec<TreeNode>, x: NodeId, text: &str) -> Result<
 }
 
 /// Cuts the children of a node out, and makes another node its only child.
-#[tactic(auto, using(crate::proofs::moves::BlockMoves::no_other))]
+#[tactic(auto, using(crate::proofs::moves::Cuts::no_other))]
 fn set_only_child(nodes: &mut [TreeNode], x: NodeId, child: NodeId)
     requires sound { IsSoundArena nodes.old }
     requires allowed { Allowed (forest_of nodes.old) (end_of x) child }

@@ -55,7 +55,7 @@ pub fn create_template(nodes: &mut Vec<TreeNode>, content: NodeData) -> Result<N
 
 /// Makes a node as the last child of another, and right after it a fragment, for its contents: both
 /// or none. Whether that is allowed is the caller's condition for a forest.
-#[tactic(auto, using(crate::proofs::moves::BlockMoves::no_other))]
+#[tactic(auto, using(crate::proofs::moves::Cuts::no_other))]
 pub fn append_template_of(
     nodes: &mut Vec<TreeNode>,
     t: NodeId,

@@ -4,7 +4,8 @@ use Rattle.dom_links.specs.Lists.{before, after}
 use Rattle.dom_links.specs.Forest.{IsArenaOf, forest_of, parent, siblings}
 use Rattle.dom_links.proofs.moves.Kept.{removed}
 use Rattle.dom_links.proofs.forest.Written.{link-read}
-use Rattle.dom_links.proofs.moves.Cuts.{arena-cut, parent_known, prev_known, next_known}
+use Rattle.dom_links.proofs.moves.Cuts.{parent_known, prev_known, next_known}
+use Rattle.dom_links.proofs.moves.OneCuts.{arena-cut}
 use Rattle.dom_links.proofs.ops.TreeNodeOps.remove_from_parent.Goals as goal
 
 -- what is read at x is the forest's

@@ -2,7 +2,7 @@ use Rattle.std.proofs.Common.{◌∷◌, arith, sym, subst, take}
 use Rattle.dom_links.specs.Forest.{forest_of}
 use Rattle.dom_links.proofs.moves.Cuts.{length-contents}
 use Rattle.dom_links.proofs.copies.Gathering.{IsGathered, all_gathered, apart_from_last, front_more, gather_more, last_known, nothing_cut, part_known, start_known}
-use Rattle.dom_links.proofs.moves.BlockMoves.{no_other}
+use Rattle.dom_links.proofs.moves.Cuts.{no_other}
 use Rattle.dom_links.proofs.ops.insertions.gather.Goals as goal
 
 pub returns-in_default-clause-arena : goal.returns-in_default-clause-arena
