@@ -5,12 +5,12 @@ use Rattle.std.specs.Option.{option_map_or, IfSome}
 use Rattle.std.specs.Borrow.{Bor}
 use Rattle.std.specs.Global.{Vec}
 use Rattle.std.specs.Prelude.{Result, Err, IfErr, IfOk, MatchResult, OnOk, vec_len}
-use Rattle.std.proofs.lemmas.Bool.{cases_eq, ne_eqb, true≢false}
+use Rattle.std.proofs.lemmas.Bool.{cases_eq, ne_eqb}
 use Rattle.std.proofs.lemmas.List.{drop_more, length_push}
 use Rattle.dom_nodes.specs.declared.fault.EditFault.{EditFault}
-use Rattle.dom_nodes.specs.declared.fault.EditFault.TheVariants.{TooManyNodes, Memory, UnknownNode, NoChildrenHere, RootOrFragment, Cycle, BadContents, Markup}
+use Rattle.dom_nodes.specs.declared.fault.EditFault.TheVariants.{TooManyNodes, Memory, UnknownNode}
 use Rattle.dom_nodes.specs.declared.node_data.NodeData.{NodeData}
-use Rattle.dom_nodes.specs.declared.node_data.NodeData.TheVariants.{Document, Fragment, Doctype, Text, Comment, Element, ProcessingInstruction}
+use Rattle.dom_nodes.specs.declared.node_data.NodeData.TheVariants.{Fragment, Element}
 use Rattle.dom_nodes.specs.declared.node_data.TreeNode.{TreeNode}
 use Rattle.dom_nodes.specs.Kinds.{contents_named, is_fragment}
 use Rattle.dom_links.specs.Copies.{Extends, copied_below, copied_data, copy_numbers, data_at, root_numbers, node_count, with_copies, with_node_below}
@@ -24,7 +24,7 @@ use Rattle.dom_links.specs.Sound.{IsForest, contents_at}
 use Rattle.dom_links.specs.Trees.{NoTrees, Tree, Trees, contents_list, trees}
 use Rattle.dom_links.specs.Walk.{IsNodeOf, IsWithin, later, row_on}
 use Rattle.dom_links.proofs.forest.Places.{cases_Option, siblings_child, siblings_run, get_or-map_all}
-use Rattle.dom_links.proofs.moves.Cuts.{length-contents, one-stands}
+use Rattle.dom_links.proofs.moves.Cuts.{length-contents, one-stands, one_known}
 use Rattle.dom_links.proofs.forest.Depth.{parent_inside, trees-none, trees-some}
 use Rattle.dom_links.proofs.forest.Grown.{slice_get-before, children-more, run-more, within}
 use Rattle.dom_links.proofs.forest.Nodes.{node_read}
@@ -162,17 +162,26 @@ node_count-copies source p (Tree n contents children later) forest =
     let whole = with_copies source (Some (length forest.content)) children held in
     omega (arith, node_count-below p (copied_data (length forest.content) (data_at source n)) forest, node_count-copies source None contents made, node_count-copies source (Some (length forest.content)) children held, node_count-copies source p later whole)
 
+-- what each new node keeps that stands alone, or below a node where it may, copies keep
+pub copies_keep : (source : Forest) (Keeps : Forest → Type 0) (May : Option ℕ → Type 0) → May None → ((forest : Forest) → Keeps forest → May (Some (length forest.content))) →
+    ((p : Option ℕ) (content : NodeData) (forest : Forest) → May p → Keeps forest → Keeps (with_node_below p (copied_data (length forest.content) content) forest)) →
+    (p : Option ℕ) (ts : Trees) (forest : Forest) → May p → Keeps forest → Keeps (with_copies source p ts forest)
+copies_keep source Keeps May alone below new p NoTrees forest may kept = kept
+copies_keep source Keeps May alone below new p (Tree n contents children later) forest may kept =
+    copies_keep source Keeps May alone below new p later _ may
+    (copies_keep source Keeps May alone below new (Some (length forest.content)) children _ (below forest kept)
+    (copies_keep source Keeps May alone below new None contents _ alone (new p (data_at source n) forest may kept)))
+
+-- the same of what every new node keeps
+pub all_copies_keep : (source : Forest) (Keeps : Forest → Type 0) → ((p : Option ℕ) (content : NodeData) (forest : Forest) → Keeps forest → Keeps (with_node_below p (copied_data (length forest.content) content) forest)) →
+    (p : Option ℕ) (ts : Trees) (forest : Forest) → Keeps forest → Keeps (with_copies source p ts forest)
+all_copies_keep source Keeps new p ts forest kept = copies_keep source Keeps (λ _. Unit {0}) tt (λ f k. tt) (λ q content f may k. new q content f k) p ts forest tt kept
+
 pub node_count-row : (source : Forest) (rows : List Row) (forest : Forest) → length forest.content ≤ length (with_rows source rows forest).content
 node_count-row source [] forest = omega arith
 node_count-row source (row ∷ rows) forest = omega (arith, node_count-row source rows forest, node_count-copies source (Some row.parent) (trees source (row_on source false (Some row.first))) (with_rows source rows forest))
 
 -- ---- the steps
-
-one_known : (source : Forest) (n : ℕ) → n < length source.content → (m : ℕ) → stands_in m (n ∷ []) ≡ true → m < length source.content
-one_known source n known m s = elim (cases_eq n m) [
-  | inl e ↦ subst (λ (k : ℕ). k < length source.content) e known
-  | inr ne ↦ absurd (true≢false (sym s ∙ one-stands n m ∙ ne_eqb n m ne))
-]
 
 pub one_tree : (source : Forest) (p : Option ℕ) (n : ℕ) (forest : Forest) → IsForest source → n < length source.content →
     with_copies source p (trees source (n ∷ [])) forest ≡
@@ -182,14 +191,8 @@ one_tree source p n forest good known =
     ∙ ap (λ ts. with_copies source p ts (with_copies source (Some (length forest.content)) (trees source (children_of source n)) (with_copies source None (trees source (contents_list source n)) (with_node_below p (copied_data (length forest.content) (data_at source n)) forest)))) (trees-none source)
 
 no_contents : (o : Option NodeData) → option_map_or is_fragment o false ≡ true → option_and_then contents_named o ≡ None
-no_contents None h = refl
-no_contents (Some Document) h = refl
-no_contents (Some Fragment) h = refl
 no_contents (Some (Element e)) h = cc
-no_contents (Some (Doctype a b c)) h = refl
-no_contents (Some (Text a)) h = refl
-no_contents (Some (Comment a)) h = refl
-no_contents (Some (ProcessingInstruction a b)) h = refl
+no_contents _ h = refl
 
 -- a fragment that is held names no contents itself
 pub held_none : (source : Forest) (n c : ℕ) → IsForest source → contents_at source n ≡ Some c → contents_at source c ≡ None
@@ -395,12 +398,7 @@ node_count-held source n good known some = elim (cases_Option (contents_at sourc
 pub larger : (one other : Forest) (fault : EditFault) → length one.content ≤ length other.content → IsTooLarge one fault → IsTooLarge other fault
 larger one other TooManyNodes few h = omega arith
 larger one other Memory few h = tt
-larger one other UnknownNode few h = h
-larger one other NoChildrenHere few h = h
-larger one other RootOrFragment few h = h
-larger one other Cycle few h = h
-larger one other BadContents few h = h
-larger one other (Markup f) few h = h
+larger one other _ few h = h
 
 -- the copy of a node, and of its contents, has no room
 pub no_room : (source : Forest) (p : Option ℕ) (n count : ℕ) (forest : Forest) (fault : EditFault) → IsForest source → n < length source.content → count ≡ length forest.content →
@@ -414,11 +412,7 @@ no_room source p n count forest TooManyNodes good known here h =
       | inr both ↦ (let more = node_count-held source n good known both.1 in omega (arith, both.0))
     ]
 no_room source p n count forest UnknownNode good known here h = h
-no_room source p n count forest NoChildrenHere good known here h = h
-no_room source p n count forest RootOrFragment good known here h = h
-no_room source p n count forest Cycle good known here h = h
-no_room source p n count forest BadContents good known here h = h
-no_room source p n count forest (Markup f) good known here h = h
+no_room source p n count forest _ good known here h = h
 
 -- the copy of its contents has no room
 pub no_room_held : (source : Forest) (p : Option ℕ) (n c count : ℕ) (forest : Forest) (fault : EditFault) → IsForest source → n < length source.content → contents_at source n ≡ Some c → count ≡ length forest.content + 1 →
@@ -432,11 +426,7 @@ no_room_held source p n c count forest TooManyNodes good known is one h =
       | inr both ↦ absurd (both.1 (sym (named_at source c) ∙ held_none source n c good is))
     ]
 no_room_held source p n c count forest UnknownNode good known is one h = h
-no_room_held source p n c count forest NoChildrenHere good known is one h = h
-no_room_held source p n c count forest RootOrFragment good known is one h = h
-no_room_held source p n c count forest Cycle good known is one h = h
-no_room_held source p n c count forest BadContents good known is one h = h
-no_room_held source p n c count forest (Markup f) good known is one h = h
+no_room_held source p n c count forest _ good known is one h = h
 
 pub plain_made : (source : Forest) (rows rows1 : List Row) (n k : ℕ) (p : Option ℕ) (forest mid : Forest) → IsForest source → n < length source.content → contents_at source n ≡ None → k ≡ length forest.content →
     rows1 ≡ rows ++ row_from (first (children_of source n)) k → mid ≡ with_node_below p (copied_data k (data_at source n)) forest →

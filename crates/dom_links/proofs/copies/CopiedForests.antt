@@ -5,9 +5,10 @@ use Rattle.std.specs.Option.{option_map, option_map_or}
 use Rattle.std.proofs.lemmas.Bool.{cases_Bool, eqb-true, eq-eqb, or_right}
 use Rattle.std.proofs.lemmas.List.{length_push}
 use Rattle.dom_nodes.specs.declared.fault.EditFault.{EditFault}
-use Rattle.dom_nodes.specs.declared.fault.EditFault.TheVariants.{TooManyNodes, Memory, UnknownNode, NoChildrenHere, RootOrFragment, Cycle, BadContents, Markup}
+use Rattle.dom_nodes.specs.declared.fault.EditFault.TheVariants.{TooManyNodes, Memory}
+use Rattle.dom_nodes.specs.declared.node_data.Element.{Element}
 use Rattle.dom_nodes.specs.declared.node_data.NodeData.{NodeData}
-use Rattle.dom_nodes.specs.declared.node_data.NodeData.TheVariants.{Document, Fragment, Doctype, Text, Comment, Element, ProcessingInstruction}
+use Rattle.dom_nodes.specs.declared.node_data.NodeData.TheVariants.{Document, Fragment, Element as AnElement}
 use Rattle.dom_nodes.specs.Kinds.{contents_named, is_element, is_fragment, is_top, children_allowed}
 use Rattle.dom_nodes.specs.declared.node_data.TreeNode.{TreeNode}
 use Rattle.dom_links.specs.Copying.{AreNodesOf, IsTooLarge}
@@ -18,60 +19,40 @@ use Rattle.dom_links.specs.Growth.{lone, with_child, with_node}
 use Rattle.dom_links.specs.Sound.{IsForest, IsSoundArena, children_allowed_at, contents_at, stays}
 use Rattle.dom_links.specs.Trees.{NoTrees, Tree, Trees, contents_list, trees}
 use Rattle.dom_links.proofs.forest.Places.{cases_Option}
-use Rattle.dom_links.proofs.moves.Cuts.{length-contents, one-stands}
+use Rattle.dom_links.proofs.moves.Cuts.{length-contents, one_known}
 use Rattle.dom_links.proofs.forest.Chains.{forest_of-arena}
 use Rattle.dom_links.proofs.forest.Depth.{here_stands, later_stands, trees-none, trees-some}
 use Rattle.dom_links.proofs.forest.Grown.{forest-more, slice_get-before, slice_get-there, within}
 use Rattle.dom_links.proofs.forest.Templates.{child_kept, lone_template_kept, template_kept}
-use Rattle.dom_links.proofs.copies.Copied.{all_known, shrunk, named_at, node_count-below, node_count-copies, held_none}
+use Rattle.dom_links.proofs.copies.Copied.{all_copies_keep, all_known, shrunk, named_at, node_count-below, node_count-copies, held_none}
 
 -- ---- the data of a copy
 
+-- what doesn't read an element's contents reads the same of a copy
+pub copied_same : {X : Type 0} (read : NodeData → X) → ((element : Element) (contents : Option ℕ) → read (AnElement (record element { template_contents = contents })) ≡ read (AnElement element)) →
+    (k : ℕ) (content : NodeData) → read (copied_data k content) ≡ read content
+copied_same read same k (AnElement element) = same element (option_map (λ _. k + 1) element.template_contents)
+copied_same read same k _ = refl
+
 pub top-copied : (k : ℕ) (content : NodeData) → is_top (copied_data k content) ≡ is_top content
-top-copied k Document = refl
-top-copied k Fragment = refl
-top-copied k (Element e) = refl
-top-copied k (Doctype a b c) = refl
-top-copied k (Text a) = refl
-top-copied k (Comment a) = refl
-top-copied k (ProcessingInstruction a b) = refl
+top-copied = copied_same is_top (λ element contents. refl)
 
 children_allowed_at-copied : (k : ℕ) (content : NodeData) → children_allowed (copied_data k content) ≡ children_allowed content
-children_allowed_at-copied k Document = refl
-children_allowed_at-copied k Fragment = refl
-children_allowed_at-copied k (Element e) = refl
-children_allowed_at-copied k (Doctype a b c) = refl
-children_allowed_at-copied k (Text a) = refl
-children_allowed_at-copied k (Comment a) = refl
-children_allowed_at-copied k (ProcessingInstruction a b) = refl
+children_allowed_at-copied = copied_same children_allowed (λ element contents. refl)
 
 pub names-copied : (k : ℕ) (content : NodeData) → contents_named (copied_data k content) ≡ option_map (λ _. k + 1) (contents_named content)
-names-copied k Document = refl
-names-copied k Fragment = refl
-names-copied k (Element e) = refl
-names-copied k (Doctype a b c) = refl
-names-copied k (Text a) = refl
-names-copied k (Comment a) = refl
-names-copied k (ProcessingInstruction a b) = refl
+names-copied k (AnElement element) = refl
+names-copied k _ = refl
 
 -- who names contents is no document or fragment
 no_top : (content : NodeData) (c : ℕ) → contents_named content ≡ Some c → is_top content ≡ false
 no_top Document c e = cc
 no_top Fragment c e = cc
-no_top (Element a) c e = refl
-no_top (Doctype a b d) c e = refl
-no_top (Text a) c e = refl
-no_top (Comment a) c e = refl
-no_top (ProcessingInstruction a b) c e = refl
+no_top _ c e = refl
 
 fragment_is : (content : NodeData) → is_fragment content ≡ true → content ≡ Fragment
-fragment_is Document e = cc
 fragment_is Fragment e = refl
-fragment_is (Element a) e = cc
-fragment_is (Doctype a b d) e = cc
-fragment_is (Text a) e = cc
-fragment_is (Comment a) e = cc
-fragment_is (ProcessingInstruction a b) e = cc
+fragment_is _ e = cc
 
 -- a test of the data at a known number
 pub test_at : (test : NodeData → Bool) (source : Forest) (n : ℕ) → n < length source.content → option_map_or test (slice_get source.content n) false ≡ test (data_at source n)
@@ -89,17 +70,10 @@ content-below None content forest = refl
 content-below (Some p) content forest = refl
 
 pub content-kept : (source : Forest) (p : Option ℕ) (ts : Trees) (forest : Forest) (n : ℕ) → n < length forest.content → slice_get (with_copies source p ts forest).content n ≡ slice_get forest.content n
-content-kept source p NoTrees forest n known = refl
-content-kept source p (Tree m contents children later) forest n known =
-    let data' = copied_data (length forest.content) (data_at source m) in
-    let made = with_node_below p data' forest in
-    let held = with_copies source None contents made in
-    let whole = with_copies source (Some (length forest.content)) children held in
-    let one = node_count-below p data' forest in
-    let two = node_count-copies source None contents made in
-    let three = node_count-copies source (Some (length forest.content)) children held in
-    content-kept source p later whole n (omega arith) ∙ content-kept source (Some (length forest.content)) children held n (omega arith) ∙ content-kept source None contents made n (omega arith)
-    ∙ ap (λ xs. slice_get xs n) (content-below p data' forest) ∙ slice_get-before forest.content data' n known
+content-kept source p ts forest n known = (all_copies_keep source (λ f. (n < length f.content) × (slice_get f.content n ≡ slice_get forest.content n))
+    (λ q content f kept. (let data' = copied_data (length f.content) content in
+    (omega (arith, kept.0, node_count-below q data' f), ap (λ xs. slice_get xs n) (content-below q data' f) ∙ slice_get-before f.content data' n kept.0 ∙ kept.1)))
+    p ts forest (known, refl)).1
 
 children_allowed_at-kept : (source : Forest) (p : Option ℕ) (ts : Trees) (forest : Forest) (n : ℕ) → n < length forest.content → children_allowed_at (with_copies source p ts forest) n ≡ children_allowed_at forest n
 children_allowed_at-kept source p ts forest n known = ap (λ o. option_map_or children_allowed o false) (content-kept source p ts forest n known)
@@ -196,15 +170,12 @@ parts source (m ∷ ms) n contents children later good known e =
 children_inside : (source : Forest) (n : ℕ) → IsForest source → AreInside source (children_of source n)
 children_inside source n good m s = (good.once.in_children n m s).0
 
-pub one_inside : (source : Forest) (c : ℕ) → c < length source.content → AreInside source (c ∷ [])
-one_inside source c known m s = subst (λ (k : ℕ). k < length source.content) (eqb-true c m (sym (one-stands c m) ∙ s)) known
-
 pub no_held : (source : Forest) (n : ℕ) → IsForest source → trees source (contents_list source n) ≡ NoTrees → contents_at source n ≡ None
 no_held source n good e = elim (cases_Option (contents_at source n)) [
   | inl none ↦ none
   | inr (c, is) ↦
       (let one : contents_list source n ≡ c ∷ [] = rw is refl in
-      let inside : AreInside source (c ∷ []) = one_inside source c (within is_fragment source.content c (good.contents_known n c is).1) in
+      let inside : AreInside source (c ∷ []) = one_known source c (within is_fragment source.content c (good.contents_known n c is).1) in
       let both : Tree c (trees source (contents_list source c)) (trees source (children_of source c)) (trees source []) ≡ NoTrees = sym (trees-some source c [] good inside) ∙ ap (trees source) (sym one) ∙ e in
       cc)
 ]
@@ -228,7 +199,7 @@ contents_are source n c contents children later good e = elim (cases_Option (con
       (let one : contents_list source n ≡ d ∷ [] = rw is refl in
       let facts = good.contents_known n d is in
       let inside : d < length source.content = within is_fragment source.content d facts.1 in
-      let part = parts source (d ∷ []) c contents children later good (one_inside source d inside) (ap (trees source) (sym one) ∙ e) in
+      let part = parts source (d ∷ []) c contents children later good (one_known source d inside) (ap (trees source) (sym one) ∙ e) in
       let all : d ∷ [] ≡ c ∷ part.rest = part.all in
       let same : d ≡ c = cc in
       let empty : part.rest ≡ [] = cc in
@@ -331,23 +302,13 @@ all_may source (n ∷ ns) may = (may.0.known, all_may source ns may.1)
 pub too_large : (source : Forest) (ns : List ℕ) (forest : Forest) (fault : EditFault) → IsTooLarge (copied source ns forest) fault → CopyCause source ns forest fault
 too_large source ns forest TooManyNodes h = h
 too_large source ns forest Memory h = h
-too_large source ns forest UnknownNode h = absurd h
-too_large source ns forest NoChildrenHere h = absurd h
-too_large source ns forest RootOrFragment h = absurd h
-too_large source ns forest Cycle h = absurd h
-too_large source ns forest BadContents h = absurd h
-too_large source ns forest (Markup f) h = absurd h
+too_large source ns forest _ h = absurd h
 
 -- ---- fragments
 
 element_bears : (content : NodeData) → is_element content ≡ true → children_allowed content ≡ true
-element_bears Document e = cc
-element_bears Fragment e = cc
-element_bears (Element a) e = refl
-element_bears (Doctype a b d) e = cc
-element_bears (Text a) e = cc
-element_bears (Comment a) e = cc
-element_bears (ProcessingInstruction a b) e = cc
+element_bears (AnElement element) e = refl
+element_bears _ e = cc
 
 may_be_child : (source : Forest) (ns : List ℕ) (m : ℕ) → MayCopy source ns → stands_in m ns ≡ true → is_top (data_at source m) ≡ false
 may_be_child source [] m may s = cc

@@ -17,11 +17,11 @@ use Rattle.dom_links.specs.Moves.{children_with, run_with, end_of}
 use Rattle.dom_links.specs.Sound.{IsForest, contents_at}
 use Rattle.dom_links.specs.Trees.{NoTrees, Tree, Trees, contents_list, trees}
 use Rattle.dom_links.proofs.forest.Places.{cases_Option, get_or-map_all, length-map_from}
-use Rattle.dom_links.proofs.moves.Cuts.{one-stands}
+use Rattle.dom_links.proofs.moves.Cuts.{one-stands, one_known}
 use Rattle.dom_links.proofs.forest.Depth.{here_stands, later_stands, trees-none, trees-some}
 use Rattle.dom_links.proofs.forest.Grown.{children-more, slice_get-there, get_or-before, within}
-use Rattle.dom_links.proofs.copies.Copied.{named_at, node_count-below, node_count-copies}
-use Rattle.dom_links.proofs.copies.CopiedForests.{AreInside, Contents, Parts, contents_are, content-below, content-kept, copied_kept, inside_all, names-copied, no_held, one_inside, parts}
+use Rattle.dom_links.proofs.copies.Copied.{all_copies_keep, copies_keep, named_at, node_count-below, node_count-copies}
+use Rattle.dom_links.proofs.copies.CopiedForests.{AreInside, Contents, Parts, contents_are, content-below, content-kept, copied_kept, inside_all, names-copied, no_held, parts}
 
 -- each node has a list of children and a run
 record Aligned (forest : Forest) : Type 0 where
@@ -46,9 +46,7 @@ aligned-below (Some p) content forest fits =
     }
 
 aligned-copies : (source : Forest) (p : Option ℕ) (ts : Trees) (forest : Forest) → Aligned forest → Aligned (with_copies source p ts forest)
-aligned-copies source p NoTrees forest fits = fits
-aligned-copies source p (Tree n contents children later) forest fits =
-    aligned-copies source p later _ (aligned-copies source (Some (length forest.content)) children _ (aligned-copies source None contents _ (aligned-below p (copied_data (length forest.content) (data_at source n)) forest fits)))
+aligned-copies source p ts forest fits = all_copies_keep source Aligned (λ q content f. aligned-below q (copied_data (length f.content) content) f) p ts forest fits
 
 -- ---- children
 
@@ -83,43 +81,62 @@ not_it : (k n : ℕ) → Some k ≡ Some n → n < k → ⊥
 not_it k n e h = (let same : k ≡ n = cc in omega (arith, same))
 
 keep : (source : Forest) (p : Option ℕ) (ts : Trees) (forest : Forest) (n : ℕ) → Aligned forest → n < length forest.content → (p ≡ Some n → ⊥) → children_of (with_copies source p ts forest) n ≡ children_of forest n
-keep source p NoTrees forest n fits known other = refl
-keep source p (Tree m contents children later) forest n fits known other =
-    let k = length forest.content in
-    let data' = copied_data k (data_at source m) in
-    let made = with_node_below p data' forest in
-    let held = with_copies source None contents made in
-    let whole = with_copies source (Some k) children held in
-    let fits1 = aligned-below p data' forest fits in
-    let fits2 = aligned-copies source None contents made fits1 in
-    let fits3 = aligned-copies source (Some k) children held fits2 in
-    let one = node_count-below p data' forest in
+keep source p ts forest n fits known other = (copies_keep source (λ f. Aligned f × (n < length f.content) × (children_of f n ≡ children_of forest n)) (λ q. q ≡ Some n → ⊥)
+    (λ e. cc) (λ f kept e. not_it (length f.content) n e kept.1)
+    (λ q content f other' kept. (let data' = copied_data (length f.content) content in
+    (aligned-below q data' f kept.0, omega (arith, kept.1, node_count-below q data' f), children_below q n data' f kept.0 kept.1 other' ∙ kept.2)))
+    p ts forest other (fits, known, refl)).2
+
+-- the forest once a node is copied, then its contents too, then its children too
+abbrev made_of : Forest → Option ℕ → ℕ → Forest → Forest
+made_of source p n forest = with_node_below p (copied_data (length forest.content) (data_at source n)) forest
+
+abbrev held_of : Forest → Option ℕ → ℕ → Trees → Forest → Forest
+held_of source p n contents forest = with_copies source None contents (made_of source p n forest)
+
+abbrev whole_of : Forest → Option ℕ → ℕ → Trees → Trees → Forest → Forest
+whole_of source p n contents children forest = with_copies source (Some (length forest.content)) children (held_of source p n contents forest)
+
+record TreeCopied (source : Forest) (p : Option ℕ) (n : ℕ) (contents children : Trees) (forest : Forest) : Type 0 where
+  made_fits : Aligned (made_of source p n forest)
+  held_fits : Aligned (held_of source p n contents forest)
+  whole_fits : Aligned (whole_of source p n contents children forest)
+  made_is : length (made_of source p n forest).content ≡ length forest.content + 1
+  held_is : length (held_of source p n contents forest).content ≡ length forest.content + 1 + node_count contents
+  whole_is : length (whole_of source p n contents children forest).content ≡ length forest.content + node_count (Tree n contents children NoTrees)
+
+tree_copied : (source : Forest) (p : Option ℕ) (n : ℕ) (contents children : Trees) (forest : Forest) → Aligned forest → TreeCopied source p n contents children forest
+tree_copied source p n contents children forest fits =
+    let made = made_of source p n forest in
+    let held = held_of source p n contents forest in
+    let made_fits = aligned-below p (copied_data (length forest.content) (data_at source n)) forest fits in
+    let held_fits = aligned-copies source None contents made made_fits in
+    let one = node_count-below p (copied_data (length forest.content) (data_at source n)) forest in
     let two = node_count-copies source None contents made in
-    let three = node_count-copies source (Some k) children held in
-    keep source p later whole n fits3 (omega arith) other
-    ∙ keep source (Some k) children held n fits2 (omega arith) (λ e. not_it k n e known)
-    ∙ keep source None contents made n fits1 (omega arith) (λ e. cc)
-    ∙ children_below p n data' forest fits known other
+    let three = node_count-copies source (Some (length forest.content)) children held in
+    record {
+      made_fits = made_fits;
+      held_fits = held_fits;
+      whole_fits = aligned-copies source (Some (length forest.content)) children held held_fits;
+      made_is = one;
+      held_is = omega arith;
+      whole_is = omega arith;
+    }
 
 given : (source : Forest) (q : ℕ) (ts : Trees) (forest : Forest) → Aligned forest → q < length forest.content → children_of (with_copies source (Some q) ts forest) q ≡ children_of forest q ++ root_numbers (length forest.content) ts
 given source q NoTrees forest fits known = sym (append-nil (children_of forest q))
 given source q (Tree m contents children later) forest fits known =
     let k = length forest.content in
-    let data' = copied_data k (data_at source m) in
-    let made = with_node_below (Some q) data' forest in
-    let held = with_copies source None contents made in
-    let whole = with_copies source (Some k) children held in
-    let fits1 = aligned-below (Some q) data' forest fits in
-    let fits2 = aligned-copies source None contents made fits1 in
-    let fits3 = aligned-copies source (Some k) children held fits2 in
-    let one = node_count-below (Some q) data' forest in
-    let two = node_count-copies source None contents made in
-    let three = node_count-copies source (Some k) children held in
-    let count : length whole.content ≡ k + node_count (Tree m contents children NoTrees) = omega arith in
-    given source q later whole fits3 (omega arith)
-    ∙ ap (λ ns. ns ++ root_numbers (length whole.content) later) (keep source (Some k) children held q fits2 (omega arith) (λ e. not_it k q e known) ∙ keep source None contents made q fits1 (omega arith) (λ e. cc) ∙ children_given q data' forest fits known)
+    let made = made_of source (Some q) m forest in
+    let held = held_of source (Some q) m contents forest in
+    let whole = whole_of source (Some q) m contents children forest in
+    let done = tree_copied source (Some q) m contents children forest fits in
+    given source q later whole done.whole_fits (omega (arith, done.whole_is, known))
+    ∙ ap (λ ns. ns ++ root_numbers (length whole.content) later) (keep source (Some k) children held q done.held_fits (omega (arith, done.held_is, known)) (λ e. not_it k q e known)
+    ∙ keep source None contents made q done.made_fits (omega (arith, done.made_is, known)) (λ e. cc)
+    ∙ children_given q (copied_data k (data_at source m)) forest fits known)
     ∙ append_assoc (children_of forest q) (k ∷ []) (root_numbers (length whole.content) later)
-    ∙ ap (λ (j : ℕ). children_of forest q ++ k ∷ root_numbers j later) count
+    ∙ ap (λ (j : ℕ). children_of forest q ++ k ∷ root_numbers j later) done.whole_is
 
 -- ---- what stays
 
@@ -136,20 +153,10 @@ runs_below (Some p) n content forest fits known =
     get_or-map_all (λ m run. run_with (end_of p) moved more m) more.runs n inside ∙ rw other (run_node n content forest fits known)
 
 runs_kept : (source : Forest) (p : Option ℕ) (ts : Trees) (forest : Forest) (n : ℕ) → Aligned forest → n < length forest.content → run_of (with_copies source p ts forest) n ≡ run_of forest n
-runs_kept source p NoTrees forest n fits known = refl
-runs_kept source p (Tree m contents children later) forest n fits known =
-    let k = length forest.content in
-    let data' = copied_data k (data_at source m) in
-    let made = with_node_below p data' forest in
-    let held = with_copies source None contents made in
-    let whole = with_copies source (Some k) children held in
-    let fits1 = aligned-below p data' forest fits in
-    let fits2 = aligned-copies source None contents made fits1 in
-    let fits3 = aligned-copies source (Some k) children held fits2 in
-    let one = node_count-below p data' forest in
-    let two = node_count-copies source None contents made in
-    let three = node_count-copies source (Some k) children held in
-    runs_kept source p later whole n fits3 (omega arith) ∙ runs_kept source (Some k) children held n fits2 (omega arith) ∙ runs_kept source None contents made n fits1 (omega arith) ∙ runs_below p n data' forest fits known
+runs_kept source p ts forest n fits known = (all_copies_keep source (λ f. Aligned f × (n < length f.content) × (run_of f n ≡ run_of forest n))
+    (λ q content f kept. (let data' = copied_data (length f.content) content in
+    (aligned-below q data' f kept.0, omega (arith, kept.1, node_count-below q data' f), runs_below q n data' f kept.0 kept.1 ∙ kept.2)))
+    p ts forest (fits, known, refl)).2
 
 all_kept : (source : Forest) (ts : Trees) (forest : Forest) → Aligned forest → Extends forest (with_copies source None ts forest)
 all_kept source ts forest fits = record {
@@ -214,7 +221,7 @@ got_data (x ∷ xs) (suc n) h = got_data xs n (omega arith)
 contents_inside : (source : Forest) (n : ℕ) → IsForest source → AreInside source (contents_list source n)
 contents_inside source n good m s = elim (cases_Option (contents_at source n)) [
   | inl none ↦ (let no = rw none at s in cc)
-  | inr (c, is) ↦ one_inside source c (within is_fragment source.content c (good.contents_known n c is).1) m (rw is at s)
+  | inr (c, is) ↦ one_known source c (within is_fragment source.content c (good.contents_known n c is).1) m (rw is at s)
 ]
 
 record Numbered (source : Forest) (ts : Trees) (k : ℕ) (other : Forest) : Type 0 where
@@ -231,30 +238,25 @@ trees_copied source (Tree n contents children later) p ns forest other good fine
     let here : n < length source.content = inside n (here_stands n rest) in
     let k = length forest.content in
     let data' = copied_data k (data_at source n) in
-    let made = with_node_below p data' forest in
-    let held = with_copies source None contents made in
-    let whole = with_copies source (Some k) children held in
-    let fits1 = aligned-below p data' forest fits in
-    let fits2 = aligned-copies source None contents made fits1 in
-    let fits3 = aligned-copies source (Some k) children held fits2 in
-    let one = node_count-below p data' forest in
-    let two = node_count-copies source None contents made in
-    let three = node_count-copies source (Some k) children held in
+    let made = made_of source p n forest in
+    let held = held_of source p n contents forest in
+    let whole = whole_of source p n contents children forest in
+    let done = tree_copied source p n contents children forest fits in
+    let made_is = done.made_is in
+    let held_is = done.held_is in
+    let whole_is = done.whole_is in
     let four = node_count-copies source p later whole in
-    let above3 : Above whole other k = above-copies source p later whole other k fits3 place above in
-    let above2 : Above held other (k + 1) = above-copies source (Some k) children held other (k + 1) fits2 (omega arith) (above-on whole other k (k + 1) (omega arith) above3) in
+    let above3 : Above whole other k = above-copies source p later whole other k done.whole_fits place above in
+    let above2 : Above held other (k + 1) = above-copies source (Some k) children held other (k + 1) done.held_fits (omega arith) (above-on whole other k (k + 1) (omega arith) above3) in
     let at_k : slice_get other.content k ≡ Some data' = above3.content k (omega arith) (omega arith) ∙ content-kept source (Some k) children held k (omega arith) ∙ content-kept source None contents made k (omega arith)
     ∙ ap (λ xs. slice_get xs k) (content-below p data' forest) ∙ slice_get-there forest.content data' k refl in
-    let kids : children_of other k ≡ root_numbers (length held.content) children = above3.children k (omega arith) (omega arith) ∙ given source k children held fits2 (omega arith)
-    ∙ ap (λ ns. ns ++ root_numbers (length held.content) children) (keep source None contents made k fits1 (omega arith) (λ e. cc) ∙ children_new p data' forest fits place) in
-    let made_is : length made.content ≡ k + 1 = one in
-    let held_is : length held.content ≡ k + 1 + node_count contents = omega arith in
-    let whole_is : length whole.content ≡ k + node_count (Tree n contents children NoTrees) = omega arith in
-    let inner = trees_copied source contents None (contents_list source n) made other good fine (contents_inside source n good) (Parts.contents_is part) fits1 tt
+    let kids : children_of other k ≡ root_numbers (length held.content) children = above3.children k (omega arith) (omega arith) ∙ given source k children held done.held_fits (omega arith)
+    ∙ ap (λ ns. ns ++ root_numbers (length held.content) children) (keep source None contents made k done.made_fits (omega arith) (λ e. cc) ∙ children_new p data' forest fits place) in
+    let inner = trees_copied source contents None (contents_list source n) made other good fine (contents_inside source n good) (Parts.contents_is part) done.made_fits tt
     (above-on held other (k + 1) (length made.content) (omega arith) above2) in
-    let below = trees_copied source children (Some k) (children_of source n) held other good fine (λ m s. (good.once.in_children n m s).0) (Parts.children_is part) fits2 (omega arith)
+    let below = trees_copied source children (Some k) (children_of source n) held other good fine (λ m s. (good.once.in_children n m s).0) (Parts.children_is part) done.held_fits (omega arith)
     (above-on whole other k (length held.content) (omega arith) above3) in
-    let after = trees_copied source later p rest whole other good fine (λ m s. inside m (later_stands n m rest s)) (Parts.later_is part) fits3 (place_on p k (length whole.content) place (omega arith))
+    let after = trees_copied source later p rest whole other good fine (λ m s. inside m (later_stands n m rest s)) (Parts.later_is part) done.whole_fits (place_on p k (length whole.content) place (omega arith))
     (above-on (with_copies source p later whole) other k (length whole.content) (omega arith) above) in
     record {
       same_trees = trees-some other k (root_numbers (k + node_count (Tree n contents children NoTrees)) later) fine (λ m s. omega (arith, roots_inside (Tree n contents children later) k m s, above.longer))

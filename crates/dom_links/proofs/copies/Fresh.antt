@@ -17,7 +17,7 @@ use Rattle.dom_links.specs.Lists.{IsDistinct, stands_in}
 use Rattle.dom_links.specs.Moves.{Gap, after_node, before_node, end_of, front_of}
 use Rattle.dom_links.specs.Sound.{IsForest, IsSoundArena, IsHostAncestor, IsParentOrHost, contents_at, is_open, one_step, stays, target, then_step}
 use Rattle.dom_links.specs.Trees.{NoTrees, Tree, Trees, trees, trees_to}
-use Rattle.dom_links.proofs.copies.Copied.{parent_kept, node_count-below, node_count-copies}
+use Rattle.dom_links.proofs.copies.Copied.{all_copies_keep, parent_kept, node_count-below}
 use Rattle.dom_links.proofs.copies.CopiedForests.{all_may, content-below, names-copied, test_at, top-copied}
 use Rattle.dom_links.proofs.copies.CopiedTrees.{are_copies}
 use Rattle.dom_links.proofs.forest.Depth.{parent_inside}
@@ -77,19 +77,9 @@ new-below base p content forest few new k c far e =
     ]
 
 new-copies : (source : Forest) (base : ℕ) (p : Option ℕ) (ts : Trees) (forest : Forest) → base ≤ length forest.content → HoldNew base forest → HoldNew base (with_copies source p ts forest)
-new-copies source base p NoTrees forest few new = new
-new-copies source base p (Tree n contents children later) forest few new =
-    let data' = copied_data (length forest.content) (data_at source n) in
-    let made = with_node_below p data' forest in
-    let held = with_copies source None contents made in
-    let whole = with_copies source (Some (length forest.content)) children held in
-    let one = node_count-below p data' forest in
-    let two = node_count-copies source None contents made in
-    let three = node_count-copies source (Some (length forest.content)) children held in
-    new-copies source base p later whole (omega arith)
-    (new-copies source base (Some (length forest.content)) children held (omega arith)
-    (new-copies source base None contents made (omega arith)
-    (new-below base p (data_at source n) forest few new)))
+new-copies source base p ts forest few new = (all_copies_keep source (λ f. (base ≤ length f.content) × HoldNew base f)
+    (λ q content f kept. (omega (arith, kept.0, node_count-below q (copied_data (length f.content) content) f), new-below base q content f kept.0 kept.1))
+    p ts forest (few, new)).1
 
 none_past : (forest : Forest) → HoldNew (length forest.content) forest
 none_past forest k c far e = let none = ap (option_and_then contents_named) (sym (slice_get_past forest.content k far)) ∙ e in cc
