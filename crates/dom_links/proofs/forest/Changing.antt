@@ -6,7 +6,7 @@ use Rattle.std.proofs.lemmas.Option.{slice_get_past}
 use Rattle.dom_nodes.specs.declared.name.Attr.{Attr}
 use Rattle.dom_nodes.specs.declared.node_data.Element.{Element}
 use Rattle.dom_nodes.specs.declared.node_data.NodeData.{NodeData}
-use Rattle.dom_nodes.specs.declared.node_data.NodeData.TheVariants.{Document, Fragment, Doctype, Text, Comment, Element as AnElement, ProcessingInstruction}
+use Rattle.dom_nodes.specs.declared.node_data.NodeData.TheVariants.{Text, Comment, Element as AnElement}
 use Rattle.dom_nodes.specs.declared.node_data.TreeNode.{TreeNode}
 use Rattle.dom_nodes.specs.declared.node_data.node_edit.NodeEdit.{NodeEdit}
 use Rattle.dom_nodes.specs.declared.node_data.changing.Change.{Change}
@@ -193,22 +193,12 @@ same_kind : (content : NodeData) → SameKind content content
 same_kind content = record { top = refl; fragment = refl; parents_allow = refl; contents = refl }
 
 pub keeps_element : (change : Element → Element) → ((element : Element) → (change element).template_contents ≡ element.template_contents) → KeepsKind (on_element change)
-keeps_element change kept Document = same_kind Document
-keeps_element change kept Fragment = same_kind Fragment
-keeps_element change kept (Doctype name public_id system_id) = same_kind (Doctype name public_id system_id)
-keeps_element change kept (Text contents) = same_kind (Text contents)
-keeps_element change kept (Comment contents) = same_kind (Comment contents)
 keeps_element change kept (AnElement element) = record { top = refl; fragment = refl; parents_allow = refl; contents = kept element }
-keeps_element change kept (ProcessingInstruction target contents) = same_kind (ProcessingInstruction target contents)
+keeps_element change kept content = same_kind content
 
 pub keeps_attrs : (change : List Attr → List Attr) → KeepsKind (with_attrs change)
-keeps_attrs change Document = same_kind Document
-keeps_attrs change Fragment = same_kind Fragment
-keeps_attrs change (Doctype name public_id system_id) = same_kind (Doctype name public_id system_id)
-keeps_attrs change (Text contents) = same_kind (Text contents)
-keeps_attrs change (Comment contents) = same_kind (Comment contents)
 keeps_attrs change (AnElement element) = record { top = refl; fragment = refl; parents_allow = refl; contents = refl }
-keeps_attrs change (ProcessingInstruction target contents) = same_kind (ProcessingInstruction target contents)
+keeps_attrs change content = same_kind content
 
 -- each change of an element
 pub keeps_change : (change : Change) → KeepsKind (made_of change)
@@ -222,13 +212,10 @@ keeps_change (AddClass classes) = keeps_attrs _
 keeps_change (RemoveClass classes) = keeps_attrs _
 
 pub keeps_edit : (edit : NodeEdit) → KeepsKind (with_edit edit)
-keeps_edit edit Document = same_kind Document
-keeps_edit edit Fragment = same_kind Fragment
-keeps_edit edit (Doctype name public_id system_id) = same_kind (Doctype name public_id system_id)
 keeps_edit edit (Text contents) = record { top = refl; fragment = refl; parents_allow = refl; contents = refl }
 keeps_edit edit (Comment contents) = record { top = refl; fragment = refl; parents_allow = refl; contents = refl }
 keeps_edit edit (AnElement element) = record { top = refl; fragment = refl; parents_allow = refl; contents = refl }
-keeps_edit edit (ProcessingInstruction target contents) = same_kind (ProcessingInstruction target contents)
+keeps_edit edit content = same_kind content
 
 -- a node is written back with an edit
 pub updated : (MayLeave : NodeEdit → NodeEdit → Type 0) (old : List TreeNode) (i x : ℕ) (node d : TreeNode) → IsSoundArena old → i < length old → i ≡ x →

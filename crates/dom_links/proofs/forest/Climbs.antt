@@ -5,7 +5,7 @@ use Rattle.std.specs.Option.{option_map_or, IfSome}
 use Rattle.std.proofs.lemmas.Bool.{cases_Bool, eqb-true, cases_lt}
 use Rattle.std.proofs.lemmas.Option.{slice_get_past, slice_get_read}
 use Rattle.dom_nodes.specs.declared.node_data.NodeData.{NodeData}
-use Rattle.dom_nodes.specs.declared.node_data.NodeData.TheVariants.{Document, Fragment, Doctype, Text, Comment, Element, ProcessingInstruction}
+use Rattle.dom_nodes.specs.declared.node_data.NodeData.TheVariants.{Document, Fragment}
 use Rattle.dom_nodes.specs.declared.node_data.TreeNode.{TreeNode}
 use Rattle.dom_nodes.specs.Kinds.{contents_named, is_fragment, is_top}
 use Rattle.dom_links.specs.Lists.{stands_in, IsDistinct, first}
@@ -43,11 +43,7 @@ pub fragment_is_top : (o : Option NodeData) → option_map_or is_fragment o fals
 fragment_is_top None h = h
 fragment_is_top (Some Document) h = refl
 fragment_is_top (Some Fragment) h = refl
-fragment_is_top (Some (Element e)) h = cc
-fragment_is_top (Some (Doctype a b c)) h = cc
-fragment_is_top (Some (Text a)) h = cc
-fragment_is_top (Some (Comment a)) h = cc
-fragment_is_top (Some (ProcessingInstruction a b)) h = cc
+fragment_is_top _ h = cc
 
 -- a held fragment has no parent
 held : (forest : Forest) (a p n : ℕ) → IsForest forest → n < length forest.content → contents_at forest a ≡ Some n → parent forest n ≡ Some p → {X : Type 0} → X

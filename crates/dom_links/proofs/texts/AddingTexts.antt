@@ -6,7 +6,7 @@ use Rattle.std.proofs.lemmas.Bool.{ne_eqb}
 use Rattle.std.proofs.lemmas.List.{length_push}
 use Rattle.dom_nodes.specs.Kinds.{is_top, children_allowed}
 use Rattle.dom_nodes.specs.declared.node_data.NodeData.{NodeData}
-use Rattle.dom_nodes.specs.declared.node_data.NodeData.TheVariants.{Document, Fragment, Doctype, Text, Comment, Element, ProcessingInstruction}
+use Rattle.dom_nodes.specs.declared.node_data.NodeData.TheVariants.{Text}
 use Rattle.dom_nodes.specs.declared.node_data.TreeNode.{TreeNode}
 use Rattle.dom_links.specs.AddedTexts.{lengthened, text_before, with_more, with_node_at, with_text_at}
 use Rattle.dom_links.specs.Contents.{KeepsKind, with_content}
@@ -23,13 +23,8 @@ use Rattle.dom_links.proofs.moves.Dissolving.{still_sound}
 use Rattle.dom_links.proofs.forest.Grown.{contents-more, parent-more, slice_get-before, slice_get-there, test-more}
 
 pub keeps_longer : (more : List ℕ) → KeepsKind (lengthened more)
-keeps_longer more Document = record { top = refl; fragment = refl; parents_allow = refl; contents = refl }
-keeps_longer more Fragment = record { top = refl; fragment = refl; parents_allow = refl; contents = refl }
-keeps_longer more (Doctype a b c) = record { top = refl; fragment = refl; parents_allow = refl; contents = refl }
 keeps_longer more (Text a) = record { top = refl; fragment = refl; parents_allow = refl; contents = refl }
-keeps_longer more (Comment a) = record { top = refl; fragment = refl; parents_allow = refl; contents = refl }
-keeps_longer more (Element a) = record { top = refl; fragment = refl; parents_allow = refl; contents = refl }
-keeps_longer more (ProcessingInstruction a b) = record { top = refl; fragment = refl; parents_allow = refl; contents = refl }
+keeps_longer more _ = record { top = refl; fragment = refl; parents_allow = refl; contents = refl }
 
 -- nothing is reached from a new text
 no_way : (text : List ℕ) (forest : Forest) → IsForest forest → (m n : ℕ) → IsHostAncestor (with_node (Text text) forest) m n → m ≡ length forest.content → ⊥

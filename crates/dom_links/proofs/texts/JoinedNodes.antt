@@ -7,7 +7,7 @@ use Rattle.std.proofs.lemmas.Bool.{eqb-true, true≢false}
 use Rattle.std.proofs.lemmas.List.Concat.{flat_map-append}
 use Rattle.dom_nodes.specs.Kinds.{is_text, children_allowed}
 use Rattle.dom_nodes.specs.declared.node_data.NodeData.{NodeData}
-use Rattle.dom_nodes.specs.declared.node_data.NodeData.TheVariants.{Document, Fragment, Doctype, Text, Comment, Element, ProcessingInstruction}
+use Rattle.dom_nodes.specs.declared.node_data.NodeData.TheVariants.{Document, Fragment, Text, Element}
 use Rattle.dom_links.specs.Lists.{stands_in, map_from, without}
 use Rattle.dom_links.specs.Forest.{Forest, children_of}
 use Rattle.dom_links.specs.Readings.{JoinsTexts, Reading, read_as}
@@ -28,40 +28,22 @@ length_held i F [] = refl
 length_held i F (c ∷ cs) = ap suc (length_held (i + 1) F cs)
 
 pub text_kept : (text : List ℕ) (content : NodeData) → is_text (with_text_data text content) ≡ is_text content
-text_kept text Document = refl
-text_kept text Fragment = refl
-text_kept text (Doctype a b c) = refl
 text_kept text (Text a) = refl
-text_kept text (Comment a) = refl
-text_kept text (Element a) = refl
-text_kept text (ProcessingInstruction a b) = refl
+text_kept text _ = refl
 
 pub text_put : (text : List ℕ) (content : NodeData) → is_text content ≡ true → text_in (with_text_data text content) ≡ text
-text_put text Document is = cc
-text_put text Fragment is = cc
-text_put text (Doctype a b c) is = cc
 text_put text (Text a) is = refl
-text_put text (Comment a) is = cc
-text_put text (Element a) is = cc
-text_put text (ProcessingInstruction a b) is = cc
+text_put text _ is = cc
 
 pub no_text : (content : NodeData) → is_text content ≡ false → text_in content ≡ []
-no_text Document is = refl
-no_text Fragment is = refl
-no_text (Doctype a b c) is = refl
 no_text (Text a) is = cc
-no_text (Comment a) is = refl
-no_text (Element a) is = refl
-no_text (ProcessingInstruction a b) is = refl
+no_text _ is = refl
 
 pub no_bearing : (content : NodeData) → is_text content ≡ true → children_allowed content ≡ false
 no_bearing Document is = cc
 no_bearing Fragment is = cc
-no_bearing (Doctype a b c) is = refl
-no_bearing (Text a) is = refl
-no_bearing (Comment a) is = refl
 no_bearing (Element a) is = cc
-no_bearing (ProcessingInstruction a b) is = refl
+no_bearing _ is = refl
 
 pub no_text_at : (forest : Forest) (n : ℕ) → is_text_at forest n ≡ false → text_at forest n ≡ []
 no_text_at forest n other = go (slice_get forest.content n) other
@@ -95,13 +77,8 @@ without_reverse out (n ∷ ns) =
     last_part false is = rw is (sym (reverse_cons n (without out ns)))
 
 pub bearing_kept : (text : List ℕ) (content : NodeData) → children_allowed (with_text_data text content) ≡ children_allowed content
-bearing_kept text Document = refl
-bearing_kept text Fragment = refl
-bearing_kept text (Doctype a b c) = refl
 bearing_kept text (Text a) = refl
-bearing_kept text (Comment a) = refl
-bearing_kept text (Element a) = refl
-bearing_kept text (ProcessingInstruction a b) = refl
+bearing_kept text _ = refl
 
 -- ---- Bools and lists
 
@@ -162,13 +139,8 @@ walked_to forest leaf (suc most) place (n ∷ ns) =
     one : (place : Bool) (inner below : List ℕ) (o : Option NodeData) → (option_map_or children_allowed o false ≡ false → below ≡ []) →
         option_map_or text_in o [] ++ below ≡ option_map_or (λ content. text_in_trees content place inner below) o []
     one place inner below None none = none refl
-    one place inner below (Some Document) none = refl
-    one place inner below (Some Fragment) none = refl
-    one place inner below (Some (Doctype a b c)) none = refl
     one place inner below (Some (Text a)) none = ap (λ ts. a ++ ts) (none refl) ∙ append-nil a
-    one place inner below (Some (Comment a)) none = refl
-    one place inner below (Some (Element a)) none = refl
-    one place inner below (Some (ProcessingInstruction a b)) none = refl
+    one place inner below _ none = refl
 
 pub text_walked : (forest : Forest) → Leaves forest → (place : Bool) (ns : List ℕ) → flat_map (text_at forest) (walk (trees forest ns)) ≡ read_as text_reading forest place (trees forest ns)
 unfolding trees

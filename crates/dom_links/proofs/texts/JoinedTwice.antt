@@ -4,9 +4,9 @@ use Rattle.std.specs.Prelude.{◌==◌, ◌<◌, ◌&&◌, ◌||◌, find, not, 
 use Rattle.std.specs.List.{flat_map}
 use Rattle.std.specs.Option.{option_map, option_map_or}
 use Rattle.std.proofs.lemmas.Bool.{cases_Bool, eqb-true, false≢true, ne_eqb}
-use Rattle.dom_nodes.specs.Kinds.{contents_named, is_fragment, is_text, is_top, children_allowed}
+use Rattle.dom_nodes.specs.Kinds.{contents_named, is_fragment, is_text, children_allowed}
 use Rattle.dom_nodes.specs.declared.node_data.NodeData.{NodeData}
-use Rattle.dom_nodes.specs.declared.node_data.NodeData.TheVariants.{Document, Fragment, Doctype, Text, Comment, Element, ProcessingInstruction}
+use Rattle.dom_nodes.specs.declared.node_data.NodeData.TheVariants.{Text}
 use Rattle.dom_links.specs.Lists.{stands_in, IsDistinct, map_from, without}
 use Rattle.dom_links.specs.Forest.{Forest, children_of, owner_from, parent, siblings}
 use Rattle.dom_links.specs.Normalized.{dropped, front_texts, is_empty_text, joined, starts_text_run, nearest_before, normalized}
@@ -19,6 +19,7 @@ use Rattle.dom_links.specs.Walk.{later, rest_after}
 use Rattle.dom_links.proofs.walks.Apart.{walk-inside}
 use Rattle.dom_links.proofs.moves.BlockMoves.{rest_here}
 use Rattle.dom_links.proofs.moves.Cuts.{one-stands}
+use Rattle.dom_links.proofs.forest.Climbs.{fragment_is_top}
 use Rattle.dom_links.proofs.forest.Depth.{here_stands, later_stands, parent_inside, trees-none, trees-some, upward-none}
 use Rattle.dom_links.proofs.walks.DownUp.{below_or_above}
 use Rattle.dom_links.proofs.forest.Grown.{within}
@@ -185,22 +186,12 @@ module _ (forest : Forest) (x : ℕ) (good : IsForest forest) where
       let none = (good.alone m (held_known n m s) (top_stays m fragment)).0 in
       below_or_above forest good x m ∙ ap (stands_in x) (ap (upward forest) none ∙ upward-none forest)
     where
-      tops : (o : Option NodeData) → option_map_or is_fragment o false ≡ true → option_map_or is_top o false ≡ true
-      tops None h = cc
-      tops (Some Document) h = refl
-      tops (Some Fragment) h = refl
-      tops (Some (Doctype a b c)) h = cc
-      tops (Some (Text a)) h = cc
-      tops (Some (Comment a)) h = cc
-      tops (Some (Element a)) h = cc
-      tops (Some (ProcessingInstruction a b)) h = cc
-
       or-true : (a b : Bool) → b ≡ true → (a || b) ≡ true
       or-true true b h = refl
       or-true false b h = h
 
       top_stays : (m : ℕ) → option_map_or is_fragment (slice_get forest.content m) false ≡ true → stays forest m ≡ true
-      top_stays m h = or-true (m == 0) _ (tops (slice_get forest.content m) h)
+      top_stays m h = or-true (m == 0) _ (fragment_is_top (slice_get forest.content m) h)
 
   -- the trees without the nodes that are cut out
   abbrev pruned : Trees → Trees
@@ -234,28 +225,16 @@ module _ (forest : Forest) (x : ℕ) (good : IsForest forest) where
       unnamed f m text = go (slice_get f.content m) text
         where
           go : (o : Option NodeData) → option_map_or is_text o false ≡ true → option_and_then contents_named o ≡ None
-          go None h = cc
-          go (Some Document) h = cc
-          go (Some Fragment) h = cc
-          go (Some (Doctype a b c)) h = cc
           go (Some (Text a)) h = refl
-          go (Some (Comment a)) h = cc
-          go (Some (Element a)) h = cc
-          go (Some (ProcessingInstruction a b)) h = cc
+          go _ h = cc
 
   -- contents are fragments, so they are no texts
   held_no_text : (n c : ℕ) → contents_at forest n ≡ Some c → is_text_at forest c ≡ false
   held_no_text n c has = go (slice_get forest.content c) (good.contents_known n c has).1
     where
       go : (o : Option NodeData) → option_map_or is_fragment o false ≡ true → option_map_or is_text o false ≡ false
-      go None h = refl
-      go (Some Document) h = refl
-      go (Some Fragment) h = refl
-      go (Some (Doctype a b c)) h = refl
       go (Some (Text a)) h = cc
-      go (Some (Comment a)) h = refl
-      go (Some (Element a)) h = refl
-      go (Some (ProcessingInstruction a b)) h = refl
+      go _ h = refl
 
   contents_then : (n : ℕ) → contents_list after_it n ≡ without out (contents_list forest n)
   contents_then n = go (contents_at forest n) refl
@@ -304,14 +283,8 @@ module _ (forest : Forest) (x : ℕ) (good : IsForest forest) where
   text_is f n text = go (slice_get f.content n) text
     where
       go : (o : Option NodeData) → option_map_or is_text o false ≡ true → o ≡ Some (Text (option_map_or text_in o []))
-      go None h = cc
-      go (Some Document) h = cc
-      go (Some Fragment) h = cc
-      go (Some (Doctype a b c)) h = cc
       go (Some (Text a)) h = refl
-      go (Some (Comment a)) h = cc
-      go (Some (Element a)) h = cc
-      go (Some (ProcessingInstruction a b)) h = cc
+      go _ h = cc
 
   read_alike : (reading : Reading) (place : Bool) (inner inner' : List ℕ) (below below' : Bool → List ℕ) → inner ≡ inner' → ((b : Bool) → below b ≡ below' b) → (o : Option NodeData) → first_read reading place inner below o ≡ first_read reading place inner' below' o
   read_alike reading place inner inner' below below' same all None = refl
@@ -552,13 +525,8 @@ module _ (forest : Forest) (x : ℕ) (good : IsForest forest) where
       ])
     where
       text_again : (c : NodeData) → with_text_data (text_in c) c ≡ c
-      text_again Document = refl
-      text_again Fragment = refl
-      text_again (Doctype a b c) = refl
       text_again (Text a) = refl
-      text_again (Comment a) = refl
-      text_again (Element a) = refl
-      text_again (ProcessingInstruction a b) = refl
+      text_again _ = refl
 
   pub joined_again : normalized x after_it ≡ after_it
   joined_again =

@@ -2,10 +2,10 @@
 use Rattle.std.proofs.Common.{ℕ, zero, suc, ◌≡◌, ◌<◌, ◌≤◌, ◌+◌, Bool, true, false, List, [], ◌∷◌, ◌++◌, Option, Some, None, refl, sym, ap, ◌∙◌, subst, arith, inl, inr, length, append_assoc, append-nil, cond, map}
 use Rattle.std.specs.Prelude.{◌==◌, ◌&&◌, ◌||◌, filter, not, slice_get, if◌then◌else◌}
 use Rattle.std.specs.Option.{option_map_or}
-use Rattle.std.proofs.lemmas.Bool.{cases_Bool, eqb-true, eq-eqb, ne_eqb, or_parts}
+use Rattle.std.proofs.lemmas.Bool.{cases_Bool, eqb-true, eq-eqb, ne_eqb, or_parts, not-false}
 use Rattle.dom_nodes.specs.Kinds.{is_text}
 use Rattle.dom_nodes.specs.declared.node_data.NodeData.{NodeData}
-use Rattle.dom_nodes.specs.declared.node_data.NodeData.TheVariants.{Document, Fragment, Doctype, Text, Comment, Element, ProcessingInstruction}
+use Rattle.dom_nodes.specs.declared.node_data.NodeData.TheVariants.{Text}
 use Rattle.dom_nodes.specs.declared.node_data.TreeNode.{TreeNode}
 use Rattle.dom_links.specs.Contents.{changed_at, with_content}
 use Rattle.dom_links.specs.Lists.{stands_in, after, map_from, without}
@@ -44,13 +44,8 @@ found_more forest n left rest found more total o at added is whole =
 -- ---- what is done
 
 retexted_twice : (text : List ℕ) (content : NodeData) → with_text_data text (with_text_data text content) ≡ with_text_data text content
-retexted_twice text Document = refl
-retexted_twice text Fragment = refl
-retexted_twice text (Doctype a b c) = refl
 retexted_twice text (Text a) = refl
-retexted_twice text (Comment a) = refl
-retexted_twice text (Element a) = refl
-retexted_twice text (ProcessingInstruction a b) = refl
+retexted_twice text _ = refl
 
 map_alike : (i : ℕ) (F G : ℕ → NodeData → NodeData) (cs : List NodeData) → ((m : ℕ) (c : NodeData) → i ≤ m → F m c ≡ G m c) → map_from i F cs ≡ map_from i G cs
 map_alike i F G [] same = refl
@@ -189,12 +184,6 @@ text_there : (forest : Forest) (n : ℕ) (t : List ℕ) → slice_get forest.con
 text_there forest n t is = (ap (λ o. option_map_or is_text o false) is, ap (λ o. option_map_or text_in o []) is)
 
 not_needed : (forest : Forest) (n : ℕ) (content : NodeData) → IsForest forest → slice_get forest.content n ≡ Some content → is_rewritten forest n ≡ false → with_text_data (joined forest n) content ≡ content
-not_needed forest n Document good is other = refl
-not_needed forest n Fragment good is other = refl
-not_needed forest n (Doctype a b c) good is other = refl
-not_needed forest n (Comment a) good is other = refl
-not_needed forest n (Element a) good is other = refl
-not_needed forest n (ProcessingInstruction a b) good is other = refl
 not_needed forest n (Text t) good is other =
     let there = text_there forest n t is in
     let both : (not (starts_text_run forest n) || is_text_after forest n) ≡ false = ap (λ b. b && (not (starts_text_run forest n) || is_text_after forest n)) (sym there.0) ∙ other in
@@ -203,10 +192,7 @@ not_needed forest n (Text t) good is other =
     let none = no_front forest n good two.1 in
     let all : joined forest n ≡ t = ap (λ b. cond b (text_at forest n ++ front_texts forest (later forest false n)) []) first_one ∙ ap (λ ts. text_at forest n ++ ts) none ∙ append-nil (text_at forest n) ∙ there.1 in
     ap Text all
-  where
-    not-false : (b : Bool) → not b ≡ false → b ≡ true
-    not-false true h = refl
-    not-false false h = cc
+not_needed forest n _ good is other = refl
 
 pub map_here : (i : ℕ) (F G : ℕ → NodeData → NodeData) (cs : List NodeData) → ((m : ℕ) (c : NodeData) → slice_get cs m ≡ Some c → F (i + m) c ≡ G (i + m) c) → map_from i F cs ≡ map_from i G cs
 map_here i F G [] same = refl

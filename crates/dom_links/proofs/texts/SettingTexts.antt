@@ -5,7 +5,7 @@ use Rattle.std.specs.Option.{option_map_or}
 use Rattle.std.proofs.lemmas.List.{length_push}
 use Rattle.dom_nodes.specs.Kinds.{is_element, is_text, children_allowed}
 use Rattle.dom_nodes.specs.declared.node_data.NodeData.{NodeData}
-use Rattle.dom_nodes.specs.declared.node_data.NodeData.TheVariants.{Document, Fragment, Doctype, Text, Comment, Element, ProcessingInstruction}
+use Rattle.dom_nodes.specs.declared.node_data.NodeData.TheVariants.{Document, Fragment, Text, Element}
 use Rattle.dom_nodes.specs.declared.node_data.TreeNode.{TreeNode}
 use Rattle.dom_links.specs.Contents.{KeepsKind, changed_at, with_content}
 use Rattle.dom_links.specs.Forest.{Forest, children_of, forest_of}
@@ -22,22 +22,12 @@ use Rattle.dom_links.proofs.moves.Dissolving.{still_sound}
 use Rattle.dom_links.proofs.forest.Grown.{test-more, within}
 
 pub keeps_text : (text : List ℕ) → KeepsKind (with_text_data text)
-keeps_text text Document = record { top = refl; fragment = refl; parents_allow = refl; contents = refl }
-keeps_text text Fragment = record { top = refl; fragment = refl; parents_allow = refl; contents = refl }
-keeps_text text (Doctype a b c) = record { top = refl; fragment = refl; parents_allow = refl; contents = refl }
 keeps_text text (Text a) = record { top = refl; fragment = refl; parents_allow = refl; contents = refl }
-keeps_text text (Comment a) = record { top = refl; fragment = refl; parents_allow = refl; contents = refl }
-keeps_text text (Element a) = record { top = refl; fragment = refl; parents_allow = refl; contents = refl }
-keeps_text text (ProcessingInstruction a b) = record { top = refl; fragment = refl; parents_allow = refl; contents = refl }
+keeps_text text _ = record { top = refl; fragment = refl; parents_allow = refl; contents = refl }
 
 pub other_stays : (text : List ℕ) (content : NodeData) → is_text content ≡ false → with_text_data text content ≡ content
-other_stays text Document other = refl
-other_stays text Fragment other = refl
-other_stays text (Doctype a b c) other = refl
 other_stays text (Text a) other = cc
-other_stays text (Comment a) other = refl
-other_stays text (Element a) other = refl
-other_stays text (ProcessingInstruction a b) other = refl
+other_stays text _ other = refl
 
 unchanged : (text : List ℕ) (contents : List NodeData) (x : ℕ) → option_map_or is_text (slice_get contents x) false ≡ false → changed_at x (with_text_data text) contents ≡ contents
 unchanged text [] x other = refl
@@ -51,11 +41,8 @@ no_text_stays text x forest other = ap (λ (contents : List NodeData). record fo
 element_bears : (content : NodeData) → is_element content ≡ true → children_allowed content ≡ true
 element_bears Document is = refl
 element_bears Fragment is = refl
-element_bears (Doctype a b c) is = cc
-element_bears (Text a) is = cc
-element_bears (Comment a) is = cc
 element_bears (Element a) is = refl
-element_bears (ProcessingInstruction a b) is = cc
+element_bears _ is = cc
 
 pub bears_there : (contents : List NodeData) (x : ℕ) → option_map_or is_element (slice_get contents x) false ≡ true → option_map_or children_allowed (slice_get contents x) false ≡ true
 bears_there [] x is = is
