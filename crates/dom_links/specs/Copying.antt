@@ -8,9 +8,9 @@ use Rattle.dom_nodes.specs.declared.fault.EditFault.TheVariants.{TooManyNodes, M
 use Rattle.dom_nodes.specs.declared.node_data.NodeData.{NodeData}
 use Rattle.dom_nodes.specs.declared.node_data.TreeNode.{TreeNode}
 use Rattle.dom_nodes.specs.Kinds.{contents_named}
-use Rattle.dom_links.specs.Copies.{Extends, copied_data, data_at, with_copies, with_node_below}
+use Rattle.dom_links.specs.Copies.{Extends, MayCopy, copied_data, data_at, with_copies, with_node_below}
 use Rattle.dom_links.specs.Forest.{Forest, IsArenaOf, forest_of}
-use Rattle.dom_links.specs.Sound.{IsForest}
+use Rattle.dom_links.specs.Sound.{IsForest, IsSoundArena}
 use Rattle.dom_links.specs.Trees.{trees}
 use Rattle.dom_links.specs.Walk.{row_on}
 use Rattle.dom_links.specs.declared.ops.copies.Row.{Row}
@@ -37,6 +37,11 @@ pub record IsUnderWay (copying : Copying) (other : Option (Bor (List TreeNode)))
   pub numbered : length nodes ≤ 4294967295
   pub kept : Extends copying.base (forest_of nodes)
   pub read : IsRead copying other
+
+-- no copy has been made yet, and the nodes may be copied
+abbrev pub CanBegin : Copying → Option (Bor (List TreeNode)) → List TreeNode → List ℕ → Type 0
+CanBegin copying other nodes ns =
+    IsSoundArena nodes × IsUnderWay copying other nodes × (copying.base ≡ forest_of nodes) × MayCopy copying.source ns
 
 -- the row begins at a node of the source, and goes below a copy
 pub record IsRow (copying : Copying) (count : ℕ) (row : Row) : Type 0 where

@@ -1,5 +1,5 @@
 -- A forest with copies of a forest's nodes is a forest.
-use Rattle.std.proofs.Common.{ℕ, zero, suc, ◌≡◌, ◌<◌, ◌+◌, Bool, true, false, List, [], ◌∷◌, ◌++◌, Option, Some, None, refl, sym, ap, ◌∙◌, subst, arith, inl, inr, length, take, get_or}
+use Rattle.std.proofs.Common.{ℕ, zero, suc, ◌≡◌, ◌<◌, ◌≤◌, ◌+◌, Bool, true, false, List, [], ◌∷◌, ◌++◌, Option, Some, None, Err, refl, sym, ap, ◌∙◌, subst, arith, inl, inr, length, take, get_or}
 use Rattle.std.specs.Prelude.{◌==◌, slice_get}
 use Rattle.std.specs.Option.{option_map, option_map_or}
 use Rattle.std.proofs.lemmas.Bool.{cases_Bool, eqb-true, eq-eqb, or_right}
@@ -12,7 +12,7 @@ use Rattle.dom_nodes.specs.declared.node_data.NodeData.TheVariants.{Document, Fr
 use Rattle.dom_nodes.specs.Kinds.{contents_named, is_element, is_fragment, is_top, children_allowed}
 use Rattle.dom_nodes.specs.declared.node_data.TreeNode.{TreeNode}
 use Rattle.dom_links.specs.Copying.{AreNodesOf, IsTooLarge}
-use Rattle.dom_links.specs.Copies.{CopyCause, Extends, MayCopy, copied, fragment_of, copied_data, data_at, with_copies, with_node_below}
+use Rattle.dom_links.specs.Copies.{CopiesNodes, CopyCause, Extends, MayCopy, copied, fragment_of, copied_data, data_at, with_copies, with_node_below}
 use Rattle.dom_links.specs.Lists.{stands_in}
 use Rattle.dom_links.specs.Forest.{Forest, IsArenaOf, children_of, forest_of}
 use Rattle.dom_links.specs.Growth.{lone, with_child, with_node}
@@ -140,6 +140,9 @@ held_kept source (Some q) n c ns forest good may some =
     template_kept forest q (copied_data (length forest.content) (data_at source n)) good
     (record { target_known = may.0; open_here = (may.1 n (here_stands n ns)).0; no_top = no_top (copied_data (length forest.content) (data_at source n)) (length forest.content + 1) named; named = named })
 
+abbrev pub AreInside : Forest → List ℕ → Type 0
+AreInside source ns = (m : ℕ) → stands_in m ns ≡ true → m < length source.content
+
 -- what trees are made of
 pub record Parts (source : Forest) (ns : List ℕ) (n : ℕ) (contents children later : Trees) : Type 0 where
   pub rest : List ℕ
@@ -147,9 +150,8 @@ pub record Parts (source : Forest) (ns : List ℕ) (n : ℕ) (contents children 
   pub contents_is : trees source (contents_list source n) ≡ contents
   pub children_is : trees source (children_of source n) ≡ children
   pub later_is : trees source rest ≡ later
-
-abbrev pub AreInside : Forest → List ℕ → Type 0
-AreInside source ns = (m : ℕ) → stands_in m ns ≡ true → m < length source.content
+  pub known : n < length source.content
+  pub rest_known : AreInside source rest
 
 pub parts : (source : Forest) (ns : List ℕ) (n : ℕ) (contents children later : Trees) → IsForest source → AreInside source ns → trees source ns ≡ Tree n contents children later → Parts source ns n contents children later
 parts source [] n contents children later good known e = (let none = sym (trees-none source) ∙ e in cc)
@@ -160,6 +162,8 @@ parts source (m ∷ ms) n contents children later good known e =
     let two : trees source (children_of source m) ≡ children = cc in
     let three : trees source ms ≡ later = cc in
     record {
+      known = subst (λ (k : ℕ). k < length source.content) same (known m (here_stands m ms));
+      rest_known = λ k s. known k (later_stands m k ms s);
       rest = ms;
       all = ap (λ k. k ∷ ms) same;
       contents_is = subst (λ (k : ℕ). trees source (contents_list source k) ≡ contents) same one;
@@ -228,21 +232,17 @@ pub copies_kept : (source : Forest) (ts : Trees) (p : Option ℕ) (ns : List ℕ
 copies_kept source NoTrees p ns forest good known e fine may = fine
 copies_kept source (Tree n NoTrees children later) p ns forest good known e fine may =
     let part = parts source ns n NoTrees children later good known e in
-    let inside : AreInside source (n ∷ part.rest) = subst (AreInside source) part.all known in
-    let here : n < length source.content = inside n (here_stands n part.rest) in
     let may_all : MayTake source p (n ∷ part.rest) forest = subst (λ (ks : List ℕ). MayTake source p ks forest) part.all may in
     let k = length forest.content in
     let data' = copied_data k (data_at source n) in
     let made = with_node_below p data' forest in
     let first = plain_kept source p n part.rest forest fine may_all (no_held source n good part.contents_is) in
     let below = copies_kept source children (Some k) (children_of source n) made good (children_inside source n good) part.children_is first
-    (take_children source n k made good (omega (arith, node_count-below p data' forest)) (children_allowed_at-new p data' forest ∙ children_allowed_at-copied k (data_at source n)) here) in
-    copies_kept source later p part.rest (with_copies source (Some k) children made) good (λ m s. inside m (later_stands n m part.rest s)) part.later_is below
+    (take_children source n k made good (omega (arith, node_count-below p data' forest)) (children_allowed_at-new p data' forest ∙ children_allowed_at-copied k (data_at source n)) part.known) in
+    copies_kept source later p part.rest (with_copies source (Some k) children made) good part.rest_known part.later_is below
     (take_on source p (Some k) n part.rest children made (take_below source p (n ∷ part.rest) data' p forest may_all))
 copies_kept source (Tree n (Tree c contents inmost beside) children later) p ns forest good known e fine may =
     let part = parts source ns n (Tree c contents inmost beside) children later good known e in
-    let inside : AreInside source (n ∷ part.rest) = subst (AreInside source) part.all known in
-    let here : n < length source.content = inside n (here_stands n part.rest) in
     let may_all : MayTake source p (n ∷ part.rest) forest = subst (λ (ks : List ℕ). MayTake source p ks forest) part.all may in
     let k = length forest.content in
     let data' = copied_data k (data_at source n) in
@@ -258,8 +258,8 @@ copies_kept source (Tree n (Tree c contents inmost beside) children later) p ns 
     let second = with_copies source None (Tree c contents inmost beside) made in
     let three = node_count-copies source None (Tree c contents inmost beside) made in
     let below = copies_kept source children (Some k) (children_of source n) second good (children_inside source n good) part.children_is first
-    (take_children source n k second good (omega arith) (children_allowed_at-kept source None (Tree c contents inmost beside) made k (omega arith) ∙ children_allowed_at-new p data' forest ∙ children_allowed_at-copied k (data_at source n)) here) in
-    copies_kept source later p part.rest (with_copies source (Some k) children second) good (λ m s. inside m (later_stands n m part.rest s)) part.later_is below
+    (take_children source n k second good (omega arith) (children_allowed_at-kept source None (Tree c contents inmost beside) made k (omega arith) ∙ children_allowed_at-new p data' forest ∙ children_allowed_at-copied k (data_at source n)) part.known) in
+    copies_kept source later p part.rest (with_copies source (Some k) children second) good part.rest_known part.later_is below
     (take_on source p (Some k) n part.rest children second (take_same source p None (n ∷ part.rest) (Tree c contents inmost beside) made (take_below source p (n ∷ part.rest) data' p forest may_all)))
 
 pub copied_kept : (source : Forest) (ns : List ℕ) (forest : Forest) → IsForest source → AreInside source ns → IsForest forest → IsForest (with_copies source None (trees source ns) forest)
@@ -303,6 +303,27 @@ pub too_large : (source : Forest) (ns : List ℕ) (forest : Forest) (fault : Edi
 too_large source ns forest TooManyNodes h = h
 too_large source ns forest Memory h = h
 too_large source ns forest _ h = absurd h
+
+-- the copies were all made
+pub sound_copies : (source : Forest) (ns : List ℕ) (old new : List TreeNode) → IsForest source → MayCopy source ns → IsSoundArena old → IsArenaOf (forest_of new) new → length new ≤ 4294967295 →
+    forest_of new ≡ copied source ns (forest_of old) → IsSoundArena new
+sound_copies source ns old new good may sound linked few made = record {
+  arena = linked;
+  forest = subst IsForest (sym made) (copied_kept source ns (forest_of old) good (inside_all source ns (all_may source ns may)) sound.forest);
+  numbered = few;
+}
+
+-- they were too large, and were taken away again
+pub none_left : {A : Type 0} {named : A → List ℕ} (source : Forest) (ns : List ℕ) (old taken : List TreeNode) (fault : EditFault) → IsSoundArena old → IsArenaOf (forest_of old) taken → IsTooLarge (copied source ns (forest_of old)) fault →
+    CopiesNodes named (Err fault) source old taken ns
+none_left source ns old taken fault sound back large = record {
+  made = tt;
+  numbers = tt;
+  allowed = tt;
+  err = forest_of-arena (forest_of old) taken back;
+  cause = too_large source ns (forest_of old) fault large;
+  sound = sound_again old taken sound back;
+}
 
 -- ---- fragments
 

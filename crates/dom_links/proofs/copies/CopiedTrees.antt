@@ -18,7 +18,7 @@ use Rattle.dom_links.specs.Sound.{IsForest, contents_at}
 use Rattle.dom_links.specs.Trees.{NoTrees, Tree, Trees, contents_list, trees}
 use Rattle.dom_links.proofs.forest.Places.{cases_Option, get_or-map_all, length-map_from}
 use Rattle.dom_links.proofs.moves.Cuts.{one-stands, one_known}
-use Rattle.dom_links.proofs.forest.Depth.{here_stands, later_stands, trees-none, trees-some}
+use Rattle.dom_links.proofs.forest.Depth.{trees-none, trees-some}
 use Rattle.dom_links.proofs.forest.Grown.{children-more, slice_get-there, get_or-before, within}
 use Rattle.dom_links.proofs.copies.Copied.{all_copies_keep, copies_keep, named_at, node_count-below, node_count-copies}
 use Rattle.dom_links.proofs.copies.CopiedForests.{AreInside, Contents, Parts, contents_are, content-below, content-kept, copied_kept, inside_all, names-copied, no_held, parts}
@@ -234,8 +234,6 @@ trees_copied source NoTrees p ns forest other good fine known is fits place abov
 trees_copied source (Tree n contents children later) p ns forest other good fine known is fits place above =
     let part = parts source ns n contents children later good known is in
     let rest = Parts.rest part in
-    let inside : AreInside source (n ∷ rest) = subst (AreInside source) (Parts.all part) known in
-    let here : n < length source.content = inside n (here_stands n rest) in
     let k = length forest.content in
     let data' = copied_data k (data_at source n) in
     let made = made_of source p n forest in
@@ -256,7 +254,7 @@ trees_copied source (Tree n contents children later) p ns forest other good fine
     (above-on held other (k + 1) (length made.content) (omega arith) above2) in
     let below = trees_copied source children (Some k) (children_of source n) held other good fine (λ m s. (good.once.in_children n m s).0) (Parts.children_is part) done.held_fits (omega arith)
     (above-on whole other k (length held.content) (omega arith) above3) in
-    let after = trees_copied source later p rest whole other good fine (λ m s. inside m (later_stands n m rest s)) (Parts.later_is part) done.whole_fits (place_on p k (length whole.content) place (omega arith))
+    let after = trees_copied source later p rest whole other good fine (Parts.rest_known part) (Parts.later_is part) done.whole_fits (place_on p k (length whole.content) place (omega arith))
     (above-on (with_copies source p later whole) other k (length whole.content) (omega arith) above) in
     record {
       same_trees = trees-some other k (root_numbers (k + node_count (Tree n contents children NoTrees)) later) fine (λ m s. omega (arith, roots_inside (Tree n contents children later) k m s, above.longer))
@@ -266,7 +264,7 @@ trees_copied source (Tree n contents children later) p ns forest other good fine
           (ap (trees other) kids ∙ below.same_trees ∙ ap (λ (j : ℕ). renumbered j children) held_is)
           ∙ ap (Tree k (renumbered (k + 1) contents) (renumbered (k + 1 + node_count contents) children))
           (subst (λ (j : ℕ). trees other (root_numbers j later) ≡ renumbered j later) whole_is after.same_trees);
-      same_data = (got_data source.content n here, at_k, subst (λ (j : ℕ). HoldCopies source contents j other) made_is inner.same_data, subst (λ (j : ℕ). HoldCopies source children j other) held_is below.same_data, subst (λ (j : ℕ). HoldCopies source later j other) whole_is after.same_data);
+      same_data = (got_data source.content n (Parts.known part), at_k, subst (λ (j : ℕ). HoldCopies source contents j other) made_is inner.same_data, subst (λ (j : ℕ). HoldCopies source children j other) held_is below.same_data, subst (λ (j : ℕ). HoldCopies source later j other) whole_is after.same_data);
     }
 
 -- what the law says

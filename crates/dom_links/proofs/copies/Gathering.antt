@@ -7,12 +7,11 @@ use Rattle.dom_nodes.specs.declared.node_data.TreeNode.{TreeNode}
 use Rattle.dom_links.specs.Forest.{Forest, IsArenaOf, forest_of, run_of}
 use Rattle.dom_links.specs.ListMoves.{AreNodes, MovedList, Moves}
 use Rattle.dom_links.specs.Lists.{IsDistinct, first, last, map_from, put_after, stands_in, without}
-use Rattle.dom_links.specs.Moves.{Gap, StartsRun, after_node, children_with, cut, moved_to, put, run_with}
+use Rattle.dom_links.specs.Moves.{Gap, after_node, children_with, cut, moved_to, put, run_with}
 use Rattle.dom_links.specs.Sound.{Removed}
 use Rattle.dom_links.specs.declared.gap.Moving.TheVariants.{Node}
 use Rattle.dom_links.proofs.moves.BlockGaps.{after_absent_list}
-use Rattle.dom_links.proofs.moves.BlockKept.{alone-cut_list, list_moved}
-use Rattle.dom_links.proofs.forest.Chains.{forest_of-arena}
+use Rattle.dom_links.proofs.moves.BlockKept.{list_moved}
 use Rattle.dom_links.proofs.moves.Cuts.{length-contents, one-stands, run-cut}
 use Rattle.dom_links.proofs.forest.Neighbours.{distinct_parts, first-stands, last-append, last-cons_cons, last-stands, stands_in-append, stands_in-without, without_one-none}
 use Rattle.dom_links.proofs.forest.Places.{get_or-map_all, length-map_from}
@@ -174,30 +173,6 @@ pub start_known : (base : Forest) (moved others : List ℕ) (start : ℕ) → Ar
 start_known base moved others start are e = are.known start (first-stands moved start (ap first e))
 
 -- ---- a run of nodes that were cut out is put at a gap
-
--- what is known of the run
-pub record IsRun (old middle : List TreeNode) (moved : List ℕ) (x : ℕ) : Type 0 where
-  pub is : forest_of middle ≡ cut moved (forest_of old)
-  pub linked : IsArenaOf (forest_of middle) middle
-  pub run : StartsRun (forest_of middle) x
-  pub all : run_of (forest_of middle) x ≡ moved
-
-pub is_run : (old middle : List TreeNode) (moved : List ℕ) (x : ℕ) → IsArenaOf (forest_of old) old → AreNodes (forest_of old) moved → IsArenaOf (cut moved (forest_of old)) middle → first moved ≡ Some x → IsRun old middle moved x
-is_run old middle moved x arena are arena' starts =
-    let lone = alone-cut_list (forest_of old) moved arena.once are in
-    let is : forest_of middle ≡ cut moved (forest_of old) = forest_of-arena (cut moved (forest_of old)) middle arena' in
-    let inside : stands_in x moved ≡ true = first-stands moved x starts in
-    record {
-      is = is;
-      linked = subst (λ (f : Forest). IsArenaOf f middle) (sym is) arena';
-      run = subst (λ (f : Forest). StartsRun f x) (sym is) (record { no_parent = lone.no_parent x inside; starts = ap first (lone.alone x inside) ∙ starts });
-      all = ap (λ (f : Forest). run_of f x) is ∙ lone.alone x inside;
-    }
-
-pub run_moved : (old middle new : List TreeNode) (gap : Gap) (moved : List ℕ) (x : ℕ) → IsArenaOf (forest_of old) old → AreNodes (forest_of old) moved → IsRun old middle moved x →
-    IsArenaOf (put gap (run_of (forest_of middle) x) (forest_of middle)) new → MovedList old new gap moved
-run_moved old middle new gap moved x arena are out put_there =
-    list_moved old new gap moved are (subst (λ (f : Forest). IsArenaOf f new) (ap (λ ns. put gap ns (forest_of middle)) out.all ∙ ap (put gap moved) out.is) put_there)
 
 -- ---- no node at all
 

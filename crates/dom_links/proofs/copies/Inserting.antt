@@ -11,7 +11,7 @@ use Rattle.dom_links.specs.Sound.{IsForest, MayPlace, Removed, is_open, target}
 use Rattle.dom_links.proofs.moves.BlockKept.{cut_parents, forest-cut_list, ways_none}
 use Rattle.dom_links.proofs.forest.Chains.{forest_of-arena}
 use Rattle.dom_links.proofs.moves.Cuts.{length-contents}
-use Rattle.dom_links.proofs.copies.Gathering.{IsRun}
+use Rattle.dom_links.proofs.moves.BlockMoves.{IsRun}
 use Rattle.dom_links.proofs.forest.Neighbours.{first-stands}
 use Rattle.dom_links.proofs.texts.SettingTexts.{bears_there}
 

@@ -12,7 +12,7 @@ use Rattle.dom_links.specs.Moves.{Gap, end_of, front_of, before_node, after_node
 use Rattle.dom_links.specs.Sound.{MayPlace, Moved, target}
 use Rattle.dom_links.specs.Walk.{rest_after}
 use Rattle.dom_links.specs.Writes.{Joined}
-use Rattle.dom_links.specs.ListMoves.{with_later, moved_nodes, moving_id, Moves}
+use Rattle.dom_links.specs.ListMoves.{with_later, moved_nodes, moving_id, Moves, MovedList}
 use Rattle.dom_links.specs.ListWrites.{NextsKnown, ParentsSet, RunAttached, next_chain}
 use Rattle.dom_links.proofs.forest.Neighbours.{around, before_here, after_here, last-append, first-stands}
 use Rattle.dom_links.proofs.forest.Places.{siblings_child, siblings_once, Beside, beside}
@@ -147,18 +147,16 @@ moved_are forest (Node x) once h = one_node forest x h
 moved_are forest (WithLater x) once h = later_are forest x once h
 moved_are forest (WholeList x) once h = record { once = siblings_once forest x once; known = λ n s. Beside.known (beside forest x n once s) }
 
--- the arena in which they are cut out, and their first one
-pub record CutOut (old middle : List TreeNode) (moving : Moving) (x : ℕ) : Type 0 where
-  pub is : forest_of middle ≡ cut (moved_nodes (forest_of old) moving) (forest_of old)
+-- what is known of the run
+pub record IsRun (old middle : List TreeNode) (moved : List ℕ) (x : ℕ) : Type 0 where
+  pub is : forest_of middle ≡ cut moved (forest_of old)
   pub linked : IsArenaOf (forest_of middle) middle
   pub run : StartsRun (forest_of middle) x
-  pub all : run_of (forest_of middle) x ≡ moved_nodes (forest_of old) moving
+  pub all : run_of (forest_of middle) x ≡ moved
 
-pub is_cut_out : (old middle : List TreeNode) (moving : Moving) (x : ℕ) → IsArenaOf (forest_of old) old → moving_id moving < length old →
-    IsArenaOf (cut (moved_nodes (forest_of old) moving) (forest_of old)) middle → first (moved_nodes (forest_of old) moving) ≡ Some x → CutOut old middle moving x
-is_cut_out old middle moving x arena h arena' starts =
-    let moved = moved_nodes (forest_of old) moving in
-    let lone = alone-cut_list (forest_of old) moved arena.once (moved_are (forest_of old) moving arena.once (known_inside (forest_of old) old (moving_id moving) arena h)) in
+pub is_run : (old middle : List TreeNode) (moved : List ℕ) (x : ℕ) → IsArenaOf (forest_of old) old → AreNodes (forest_of old) moved → IsArenaOf (cut moved (forest_of old)) middle → first moved ≡ Some x → IsRun old middle moved x
+is_run old middle moved x arena are arena' starts =
+    let lone = alone-cut_list (forest_of old) moved arena.once are in
     let is : forest_of middle ≡ cut moved (forest_of old) = forest_of-arena (cut moved (forest_of old)) middle arena' in
     let inside : stands_in x moved ≡ true = first-stands moved x starts in
     record {
@@ -168,11 +166,24 @@ is_cut_out old middle moving x arena h arena' starts =
       all = ap (λ (f : Forest). run_of f x) is ∙ lone.alone x inside;
     }
 
+pub run_moved : (old middle new : List TreeNode) (gap : Gap) (moved : List ℕ) (x : ℕ) → IsArenaOf (forest_of old) old → AreNodes (forest_of old) moved → IsRun old middle moved x →
+    IsArenaOf (put gap (run_of (forest_of middle) x) (forest_of middle)) new → MovedList old new gap moved
+run_moved old middle new gap moved x arena are out put_there =
+    list_moved old new gap moved are (subst (λ (f : Forest). IsArenaOf f new) (ap (λ ns. put gap ns (forest_of middle)) out.all ∙ ap (put gap moved) out.is) put_there)
+
+abbrev pub CutOut : List TreeNode → List TreeNode → Moving → ℕ → Type 0
+CutOut old middle moving x = IsRun old middle (moved_nodes (forest_of old) moving) x
+
+all_known : (old : List TreeNode) (moving : Moving) → IsArenaOf (forest_of old) old → moving_id moving < length old → AreNodes (forest_of old) (moved_nodes (forest_of old) moving)
+all_known old moving arena h = moved_are (forest_of old) moving arena.once (known_inside (forest_of old) old (moving_id moving) arena h)
+
+pub is_cut_out : (old middle : List TreeNode) (moving : Moving) (x : ℕ) → IsArenaOf (forest_of old) old → moving_id moving < length old →
+    IsArenaOf (cut (moved_nodes (forest_of old) moving) (forest_of old)) middle → first (moved_nodes (forest_of old) moving) ≡ Some x → CutOut old middle moving x
+is_cut_out old middle moving x arena h = is_run old middle (moved_nodes (forest_of old) moving) x arena (all_known old moving arena h)
+
 pub moves : (old middle new : List TreeNode) (gap : Gap) (moving : Moving) (x : ℕ) → IsArenaOf (forest_of old) old → moving_id moving < length old → CutOut old middle moving x →
     IsArenaOf (put gap (run_of (forest_of middle) x) (forest_of middle)) new → Moves old new gap moving
-moves old middle new gap moving x arena h out put_there =
-    list_moved old new gap (moved_nodes (forest_of old) moving) (moved_are (forest_of old) moving arena.once (known_inside (forest_of old) old (moving_id moving) arena h))
-    (subst (λ (f : Forest). IsArenaOf f new) (ap (λ ns. put gap ns (forest_of middle)) out.all ∙ ap (put gap (moved_nodes (forest_of old) moving)) out.is) put_there)
+moves old middle new gap moving x arena h = run_moved old middle new gap (moved_nodes (forest_of old) moving) x arena (all_known old moving arena h)
 
 -- the move of one node
 pub moved_one : (old new : List TreeNode) (gap : Gap) (x : ℕ) → Moves old new gap (Node x) → Moved old new gap x

@@ -9,9 +9,10 @@ ghost use Rattle.dom_links.specs.Copies.{CheckCause, Copied, CopiedOne, MayCopy,
 ghost use Rattle.dom_links.specs.Copies.{FragmentCause, IsPlainElement, OneCause, fragment_of};
 ghost use Rattle.dom_links.specs.Copies.{copied_below, copied_data, copy_numbers};
 ghost use Rattle.dom_links.specs.Copies.{with_contents, with_node_below};
-ghost use Rattle.dom_links.specs.Copying.{AreNodesOf, AreRows, CanGoBelow, CopiesAll, CopiesAlone};
-ghost use Rattle.dom_links.specs.Copying.{CopiesAndNotes, Copying, IsPlaceFor, IsRow, IsUnderWay};
-ghost use Rattle.dom_links.specs.Copying.{LacksRoom, read_nodes, row_from, with_row, with_rows};
+ghost use Rattle.dom_links.specs.Copying.{AreNodesOf, AreRows, CanBegin, CanGoBelow, CopiesAll};
+ghost use Rattle.dom_links.specs.Copying.{CopiesAlone, CopiesAndNotes, Copying, IsPlaceFor};
+ghost use Rattle.dom_links.specs.Copying.{IsRow, IsUnderWay, LacksRoom, read_nodes, row_from};
+ghost use Rattle.dom_links.specs.Copying.{with_row, with_rows};
 ghost use Rattle.dom_links.specs.Forest.{IsArenaOf, children_of, forest_of};
 ghost use Rattle.dom_links.specs.Growth.{NoRoom};
 ghost use Rattle.dom_links.specs.Lists.{first};
@@ -134,10 +135,7 @@ fn copy_all(
     ids: &[NodeId],
 ) -> Result<Vec<NodeId>, EditFault>
     ghost at: { Copying }
-    requires sound { IsSoundArena nodes.old.items }
-    requires under_way { IsUnderWay at other nodes.old.items }
-    requires base { at.base ≡ forest_of nodes.old.items }
-    requires allowed { MayCopy at.source ids.now }
+    requires { CanBegin at other nodes.old.items ids.now }
     ensures { Copied result at.source nodes.old.items nodes.new.items ids.now }
 {
     let count = nodes.len();
@@ -157,10 +155,7 @@ fn copy_one(
     id: NodeId,
 ) -> Result<NodeId, EditFault>
     ghost at: { Copying }
-    requires sound { IsSoundArena nodes.old.items }
-    requires under_way { IsUnderWay at other nodes.old.items }
-    requires base { at.base ≡ forest_of nodes.old.items }
-    requires allowed { MayCopy at.source (id ∷ []) }
+    requires { CanBegin at other nodes.old.items (id ∷ []) }
     ensures { CopiedOne result at.source nodes.old.items nodes.new.items (id ∷ []) }
 {
     let count = nodes.len();

@@ -1,7 +1,8 @@
 use Rattle.std.proofs.Common.{◌∙◌, ap, sym}
 use Rattle.dom_links.specs.Lists.{stands_in}
 use Rattle.dom_links.specs.Sound.{target}
-use Rattle.dom_links.proofs.copies.Gathering.{IsRun, is_run, none_moved, run_moved}
+use Rattle.dom_links.proofs.copies.Gathering.{none_moved}
+use Rattle.dom_links.proofs.moves.BlockMoves.{IsRun, is_run, run_moved}
 use Rattle.dom_links.proofs.ops.insertions.move_list.Goals as goal
 
 pub returns-in_default : goal.returns-in_default
