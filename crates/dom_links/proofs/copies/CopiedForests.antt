@@ -1,5 +1,5 @@
 -- A forest with copies of a forest's nodes is a forest.
-use Rattle.std.proofs.Common.{ℕ, zero, suc, ◌≡◌, ◌<◌, ◌≤◌, ◌+◌, Bool, true, false, List, [], ◌∷◌, ◌++◌, Option, Some, None, Err, refl, sym, ap, ◌∙◌, subst, arith, inl, inr, length, take, get_or}
+use Rattle.std.proofs.Common.{ℕ, zero, suc, ◌≡◌, ◌<◌, ◌≤◌, ◌+◌, Bool, true, false, List, [], ◌∷◌, ◌++◌, Option, Some, None, Ok, Err, refl, sym, ap, ◌∙◌, subst, arith, inl, inr, length, take, get_or}
 use Rattle.std.specs.Prelude.{◌==◌, slice_get}
 use Rattle.std.specs.Option.{option_map, option_map_or}
 use Rattle.std.proofs.lemmas.Bool.{cases_Bool, eqb-true, eq-eqb, or_right}
@@ -12,7 +12,7 @@ use Rattle.dom_nodes.specs.declared.node_data.NodeData.TheVariants.{Document, Fr
 use Rattle.dom_nodes.specs.Kinds.{contents_named, is_element, is_fragment, is_top, children_allowed}
 use Rattle.dom_nodes.specs.declared.node_data.TreeNode.{TreeNode}
 use Rattle.dom_links.specs.Copying.{AreNodesOf, IsTooLarge}
-use Rattle.dom_links.specs.Copies.{CopiesNodes, CopyCause, Extends, MayCopy, copied, fragment_of, copied_data, data_at, with_copies, with_node_below}
+use Rattle.dom_links.specs.Copies.{CopiesNodes, CopyCause, Extends, MayCopy, copied, copy_numbers, fragment_of, copied_data, data_at, with_copies, with_node_below}
 use Rattle.dom_links.specs.Lists.{stands_in}
 use Rattle.dom_links.specs.Forest.{Forest, IsArenaOf, children_of, forest_of}
 use Rattle.dom_links.specs.Growth.{lone, with_child, with_node}
@@ -305,12 +305,19 @@ too_large source ns forest Memory h = h
 too_large source ns forest _ h = absurd h
 
 -- the copies were all made
-pub sound_copies : (source : Forest) (ns : List ℕ) (old new : List TreeNode) → IsForest source → MayCopy source ns → IsSoundArena old → IsArenaOf (forest_of new) new → length new ≤ 4294967295 →
-    forest_of new ≡ copied source ns (forest_of old) → IsSoundArena new
-sound_copies source ns old new good may sound linked few made = record {
-  arena = linked;
-  forest = subst IsForest (sym made) (copied_kept source ns (forest_of old) good (inside_all source ns (all_may source ns may)) sound.forest);
-  numbered = few;
+pub all_copied : {A : Type 0} {named : A → List ℕ} (source : Forest) (ns : List ℕ) (old new : List TreeNode) (made : A) → IsForest source → MayCopy source ns → IsSoundArena old → IsArenaOf (forest_of new) new → length new ≤ 4294967295 →
+    forest_of new ≡ copied source ns (forest_of old) → named made ≡ copy_numbers source ns (forest_of old) → CopiesNodes named (Ok made) source old new ns
+all_copied source ns old new made good may sound linked few is numbers = record {
+  made = is;
+  numbers = numbers;
+  allowed = may;
+  err = tt;
+  cause = tt;
+  sound = record {
+    arena = linked;
+    forest = subst IsForest (sym is) (copied_kept source ns (forest_of old) good (inside_all source ns (all_may source ns may)) sound.forest);
+    numbered = few;
+  };
 }
 
 -- they were too large, and were taken away again

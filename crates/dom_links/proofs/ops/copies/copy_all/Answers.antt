@@ -1,5 +1,5 @@
 use Rattle.std.proofs.Common.{arith}
-use Rattle.dom_links.proofs.copies.CopiedForests.{all_may, none_left, sound_copies, taken_back}
+use Rattle.dom_links.proofs.copies.CopiedForests.{all_may, none_left, all_copied, taken_back}
 use Rattle.dom_links.proofs.ops.copies.copy_all.Goals as goal
 
 pub copy_each-requires : goal.copy_each-requires
@@ -7,18 +7,8 @@ copy_each-requires g c = (c.requires.1, (all_may g.at.source c.args.ids.now c.re
 
 pub returns-in-Ok : goal.returns-in-Ok
 returns-in-Ok g c =
-    let source = g.at.source in
-    let ids = c.args.ids.now in
-    let allowed = c.requires.3 in
     let way = c.copy_each.ensures.copies.under_way in
-    record {
-      made = c.in-Ok.ensures.copies.made;
-      numbers = c.in-Ok.ensures.numbers;
-      allowed = allowed;
-      err = tt;
-      cause = tt;
-      sound = sound_copies source ids c.args.nodes.now.items c.copy_each.new.nodes.items way.good allowed c.requires.0 way.linked way.numbered c.in-Ok.ensures.copies.made;
-    }
+    all_copied g.at.source c.args.ids.now c.args.nodes.now.items c.copy_each.new.nodes.items c.in-Ok.made way.good c.requires.3 c.requires.0 way.linked way.numbered c.in-Ok.ensures.copies.made c.in-Ok.ensures.numbers
 
 pub returns-in-Err : goal.returns-in-Err
 returns-in-Err g c =

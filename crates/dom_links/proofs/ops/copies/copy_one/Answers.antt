@@ -2,7 +2,7 @@ use Rattle.std.proofs.Common.{◌∙◌, ◌∷◌, [], None, ap, arith, length,
 use Rattle.dom_links.specs.Copies.{copied_below}
 use Rattle.dom_links.specs.Forest.{forest_of}
 use Rattle.dom_links.proofs.copies.Copied.{count_is, first_number, no_numbers}
-use Rattle.dom_links.proofs.copies.CopiedForests.{all_may, none_left, sound_copies, taken_back}
+use Rattle.dom_links.proofs.copies.CopiedForests.{all_may, all_copied, none_left, taken_back}
 use Rattle.dom_links.proofs.ops.copies.copy_one.Goals as goal
 
 pub copy_tree-requires : goal.copy_tree-requires
@@ -13,20 +13,11 @@ returns-in-Ok g c =
     let source = g.at.source in
     let ids = c.args.id ∷ [] in
     let forest = forest_of c.args.nodes.now.items in
-    let allowed = c.requires.3 in
-    let known = all_may source ids allowed in
-    let old = c.requires.1 in
     let way = c.copy_tree.ensures.copies.under_way in
-    let count = count_is g.at c.args.other c.args.nodes.now.items (vec_len c.args.nodes.now) old (omega arith) in
-    record {
-      made = c.in-Ok.ensures.copies.made;
-      numbers = ap (λ k. k ∷ []) (c.in-Ok.ensures.number ∙ count)
-          ∙ sym (first_number source None c.args.id [] forest way.good known ∙ ap (λ ks. length forest.content ∷ ks) (no_numbers source (copied_below source None ids forest)));
-      allowed = allowed;
-      err = tt;
-      cause = tt;
-      sound = sound_copies source ids c.args.nodes.now.items c.copy_tree.new.nodes.items way.good allowed c.requires.0 way.linked way.numbered c.in-Ok.ensures.copies.made;
-    }
+    let count = count_is g.at c.args.other c.args.nodes.now.items (vec_len c.args.nodes.now) c.requires.1 (omega arith) in
+    all_copied source ids c.args.nodes.now.items c.copy_tree.new.nodes.items c.in-Ok.made way.good c.requires.3 c.requires.0 way.linked way.numbered c.in-Ok.ensures.copies.made
+    (ap (λ k. k ∷ []) (c.in-Ok.ensures.number ∙ count)
+    ∙ sym (first_number source None c.args.id [] forest way.good (all_may source ids c.requires.3) ∙ ap (λ ks. length forest.content ∷ ks) (no_numbers source (copied_below source None ids forest))))
 
 pub returns-in-Err : goal.returns-in-Err
 returns-in-Err g c =
