@@ -1,5 +1,5 @@
 -- Nodes that are a run of their own are put between two parts of a list: where the numbers then stand, and which links they then have.
-use Rattle.std.proofs.Common.{ℕ, ◌≡◌, ◌<◌, ◌≤◌, ◌+◌, true, false, List, [], ◌++◌, Option, Some, None, refl, sym, ap, ◌∙◌, subst, arith, cond, inl, inr, length}
+use Rattle.std.proofs.Common.{ℕ, Bool, ◌≡◌, ◌<◌, ◌≤◌, ◌+◌, true, false, List, [], ◌++◌, Option, Some, None, refl, sym, ap, ◌∙◌, subst, arith, cond, inl, inr, length}
 use Rattle.std.specs.Prelude.{◌==◌, ◌||◌, ◌&&◌}
 use Rattle.std.specs.Option.{is_none}
 use Rattle.std.proofs.lemmas.List.{get_or_past}
@@ -92,52 +92,45 @@ siblings-put_out forest filled moved owner front back n once fill h e =
 siblings-lone : (forest : Forest) (moved : List ℕ) (n : ℕ) → AreAlone forest moved → stands_in n moved ≡ true → siblings forest n ≡ moved
 siblings-lone forest moved n lone s = siblings_run forest n (lone.no_parent n s) ∙ lone.alone n s
 
-pub after-put : (forest filled : Forest) (moved : List ℕ) (owner : Option ℕ) (front back : List ℕ) (x y n : ℕ) → StandsOnce forest → FilledList forest filled moved owner front back → first moved ≡ Some x → last moved ≡ Some y → n < length forest.content →
+-- who is beside n after a step, of who was
+step-put : (step : List ℕ → ℕ → Option ℕ) (now : Option ℕ → Option ℕ) (forest filled : Forest) (moved : List ℕ) (owner : Option ℕ) (front back : List ℕ) (n : ℕ) →
+    StandsOnce forest → FilledList forest filled moved owner front back → n < length forest.content → (stands_in n moved ≡ true → step (front ++ (moved ++ back)) n ≡ now (step moved n)) →
+    (stands_in n moved ≡ false → step (front ++ (moved ++ back)) n ≡ now (step (front ++ back) n)) → (stands_in n moved ≡ false → stands_in n (front ++ back) ≡ false → (o : Option ℕ) → now o ≡ o) →
+    step (siblings filled n) n ≡ now (step (siblings forest n) n)
+step-put step now forest filled moved owner front back n once fill h inside beside_them far = elim (cases_Bool (stands_in n moved)) [
+  | inl t ↦ rw (siblings-put_in forest filled moved owner front back n once fill t, siblings-lone forest moved n fill.lone t) (inside t)
+  | inr out ↦ rw (siblings-put_out forest filled moved owner front back n once fill h out)
+      (elim (cases_Bool (stands_in n (front ++ back))) [
+        | inl t ↦ rw (t, (fill.row_is n t).2) (beside_them out)
+        | inr g ↦ rw g (sym (far out g (step (siblings forest n) n)))
+      ])
+]
+
+after-put : (forest filled : Forest) (moved : List ℕ) (owner : Option ℕ) (front back : List ℕ) (x y n : ℕ) → StandsOnce forest → FilledList forest filled moved owner front back → first moved ≡ Some x → last moved ≡ Some y → n < length forest.content →
     after (siblings filled n) n ≡ cond (y == n) (first back) (cond (names (last front) n) (Some x) (after (siblings forest n) n))
 after-put forest filled moved owner front back x y n once fill starts ends h =
-    let parts = distinct_parts front back fill.row_once in
-    elim (cases_Bool (stands_in n moved)) [
-      | inl t ↦ (let off : stands_in n front ≡ false = not_front front back n (fill.not_inside n t) in
-          rw (siblings-put_in forest filled moved owner front back n once fill t, siblings-lone forest moved n fill.lone t, not_named (last front) front n (last-stands front) off)
-          (after-inside front moved back n fill.lone.are.once off t ∙ ap (λ o. cond (names o n) (first back) (after moved n)) ends))
-      | inr out ↦ (let other : (y == n) ≡ false = not_named (Some y) moved n (λ m e. last-stands moved m (ends ∙ e)) out in
-          rw (other, siblings-put_out forest filled moved owner front back n once fill h out)
-          (elim (cases_Bool (stands_in n (front ++ back))) [
-            | inl t ↦ rw (t, (fill.row_is n t).2) (after-outside front moved back x n parts.0 starts out)
-            | inr g ↦ rw (g, not_named (last front) front n (last-stands front) (not_front front back n g)) refl
-          ]))
-    ]
+    let ahead = not_named (last front) front n (last-stands front) in
+    let other : stands_in n moved ≡ false → (y == n) ≡ false = not_named (Some y) moved n (λ m e. last-stands moved m (ends ∙ e)) in
+    step-put after (λ o. cond (y == n) (first back) (cond (names (last front) n) (Some x) o)) forest filled moved owner front back n once fill h
+    (λ t. let off = not_front front back n (fill.not_inside n t) in rw (ahead off) (after-inside front moved back n fill.lone.are.once off t ∙ ap (λ o. cond (names o n) (first back) (after moved n)) ends))
+    (λ out. rw (other out) (after-outside front moved back x n (distinct_parts front back fill.row_once).0 starts out)) (λ out g o. rw (other out, ahead (not_front front back n g)) refl)
 
-pub before-put : (forest filled : Forest) (moved : List ℕ) (owner : Option ℕ) (front back : List ℕ) (x y n : ℕ) → StandsOnce forest → FilledList forest filled moved owner front back → first moved ≡ Some x → last moved ≡ Some y → n < length forest.content →
+before-put : (forest filled : Forest) (moved : List ℕ) (owner : Option ℕ) (front back : List ℕ) (x y n : ℕ) → StandsOnce forest → FilledList forest filled moved owner front back → first moved ≡ Some x → last moved ≡ Some y → n < length forest.content →
     before (siblings filled n) n ≡ cond (names (first back) n) (Some y) (cond (x == n) (last front) (before (siblings forest n) n))
 before-put forest filled moved owner front back x y n once fill starts ends h =
-    let parts = distinct_parts front back fill.row_once in
-    elim (cases_Bool (stands_in n moved)) [
-      | inl t ↦ (let off : stands_in n back ≡ false = not_back front back n (fill.not_inside n t) in
-          rw (siblings-put_in forest filled moved owner front back n once fill t, siblings-lone forest moved n fill.lone t, not_named (first back) back n (first-stands back) off)
-          (before-inside front moved back n fill.lone.are.once off t ∙ ap (λ o. cond (names o n) (last front) (before moved n)) starts))
-      | inr out ↦ (let other : (x == n) ≡ false = not_named (Some x) moved n (λ m e. first-stands moved m (starts ∙ e)) out in
-          rw (other, siblings-put_out forest filled moved owner front back n once fill h out)
-          (elim (cases_Bool (stands_in n (front ++ back))) [
-            | inl t ↦ rw (t, (fill.row_is n t).2) (before-outside front moved back y n parts.1 ends out)
-            | inr g ↦ rw (g, not_named (first back) back n (first-stands back) (not_back front back n g)) refl
-          ]))
-    ]
+    let behind = not_named (first back) back n (first-stands back) in
+    let other : stands_in n moved ≡ false → (x == n) ≡ false = not_named (Some x) moved n (λ m e. first-stands moved m (starts ∙ e)) in
+    step-put before (λ o. cond (names (first back) n) (Some y) (cond (x == n) (last front) o)) forest filled moved owner front back n once fill h
+    (λ t. let off = not_back front back n (fill.not_inside n t) in rw (behind off) (before-inside front moved back n fill.lone.are.once off t ∙ ap (λ o. cond (names o n) (last front) (before moved n)) starts))
+    (λ out. rw (other out) (before-outside front moved back y n (distinct_parts front back fill.row_once).1 ends out)) (λ out g o. rw (other out, behind (not_back front back n g)) refl)
 
-pub first-put : (forest filled : Forest) (moved : List ℕ) (owner : Option ℕ) (front back : List ℕ) (x p : ℕ) → FilledList forest filled moved owner front back → first moved ≡ Some x →
-    first (children_of filled p) ≡ cond (is_none (last front) && names owner p) (Some x) (first (children_of forest p))
-first-put forest filled moved owner front back x p fill starts = ap first (fill.children p) ∙
+-- an end of a list of children, which one of the moved nodes takes where the list has none on that side
+end-put : (end : List ℕ → Option ℕ) (free : Bool) (it : Option ℕ) (forest filled : Forest) (moved : List ℕ) (owner : Option ℕ) (front back : List ℕ) (p : ℕ) → FilledList forest filled moved owner front back →
+    end (front ++ (moved ++ back)) ≡ cond free it (end (front ++ back)) → end (children_of filled p) ≡ cond (free && names owner p) it (end (children_of forest p))
+end-put end free it forest filled moved owner front back p fill taken = ap end (fill.children p) ∙
     (elim (cases_Bool (names owner p)) [
-      | inl t ↦ rw (t, fill.owned p (names-true owner p t)) (first-block front moved back x starts ∙ (elim (is_none (last front)) as (λ u. cond u (Some x) (first (front ++ back)) ≡ cond (u && true) (Some x) (first (front ++ back))) [ true ↦ refl | false ↦ refl ]))
-      | inr f ↦ rw f (elim (is_none (last front)) as (λ u. first (children_of forest p) ≡ cond (u && false) (Some x) (first (children_of forest p))) [ true ↦ refl | false ↦ refl ])
-    ])
-
-pub last-put : (forest filled : Forest) (moved : List ℕ) (owner : Option ℕ) (front back : List ℕ) (y p : ℕ) → FilledList forest filled moved owner front back → last moved ≡ Some y →
-    last (children_of filled p) ≡ cond (is_none (first back) && names owner p) (Some y) (last (children_of forest p))
-last-put forest filled moved owner front back y p fill ends = ap last (fill.children p) ∙
-    (elim (cases_Bool (names owner p)) [
-      | inl t ↦ rw (t, fill.owned p (names-true owner p t)) (last-block front moved back y ends ∙ (elim (is_none (first back)) as (λ u. cond u (Some y) (last (front ++ back)) ≡ cond (u && true) (Some y) (last (front ++ back))) [ true ↦ refl | false ↦ refl ]))
-      | inr f ↦ rw f (elim (is_none (first back)) as (λ u. last (children_of forest p) ≡ cond (u && false) (Some y) (last (children_of forest p))) [ true ↦ refl | false ↦ refl ])
+      | inl t ↦ rw (t, fill.owned p (names-true owner p t)) (taken ∙ (elim free as (λ u. cond u it (end (front ++ back)) ≡ cond (u && true) it (end (front ++ back))) [ true ↦ refl | false ↦ refl ]))
+      | inr f ↦ rw f (elim free as (λ u. end (children_of forest p) ≡ cond (u && false) it (end (children_of forest p))) [ true ↦ refl | false ↦ refl ])
     ])
 
 -- by next links the first of the nodes leads to all of them
@@ -172,8 +165,8 @@ links-put forest filled old new moved x owner left right front back once links f
           ]);
       prevs = λ n h. rw (join'.prevs n, join.prevs n, set.prevs n, links.prevs n (omega arith), before-put forest filled moved owner front back x y n once fill starts ends (omega arith), l, r) refl;
       nexts = λ n h. rw (join'.nexts n, join.nexts n, set.nexts n, links.nexts n (omega arith), after-put forest filled moved owner front back x y n once fill starts ends (omega arith), l, r) refl;
-      firsts = λ n h. rw (join'.firsts n, join.firsts n, set.firsts n, links.firsts n (omega arith), first-put forest filled moved owner front back x n fill starts, l) refl;
-      lasts = λ n h. rw (join'.lasts n, join.lasts n, set.lasts n, links.lasts n (omega arith), last-put forest filled moved owner front back y n fill ends, r) refl;
+      firsts = λ n h. rw (join'.firsts n, join.firsts n, set.firsts n, links.firsts n (omega arith), end-put first (is_none (last front)) (Some x) forest filled moved owner front back n fill (first-block front moved back x starts), l) refl;
+      lasts = λ n h. rw (join'.lasts n, join.lasts n, set.lasts n, links.lasts n (omega arith), end-put last (is_none (first back)) (Some y) forest filled moved owner front back n fill (last-block front moved back y ends), r) refl;
     }
 
 in_children-put : (forest filled : Forest) (moved : List ℕ) (owner : Option ℕ) (front back : List ℕ) → StandsOnce forest → FilledList forest filled moved owner front back →

@@ -1,5 +1,5 @@
 -- Counting siblings, and stepping from one number to another.
-use Rattle.std.proofs.Common.{ℕ, ◌≡◌, ◌<◌, ◌≤◌, ◌+◌, ◌-◌, ◌*◌, ◌/◌, ◌%◌, Bool, true, false, List, [], ◌∷◌, Option, Some, None, inl, inr, sym, ap, ◌∙◌, arith, cond, length, nat_eq, MatchBool, slice_get}
+use Rattle.std.proofs.Common.{ℕ, ◌≡◌, ◌<◌, ◌≤◌, ◌+◌, ◌-◌, ◌*◌, ◌/◌, ◌%◌, Bool, true, false, List, [], ◌∷◌, Option, Some, None, inl, inr, ◌⊎◌, sym, ap, ◌∙◌, arith, cond, length, nat_eq, MatchBool, slice_get}
 use Rattle.std.specs.Prelude.{◌==◌, count_by, if◌then◌else◌}
 use Rattle.std.specs.Option.{option_map_or}
 use Rattle.std.proofs.Math.Nat.{div-add-mod, mul-mod_right}
@@ -81,6 +81,11 @@ starts forest kind n node rev next good few is same link =
 pub record Counted (forest : Forest) (kind : IndexKind) (n : ℕ) (next beyond : Option ℕ) (index : ℕ) : Type 0 where
   pub counting : Counting forest kind n beyond index
   pub fewer : length (row_on forest (is_from_first kind) beyond) < length (row_on forest (is_from_first kind) next)
+
+-- one more is counted where the test says so
+pub one_counted : (b : Bool) (index new : ℕ) → ((b ≡ true) × (new ≡ index + 1)) ⊎ ((b ≡ false) × (new ≡ index)) → new ≡ index + cond b 1 0
+one_counted b index new (inl more) = rw more.0 more.1
+one_counted b index new (inr same) = rw same.0 (omega (arith, same.1))
 
 -- one more is passed
 pub counts_on : (forest : Forest) (kind : IndexKind) (n at : ℕ) (node other : TreeNode) (rev : Bool) (next beyond : Option ℕ) (index new : ℕ) (b : Bool) → IsForest forest → Counting forest kind n next index → next ≡ Some at → new ≡ index + cond b 1 0 →

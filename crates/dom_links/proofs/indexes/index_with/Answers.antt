@@ -1,8 +1,8 @@
-use Rattle.std.proofs.Common.{Bool, true, ◌≡◌, ◌<◌, ◌+◌, ℕ, cond, sym, ap, ◌∙◌, subst, arith}
+use Rattle.std.proofs.Common.{true, ◌≡◌, ◌<◌, ◌+◌, ℕ, sym, ap, ◌∙◌, subst, arith, inl, inr}
 use Rattle.dom_links.specs.Forest.{forest_of}
 use Rattle.dom_links.specs.Indexes.{counts, index_at}
 use Rattle.dom_links.proofs.moves.Cuts.{length-contents}
-use Rattle.dom_links.proofs.walks.IndexLemmas.{Counted, counts_is, counts_on, index_past, starts}
+use Rattle.dom_links.proofs.walks.IndexLemmas.{Counted, counts_is, counts_on, one_counted, index_past, starts}
 use Rattle.dom_links.proofs.walks.KnownLemmas.{as_far, never_many}
 use Rattle.dom_links.proofs.indexes.index_with.Goals as goal
 use Rattle.dom_links.proofs.indexes.index_with.Goals.{then-counts+else-there-gt0, else-counts}
@@ -32,10 +32,7 @@ returns-then-there-gt0-clause-few c =
 
 passed : (c : goal.After-neighbour-next-in-Some-next) → Counted (forest_of c.args.nodes.now) c.args.kind c.args.id.now c.loop-next.next c.neighbour-next-in-Some-next.result c.if-counts.index
 passed c =
-    let grown : c.if-counts.index ≡ c.loop-next.index + cond c.counts.result 1 0 = elim c.if-counts.branch [
-      | then-counts+else-there-gt0 w ↦ (let one : 1 ≡ cond c.counts.result 1 0 = ap {B = ℕ} (λ (b : Bool). cond b 1 0) (sym w.if-counts.true) in omega (arith, w.index-is, one))
-      | else-counts w ↦ (let none : 0 ≡ cond c.counts.result 1 0 = ap {B = ℕ} (λ (b : Bool). cond b 1 0) (sym w.if-counts.false) in omega (arith, w.index-is, none))
-    ] in
+    let grown = one_counted c.counts.result c.loop-next.index c.if-counts.index (elim c.if-counts.branch [ then-counts+else-there-gt0 w ↦ inl (w.if-counts.true, w.index-is) | else-counts w ↦ inr (w.if-counts.false, w.index-is) ]) in
     counts_on (forest_of c.args.nodes.now) c.args.kind c.args.id.now c.in-Some-next.at c.in-Some.node.now c.node_at-other.result.now c.is_from_first-back.result c.loop-next.next c.neighbour-next-in-Some-next.result
     c.loop-next.index c.if-counts.index c.counts.result c.requires.sound.forest c.loop-next.invariant c.in-Some-next.is grown c.in-Some.ensures.content_is c.node_at-other.ensures c.is_from_first-back.ensures c.neighbour-next-in-Some-next.ensures c.counts.ensures
 
