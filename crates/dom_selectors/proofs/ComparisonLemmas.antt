@@ -21,6 +21,13 @@ begins_with-length case [] (b ∷ bs) h = refl
 begins_with-length case (a ∷ more) (b ∷ bs) h =
     ap (λ t. same_byte case a b && t) (begins_with-length case more bs (omega arith)) ∙ and_none (same_byte case a b)
 
+-- of two texts as long as each other one begins with the other where they are the same
+pub begins_with-whole : (case : CaseSensitivity) (text other : List ℕ) → length text ≡ length other → begins_with case text other ≡ same_text case text other
+begins_with-whole case [] [] h = refl
+begins_with-whole case [] (b ∷ bs) h = refl
+begins_with-whole case (a ∷ more) [] h = absurd (omega arith)
+begins_with-whole case (a ∷ more) (b ∷ bs) h = ap (λ t. same_byte case a b && t) (begins_with-whole case more bs (omega arith))
+
 -- where it doesn't begin here, it is within what follows or nowhere
 pub has_within-later : (case : CaseSensitivity) (n : ℕ) (text inner : List ℕ) → n < length text → begins_with case (drop n text) inner ≡ false →
     has_within case (drop (n + 1) text) inner ≡ has_within case (drop n text) inner

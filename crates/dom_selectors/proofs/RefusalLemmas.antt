@@ -15,17 +15,22 @@ use Rattle.dom_selectors.specs.declared.fault.SelectorFault.{SelectorFault}
 use Rattle.dom_selectors.specs.Spelling.{Refuses, Many, Run, SpellsNone}
 use Rattle.dom_selectors.specs.Characters.{after_white, begins}
 use Rattle.dom_selectors.specs.Names.{SpellsName, starts_name}
-use Rattle.dom_selectors.specs.Syntax.{CompoundSelector, SelectorList, Steps, NestedList, NestedLists, nested}
+use Rattle.dom_selectors.specs.Syntax.{CompoundSelector, SelectorList, Steps, NestedList, NestedLists, nested, no_lists}
 use Rattle.dom_selectors.specs.ListsAsTrees.{Item, simple, two_parts, listed, parts_among, lists_among, lists_of}
 use Rattle.dom_selectors.specs.Pseudos.{is_relative, pseudo_of}
 use Rattle.dom_selectors.specs.Attributes.{SpellsAttribute}
 use Rattle.dom_selectors.specs.Grammar.{StandsFor, SpellsListed, Opens, SpellsEnclosed, SpellsLead, SpellsWithin, inner_context, stands_for, whole, SpellsForm, SpellsPseudo, SpellsItem, begins_item, is_star, SpellsType, begins_compound, SpellsCompound, SpellsCombinator, SpellsStep, begins_step, SpellsSelector, begins_comma, SpellsLater, SpellsList, SpellsInner}
-use Rattle.dom_selectors.specs.ValuesAsTrees.{PushesItem, lists_then}
+use Rattle.dom_selectors.specs.ValuesAsTrees.{PushesItem}
 use Rattle.dom_selectors.proofs.Runs.{IsOnce, run_none}
 use Rattle.dom_selectors.proofs.NameLemmas.{name_once}
 use Rattle.dom_selectors.proofs.SelectorLemmas.{opens_once, lead_once, list_once, inner_once, type_once, combinator_once, item_once, item_goes_on, compound_once, step_once, step_goes_on, selector_once, later_once, later_goes_on}
 
-pub nested_last : (lists : List NestedList) (list : NestedList) → lists_of (lists ++ list ∷ []) ≡ lists_then (lists_of lists) list
+-- the lists with one more at their end
+abbrev lists_then : NestedLists → NestedList → NestedLists
+lists_then no_lists list = nested list no_lists
+lists_then (nested l more) list = nested l (lists_then more list)
+
+nested_last : (lists : List NestedList) (list : NestedList) → lists_of (lists ++ list ∷ []) ≡ lists_then (lists_of lists) list
 nested_last [] list = refl
 nested_last (l ∷ lists) list = ap (λ n. nested l n) (nested_last lists list)
 
@@ -233,14 +238,14 @@ two_stay (two_parts p q ∷ items) part other = two_stay items part other
 two_stay (listed l ∷ items) part other = ap (λ ls. nested l ls) (two_stay items part other)
 
 -- an item more in its order is a part or a list more
-pub pushed_item : (item : Item) (front parts new_parts : List Part) (lists made_lists : NestedLists) (items : List Item) → PushesItem item parts lists new_parts made_lists →
-    parts ≡ front ++ parts_among items → lists ≡ lists_among items → (new_parts ≡ front ++ parts_among (items ++ item ∷ [])) × (made_lists ≡ lists_among (items ++ item ∷ []))
+pub pushed_item : (item : Item) (front parts new_parts : List Part) (lists made_lists : List NestedList) (items : List Item) → PushesItem item parts lists new_parts made_lists →
+    parts ≡ front ++ parts_among items → lists_of lists ≡ lists_among items → (new_parts ≡ front ++ parts_among (items ++ item ∷ [])) × (lists_of made_lists ≡ lists_among (items ++ item ∷ []))
 pushed_item (simple part) front parts new_parts lists made_lists items push p l =
-    (push.0 ∙ ap (λ ps. ps ++ part ∷ []) p ∙ append_assoc front (parts_among items) (part ∷ []) ∙ ap (λ ps. front ++ ps) (sym (parts_last items part)), push.1 ∙ l ∙ sym (lists_stay items part))
+    (push.0 ∙ ap (λ ps. ps ++ part ∷ []) p ∙ append_assoc front (parts_among items) (part ∷ []) ∙ ap (λ ps. front ++ ps) (sym (parts_last items part)), ap lists_of push.1 ∙ l ∙ sym (lists_stay items part))
 pushed_item (two_parts part other) front parts new_parts lists made_lists items push p l =
-    (push.0 ∙ ap (λ ps. ps ++ part ∷ other ∷ []) p ∙ append_assoc front (parts_among items) (part ∷ other ∷ []) ∙ ap (λ ps. front ++ ps) (sym (two_last items part other)), push.1 ∙ l ∙ sym (two_stay items part other))
+    (push.0 ∙ ap (λ ps. ps ++ part ∷ other ∷ []) p ∙ append_assoc front (parts_among items) (part ∷ other ∷ []) ∙ ap (λ ps. front ++ ps) (sym (two_last items part other)), ap lists_of push.1 ∙ l ∙ sym (two_stay items part other))
 pushed_item (listed list) front parts new_parts lists made_lists items push p l =
-    (push.0 ∙ p ∙ ap (λ ps. front ++ ps) (sym (parts_stay items list)), push.1 ∙ ap (λ ls. lists_then ls list) l ∙ sym (lists_last items list))
+    (push.0 ∙ p ∙ ap (λ ps. front ++ ps) (sym (parts_stay items list)), ap lists_of push.1 ∙ nested_last lists list ∙ ap (λ ls. lists_then ls list) l ∙ sym (lists_last items list))
 
 pub none_without_list : (text : List ℕ) → SpellsNone (SpellsList whole (SpellsInner whole)) (after_white text) → (list : SelectorList) → StandsFor text list → ⊥
 none_without_list text none list h = none list h.after h.spelled

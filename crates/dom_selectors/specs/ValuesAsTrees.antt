@@ -9,7 +9,7 @@ use Rattle.dom_selectors.specs.declared.syntax.Compound.{Compound, Compound-F, f
 use Rattle.dom_selectors.specs.declared.syntax.Nested.{Nested, Nested-F, fold-Nested}
 use Rattle.dom_selectors.specs.declared.syntax.Selector.{Selector, Selector-F, fold-Selector}
 use Rattle.dom_selectors.specs.declared.syntax.Step.{Step, Step-F, fold-Step}
-use Rattle.dom_selectors.specs.Syntax.{CompoundSelector, compound, NestedLists, no_lists, nested, NestedList, is_list, not_list, has_list, SelectorList, Steps}
+use Rattle.dom_selectors.specs.Syntax.{CompoundSelector, compound, NestedLists, NestedList, is_list, not_list, has_list, SelectorList, Steps}
 use Rattle.dom_selectors.specs.ListsAsTrees.{Item, simple, two_parts, listed, lists_of, steps_of, selector_list}
 
 -- one layer of a value, with what its children stand for in their place
@@ -57,13 +57,8 @@ read_item (Simple part) = simple part
 read_item (Two part other) = two_parts part other
 read_item (Listed list) = listed (read_nested list)
 
--- the lists with one more at their end
-abbrev pub lists_then : NestedLists → NestedList → NestedLists
-lists_then no_lists list = nested list no_lists
-lists_then (nested l more) list = nested l (lists_then more list)
-
 -- a part goes to the parts, a list to the lists
-abbrev pub PushesItem : Item → List Part → NestedLists → List Part → NestedLists → Type 0
+abbrev pub PushesItem : Item → List Part → List NestedList → List Part → List NestedList → Type 0
 PushesItem (simple part) parts lists new_parts made_lists = (new_parts ≡ parts ++ part ∷ []) × (made_lists ≡ lists)
 PushesItem (two_parts part other) parts lists new_parts made_lists = (new_parts ≡ parts ++ part ∷ other ∷ []) × (made_lists ≡ lists)
-PushesItem (listed list) parts lists new_parts made_lists = (new_parts ≡ parts) × (made_lists ≡ lists_then lists list)
+PushesItem (listed list) parts lists new_parts made_lists = (new_parts ≡ parts) × (made_lists ≡ lists ++ list ∷ [])

@@ -16,7 +16,7 @@ use dom_nodes::text::Text;
 use std::alloc::Global;
 
 /// The operator that a character and `=` write.
-fn operator_of(c: char) -> Option<AttrOperator>
+pub(crate) fn operator_of(c: char) -> Option<AttrOperator>
     ensures { result ≡ operator_of c }
 {
     match c {

@@ -51,14 +51,7 @@ pub fn same_text(case: CaseSensitivity, text: &[u8], other: &[u8]) -> bool
     if text.len() != other.len() {
         return false;
     }
-    let mut n = 0;
-    while n < other.len() {
-        if !same_byte(case, text[n], other[n]) {
-            return false;
-        }
-        n += 1;
-    }
-    true
+    begins_with(case, text, other)
 }
 
 /// Whether one of the words of the text is the value.

@@ -67,7 +67,8 @@ fn copy_parts(alloc: Global, parts: &[Part]) -> Result<Vec<Part>, OutOfMemory>
     Ok(made)
 }
 
-fn push_list(lists: &mut Vec<Nested>, list: Nested) -> Result<(), OutOfMemory>
+/// Adds a list to a compound's lists.
+pub(crate) fn push_list(lists: &mut Vec<Nested>, list: Nested) -> Result<(), OutOfMemory>
     ensures { Pushes read_nested lists.old.items lists.new.items result list }
 {
     lists.push(list)?;

@@ -1,7 +1,7 @@
 //! Reads selectors, over their characters.
 
 ghost use Rattle.std.specs.Prelude.{◌≡◌, ◌<◌, ◌++◌, ◌∷◌, [], chars, true};
-ghost use Rattle.std.specs.Prelude.{false, cond, nat_eq, IfOk, OnOk};
+ghost use Rattle.std.specs.Prelude.{false, cond, map, nat_eq, IfOk, OnOk};
 ghost use Rattle.std.specs.Char.{is_ascii_whitespace};
 ghost use Rattle.std.specs.List.{list_all};
 ghost use Rattle.dom_selectors.specs.Characters.{begins};
@@ -18,11 +18,12 @@ ghost use Rattle.dom_selectors.specs.Grammar.{is_star, stands_behind, within};
 ghost use Rattle.dom_selectors.specs.Nth.{SpellsNth};
 ghost use Rattle.dom_selectors.specs.Strings.{SpellsString};
 ghost use Rattle.dom_selectors.specs.Spelling.{Skips, TakesSome, Takes, no_other, same};
-ghost use Rattle.dom_selectors.specs.ValuesAsTrees.{PushesItem, lists_then, read_compound};
-ghost use Rattle.dom_selectors.specs.ValuesAsTrees.{read_item, read_lists, read_nested};
+ghost use Rattle.dom_selectors.specs.ValuesAsTrees.{PushesItem, read_compound};
+ghost use Rattle.dom_selectors.specs.ValuesAsTrees.{read_item, read_nested};
 ghost use Rattle.dom_selectors.specs.ValuesAsTrees.{read_selector, read_selectors, read_step};
 
 use crate::attributes::{after_char, take_attribute};
+use crate::copies::push_list;
 use crate::fault::SelectorFault;
 use crate::names::{after_white, starts_name, take_name, take_selector_name};
 use crate::nth::take_nth;
@@ -32,6 +33,7 @@ use crate::syntax::{
     Bare, Combinator, Compound, Item, Nested, ParseContext, Part, Position, Pseudo, Quantifier,
     Selector, Step, TextTest,
 };
+use dom_nodes::fault::OutOfMemory;
 use dom_nodes::indexes::Nth;
 use dom_nodes::text::Text;
 use std::alloc::{AllocError, Global};
@@ -256,26 +258,18 @@ fn take_type(alloc: Global, text: &[char]) -> Result<(Vec<Part>, &[char]), Selec
     Ok((parts, rest))
 }
 
-fn push_part(parts: &mut Vec<Part>, part: Part) -> Result<(), AllocError>
+fn push_part(parts: &mut Vec<Part>, part: Part) -> Result<(), OutOfMemory>
     ensures { OnOk result (parts.new.items ≡ parts.old.items ++ part ∷ []) }
 {
     parts.push(part)?;
     Ok(())
 }
 
-fn push_list(nested: &mut Vec<Nested>, list: Nested) -> Result<(), AllocError>
-    ensures { OnOk result (read_lists nested.new.items
-        ≡ lists_then (read_lists nested.old.items) (read_nested list)) }
-{
-    nested.push(list)?;
-    Ok(())
-}
-
 /// Adds a part to the parts, or a list to the lists.
-fn push_item(parts: &mut Vec<Part>, nested: &mut Vec<Nested>, item: Item) -> Result<(), AllocError>
+fn push_item(parts: &mut Vec<Part>, nested: &mut Vec<Nested>, item: Item) -> Result<(), OutOfMemory>
     ensures { OnOk result (PushesItem (read_item item)
-        parts.old.items (read_lists nested.old.items)
-        parts.new.items (read_lists nested.new.items)) }
+        parts.old.items (map read_nested nested.old.items)
+        parts.new.items (map read_nested nested.new.items)) }
 {
     match item {
         Item::Simple(part) => push_part(parts, part),
@@ -311,7 +305,8 @@ fn take_compound(
     Ok((Compound { parts, nested }, rest))
 }
 
-fn combinator_of(c: char) -> Option<Combinator>
+/// The combinator of a sign.
+pub(crate) fn combinator_of(c: char) -> Option<Combinator>
     ensures { result ≡ combinator_of c }
 {
     match c {

@@ -15,21 +15,16 @@ use crate::mini_selector::scan::{
     after_blanks, split_ascii, split_before, strip, take_operator, take_word,
 };
 use crate::mini_selector::selector::MiniAttr;
+use crate::strings::is_quote;
 use crate::syntax::AttrOperator;
 use std::alloc::Global;
-
-fn is_quote(byte: u8) -> bool
-    ensures { result ≡ is_quote byte }
-{
-    byte == b'"' || byte == b'\''
-}
 
 fn begins_quote(text: &str) -> bool
     ensures { result ≡ begins is_quote text.now }
 {
     match text.as_bytes() {
         [] => false,
-        [first, ..] => is_quote(*first),
+        [first, ..] => is_quote(char::from(*first)),
     }
 }
 
@@ -46,7 +41,7 @@ fn take_quoted(text: &str) -> Option<(&str, &str)>
     let Some((quote, inside)) = split_ascii(text) else {
         return None;
     };
-    if !is_quote(quote) {
+    if !is_quote(char::from(quote)) {
         return None;
     }
     let (value, closing) = split_before(inside, quote);

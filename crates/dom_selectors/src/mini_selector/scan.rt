@@ -2,13 +2,14 @@
 
 ghost use Rattle.std.specs.Prelude.{◌≡◌, ◌<◌, ◌∷◌, false, nat_lt, MatchOption};
 ghost use Rattle.std.specs.List.{prefix_len, take_while};
-ghost use Rattle.dom_selectors.specs.Attributes.{SpellsOperator, operator_of};
-ghost use Rattle.dom_selectors.specs.Grammar.{combinator_of};
+ghost use Rattle.dom_selectors.specs.Attributes.{SpellsOperator};
 ghost use Rattle.dom_selectors.specs.Characters.{begins};
 ghost use Rattle.dom_selectors.specs.MiniLetters.{after_blanks, after_while, isnt, passes};
 ghost use Rattle.dom_selectors.specs.MiniGrammar.{SpellsLead, SpellsMarked, SpellsWord};
 ghost use Rattle.dom_selectors.specs.Spelling.{Strips, TakesSlice, TakesSome};
 
+use crate::attributes::operator_of;
+use crate::parser::combinator_of;
 use crate::syntax::{AttrOperator, Combinator};
 
 /// What a kind of a mini selector is made of.
@@ -122,18 +123,6 @@ pub(crate) fn take_marked(text: &str, mark: char) -> Option<(&str, &str)>
     take_word(more)
 }
 
-/// The combinator of a sign.
-fn combinator_of(sign: u8) -> Option<Combinator>
-    ensures { result ≡ combinator_of sign }
-{
-    match sign {
-        b'>' => Some(Combinator::Child),
-        b'+' => Some(Combinator::Adjacent),
-        b'~' => Some(Combinator::Sibling),
-        _ => None,
-    }
-}
-
 /// The combinator at the front, with the blanks round its sign, and what follows it.
 pub(crate) fn take_lead(text: &str) -> Option<(Combinator, &str)>
     ensures { TakesSome result SpellsLead text.now }
@@ -141,24 +130,10 @@ pub(crate) fn take_lead(text: &str) -> Option<(Combinator, &str)>
     let Some((sign, more)) = split_ascii(after_blanks(text)) else {
         return None;
     };
-    let Some(combinator) = combinator_of(sign) else {
+    let Some(combinator) = combinator_of(char::from(sign)) else {
         return None;
     };
     Some((combinator, after_blanks(more)))
-}
-
-/// The operator that a character and `=` write.
-fn operator_of(sign: u8) -> Option<AttrOperator>
-    ensures { result ≡ operator_of sign }
-{
-    match sign {
-        b'~' => Some(AttrOperator::Includes),
-        b'|' => Some(AttrOperator::DashMatch),
-        b'^' => Some(AttrOperator::Prefix),
-        b'$' => Some(AttrOperator::Suffix),
-        b'*' => Some(AttrOperator::Substring),
-        _ => None,
-    }
 }
 
 /// The operator at the front, and what follows it.
@@ -171,7 +146,7 @@ pub(crate) fn take_operator(text: &str) -> Option<(AttrOperator, &str)>
     if sign == b'=' {
         return Some((AttrOperator::Equals, more));
     }
-    let Some(operator) = operator_of(sign) else {
+    let Some(operator) = operator_of(char::from(sign)) else {
         return None;
     };
     let Some(rest) = strip(more, '=') else {
