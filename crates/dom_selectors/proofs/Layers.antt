@@ -28,3 +28,7 @@ read_not v = ap read_nested (sym (rolls-Not v)) ∙ fold-roll-Nested _ _ _ _ nes
 
 pub read_has : (v : Vec Selector Global) → read_nested (Has v) ≡ has_list (selector_list (map read_selector v.items))
 read_has v = ap read_nested (sym (rolls-Has v)) ∙ fold-roll-Nested _ _ _ _ nested_layer compound_layer selector_layer step_layer (Nested-F.Has v)
+
+-- what has the same parts reads as the same
+pub same_compound : (a b : Compound) → a.parts.items ≡ b.parts.items → map read_nested a.nested.items ≡ map read_nested b.nested.items → read_compound a ≡ read_compound b
+same_compound a b parts lists = read_compound_is a ∙ (ap (λ ps. compound ps (lists_of (map read_nested a.nested.items))) parts ∙ (ap (λ ls. compound b.parts.items (lists_of ls)) lists ∙ sym (read_compound_is b)))

@@ -7,6 +7,7 @@ pub mod KeepLemmas
 pub mod LargeLemmas
 pub mod Layers
 pub mod LengthLemmas
+pub mod LoopLemmas
 pub mod MiniFaultLemmas
 pub mod MiniLemmas
 pub mod MiniLengthLemmas
