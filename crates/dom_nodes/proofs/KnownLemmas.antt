@@ -110,7 +110,7 @@ folded_known n name h e = sym (known_lower n h) ∙ ap (map to_ascii_lowercase) 
 
 -- the place of a name
 abbrev pub slot_in : List ℕ → ℕ
-slot_in name = slot (length name % 64) (get_or name 0 0) (get_or name (length name / 2) 0) (get_or name (length name - 1) 0)
+slot_in name = slot (length name % 128) (get_or name 0 0) (get_or name (length name / 2) 0) (get_or name (length name - 1) 0)
 
 -- each known name but the empty one is found at its place
 places_are : agree_below (λ n. nat_eq (get_or PLACES (slot_in (known_name (n + 1))) 0) (n + 1)) (λ n. true) 246 ≡ true

@@ -21,4 +21,4 @@ IsUnknown name = (number : ℕ) → HasNumber name number → ⊥
 -- the one place where a name of that length with those three letters may be found
 unfoldable pub slot : ℕ → ℕ → ℕ → ℕ → ℕ
 slot length first middle last =
-    (17 * length + 9 * first + 19 * middle + 7 * last + get_or MOVES ((19 * length + 2 * first + 19 * middle + last) % 64) 0) % 512
+    (8 * middle + last + get_or MOVES ((length + 4 * first) % 128) 0) % 512
