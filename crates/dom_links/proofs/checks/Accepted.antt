@@ -1,5 +1,5 @@
 -- Nodes that pass every check are a sound arena.
-use Rattle.std.proofs.Common.{ℕ, zero, suc, ◌≡◌, ◌<◌, ◌≤◌, true, false, List, [], ◌∷◌, Option, Some, None, refl, sym, ap, ◌∙◌, subst, arith, inl, inr, length}
+use Rattle.std.proofs.Common.{ℕ, ◌≡◌, ◌<◌, ◌≤◌, true, false, List, [], ◌∷◌, Option, Some, None, refl, sym, ap, ◌∙◌, subst, arith, inl, inr, length}
 use Rattle.std.specs.Prelude.{◌==◌, ◌||◌, ◌≢◌, slice_get, IfSome, EachIndex, option_and_then}
 use Rattle.std.specs.Option.{option_map_or, option_or}
 use Rattle.std.proofs.lemmas.Bool.{cases_Bool, cases_lt, eqb-false, true≢false}
@@ -15,7 +15,7 @@ use Rattle.dom_links.proofs.forest.Places.{cases_Option, siblings_child, sibling
 use Rattle.dom_links.proofs.moves.Owners.{owner_found, owner_none}
 use Rattle.dom_links.proofs.forest.Grown.{within}
 use Rattle.dom_links.proofs.forest.Climbs.{fragment_is_top}
-use Rattle.dom_links.proofs.forest.Chains.{numbered, length-numbered}
+use Rattle.dom_links.proofs.forest.Chains.{numbered, length-numbered, chain_empty}
 use Rattle.dom_links.proofs.checks.Checked.{names_inside}
 use Rattle.dom_links.proofs.checks.Cycles.{no_return, way_after}
 use Rattle.dom_links.proofs.checks.Rowed.{ToAndFro, IsRow, row_of, row_around, row_chain, head_of, tail_of, shared, lone_row}
@@ -110,10 +110,6 @@ children_are nodes n p ties e =
     let begins : first_link nodes p ≡ first (row_in nodes n) = ties.at_front head.0 p (StandsBy.parent_same (stands_by nodes n head.0 ties h head.2) ∙ e) head.3 ∙ sym head.1 in
     let closes : last_link nodes p ≡ last (row_in nodes n) = ties.at_back tail.0 p (StandsBy.parent_same (stands_by nodes n tail.0 ties h tail.2) ∙ e) tail.3 ∙ sym tail.1 in
     (begins, closes, ap (chain (next_link nodes) (length nodes)) begins ∙ row_chain (prev_link nodes) (next_link nodes) (length nodes) (row_in nodes n) its.0)
-
-chain_empty : (link : ℕ → Option ℕ) (most : ℕ) → chain link most None ≡ []
-chain_empty link zero = refl
-chain_empty link (suc most) = refl
 
 children_none : (nodes : List TreeNode) (p : ℕ) → first_link nodes p ≡ None → children_in nodes p ≡ []
 children_none nodes p e = ap (chain (next_link nodes) (length nodes)) e ∙ chain_empty (next_link nodes) (length nodes)

@@ -25,6 +25,7 @@ use Rattle.dom_links.proofs.forest.Depth.{here_stands, later_stands, trees-none,
 use Rattle.dom_links.proofs.forest.Grown.{forest-more, slice_get-before, slice_get-there, within}
 use Rattle.dom_links.proofs.forest.Templates.{child_kept, lone_template_kept, template_kept}
 use Rattle.dom_links.proofs.copies.Copied.{all_copies_keep, all_known, shrunk, named_at, node_count-below, node_count-copies, held_none}
+use Rattle.dom_links.proofs.forest.Climbs.{element_bears}
 
 -- ---- the data of a copy
 
@@ -333,10 +334,6 @@ none_left source ns old taken fault sound back large = record {
 }
 
 -- ---- fragments
-
-element_bears : (content : NodeData) → is_element content ≡ true → children_allowed content ≡ true
-element_bears (AnElement element) e = refl
-element_bears _ e = cc
 
 may_be_child : (source : Forest) (ns : List ℕ) (m : ℕ) → MayCopy source ns → stands_in m ns ≡ true → is_top (data_at source m) ≡ false
 may_be_child source [] m may s = cc

@@ -13,9 +13,9 @@ use Rattle.dom_links.specs.declared.gap.Moving.TheVariants.{Node}
 use Rattle.dom_links.proofs.moves.BlockGaps.{after_absent_list}
 use Rattle.dom_links.proofs.moves.BlockKept.{list_moved}
 use Rattle.dom_links.proofs.moves.Cuts.{length-contents, one-stands, run-cut}
-use Rattle.dom_links.proofs.forest.Neighbours.{distinct_parts, first-stands, last-append, last-cons_cons, last-stands, stands_in-append, stands_in-without, without_one-none}
+use Rattle.dom_links.proofs.forest.Neighbours.{distinct_parts, first-stands, last-append, last-cons_cons, last-stands, stands_in-append, stands_in-without, without_one-none, first_none}
 use Rattle.dom_links.proofs.forest.Places.{get_or-map_all, length-map_from}
-use Rattle.dom_links.proofs.moves.TwoSteps.{cut_nothing, none_first, nothing_put}
+use Rattle.dom_links.proofs.moves.TwoSteps.{cut_nothing, nothing_put}
 
 -- behind the last of a list
 put_behind_last : (ns : List ℕ) (l m : ℕ) → IsDistinct ns → last ns ≡ Some l → put_after l (m ∷ []) ns ≡ ns ++ m ∷ []
@@ -182,5 +182,5 @@ nothing_cut old (n ∷ ns) e arena = absurd (omega (arith, e))
 
 pub none_moved : (old new : List TreeNode) (gap : Gap) (moved : List ℕ) → AreNodes (forest_of old) moved → first moved ≡ None → IsArenaOf (cut moved (forest_of old)) new → MovedList old new gap moved
 none_moved old new gap moved are none arena =
-    let empty : moved ≡ [] = none_first moved none in
+    let empty : moved ≡ [] = first_none moved none in
     list_moved old new gap moved are (subst (λ (f : Forest). IsArenaOf f new) (sym (ap (λ ns. put gap ns (cut moved (forest_of old))) empty ∙ nothing_put gap (cut moved (forest_of old)))) arena)

@@ -1,5 +1,5 @@
 -- Following an arena's links gives back the forest whose links it has.
-use Rattle.std.proofs.Common.{ℕ, zero, suc, ◌≡◌, ◌<◌, ◌≤◌, ◌+◌, true, false, List, [], ◌∷◌, ◌++◌, Option, Some, refl, sym, ap, ◌∙◌, subst, arith, inl, inr, length, get_or, reverse, append_assoc, eqb}
+use Rattle.std.proofs.Common.{ℕ, zero, suc, ◌≡◌, ◌<◌, ◌≤◌, ◌+◌, true, false, List, [], ◌∷◌, ◌++◌, Option, Some, None, refl, sym, ap, ◌∙◌, subst, arith, inl, inr, length, get_or, reverse, append_assoc, eqb}
 use Rattle.std.specs.Prelude.{◌==◌}
 use Rattle.std.specs.List.{list_any, IsDistinct as IsApart, AllByRecursion}
 use Rattle.std.proofs.lemmas.List.{same_lists, get_or_default, reverse-reverse, length-reverse, length-append}
@@ -11,6 +11,10 @@ use Rattle.dom_links.specs.Forest.{Forest, IsArenaOf, children_of, parent, sibli
 use Rattle.dom_links.proofs.forest.Neighbours.{stands_in-append, after_here, before_here, around, distinct_parts, reverse_around, distinct-reverse, stands_in-reverse}
 use Rattle.dom_links.proofs.forest.Places.{cases_Option, siblings_child, siblings_once, Beside, beside}
 use Rattle.dom_links.proofs.moves.Cuts.{length-contents}
+
+pub chain_empty : (link : ℕ → Option ℕ) (most : ℕ) → chain link most None ≡ []
+chain_empty link zero = refl
+chain_empty link (suc most) = refl
 
 -- Numbers below n, of which none stands twice, are at most n
 

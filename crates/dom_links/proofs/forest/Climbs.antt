@@ -5,17 +5,19 @@ use Rattle.std.specs.Option.{option_map_or, IfSome}
 use Rattle.std.proofs.lemmas.Bool.{cases_Bool, eqb-true, cases_lt}
 use Rattle.std.proofs.lemmas.Option.{slice_get_past, slice_get_read}
 use Rattle.dom_nodes.specs.declared.node_data.NodeData.{NodeData}
-use Rattle.dom_nodes.specs.declared.node_data.NodeData.TheVariants.{Document, Fragment}
+use Rattle.dom_nodes.specs.declared.node_data.NodeData.TheVariants.{Document, Element, Fragment}
 use Rattle.dom_nodes.specs.declared.node_data.TreeNode.{TreeNode}
-use Rattle.dom_nodes.specs.Kinds.{contents_named, is_fragment, is_top}
+use Rattle.dom_nodes.specs.Kinds.{children_allowed, contents_named, is_element, is_fragment, is_top}
 use Rattle.dom_links.specs.Lists.{stands_in, IsDistinct, first}
 use Rattle.dom_links.specs.Forest.{Forest, IsArenaOf, StandsOnce, children_of, parent, contents_of, arena_ids}
 use Rattle.dom_links.specs.Sound.{IsParentOrHost, IsHostAncestor, one_step, then_step, contents_at, IsForest, AtOrBelow}
 use Rattle.dom_links.proofs.moves.Cuts.{length-contents, parent_known}
 use Rattle.dom_links.proofs.forest.Chains.{length_below}
-use Rattle.dom_links.proofs.forest.Nodes.{node_read, parent_past}
+use Rattle.dom_links.proofs.forest.Nodes.{node_read}
 use Rattle.dom_links.proofs.forest.Places.{siblings_child}
 use Rattle.dom_links.proofs.moves.Acyclicity.{further, onward}
+use Rattle.dom_links.proofs.forest.Neighbours.{first_none}
+use Rattle.dom_links.proofs.forest.Grown.{new_parentless}
 
 contents_read : (nodes : List TreeNode) (m : ℕ) (d : TreeNode) → m < length nodes → option_and_then contents_named (slice_get (contents_of nodes) m) ≡ contents_named (get_or nodes m d).content
 contents_read [] m d h = absurd (omega arith)
@@ -38,6 +40,10 @@ id_read (x ∷ nodes) (suc m) d h = id_read nodes m d (omega arith)
 
 pub id_is_place : (forest : Forest) (nodes : List TreeNode) (m : ℕ) (d : TreeNode) → IsArenaOf forest nodes → m < length nodes → (get_or nodes m d).id ≡ m
 id_is_place forest nodes m d arena h = let two = sym (id_read nodes m d h) ∙ arena.links.ids m h in cc
+
+pub element_bears : (content : NodeData) → is_element content ≡ true → children_allowed content ≡ true
+element_bears (Element element) e = refl
+element_bears _ e = cc
 
 pub fragment_is_top : (o : Option NodeData) → option_map_or is_fragment o false ≡ true → option_map_or is_top o false ≡ true
 fragment_is_top None h = h
@@ -125,13 +131,9 @@ pub holder_passed : (forest : Forest) (nodes : List TreeNode) (i n : ℕ) (node 
 holder_passed forest nodes i n node arena h is other holds =
     other (ap (λ x. contents_named x.content) is ∙ sym (contents_at-read forest nodes i node arena h) ∙ holds)
 
-no_first : (ns : List ℕ) → first ns ≡ None → ns ≡ []
-no_first [] e = refl
-no_first (x ∷ ns) e = cc
-
 child_stands : (forest : Forest) (n p : ℕ) → StandsOnce forest → parent forest n ≡ Some p → stands_in n (children_of forest p) ≡ true
 child_stands forest n p once child =
-    let known : n < length forest.content = elim (cases_lt n (length forest.content)) [ inl h ↦ h | inr past ↦ (let none = parent_past forest n once past in cc) ] in
+    let known : n < length forest.content = elim (cases_lt n (length forest.content)) [ inl h ↦ h | inr past ↦ (let none = new_parentless forest n once past in cc) ] in
     subst (λ (ns : List ℕ). stands_in n ns ≡ true) (siblings_child forest n p child) (once.placed n known)
 
 -- a node without children and contents reaches none
@@ -141,7 +143,7 @@ leaf_reaches_none forest nodes _ _ node arena here is no_child no_contents (one_
     let read = slice_get_read nodes (length nodes) x node refl here is in
     let firsts : first (children_of forest x) ≡ None = sym (node_read forest nodes x node arena read).first_is ∙ no_child in
     let stands : stands_in n (children_of forest x) ≡ true = child_stands forest n x arena.once child in
-    let lacks : stands_in n (children_of forest x) ≡ false = ap (stands_in n) (no_first (children_of forest x) firsts) in
+    let lacks : stands_in n (children_of forest x) ≡ false = ap (stands_in n) (first_none (children_of forest x) firsts) in
     cc
 leaf_reaches_none forest nodes _ _ node arena here is no_child no_contents (one_step x n (inr held)) =
     let read : contents_at forest x ≡ contents_named node.content = contents_at-read forest nodes x node arena here ∙ ap (λ z. contents_named z.content) (sym is) in

@@ -5,7 +5,7 @@ use Rattle.std.specs.Borrow.{Bor}
 use Rattle.std.proofs.lemmas.List.{get_or_past}
 use Rattle.std.proofs.lemmas.Option.{slice_get_within, slice_get_read}
 use Rattle.dom_nodes.specs.declared.node_data.TreeNode.{TreeNode}
-use Rattle.dom_links.specs.Forest.{Forest, StandsOnce, IsArenaOf, children_of, parent, siblings}
+use Rattle.dom_links.specs.Forest.{Forest, StandsOnce, IsArenaOf, children_of, siblings}
 use Rattle.dom_links.specs.Walk.{IsNodeOf}
 use Rattle.dom_links.proofs.forest.Places.{siblings_run}
 use Rattle.dom_links.proofs.moves.Cuts.{length-contents}
@@ -31,15 +31,11 @@ node_read forest nodes n node arena read =
       last_is = sym (ap (option_and_then (λ x. x.last_child)) read) ∙ arena.links.lasts n here;
     }
 
--- no node has a number past the last
-pub parent_past : (forest : Forest) (n : ℕ) → StandsOnce forest → length forest.content ≤ n → parent forest n ≡ None
-parent_past forest n once past = new_parentless forest n once past
-
 pub children_past : (forest : Forest) (n : ℕ) → StandsOnce forest → length forest.content ≤ n → children_of forest n ≡ []
 children_past forest n once past = get_or_past forest.children n [] (omega (arith, once.children_each))
 
 pub siblings_past : (forest : Forest) (n : ℕ) → StandsOnce forest → length forest.content ≤ n → siblings forest n ≡ []
-siblings_past forest n once past = siblings_run forest n (parent_past forest n once past) ∙ get_or_past forest.runs n [] (omega (arith, once.runs_each))
+siblings_past forest n once past = siblings_run forest n (new_parentless forest n once past) ∙ get_or_past forest.runs n [] (omega (arith, once.runs_each))
 
 -- the node that is looked up
 pub looked_up : (forest : Forest) (nodes : List TreeNode) (n i : ℕ) (o : Option (Bor TreeNode)) (Q : Bor TreeNode → Type 0) → IsArenaOf forest nodes → i ≡ n →

@@ -14,7 +14,7 @@ use Rattle.dom_links.specs.Walk.{rest_after}
 use Rattle.dom_links.specs.Writes.{Joined}
 use Rattle.dom_links.specs.ListMoves.{with_later, moved_nodes, moving_id, Moves, MovedList}
 use Rattle.dom_links.specs.ListWrites.{NextsKnown, ParentsSet, RunAttached, next_chain}
-use Rattle.dom_links.proofs.forest.Neighbours.{around, before_here, after_here, last-append, first-stands}
+use Rattle.dom_links.proofs.forest.Neighbours.{around, before_here, after_here, last-append, first-stands, first_rest}
 use Rattle.dom_links.proofs.forest.Places.{siblings_child, siblings_once, Beside, beside}
 use Rattle.dom_links.proofs.moves.Cuts.{length-contents, one-stands, parent_known, prev_known, next_known}
 use Rattle.dom_links.proofs.moves.Attach.{first_known, last_known}
@@ -198,12 +198,6 @@ moved_one old new gap x moved = record {
 }
 
 -- the whole list of a node, from its first one on
-first_rest : (ns : List ℕ) (x : ℕ) → first ns ≡ Some x → ns ≡ x ∷ rest_after ns x
-first_rest [] x e = cc
-first_rest (n ∷ ns) x e =
-    let is : n ≡ x = cc in
-    rw (eq-eqb n x is, is) refl
-
 pub all_siblings : (forest : Forest) (n x : ℕ) → StandsOnce forest → first (siblings forest n) ≡ Some x → Beside forest n x → with_later forest x ≡ siblings forest n
 all_siblings forest n x once starts there = ap (λ ns. x ∷ rest_after ns x) there.same_siblings ∙ sym (first_rest (siblings forest n) x starts)
 

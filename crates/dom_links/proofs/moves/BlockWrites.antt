@@ -1,5 +1,5 @@
 -- The parents of a run are set one after the other.
-use Rattle.std.proofs.Common.{ℕ, zero, suc, ◌≡◌, ◌<◌, ◌≤◌, ◌+◌, ◌-◌, false, true, List, [], ◌∷◌, ◌++◌, Option, Some, None, refl, sym, ap, ◌∙◌, subst, arith, cond, length, get_or, append_assoc}
+use Rattle.std.proofs.Common.{ℕ, suc, ◌≡◌, ◌<◌, ◌≤◌, ◌+◌, ◌-◌, false, true, List, [], ◌∷◌, ◌++◌, Option, Some, None, refl, sym, ap, ◌∙◌, subst, arith, cond, length, get_or, append_assoc}
 use Rattle.std.specs.Prelude.{◌==◌, ◌||◌, slice_set}
 use Rattle.std.specs.Option.{IfSome}
 use Rattle.std.proofs.lemmas.List.{length-set, append-nil}
@@ -10,6 +10,7 @@ use Rattle.dom_links.specs.ListWrites.{NextsKnown, ParentsSet, next_chain}
 use Rattle.dom_links.proofs.forest.Neighbours.{stands_in-append, last-append, last-cons_cons}
 use Rattle.dom_links.proofs.moves.Cuts.{one-stands}
 use Rattle.dom_links.proofs.forest.Written.{link-set, link-kept, map-kept, link-read}
+use Rattle.dom_links.proofs.forest.Chains.{chain_empty}
 
 none_set : (nodes : List TreeNode) (owner : Option ℕ) → ParentsSet nodes nodes [] owner
 none_set nodes owner = record { same_length = refl; contents = refl; ids = refl; parents = λ n. refl; prevs = λ n. refl; nexts = λ n. refl; firsts = λ n. refl; lasts = λ n. refl }
@@ -72,10 +73,6 @@ following_some nodes x h =
     let left : length nodes ≡ suc (length nodes - 1) = omega arith in
     ap (λ k. chain (next_link nodes) k (Some x)) left
 
-chain_out : (link : ℕ → Option ℕ) (most : ℕ) → chain link most None ≡ []
-chain_out link zero = refl
-chain_out link (suc most) = refl
-
 -- the chain has come to its end
 all_set : (old now : List TreeNode) (x : ℕ) (owner : Option ℕ) (steps end : ℕ) (next : Option ℕ) → x < length old → Setting old now x owner steps end next → chain (next_link old) (length old - steps) next ≡ [] →
     ParentsSet old now (next_chain old x) owner × (last (next_chain old x) ≡ Some end)
@@ -88,7 +85,7 @@ all_set old now x owner steps end next h so none =
 
 pub set_at_end : (old now : List TreeNode) (x : ℕ) (owner : Option ℕ) (steps end : ℕ) (next : Option ℕ) → x < length old → Setting old now x owner steps end next → next ≡ None →
     ParentsSet old now (next_chain old x) owner × (last (next_chain old x) ≡ Some end)
-set_at_end old now x owner steps end next h so none = all_set old now x owner steps end next h so (ap (chain (next_link old) (length old - steps)) none ∙ chain_out (next_link old) (length old - steps))
+set_at_end old now x owner steps end next h so none = all_set old now x owner steps end next h so (ap (chain (next_link old) (length old - steps)) none ∙ chain_empty (next_link old) (length old - steps))
 
 pub set_in_all : (old now : List TreeNode) (x : ℕ) (owner : Option ℕ) (steps end : ℕ) (next : Option ℕ) → x < length old → Setting old now x owner steps end next → length old ≤ steps →
     ParentsSet old now (next_chain old x) owner × (last (next_chain old x) ≡ Some end)

@@ -33,8 +33,11 @@ one_here x = one-stands x x ∙ eq-eqb x x refl
 pub no_other : (t x : ℕ) → (x ≡ t → ⊥) → stands_in t (x ∷ []) ≡ false
 no_other t x ne = one-stands x t ∙ ne_eqb x t ne
 
+pub only : (x n : ℕ) → stands_in n (x ∷ []) ≡ true → x ≡ n
+only x n s = eqb-true x n (sym (one-stands x n) ∙ s)
+
 pub one_known : (forest : Forest) (x : ℕ) → x < length forest.content → (n : ℕ) → stands_in n (x ∷ []) ≡ true → n < length forest.content
-one_known forest x known n s = subst (λ (k : ℕ). k < length forest.content) (eqb-true x n (sym (one-stands x n) ∙ s)) known
+one_known forest x known n s = subst (λ (k : ℕ). k < length forest.content) (only x n s) known
 
 pub length-contents : (forest : Forest) (nodes : List TreeNode) → AreLinks forest nodes → length nodes ≡ length forest.content
 length-contents forest nodes links = sym (length-map nodes (λ node. node.content)) ∙ ap length links.contents

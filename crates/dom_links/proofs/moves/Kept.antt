@@ -1,18 +1,13 @@
 -- A move of one node that is allowed leaves a forest.
-use Rattle.std.proofs.Common.{ℕ, ◌≡◌, ◌<◌, true, List, [], ◌∷◌, sym, ap, ◌∙◌, subst, arith, length}
-use Rattle.std.proofs.lemmas.Bool.{eqb-true}
+use Rattle.std.proofs.Common.{ℕ, ◌≡◌, ◌<◌, true, List, [], ◌∷◌, sym, ap, subst, arith, length}
 use Rattle.dom_nodes.specs.declared.node_data.TreeNode.{TreeNode}
-use Rattle.dom_links.specs.Lists.{stands_in}
 use Rattle.dom_links.specs.Forest.{Forest, IsArenaOf, forest_of}
 use Rattle.dom_links.specs.Moves.{Gap, cut, moved_to}
 use Rattle.dom_links.specs.Sound.{is_open, target, IsForest, MayPlace, Removed}
-use Rattle.dom_links.proofs.moves.Cuts.{length-contents, one-stands}
+use Rattle.dom_links.proofs.moves.Cuts.{length-contents, only}
 use Rattle.dom_links.proofs.moves.BlockCuts.{one_node}
 use Rattle.dom_links.proofs.moves.BlockKept.{forest-cut_out, forest-moved_list}
 use Rattle.dom_links.proofs.forest.Chains.{forest_of-arena}
-
-only : (x n : ℕ) → stands_in n (x ∷ []) ≡ true → x ≡ n
-only x n s = eqb-true x n (sym (one-stands x n) ∙ s)
 
 pub forest-moved : (forest : Forest) (gap : Gap) (x : ℕ) → IsForest forest → x < length forest.content → target gap < length forest.content → is_open gap forest ≡ true → MayPlace forest (target gap) x →
     IsForest (moved_to (x ∷ []) gap forest)

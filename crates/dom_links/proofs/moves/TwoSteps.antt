@@ -9,7 +9,7 @@ use Rattle.dom_links.specs.Forest.{Forest, StandsOnce, IsArenaOf, forest_of, chi
 use Rattle.dom_links.specs.Moves.{Gap, after_node, before_node, end_of, front_of, children_with, run_with, put, cut, moved_to}
 use Rattle.dom_links.specs.Sound.{one_step, then_step, Allowed, IsForest, MayPlace, Moved, Removed, stays}
 use Rattle.dom_links.specs.ListMoves.{AllowedList, MovedList, ChildrenRemoved, Reparents, MayWrap, Replaced, Wrapped, Unwrapped, element_at, element_above, wrapper, without_wrapper, with_later}
-use Rattle.dom_links.proofs.forest.Neighbours.{around, first-stands}
+use Rattle.dom_links.proofs.forest.Neighbours.{around, first-stands, first_none}
 use Rattle.dom_links.proofs.forest.Places.{cases_Option, siblings_once}
 use Rattle.dom_links.proofs.moves.Cuts.{no_other, one_here}
 use Rattle.dom_links.proofs.moves.BlockCuts.{once-cut, one_node}
@@ -34,7 +34,7 @@ pub without_nothing : (ns : List ℕ) → without [] ns ≡ ns
 without_nothing [] = refl
 without_nothing (n ∷ ns) = ap (λ ms. n ∷ ms) (without_nothing ns)
 
-map_without_nothing : (lists : List (List ℕ)) → map (without []) lists ≡ lists
+pub map_without_nothing : (lists : List (List ℕ)) → map (without []) lists ≡ lists
 map_without_nothing [] = refl
 map_without_nothing (ns ∷ lists) = rw (without_nothing ns, map_without_nothing lists) refl
 
@@ -70,10 +70,6 @@ nothing_put gap forest =
     (let z : 0 + n ≡ n = omega arith in nothing_in_run gap forest (0 + n) ∙ ap (λ (k : ℕ). get_or forest.runs k []) z)) in
     rw (children, runs) refl
 
-pub none_first : (ns : List ℕ) → first ns ≡ None → ns ≡ []
-none_first [] e = refl
-none_first (n ∷ ns) e = cc
-
 pub no_children_removed : (old : List TreeNode) (x : ℕ) → IsArenaOf (forest_of old) old → children_of (forest_of old) x ≡ [] → ChildrenRemoved old old x
 no_children_removed old x arena none =
     children_removed old old x arena (subst (λ (forest : Forest). IsArenaOf forest old) (sym (ap (λ moved. cut moved (forest_of old)) none ∙ cut_nothing (forest_of old))) arena)
@@ -83,7 +79,7 @@ children_cut_out old new x first_child arena all cut_out = children_removed old 
 
 pub first_child_given : (nodes : List TreeNode) (x : ℕ) (o : Option ℕ) → IsArenaOf (forest_of nodes) nodes → o ≡ first (children_of (forest_of nodes) x) →
     MatchOption o (children_of (forest_of nodes) x ≡ []) (λ child. with_later (forest_of nodes) child ≡ children_of (forest_of nodes) x)
-first_child_given nodes x None arena e = none_first (children_of (forest_of nodes) x) (sym e)
+first_child_given nodes x None arena e = first_none (children_of (forest_of nodes) x) (sym e)
 first_child_given nodes x (Some k) arena e = all_children (forest_of nodes) x k arena.once (sym e) (arena.once.in_children x k (first-stands (children_of (forest_of nodes) x) k (sym e))).1
 
 -- the children of a node are moved

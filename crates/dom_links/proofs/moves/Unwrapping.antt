@@ -199,7 +199,6 @@ unwrapped_is forest x p w b =
 children_back : (forest : Forest) (x p w q : ℕ) → Bare forest x p w → q < length forest.children → children_of (back x w forest) q ≡ children_of forest q
 unfolding back
 children_back forest x p w q b h =
-    let once = b.good.once in
     let beside = moved_to (w ∷ []) (before_node x) forest in
     let inside = wrapped x w forest in
     let all : children_of (back x w forest) q ≡ without (w ∷ []) (put_before w (x ∷ []) (without (x ∷ []) (children_of inside q))) =
@@ -214,7 +213,7 @@ children_back forest x p w q b h =
           all ∙ ap (λ ns. without (w ∷ []) (put_before w (x ∷ []) (without (x ∷ []) ns))) now ∙ rw (here, empty) refl)
       | inr f ↦ (let now : children_of inside q ≡ without (x ∷ []) (put_before x (w ∷ []) (without (w ∷ []) (children_of forest q))) = into ∙ rw (f, was) refl in
           all ∙ ap (λ ns. without (w ∷ []) (put_before w (x ∷ []) (without (x ∷ []) ns))) now
-          ∙ there_and_back x w (children_of forest q) b.differ (once.children_once q) (no_child forest w q once b.bare.no_parent))
+          ∙ there_and_back x w (children_of forest q) b.differ (b.good.once.children_once q) (no_child forest w q b.good.once b.bare.no_parent))
     ]
 
 run_back : (forest : Forest) (x p w n : ℕ) → Bare forest x p w → n < length forest.runs → run_of (back x w forest) n ≡ run_of forest n

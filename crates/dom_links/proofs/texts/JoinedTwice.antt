@@ -27,9 +27,10 @@ use Rattle.dom_links.proofs.texts.JoinedNodes.{Leaves, and-false, bearing_kept, 
 use Rattle.dom_links.proofs.walks.Later.{ancestors-parent, ancestors-same, not_above_itself}
 use Rattle.dom_links.proofs.forest.Neighbours.{around, reverse_around, stands_in-append, stands_in-reverse, stands_in-without, without-append}
 use Rattle.dom_links.proofs.forest.Places.{children_mapped, owner-without, siblings_child}
-use Rattle.dom_links.proofs.texts.Rewriting.{forest_with, held, left_run, map_from_none, map_here, map_nothing, runs_nothing}
+use Rattle.dom_links.proofs.texts.Rewriting.{forest_with, held, left_run, map_from_none, map_here, runs_nothing}
 use Rattle.dom_links.proofs.texts.SettingTexts.{other_stays}
 use Rattle.dom_links.proofs.moves.Stripping.{has_parent, only_here, stands_in-filter}
+use Rattle.dom_links.proofs.moves.TwoSteps.{map_without_nothing}
 
 module _ (forest : Forest) (x : ℕ) (good : IsForest forest) where
   abbrev nodes : List ℕ
@@ -535,7 +536,7 @@ module _ (forest : Forest) (x : ℕ) (good : IsForest forest) where
       let content = map_here 0 (held after_it ns) (λ n c. c) after_it.content same_held ∙ map_from_none 0 after_it.content in
       ap (λ ms. forest_with (map_from 0 (held after_it ns) after_it.content) (map (without ms) after_it.children) (map_from 0 (left_run ms) after_it.runs)) none
       ∙ ap (λ cs. forest_with cs (map (without []) after_it.children) (map_from 0 (left_run []) after_it.runs)) content
-      ∙ ap (λ ls. forest_with after_it.content ls (map_from 0 (left_run []) after_it.runs)) (map_nothing after_it.children)
+      ∙ ap (λ ls. forest_with after_it.content ls (map_from 0 (left_run []) after_it.runs)) (map_without_nothing after_it.children)
       ∙ ap (λ ls. forest_with after_it.content after_it.children ls) (runs_nothing 0 after_it.runs)
 
   -- the children of x are read as before

@@ -25,7 +25,7 @@ use Rattle.dom_links.proofs.walks.Later.{Follows, follows}
 use Rattle.dom_links.proofs.forest.Depth.{here_stands}
 use Rattle.dom_links.proofs.forest.Neighbours.{stands_in-append}
 use Rattle.dom_links.proofs.moves.Stripping.{stands_in-filter}
-use Rattle.dom_links.proofs.moves.TwoSteps.{without_nothing}
+use Rattle.dom_links.proofs.moves.TwoSteps.{without_nothing, map_without_nothing}
 
 -- ---- what is found
 
@@ -155,10 +155,6 @@ pub map_from_none : {X : Type 0} (i : ℕ) (xs : List X) → map_from i (λ n x.
 map_from_none i [] = refl
 map_from_none i (x ∷ xs) = ap (λ ys. x ∷ ys) (map_from_none (i + 1) xs)
 
-pub map_nothing : (lists : List (List ℕ)) → map (without []) lists ≡ lists
-map_nothing [] = refl
-map_nothing (ns ∷ lists) = rw (without_nothing ns, map_nothing lists) refl
-
 pub runs_nothing : (i : ℕ) (lists : List (List ℕ)) → map_from i (left_run []) lists ≡ lists
 runs_nothing i [] = refl
 runs_nothing i (ns ∷ lists) = rw (without_nothing ns, runs_nothing (i + 1) lists) refl
@@ -166,7 +162,7 @@ runs_nothing i (ns ∷ lists) = rw (without_nothing ns, runs_nothing (i + 1) lis
 joined_none : (forest : Forest) → joined_among [] forest ≡ forest
 joined_none forest =
     ap (λ cs. forest_with cs (map (without []) forest.children) (map_from 0 (left_run []) forest.runs)) (map_from_none 0 forest.content)
-    ∙ ap (λ ls. forest_with forest.content ls (map_from 0 (left_run []) forest.runs)) (map_nothing forest.children)
+    ∙ ap (λ ls. forest_with forest.content ls (map_from 0 (left_run []) forest.runs)) (map_without_nothing forest.children)
     ∙ ap (λ ls. forest_with forest.content forest.children ls) (runs_nothing 0 forest.runs)
 
 -- ---- what need not be done

@@ -5,7 +5,7 @@ use Rattle.std.specs.Option.{option_map_or}
 use Rattle.std.proofs.lemmas.List.{length_push}
 use Rattle.dom_nodes.specs.Kinds.{is_element, is_text, children_allowed}
 use Rattle.dom_nodes.specs.declared.node_data.NodeData.{NodeData}
-use Rattle.dom_nodes.specs.declared.node_data.NodeData.TheVariants.{Document, Fragment, Text, Element}
+use Rattle.dom_nodes.specs.declared.node_data.NodeData.TheVariants.{Text}
 use Rattle.dom_nodes.specs.declared.node_data.TreeNode.{TreeNode}
 use Rattle.dom_links.specs.Contents.{KeepsKind, changed_at, with_content}
 use Rattle.dom_links.specs.Forest.{Forest, children_of, forest_of}
@@ -20,6 +20,7 @@ use Rattle.dom_links.proofs.moves.BlockKept.{cut_parents, ways_none}
 use Rattle.dom_links.proofs.moves.BlockMoves.{moved_one}
 use Rattle.dom_links.proofs.moves.Dissolving.{still_sound}
 use Rattle.dom_links.proofs.forest.Grown.{test-more, within}
+use Rattle.dom_links.proofs.forest.Climbs.{element_bears}
 
 pub keeps_text : (text : List ℕ) → KeepsKind (with_text_data text)
 keeps_text text (Text a) = record { top = refl; fragment = refl; parents_allow = refl; contents = refl }
@@ -37,12 +38,6 @@ unchanged text (content ∷ contents) (suc x) other = ap (λ cs. content ∷ cs)
 -- a node that is no text stays
 pub no_text_stays : (text : List ℕ) (x : ℕ) (forest : Forest) → is_text_at forest x ≡ false → with_content x (with_text_data text) forest ≡ forest
 no_text_stays text x forest other = ap (λ (contents : List NodeData). record forest { content = contents }) (unchanged text forest.content x other)
-
-element_bears : (content : NodeData) → is_element content ≡ true → children_allowed content ≡ true
-element_bears Document is = refl
-element_bears Fragment is = refl
-element_bears (Element a) is = refl
-element_bears _ is = cc
 
 pub bears_there : (contents : List NodeData) (x : ℕ) → option_map_or is_element (slice_get contents x) false ≡ true → option_map_or children_allowed (slice_get contents x) false ≡ true
 bears_there [] x is = is

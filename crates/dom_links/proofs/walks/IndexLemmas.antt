@@ -23,7 +23,7 @@ use Rattle.dom_links.proofs.forest.Nodes.{siblings_past}
 use Rattle.dom_links.proofs.forest.Places.{Beside, beside, siblings_once}
 use Rattle.dom_links.proofs.walks.RowWalks.{neighbour_is}
 
-one_more : (p : ℕ → Bool) (n : ℕ) (ns : List ℕ) (b : Bool) → p n ≡ b → count_by p (n ∷ ns) ≡ cond b 1 0 + count_by p ns
+pub one_more : (p : ℕ → Bool) (n : ℕ) (ns : List ℕ) (b : Bool) → p n ≡ b → count_by p (n ∷ ns) ≡ cond b 1 0 + count_by p ns
 one_more p n ns b e = sum_by-cons (λ m. cond (p m) 1 0) n ns ∙ ap (λ x. cond x 1 0 + count_by p ns) e
 
 -- a list is longer than what comes after one of its numbers

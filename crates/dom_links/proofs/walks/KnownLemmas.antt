@@ -3,7 +3,6 @@ use Rattle.std.proofs.Common.{ℕ, ◌≡◌, ◌<◌, ◌≤◌, ◌+◌, Bool,
 use Rattle.std.specs.Prelude.{◌==◌, count_by, slice_set}
 use Rattle.std.specs.Option.{option_map_or}
 use Rattle.std.proofs.lemmas.List.{set_past}
-use Rattle.std.proofs.lemmas.List.Sums.{sum_by-cons}
 use Rattle.std.proofs.lemmas.Bool.{cases_Bool, eqb-true, eq-eqb, true≢false}
 use Rattle.std.proofs.lemmas.Bool.{cases_lt}
 use Rattle.dom_nodes.specs.NameLaws.{same_name-equiv}
@@ -16,7 +15,7 @@ use Rattle.dom_nodes.specs.declared.indexes.IndexKind.TheVariants.{Child, LastCh
 use Rattle.dom_links.specs.Forest.{Forest}
 use Rattle.dom_links.specs.Indexes.{AreIndexes, counts, index_at, index_known, is_from_first, of_one_type}
 use Rattle.dom_links.specs.Walk.{later, row_on}
-use Rattle.dom_links.proofs.walks.IndexLemmas.{Counting}
+use Rattle.dom_links.proofs.walks.IndexLemmas.{Counting, one_more}
 
 -- names that are the same are so to every other name
 
@@ -40,9 +39,6 @@ counts_alike forest Child n at h m = refl
 counts_alike forest LastChild n at h m = refl
 counts_alike forest OfType n at h m = types_alike (slice_get forest.content n) (slice_get forest.content at) (slice_get forest.content m) h
 counts_alike forest LastOfType n at h m = types_alike (slice_get forest.content n) (slice_get forest.content at) (slice_get forest.content m) h
-
-one_more : (p : ℕ → Bool) (n : ℕ) (ns : List ℕ) (b : Bool) → p n ≡ b → count_by p (n ∷ ns) ≡ cond b 1 0 + count_by p ns
-one_more p n ns b e = sum_by-cons (λ m. cond (p m) 1 0) n ns ∙ ap (λ x. cond x 1 0 + count_by p ns) e
 
 count_alike : (p q : ℕ → Bool) → ((m : ℕ) → p m ≡ q m) → (ns : List ℕ) → count_by p ns ≡ count_by q ns
 count_alike p q h [] = refl

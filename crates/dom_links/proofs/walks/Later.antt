@@ -1,13 +1,13 @@
 -- A node, the siblings that follow it, and the nodes above it.
 use Rattle.std.proofs.Common.{ℕ, zero, suc, ◌≡◌, ◌<◌, Bool, true, false, List, [], ◌∷◌, Option, Some, None, refl, sym, ap, ◌∙◌, subst, inl, inr, length}
 use Rattle.std.specs.Prelude.{◌==◌}
-use Rattle.std.proofs.lemmas.Bool.{cases_Bool, eqb-true, eq-eqb, true≢false}
+use Rattle.std.proofs.lemmas.Bool.{cases_Bool, eqb-true, true≢false}
 use Rattle.dom_links.specs.Lists.{stands_in, IsDistinct, first, after}
 use Rattle.dom_links.specs.Forest.{Forest, children_of, parent, siblings, chain}
 use Rattle.dom_links.specs.Sound.{IsHostAncestor, one_step, then_step, IsForest}
 use Rattle.dom_links.specs.Trees.{Tree, contents_list, trees, in_order, upward, ancestors}
 use Rattle.dom_links.specs.Walk.{rest_after, later, row_on, IsWithin}
-use Rattle.dom_links.proofs.forest.Neighbours.{stands_in-reverse, distinct-reverse, first-stands, after-stands}
+use Rattle.dom_links.proofs.forest.Neighbours.{stands_in-reverse, distinct-reverse, first-stands, after-stands, first_rest, first_none}
 use Rattle.dom_links.proofs.forest.Places.{siblings_child, siblings_once, Beside, beside}
 use Rattle.dom_links.proofs.forest.Depth.{later_stands, trees-some, upward-some}
 
@@ -20,17 +20,6 @@ rest_stands (k ∷ ns) n m s = elim (cases_Bool (k == n)) [
   | inr f ↦ later_stands k m ns (rest_stands ns n m (rw f at s))
 ]
 
-rest_first : (ns : List ℕ) (k : ℕ) → first ns ≡ Some k → ns ≡ k ∷ rest_after ns k
-rest_first [] k e = cc
-rest_first (n ∷ ns) k e =
-    let is : n ≡ k = cc in
-    let here : (n == k) ≡ true = eq-eqb n k is in
-    rw (here, is) refl
-
-first_none : (ns : List ℕ) → first ns ≡ None → ns ≡ []
-first_none [] e = refl
-first_none (n ∷ ns) e = cc
-
 not_twice : (m k : ℕ) (ns : List ℕ) → IsDistinct (m ∷ ns) → stands_in k ns ≡ true → (m == k) ≡ false
 not_twice m k ns once s = elim (cases_Bool (m == k)) [
   | inr f ↦ f
@@ -42,7 +31,7 @@ rest_next [] n k once e = cc
 rest_next (m ∷ ns) n k once e = elim (cases_Bool (m == n)) [
   | inl t ↦ (let next : first ns ≡ Some k = rw t at e in
       let other = not_twice m k ns once (first-stands ns k next) in
-      rw (t, other) (rest_first ns k next))
+      rw (t, other) (first_rest ns k next))
   | inr f ↦ (let next : after ns n ≡ Some k = rw f at e in
       let other = not_twice m k ns once (after-stands ns n k next) in
       rw (f, other) (rest_next ns n k once.1 next))
@@ -96,7 +85,7 @@ begins forest rev n (Some k) good e =
     let there : stands_in k (children_of forest n) ≡ true = sym (ordered_stands rev (children_of forest n) k) ∙ first-stands row k (sym e) in
     let facts = good.once.in_children n k there in
     record {
-      all = rest_first row k (sym e) ∙ ap (λ ns. k ∷ rest_after (in_order rev ns) k) (sym (siblings_child forest k n facts.1));
+      all = first_rest row k (sym e) ∙ ap (λ ns. k ∷ rest_after (in_order rev ns) k) (sym (siblings_child forest k n facts.1));
       within = facts.0;
       above = λ j is. (let same : k ≡ j = cc in subst (λ (i : ℕ). parent forest i ≡ Some n) same facts.1);
     }
