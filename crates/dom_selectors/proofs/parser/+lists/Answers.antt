@@ -1,14 +1,17 @@
-use Rattle.std.proofs.Common.{◌≡◌, ◌∷◌, sym, ap, ◌∙◌, subst, map, ◌++◌, []}
+use Rattle.std.proofs.Common.{◌≡◌, ◌∷◌, sym, refl, ap, ◌∙◌, subst, map, ◌++◌, [], append-nil}
 use Rattle.std.proofs.lemmas.List.{map-append}
 use Rattle.std.proofs.lemmas.Result.{err_from_is_err_and, MatchResult-weaker}
 use Rattle.dom_selectors.specs.Spelling.{SpellsNone, Many, Takes}
 use Rattle.dom_selectors.specs.Characters.{after_white}
 use Rattle.dom_selectors.specs.Pseudos.{pseudo_of}
 use Rattle.dom_selectors.specs.Grammar.{SpellsForm, SpellsList, inner_context, stands_behind, stands_for, SpellsInner, SpellsItem, SpellsCombinator, SpellsSelector, SpellsStep, SpellsLater}
-use Rattle.dom_selectors.specs.ValuesAsTrees.{read_item, read_list, read_step, read_selector}
+use Rattle.dom_selectors.specs.ListsAsTrees.{lists_of, parts_among, selector_list}
+use Rattle.dom_selectors.specs.Syntax.{compound}
+use Rattle.dom_selectors.specs.ValuesAsTrees.{read_item, read_list, read_nested, read_step, read_selector}
 use Rattle.dom_selectors.proofs.FaultLemmas.{passed_on, refuses_more, refuses_wider, refuses_without_cause}
 use Rattle.dom_selectors.proofs.DeepLemmas.{IsWithin, behind_within, colon_stands, deep_inside, refused_within, stands_within, within, within_compound, within_later, within_lead, within_list, within_selector, within_step}
 use Rattle.dom_selectors.proofs.KeepLemmas.{name_keeps}
+use Rattle.dom_selectors.proofs.Layers.{read_compound_is, read_step_is}
 use Rattle.dom_selectors.proofs.SelectorLemmas.{inner_once}
 use Rattle.dom_selectors.proofs.Runs.{many_last}
 use Rattle.dom_selectors.proofs.LengthLemmas.{item_shortens, step_shortens, later_shortens}
@@ -199,3 +202,44 @@ take_listed-returns-in_err-list t c =
     passed_on c.from_residual.result _ _ _ (err_from_is_err_and c.from_residual.result c.from_residual.ensures.1)
     (refuses_wider _ (stands_behind context c.args.text.now) _ _
     (none.listed_no_list context c.args.quantifier c.is_relative-relative.result c.args.text.now c.is_relative-relative.ensures) c.in_err-list.ensures)
+
+pub take_compound-loop-alloc-init : goal.take_compound-loop-alloc-init
+take_compound-loop-alloc-init t c =
+    (c.in_ok-front.front.items, c.in_ok-front.after.now, [], c.in_ok-front.ensures, sym (append-nil c.in_ok-front.front.items), ap (λ ns. lists_of (map read_nested ns)) c.new-nested.ensures.items, refl, sym c.if-not-begins_compound.ensures)
+
+pub take_compound-returns : goal.take_compound-returns
+take_compound-returns t c =
+    let read = c.loop-alloc.invariant in
+    record {
+      some = read.7;
+      front = read.0;
+      after = read.1;
+      first = read.3;
+      items = read.2;
+      run = record { each = read.6; ends = sym c.loop-alloc-test.ensures };
+      is = read_compound_is _ ∙ (ap (λ ps. compound ps (lists_of (map read_nested c.loop-alloc.nested.items))) read.4 ∙ ap (compound (read.0 ++ parts_among read.2)) read.5);
+    }
+
+pub take_list-loop-alloc-init : goal.take_list-loop-alloc-init
+take_list-loop-alloc-init t c =
+    (read_selector c.in_ok-first.first, c.in_ok-first.after.now, [], c.in_ok-first.ensures, ap (map read_selector) (c.in_ok-push.ensures.items ∙ ap (λ ss. ss ++ c.in_ok-first.first ∷ []) c.new-list.ensures.items), refl)
+
+pub take_list-returns : goal.take_list-returns
+take_list-returns t c =
+    let read = c.loop-alloc.invariant in
+    record { one = read.0; after = read.1; first = read.3; more = read.2; run = record { each = read.5; ends = sym c.loop-alloc-test.ensures }; is = ap selector_list read.4 }
+
+pub take_selector-loop-alloc-init : goal.take_selector-loop-alloc-init
+take_selector-loop-alloc-init t c =
+    let after = c.in_ok-first.after.now in
+    (c.take_lead-lead.result.1.now, after, c.take_lead-lead.ensures, c.in_ok-first.ensures, subst (λ steps. Many (SpellsStep c.args.context (SpellsInner c.args.context)) (map read_step steps) after after) (sym c.new-steps.ensures.items) refl)
+
+pub take_step-returns : goal.take_step-returns
+take_step-returns t c =
+    subst (λ v. SpellsStep c.args.context (SpellsInner c.args.context) v c.args.text.now c.in_ok-compound.rest.now) (sym (read_step_is _))
+    (record {
+      on = sym c.if-not-begins_step.ensures;
+      mid = c.in-Some.mid.now;
+      combinator = subst (λ u. SpellsCombinator c.in-Some.combinator u c.in-Some.mid.now) c.after_white.ensures c.in-Some.ensures;
+      compound = c.in_ok-compound.ensures;
+    })
