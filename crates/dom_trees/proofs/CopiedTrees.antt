@@ -1,24 +1,18 @@
 -- Copies are the same trees.
-use Rattle.std.proofs.Common.{ℕ, ◌≡◌, ◌+◌, List, [], ◌∷◌, Some, refl, sym, ap, ◌∙◌}
+use Rattle.std.proofs.Common.{ℕ, ◌≡◌, ◌+◌, Some, refl, sym, ap, ◌∙◌}
 use Rattle.std.proofs.lemmas.Option.{slice_get_within}
 use Rattle.std.specs.Option.{option_map}
 use Rattle.dom_nodes.specs.declared.node_data.NodeData.{NodeData}
-use Rattle.dom_nodes.specs.declared.node_data.NodeData.TheVariants.{Document, Fragment, Doctype, Text, Comment, Element, ProcessingInstruction}
 use Rattle.dom_links.specs.Copying.{AreNodesOf}
-use Rattle.dom_links.specs.Copies.{MayCopy, copied_data, data_at, root_numbers, node_count}
+use Rattle.dom_links.specs.Copies.{copied_data, data_at, root_numbers, node_count}
 use Rattle.dom_links.specs.CopiedTrees.{HoldCopies, renumbered}
 use Rattle.dom_links.specs.Forest.{Forest}
 use Rattle.dom_links.specs.Trees.{NoTrees, Tree, Trees}
+use Rattle.dom_links.proofs.copies.CopiedForests.{copied_same}
 use Rattle.dom_trees.specs.SameTree.{compared, tree_shape}
 
 compared-copied : (k : ℕ) (content : NodeData) → compared (copied_data k content) ≡ compared content
-compared-copied k Document = refl
-compared-copied k Fragment = refl
-compared-copied k (Element e) = refl
-compared-copied k (Doctype a b c) = refl
-compared-copied k (Text a) = refl
-compared-copied k (Comment a) = refl
-compared-copied k (ProcessingInstruction a b) = refl
+compared-copied = copied_same compared (λ element contents. refl)
 
 -- the copies show what the trees show
 pub same_shown : (source forest : Forest) (ts : Trees) (k : ℕ) → HoldCopies source ts k forest → tree_shape source ts ≡ tree_shape forest (renumbered k ts)
@@ -35,8 +29,3 @@ pub copies_known : (source forest : Forest) (ts : Trees) (k : ℕ) → HoldCopie
 copies_known source forest NoTrees k hold = tt
 copies_known source forest (Tree n contents children later) k hold =
     (slice_get_within forest.content k (copied_data k (data_at source n)) hold.1, copies_known source forest later (k + node_count (Tree n contents children NoTrees)) hold.4)
-
--- what may be copied is known
-pub sources_known : (source : Forest) (ns : List ℕ) → MayCopy source ns → AreNodesOf source ns
-sources_known source [] may = tt
-sources_known source (n ∷ ns) may = (may.0.known, sources_known source ns may.1)
