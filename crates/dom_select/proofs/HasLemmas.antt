@@ -21,7 +21,7 @@ use Rattle.dom_select.specs.declared.matcher.has.Start.{Start}
 use Rattle.dom_select.specs.declared.matcher.has.Start.TheVariants.{Absolute, Relative}
 use Rattle.dom_links.specs.ListMoves.{element_at}
 use Rattle.dom_select.specs.Leftward.{earlier, ends_at, left_of, line}
-use Rattle.dom_select.specs.Meaning.{IsJoined, StepsMatch, HasHolds, RelativeMatches, MayBeOperand, ChainMatches, CombinatorHolds}
+use Rattle.dom_select.specs.Meaning.{IsJoined, StepsMatch, HasHolds, RelativeMatches, MayBeOperand, ChainMatches, CombinatorHolds, Holds, Means}
 use Rattle.dom_selectors.specs.Syntax.{CompoundSelector, Steps, no_steps, step, alternative}
 use Rattle.dom_select.specs.Chains.{Precedes}
 use Rattle.dom_select.specs.Has.{Begins, SelectorMatches, MatchesWithin, is_sideways, may_be_subject, search_roots, search_roots_from}
@@ -228,4 +228,20 @@ module _ (selectors : List Selector) (i : ℕ) (s : Selector) (rest : List Step)
     where
       others : RelativeMatches (out-Selector s).lead (read_compound (out-Selector s).first) (steps_of (map read_step (out-Selector s).rest.items)) forest n ⊎ HasHolds (read_list (drop (i + 1) selectors)) forest n → HasHolds (read_list (drop (i + 1) selectors)) forest n
       others (inl here) = absurd (true≢false (sym (some.1 here) ∙ e))
+      others (inr h) = h
+
+-- the same of selectors that mean a node
+module _ (selectors : List Selector) (i : ℕ) (s : Selector) (rest : List Step) (forest : Forest) (n : ℕ) (b : Bool) (within : i < length selectors) (is : s ≡ get_or selectors i s) (steps : rest ≡ (out-Selector s).rest.items)
+    (fact : IsTrue b ↔ ChainMatches (Holds (read_compound (out-Selector s).first) forest) (steps_of (map read_step rest)) forest n n) where
+  one : IsTrue b ↔ ChainMatches (Holds (read_compound (out-Selector s).first) forest) (steps_of (map read_step (out-Selector s).rest.items)) forest n n
+  one = subst (λ r. IsTrue b ↔ ChainMatches (Holds (read_compound (out-Selector s).first) forest) (steps_of (map read_step r)) forest n n) steps fact
+
+  pub means_here : b ≡ true → Means (read_list (drop i selectors)) forest n
+  means_here e = subst (λ l. Means l forest n) (sym (list_from selectors i s within is)) (inl (one.0 e))
+
+  pub means_later : b ≡ false → Means (read_list (drop (i + 1) selectors)) forest n ↔ Means (read_list (drop i selectors)) forest n
+  means_later e = (λ h. subst (λ l. Means l forest n) (sym (list_from selectors i s within is)) (inr h), λ h. others (subst (λ l. Means l forest n) (list_from selectors i s within is) h))
+    where
+      others : ChainMatches (Holds (read_compound (out-Selector s).first) forest) (steps_of (map read_step (out-Selector s).rest.items)) forest n n ⊎ Means (read_list (drop (i + 1) selectors)) forest n → Means (read_list (drop (i + 1) selectors)) forest n
+      others (inl here) = absurd (true≢false (sym (one.1 here) ∙ e))
       others (inr h) = h

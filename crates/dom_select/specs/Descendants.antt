@@ -40,9 +40,13 @@ SelectsAll result view forest roots selector = IfOk result (λ it. SelectsBelow 
 abbrev pub SelectsWithin : {E : Type 0} → Result (Option (Vec ℕ)) E → Forest → List ℕ → SelectorList → Type 0
 SelectsWithin result forest roots selector = IfOk result (λ found. IfSome found (λ ids. Selected forest roots selector ids.items))
 
+-- What a call that something may stop returns: what the selector selects below the roots, if nothing did
+abbrev pub SelectsUnless : {S E : Type 0} → Result (Result (Vec ℕ) S) E → Forest → List ℕ → SelectorList → Type 0
+SelectsUnless result forest roots selector = IfOk result (λ found. IfOk found (λ ids. Selected forest roots selector ids.items))
+
 -- the same of the items of an iterator of which the fact holds
-abbrev pub FiltersWithin : {I E : Type 0} → Result (Option (Vec ℕ)) E → (I → Option ℕ → I → Type 0) → I → (ℕ → Type 0) → Type 0
-FiltersWithin result gives items P = IfOk result (λ found. IfSome found (λ matched. (ns : List ℕ) × Drains gives items ns × FiltersTo P ns matched.items))
+abbrev pub FiltersUnless : {I S E : Type 0} → Result (Result (Vec ℕ) S) E → (I → Option ℕ → I → Type 0) → I → (ℕ → Type 0) → Type 0
+FiltersUnless result gives items P = IfOk result (λ found. IfOk found (λ matched. (ns : List ℕ) × Drains gives items ns × FiltersTo P ns matched.items))
 
 -- the node is the first among those left that is an element which the selector means, and those behind it are left
 pub record IsFirstMatch (before : Matches) (node : NodeRef) (later : Matches) : Type 0 where

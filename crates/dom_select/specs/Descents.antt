@@ -20,7 +20,7 @@ is_deep Sibling = false
 abbrev pub goes_down : List Mini → Bool
 goes_down minis = list_all (λ mini. is_deep (combinator_of mini)) minis
 
--- the flags at a node below those that so many steps lead to: those of these steps and of the next
+-- the flags at a node below those that so many steps reach: those of these steps and of the next
 abbrev pub flags_after : List Mini → ℕ → List Bool
 flags_after [] passed = []
 flags_after (mini ∷ minis) zero = true ∷ replicate (length minis) false

@@ -1,4 +1,4 @@
--- What a path of mini selectors leads to: the relative meaning, with mini selectors as the compounds.
+-- What a path of mini selectors reaches: the relative meaning, with mini selectors as the compounds.
 use Rattle.std.specs.Prelude.{◌≡◌, ◌<◌, ℕ, List, [], ◌∷◌, false, true, length, map}
 use Rattle.std.specs.Borrow.{Bor}
 use Rattle.dom_links.specs.Forest.{Forest}
@@ -27,7 +27,7 @@ PathLeads minis forest x n = Leads (steps_of_path minis forest) forest x x n
 abbrev pub onward : Forest → ℕ → List ℕ
 onward forest n = walk (trees forest (n ∷ later forest false n))
 
--- these are the nodes that the path leads to from x, each once, in document order; none where x is unknown
+-- these are the nodes that the path reaches from x, each once, in document order; none where x is unknown
 abbrev pub IsFound : List Mini → Forest → ℕ → List ℕ → Type 0
 IsFound minis forest x found = FiltersTo (λ n. (x < length forest.content) × PathLeads minis forest x n) (onward forest x) found
 
@@ -35,17 +35,17 @@ IsFound minis forest x found = FiltersTo (λ n. (x < length forest.content) × P
 abbrev pub IsFoundByNames : List (List ℕ) → Forest → ℕ → List ℕ → Type 0
 IsFoundByNames names forest x found = IsFound (map named names) forest x found
 
--- the nodes are those that the path leads to from x, each once
+-- the nodes are those that the path reaches from x, each once
 pub record AreLedTo (minis : List Mini) (forest : Forest) (x : ℕ) (found : List ℕ) : Type 0 where
   pub led : (n : ℕ) → stands_in n found ≡ true → PathLeads minis forest x n
   pub all : (n : ℕ) → PathLeads minis forest x n → stands_in n found ≡ true
   pub once : IsDistinct found
 
--- these are the nodes, in the tree, that the names lead to
+-- these are the nodes, in the tree, that the names reach
 abbrev pub AreRefsByNames : List (List ℕ) → Bor Forest → ℕ → List NodeRef → Type 0
 AreRefsByNames names tree x found = (ids : List ℕ) × IsFoundByNames names tree.now x ids × (found ≡ refs_to tree ids)
 
--- these are the nodes that a path, written as a text, leads to
+-- these are the nodes that a path, written as a text, reaches
 pub record AreRefsFound (path : List ℕ) (tree : Bor Forest) (n : ℕ) (found : List NodeRef) : Type 0 where
   pub minis : List Mini
   pub rest : List ℕ

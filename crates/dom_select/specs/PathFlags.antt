@@ -1,5 +1,5 @@
 -- How a path is followed in one traversal: each node to be visited has for each step a flag, whether a node that the steps
--- before lead to stands to it as the step's combinator says.
+-- before reach stands to it as the step's combinator says.
 use Rattle.std.specs.Prelude.{◌≡◌, ◌<◌, ◌≤◌, ◌+◌, ◌-◌, ◌⊎◌, ℕ, List, [], ◌∷◌, ◌++◌, Bool, false, ◌&&◌, ◌||◌, not, Option, Some, None, length, take, drop, slice_index_or, if◌then◌else◌}
 use Rattle.std.specs.List.{list_any}
 use Rattle.dom_nodes.specs.Kinds.{is_element}
@@ -16,7 +16,7 @@ use Rattle.dom_selectors.specs.MiniTruth.{node_passes}
 use Rattle.dom_select.specs.Has.{is_sideways}
 use Rattle.dom_select.specs.declared.mini_selector.search.PathSearch.{PathSearch}
 
--- The flag at a node whose next one to the left is this: `here` states that the steps before lead to this, `on` is its own flag
+-- The flag at a node whose next one to the left is this: `here` states that the steps before reach this, `on` is its own flag
 abbrev pub passed_on : Combinator → Bool → Bool → Bool → Bool
 passed_on Descendant element here on = here || on
 passed_on Child element here on = here
@@ -42,7 +42,7 @@ flags_beside [] node here flags = []
 flags_beside (mini ∷ minis) node here [] = []
 flags_beside (mini ∷ minis) node here (on ∷ flags) = flag_beside (combinator_of mini) (is_element node) here on ∷ flags_beside minis node (on && node_passes mini node) flags
 
--- whether all steps lead to the node
+-- whether all steps reach the node
 abbrev pub is_led : List Mini → NodeData → Bool → List Bool → Bool
 is_led [] node here flags = here
 is_led (mini ∷ minis) node here [] = false
@@ -55,7 +55,7 @@ data_at forest n = slice_index_or forest.content n Document
 abbrev pub one_if : Bool → ℕ → List ℕ
 one_if b n = if b then n ∷ [] else []
 
--- the nodes of some trees that the path leads to, with the flags of the first tree's root
+-- the nodes of some trees that the path reaches, with the flags of the first tree's root
 abbrev pub led_in : Forest → List Mini → List Bool → Trees → List ℕ
 led_in forest minis flags NoTrees = []
 led_in forest minis flags (Tree n contents children later) =

@@ -2,7 +2,9 @@
 
 use crate::matcher::caches::SelectorCaches;
 use crate::matcher::matches::{is_meant, means, sole_type, subject_types};
+use crate::matcher::stops::{Never, Stop, answered};
 use dom_nodes::fault::OutOfMemory;
+use dom_nodes::node_id::NodeId;
 use dom_selectors::copies::copy_selectors;
 use dom_selectors::fault::SelectorFault;
 use dom_selectors::parser::parse_selectors;
@@ -26,6 +28,7 @@ pub(crate) mod parts;
 pub(crate) mod positions;
 pub(crate) mod roots;
 pub mod several;
+pub(crate) mod stops;
 pub(crate) mod texts;
 
 /// What a selector's text stands for. A contract sees it as the list of its selectors.
@@ -54,6 +57,7 @@ impl Matcher {
     ghost use Rattle.dom_selectors.specs.Grammar.{Refused, StandsFor};
     ghost use Rattle.dom_select.specs.Ends.{SubjectIsAmong};
     ghost use Rattle.dom_select.specs.Meaning.{Means, MeansType};
+    ghost use Rattle.dom_select.specs.Stops.{IfAnswered};
     ghost use Rattle.dom_selectors.specs.Spelling.{Decides};
     ghost use Rattle.dom_selectors.specs.ValuesAsTrees.{read_list};
 
@@ -104,7 +108,7 @@ impl Matcher {
         ensures { Decides result (Means self.now node.now.tree.now node.now.id) }
     {
         let mut caches = SelectorCaches::none(node.tree);
-        means(&self.selectors, &mut caches, node.id)
+        answered(means::<Never>(&self.selectors, &mut caches, node.id))
     }
 
     /// Whether one of the selectors means the node of that number in the caches' tree. What the
@@ -117,7 +121,19 @@ impl Matcher {
         ensures is { Decides result (Means self.now caches.old node.now.id) }
         ensures same { caches.new ≡ caches.old }
     {
-        means(&self.selectors, caches, node.id)
+        answered(means::<Never>(&self.selectors, caches, node.id))
+    }
+
+    /// The same of the node of that number, if nothing stops the match.
+    pub(crate) fn try_match<S: Stop>(
+        &self,
+        caches: &mut SelectorCaches<'_>,
+        id: NodeId,
+    ) -> Result<bool, S>
+        ensures is { IfAnswered result (Means self.now caches.old id) }
+        ensures same { caches.new ≡ caches.old }
+    {
+        means::<S>(&self.selectors, caches, id)
     }
 }
 

@@ -21,7 +21,7 @@ pub struct SelectorCaches<'t> {
     of_type: Vec<u32>,
     last_of_type: Vec<u32>,
     hits: u64,
-    steps: u64,
+    tests_left: u64,
 }
 
 impl<'t> Model for SelectorCaches<'t> {
@@ -57,6 +57,15 @@ impl<'t> SelectorCaches<'t> {
         SelectorCaches::made(tree, Some(256))
     }
 
+    /// The same for a selection that makes no more than so many tests.
+    pub(crate) fn metered(tree: &'t Tree, tests: u64) -> SelectorCaches<'t>
+        ensures { result ≡ tree.entry.now }
+    {
+        let mut caches = SelectorCaches::late(tree);
+        caches.tests_left = tests;
+        caches
+    }
+
     /// Caches that never keep anything, and take no memory.
     pub(crate) fn none(tree: &'t Tree) -> SelectorCaches<'t>
         ensures { result ≡ tree.entry.now }
@@ -76,7 +85,7 @@ impl<'t> SelectorCaches<'t> {
             of_type: Vec::new(tree.allocator()),
             last_of_type: Vec::new(tree.allocator()),
             hits: 0,
-            steps: 0,
+            tests_left: u64::MAX,
         }
     }
 
@@ -92,16 +101,22 @@ impl<'t> SelectorCaches<'t> {
         self.hits
     }
 
-    /// Notes a step from a node to the next one on its left, or to one where `:has` could lead.
-    pub(crate) fn note_step(&mut self)
+    /// Counts a test, of a compound at a node or of a node that is stepped to, where so many may
+    /// still be made: false where none may.
+    #[inline(always)]
+    pub(crate) fn take_test(&mut self) -> bool
         ensures { self.new ≡ self.old }
     {
-        self.steps = self.steps.saturating_add(1);
+        if self.tests_left == 0 {
+            return false;
+        }
+        self.tests_left -= 1;
+        true
     }
 
-    /// How many such steps were noted. No clause: nothing else depends on it.
-    pub(crate) fn steps(&self) -> u64 {
-        self.steps
+    /// How many tests may still be made. No clause: nothing else depends on it.
+    pub(crate) fn tests_left(&self) -> u64 {
+        self.tests_left
     }
 
     /// Whether the next index is kept.

@@ -1,19 +1,21 @@
 //! Which nodes a selector selects.
 
-ghost use Rattle.std.specs.Prelude.{◌≡◌, ◌∷◌, ◌-◌, ◌^◌, [], length, IfOk, IfSome, IsSome};
+ghost use Rattle.std.specs.Prelude.{◌≡◌, ◌∷◌, [], length, IfOk, IfSome};
 ghost use Rattle.std.specs.Iterator.{IsFinite, at_most};
 ghost use Rattle.dom_links.specs.Trees.{walk_below};
-ghost use Rattle.dom_select.specs.Descendants.{FiltersWithin, GivesMatch, IsMatch};
-ghost use Rattle.dom_select.specs.Descendants.{SelectsBelow, SelectsWithin};
+ghost use Rattle.dom_select.specs.Descendants.{FiltersUnless, GivesMatch, IsMatch};
+ghost use Rattle.dom_select.specs.Descendants.{SelectsBelow, SelectsUnless};
 ghost use Rattle.dom_select.specs.Ends.{SubjectIsAmong};
 ghost use Rattle.dom_select.specs.Meaning.{MeansType};
 ghost use Rattle.dom_select.specs.Selected.{Selected, walks_below};
+ghost use Rattle.dom_select.specs.Stops.{IfAnswered};
 ghost use Rattle.dom_selectors.specs.Spelling.{Decides};
 
 use crate::matcher::Matcher;
 use crate::matcher::caches::SelectorCaches;
 use crate::matcher::matches::{has_neither_type, has_type};
 use crate::matcher::parts::element_at;
+use crate::matcher::stops::{Never, Stop, answered};
 use dom_links::iters::DescendantNodes;
 use dom_nodes::fault::OutOfMemory;
 use dom_nodes::node_id::NodeId;
@@ -101,9 +103,10 @@ pub fn select_below(
     if let Some(name) = matcher.sole_type() {
         return named_below(tree, root, matcher, name);
     }
-    match select_below_within(tree, root, matcher, u64::MAX)? {
-        Some(matched) => Ok(matched),
-        None => unreachable!(),
+    let mut caches = SelectorCaches::late(tree);
+    match select_below_unless::<Never>(tree, root, matcher, &mut caches)? {
+        Ok(matched) => Ok(matched),
+        Err(never) => match never {},
     }
 }
 
@@ -127,49 +130,43 @@ fn named_below(
     Ok(named)
 }
 
-/// The elements below the root that the selector means, or None where more than so many steps were
-/// taken.
+/// The elements below the root that the selector means, if nothing stops a match.
 #[inline(always)]
-pub(crate) fn select_below_within(
+pub(crate) fn select_below_unless<S: Stop>(
     tree: &Tree,
     root: &NodeId,
     matcher: &Matcher,
-    steps: u64,
-) -> Result<Option<Vec<NodeId>>, OutOfMemory>
-    ensures selected { SelectsWithin result tree.now (root.now ∷ []) matcher.now }
-    ensures no_limit { steps ≡ 2 ^ 64 - 1 → IfOk result (λ found. IsSome found) }
+    caches: &mut SelectorCaches<'_>,
+) -> Result<Result<Vec<NodeId>, S>, OutOfMemory>
+    requires { caches.old ≡ tree.now }
+    ensures { SelectsUnless result tree.now (root.now ∷ []) matcher.now }
 {
-    collect_within(tree, tree.descendant_ids_of_it(root), matcher, steps)
+    collect_unless::<_, S>(tree, tree.descendant_ids_of_it(root), matcher, caches)
 }
 
-/// The elements among those nodes that the selector means, or None where more than so many steps
-/// were taken: to the left of nodes, and to those that `:has` looks at. That is asked after each
-/// node, so that what takes many is given up early. Inlined, so that nothing is asked where any
-/// number of steps may be taken.
+/// The elements among those nodes that the selector means, if nothing stops a match. The caches are
+/// the tree's.
 #[inline(always)]
-pub(crate) fn collect_within<I: Iterator<Item = NodeId> + Drop>(
+pub(crate) fn collect_unless<I: Iterator<Item = NodeId> + Drop, S: Stop>(
     tree: &Tree,
     ids: I,
     matcher: &Matcher,
-    steps: u64,
-) -> Result<Option<Vec<NodeId>>, OutOfMemory>
-    requires { I.can_next ids × IsFinite (I.remaining ids) }
-    ensures matched { FiltersWithin result I.next_gives ids (IsMatch matcher.now tree.now) }
-    ensures no_limit { steps ≡ 2 ^ 64 - 1 → IfOk result (λ found. IsSome found) }
+    caches: &mut SelectorCaches<'_>,
+) -> Result<Result<Vec<NodeId>, S>, OutOfMemory>
+    requires ids { I.can_next ids × IsFinite (I.remaining ids) }
+    requires caches { caches.old ≡ tree.now }
+    ensures { FiltersUnless result I.next_gives ids (IsMatch matcher.now tree.now) }
 {
     let names = matcher.subject_types();
-    let mut caches = SelectorCaches::late(tree);
     let mut matched = Vec::new(tree.allocator());
     for id in ids {
-        if caches.steps() > steps {
-            return Ok(None);
+        match is_match_of_types::<S>(matcher, &names, caches, id) {
+            Ok(true) => matched.push(id)?,
+            Ok(false) => {}
+            Err(stop) => return Ok(Err(stop)),
         }
-        if !is_match_of_types(matcher, &names, &mut caches, id) {
-            continue;
-        }
-        matched.push(id)?;
     }
-    Ok(Some(matched))
+    Ok(Ok(matched))
 }
 
 /// Whether the node is an element that the selector means; where the selector is a type alone, that
@@ -193,22 +190,22 @@ fn is_match_by_type(
 /// Whether the node is an element that the selector means, which bears one of the names if there
 /// are some.
 #[inline(always)]
-fn is_match_of_types(
+fn is_match_of_types<S: Stop>(
     matcher: &Matcher,
     names: &Option<(&SelectorName, &SelectorName)>,
     caches: &mut SelectorCaches<'_>,
     id: NodeId,
-) -> bool
+) -> Result<bool, S>
     requires { IfSome names.now (λ names. SubjectIsAmong names.0.now names.1.now matcher.now) }
-    ensures is { Decides result (IsMatch matcher.now caches.old id) }
+    ensures is { IfAnswered result (IsMatch matcher.now caches.old id) }
     ensures same { caches.new ≡ caches.old }
 {
     if let Some((one, other)) = names {
         if has_neither_type(caches.tree(), &id, one, other) {
-            return false;
+            return Ok(false);
         }
     }
-    is_selected_with(matcher, caches, id)
+    is_selected_unless::<S>(matcher, caches, id)
 }
 
 /// Whether the node is an element that the selector means.
@@ -230,9 +227,20 @@ pub(crate) fn is_selected_with(
     ensures is { Decides result (IsMatch matcher.now caches.old id) }
     ensures same { caches.new ≡ caches.old }
 {
-    let tree = caches.tree();
-    if !element_at(tree, &id) {
-        return false;
+    answered(is_selected_unless::<Never>(matcher, caches, id))
+}
+
+/// The same, if nothing stops the match.
+fn is_selected_unless<S: Stop>(
+    matcher: &Matcher,
+    caches: &mut SelectorCaches<'_>,
+    id: NodeId,
+) -> Result<bool, S>
+    ensures is { IfAnswered result (IsMatch matcher.now caches.old id) }
+    ensures same { caches.new ≡ caches.old }
+{
+    if !element_at(caches.tree(), &id) {
+        return Ok(false);
     }
-    matcher.match_element_with_caches(&NodeRef::new(id, tree), caches)
+    matcher.try_match::<S>(caches, id)
 }

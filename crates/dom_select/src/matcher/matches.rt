@@ -3,7 +3,7 @@
 //! the nearest node from which they can be followed is taken and never given up: what stands on the
 //! left of a farther one stands on the left of that one too.
 
-ghost use Rattle.std.specs.Prelude.{◌≡◌, ◌↔◌, ◌∷◌, ◌<◌, [], IfSome, IsTrue, Some, map};
+ghost use Rattle.std.specs.Prelude.{◌≡◌, ◌↔◌, ◌∷◌, ◌<◌, [], IfOk, IfSome, IsTrue, Some, map};
 ghost use Rattle.dom_selectors.specs.ListsAsTrees.{lists_of};
 ghost use Rattle.dom_selectors.specs.Spelling.{Decides};
 ghost use Rattle.dom_selectors.specs.ValuesAsTrees.{read_compound, read_list, read_nested};
@@ -15,11 +15,13 @@ ghost use Rattle.dom_select.specs.Has.{may_be_subject};
 ghost use Rattle.dom_select.specs.Leftward.{ends_at};
 ghost use Rattle.dom_select.specs.Meaning.{HasHolds, HasType, Holds, IsTypeAlone, ListHolds};
 ghost use Rattle.dom_select.specs.Meaning.{ListsHold, Means, MeansType};
+ghost use Rattle.dom_select.specs.Stops.{IfAnswered};
 
 use crate::matcher::caches::SelectorCaches;
 use crate::matcher::chains::{binding_level, ends_at, left_of, line_laws, may_be_operand};
 use crate::matcher::has::{Start, first_search_root, is_joined, may_be_subject, next_search_root};
 use crate::matcher::parts::{is_named_node, parts_hold};
+use crate::matcher::stops::{Never, Stop, answered};
 use dom_nodes::node_id::NodeId;
 use dom_selectors::selector_name::SelectorName;
 use dom_selectors::syntax::{Combinator, Compound, Nested, Part, Selector, Step};
@@ -138,89 +140,111 @@ fn fails_type(compound: &Compound, tree: &Tree, id: &NodeId) -> bool
 /// Whether the compound holds of the node. Names come first, since most nodes bear another one; of
 /// a type alone nothing else is looked at.
 #[cycle(matching)]
-fn holds(compound: &Compound, caches: &mut SelectorCaches<'_>, id: NodeId) -> bool
-    ensures is { IsTrue result ↔ Holds (read_compound compound.now) caches.old id }
+fn holds<S: Stop>(
+    compound: &Compound,
+    caches: &mut SelectorCaches<'_>,
+    id: NodeId,
+) -> Result<bool, S>
+    ensures is { IfAnswered result (Holds (read_compound compound.now) caches.old id) }
     ensures kept { caches.new ≡ caches.old }
 {
     let tree = caches.tree();
+    S::count_test(caches)?;
     if let Some(name) = sole_type_selector(compound) {
-        return has_type(tree, &id, name);
+        return Ok(has_type(tree, &id, name));
     }
     if fails_type(compound, tree, &id) {
-        return false;
+        return Ok(false);
     }
     if !parts_hold(&compound.parts, caches, &id) {
-        return false;
+        return Ok(false);
     }
-    lists_hold(&compound.nested, caches, id)
+    lists_hold::<S>(&compound.nested, caches, id)
 }
 
 /// Whether each of the lists in a compound holds of the node.
 #[cycle(matching)]
-fn lists_hold(lists: &[Nested], caches: &mut SelectorCaches<'_>, id: NodeId) -> bool
-    ensures is { IsTrue result ↔ ListsHold (lists_of (map read_nested lists.now)) caches.old id }
+fn lists_hold<S: Stop>(
+    lists: &[Nested],
+    caches: &mut SelectorCaches<'_>,
+    id: NodeId,
+) -> Result<bool, S>
+    ensures is { IfAnswered result
+        (ListsHold (lists_of (map read_nested lists.now)) caches.old id) }
     ensures kept { caches.new ≡ caches.old }
 {
     for list in lists {
-        if !list_holds(list, caches, id) {
-            return false;
+        if !list_holds::<S>(list, caches, id)? {
+            return Ok(false);
         }
     }
-    true
+    Ok(true)
 }
 
 #[cycle(matching)]
-fn list_holds(list: &Nested, caches: &mut SelectorCaches<'_>, id: NodeId) -> bool
-    ensures is { IsTrue result ↔ ListHolds (read_nested list.now) caches.old id }
+fn list_holds<S: Stop>(
+    list: &Nested,
+    caches: &mut SelectorCaches<'_>,
+    id: NodeId,
+) -> Result<bool, S>
+    ensures is { IfAnswered result (ListHolds (read_nested list.now) caches.old id) }
     ensures kept { caches.new ≡ caches.old }
 {
     match list {
-        Nested::Is(selectors) => means(selectors, caches, id),
-        Nested::Not(selectors) => !means(selectors, caches, id),
-        Nested::Has(selectors) => has_holds(selectors, caches, id),
+        Nested::Is(selectors) => means::<S>(selectors, caches, id),
+        Nested::Not(selectors) => Ok(!means::<S>(selectors, caches, id)?),
+        Nested::Has(selectors) => has_holds::<S>(selectors, caches, id),
     }
 }
 
 /// Whether one of the selectors means the node.
 #[cycle(matching)]
-pub(crate) fn means(selectors: &[Selector], caches: &mut SelectorCaches<'_>, id: NodeId) -> bool
-    ensures is { IsTrue result ↔ Means (read_list selectors.now) caches.old id }
+pub(crate) fn means<S: Stop>(
+    selectors: &[Selector],
+    caches: &mut SelectorCaches<'_>,
+    id: NodeId,
+) -> Result<bool, S>
+    ensures is { IfAnswered result (Means (read_list selectors.now) caches.old id) }
     ensures kept { caches.new ≡ caches.old }
 {
     let start = Start::Absolute;
     for selector in selectors {
-        if chain_matches(&start, &selector.first, &selector.rest, caches, id) {
-            return true;
+        if chain_matches::<S>(&start, &selector.first, &selector.rest, caches, id)? {
+            return Ok(true);
         }
     }
-    false
+    Ok(false)
 }
 
 /// Whether one of the selectors leads from the node to an element.
 #[cycle(matching)]
-fn has_holds(selectors: &[Selector], caches: &mut SelectorCaches<'_>, id: NodeId) -> bool
-    ensures is { IsTrue result ↔ HasHolds (read_list selectors.now) caches.old id }
+fn has_holds<S: Stop>(
+    selectors: &[Selector],
+    caches: &mut SelectorCaches<'_>,
+    id: NodeId,
+) -> Result<bool, S>
+    ensures is { IfAnswered result (HasHolds (read_list selectors.now) caches.old id) }
     ensures kept { caches.new ≡ caches.old }
 {
     for selector in selectors {
-        if relative_matches(selector.lead, &selector.first, &selector.rest, caches, id) {
-            return true;
+        if relative_matches::<S>(selector.lead, &selector.first, &selector.rest, caches, id)? {
+            return Ok(true);
         }
     }
-    false
+    Ok(false)
 }
 
 /// Whether a selector leads from the node to an element: it is followed from each node that it
 /// could lead to.
 #[cycle(matching)]
-fn relative_matches(
+fn relative_matches<S: Stop>(
     lead: Combinator,
     first: &Compound,
     steps: &[Step],
     caches: &mut SelectorCaches<'_>,
     id: NodeId,
-) -> bool
-    ensures is { IsTrue result ↔ CompoundsMatchFrom lead first.now steps.now caches.old id }
+) -> Result<bool, S>
+    ensures is { IfAnswered result (CompoundsMatchFrom lead first.now steps.now caches.old id) }
     ensures kept { caches.new ≡ caches.old }
 {
     let tree = caches.tree();
@@ -228,37 +252,37 @@ fn relative_matches(
     let start = Start::Relative(lead, id);
     let mut top = first_search_root(tree, lead, id);
     while let Some(at) = top {
-        if matches_within(&start, first, steps, caches, at) {
-            return true;
+        if matches_within::<S>(&start, first, steps, caches, at)? {
+            return Ok(true);
         }
         top = next_search_root(tree, lead, at);
     }
-    false
+    Ok(false)
 }
 
 /// Whether the compounds lead from the start to this node or to one below it.
 #[cycle(matching)]
-fn matches_within(
+fn matches_within<S: Stop>(
     start: &Start,
     first: &Compound,
     steps: &[Step],
     caches: &mut SelectorCaches<'_>,
     top: NodeId,
-) -> bool
-    ensures is { Decides result
-        (CompoundsMatchWithin start.now first.now steps.now caches.old top) }
+) -> Result<bool, S>
+    ensures is { IfOk result (λ b. Decides b
+        (CompoundsMatchWithin start.now first.now steps.now caches.old top)) }
     ensures kept { caches.new ≡ caches.old }
 {
-    if chain_matches(start, first, steps, caches, top) {
-        return true;
+    if chain_matches::<S>(start, first, steps, caches, top)? {
+        return Ok(true);
     }
     for y in caches.tree().descendant_ids_of_it(&top) {
-        caches.note_step();
-        if chain_matches(start, first, steps, caches, y) {
-            return true;
+        S::count_test(caches)?;
+        if chain_matches::<S>(start, first, steps, caches, y)? {
+            return Ok(true);
         }
     }
-    false
+    Ok(false)
 }
 
 /// What stays the same while the compounds of one selector are followed: where they start, the
@@ -273,18 +297,18 @@ struct Chain<'c> {
 /// Whether there are nodes for the first compound and for those of the steps, the last of them this
 /// one.
 #[cycle(matching)]
-fn chain_matches(
+fn chain_matches<S: Stop>(
     start: &Start,
     first: &Compound,
     steps: &[Step],
     caches: &mut SelectorCaches<'_>,
     id: NodeId,
-) -> bool
-    ensures is { IsTrue result ↔ CompoundsMatch start.now first.now steps.now caches.old id }
+) -> Result<bool, S>
+    ensures is { IfAnswered result (CompoundsMatch start.now first.now steps.now caches.old id) }
     ensures kept { caches.new ≡ caches.old }
 {
     if !may_be_subject(start, caches.tree(), id) {
-        return false;
+        return Ok(false);
     }
     let chain = Chain {
         start,
@@ -292,46 +316,50 @@ fn chain_matches(
         exempt: id,
     };
     if steps.is_empty() {
-        return begins(&chain, caches, id);
+        return begins::<S>(&chain, caches, id);
     }
-    match_suffix(&chain, steps, ALL, caches, id).is_some()
+    Ok(match_suffix::<S>(&chain, steps, ALL, caches, id)?.is_some())
 }
 
 /// Whether the node may be the first.
 #[cycle(matching)]
-fn begins(chain: &Chain<'_>, caches: &mut SelectorCaches<'_>, id: NodeId) -> bool
-    ensures is { IsTrue result ↔ BeginsChain chain.now caches.old id }
+fn begins<S: Stop>(
+    chain: &Chain<'_>,
+    caches: &mut SelectorCaches<'_>,
+    id: NodeId,
+) -> Result<bool, S>
+    ensures is { IfAnswered result (BeginsChain chain.now caches.old id) }
     ensures kept { caches.new ≡ caches.old }
 {
     match chain.start {
-        Start::Absolute => holds(chain.first, caches, id),
+        Start::Absolute => holds::<S>(chain.first, caches, id),
         Start::Relative(lead, from) => {
             if !is_joined(caches.tree(), *lead, *from, id) {
-                return false;
+                return Ok(false);
             }
-            holds(chain.first, caches, id)
+            holds::<S>(chain.first, caches, id)
         }
     }
 }
 
 /// Whether the last compound holds of the node, which may stand as the combinator on its left asks.
 #[cycle(matching)]
-fn last_holds(
+fn last_holds<S: Stop>(
     chain: &Chain<'_>,
     steps: &[Step],
     caches: &mut SelectorCaches<'_>,
     id: NodeId,
-) -> bool
-    ensures is { Decides result (EndsChain chain.now steps.now caches.old id) }
+) -> Result<bool, S>
+    ensures is { IfOk result (λ b. Decides b (EndsChain chain.now steps.now caches.old id)) }
     ensures kept { caches.new ≡ caches.old }
 {
     match steps.split_last() {
-        None => begins(chain, caches, id),
+        None => begins::<S>(chain, caches, id),
         Some((last, _)) => {
             if !may_be_operand(caches.tree(), chain.exempt, last.combinator, id) {
-                return false;
+                return Ok(false);
             }
-            holds(&last.compound, caches, id)
+            holds::<S>(&last.compound, caches, id)
         }
     }
 }
@@ -366,19 +394,19 @@ struct Remainder<'a> {
 
 /// Follows the steps from the node to the left, over all that bind more tightly than `level`.
 #[cycle(matching)]
-fn match_suffix<'a>(
+fn match_suffix<'a, S: Stop>(
     chain: &Chain<'_>,
     steps: &'a [Step],
     level: usize,
     caches: &mut SelectorCaches<'_>,
     id: NodeId,
-) -> Option<Remainder<'a>>
+) -> Result<Option<Remainder<'a>>, S>
     requires { IsOrPrecedes caches.old id chain.now.exempt }
-    ensures is { FollowsChain chain.now steps.now level caches.old id result }
+    ensures is { IfOk result (FollowsChain chain.now steps.now level caches.old id) }
     ensures kept { caches.new ≡ caches.old }
 {
-    if !last_holds(chain, steps, caches, id) {
-        return None;
+    if !last_holds::<S>(chain, steps, caches, id)? {
+        return Ok(None);
     }
     line_laws(caches.tree());
     let mut remainder = Remainder {
@@ -387,48 +415,49 @@ fn match_suffix<'a>(
     };
     while let Some((last, front)) = remainder.left.split_last() {
         if binding_level(last.combinator) >= level {
-            return Some(remainder);
+            return Ok(Some(remainder));
         }
-        let Some(next) = match_from_candidates(chain, front, last.combinator, caches, remainder.at)
-        else {
-            return None;
+        let combinator = last.combinator;
+        let found = match_from_candidates::<S>(chain, front, combinator, caches, remainder.at)?;
+        let Some(next) = found else {
+            return Ok(None);
         };
         remainder = next;
     }
-    Some(remainder)
+    Ok(Some(remainder))
 }
 
 /// Follows the steps from the nearest node that they can be followed from, of those that stand to
 /// this one as the combinator says.
 #[cycle(matching)]
-fn match_from_candidates<'a>(
+fn match_from_candidates<'a, S: Stop>(
     chain: &Chain<'_>,
     steps: &'a [Step],
     combinator: Combinator,
     caches: &mut SelectorCaches<'_>,
     id: NodeId,
-) -> Option<Remainder<'a>>
+) -> Result<Option<Remainder<'a>>, S>
     requires { IsOrPrecedes caches.old id chain.now.exempt }
-    ensures is { FollowsCandidate chain.now steps.now combinator caches.old id result }
+    ensures is { IfOk result (FollowsCandidate chain.now steps.now combinator caches.old id) }
     ensures kept { caches.new ≡ caches.old }
 {
     let name = subject_type(chain.first, steps);
     let tree = caches.tree();
     let mut at = id;
     while let Some(v) = left_of(tree, combinator, at) {
-        caches.note_step();
+        S::count_test(caches)?;
         if is_candidate(name, combinator, tree, chain.exempt, v) {
             let level = binding_level(combinator);
-            if let Some(remainder) = match_suffix(chain, steps, level, caches, v) {
-                return Some(remainder);
+            if let Some(remainder) = match_suffix::<S>(chain, steps, level, caches, v)? {
+                return Ok(Some(remainder));
             }
         }
         if ends_at(tree, combinator, v) {
-            return None;
+            return Ok(None);
         }
         at = v;
     }
-    None
+    Ok(None)
 }
 
 /// Whether the selector means the node.
@@ -436,5 +465,5 @@ pub(crate) fn is_meant(selector: &Selector, caches: &mut SelectorCaches<'_>, id:
     ensures { IsTrue result ↔ Means (read_list (selector.now ∷ [])) caches.old id }
 {
     let start = Start::Absolute;
-    chain_matches(&start, &selector.first, &selector.rest, caches, id)
+    answered(chain_matches::<Never>(&start, &selector.first, &selector.rest, caches, id))
 }

@@ -3,7 +3,8 @@
 ghost use Rattle.std.specs.Prelude.{◌≡◌, ◌-◌, ◌^◌, length, IfOk, IsSome};
 ghost use Rattle.std.specs.Iterator.{YieldsFirst, at_most, item_count};
 ghost use Rattle.dom_links.specs.Laws.{AreTrees};
-ghost use Rattle.dom_select.specs.Descendants.{GivesMatch, SelectsAll, SelectsWithin, WalksAll};
+ghost use Rattle.dom_select.specs.Descendants.{GivesMatch, SelectsAll, SelectsUnless};
+ghost use Rattle.dom_select.specs.Descendants.{SelectsWithin, WalksAll};
 ghost use Rattle.dom_select.specs.Marks.{SetsMark, left_in};
 ghost use Rattle.dom_select.specs.Roots.{node_ids, root_ids};
 ghost use Rattle.dom_select.specs.Selected.{Selected, walks_below};
@@ -11,8 +12,11 @@ ghost use Rattle.dom_selectors.specs.Spelling.{same};
 
 use crate::matcher::Matcher;
 use crate::matcher::caches::SelectorCaches;
-use crate::matcher::descendants::{collect_within, is_selected_with, select_below_within};
+use crate::matcher::descendants::{
+    collect_unless, is_selected_with, select_below, select_below_unless,
+};
 use crate::matcher::roots::{Roots, take_first};
+use crate::matcher::stops::{Never, Spent, Stop};
 use dom_links::iters::DescendantNodes;
 use dom_links::laws::trees_of_a_forest;
 use dom_nodes::fault::OutOfMemory;
@@ -227,14 +231,15 @@ pub fn select_below_all(
 ) -> Result<Vec<NodeId>, OutOfMemory>
     ensures { IfOk result (λ ids. Selected tree.now roots.now matcher.now ids.items) }
 {
-    match select_all_within(tree, roots, matcher, u64::MAX)? {
-        Some(matched) => Ok(matched),
-        None => unreachable!(),
+    let mut caches = SelectorCaches::late(tree);
+    match select_all_unless::<Never>(tree, roots, matcher, &mut caches)? {
+        Ok(matched) => Ok(matched),
+        Err(never) => match never {},
     }
 }
 
-/// The same, or None where more than so many steps were taken: to the left of nodes, and to those
-/// that `:has` looks at. That is asked after each node, so that what takes many is given up early.
+/// The same, or None where more than so many tests were needed: of a compound at a node, or of a
+/// node that `:has` or a combinator to the left steps to. 2^64 - 1 is no limit.
 pub fn select_within(
     tree: &Tree,
     roots: &[NodeId],
@@ -244,24 +249,79 @@ pub fn select_within(
     ensures selected { SelectsWithin result tree.now roots.now matcher.now }
     ensures no_limit { steps ≡ 2 ^ 64 - 1 → IfOk result (λ found. IsSome found) }
 {
+    if steps == u64::MAX {
+        return Ok(Some(select_below_all(tree, roots, matcher)?));
+    }
+    let mut left = steps;
+    select_metered(tree, roots, matcher, &mut left)
+}
+
+/// The same, where `left` is how many tests may be made, and what is left of them when it returns.
+/// None where more were needed.
+pub fn select_metered(
+    tree: &Tree,
+    roots: &[NodeId],
+    matcher: &Matcher,
+    left: &mut u64,
+) -> Result<Option<Vec<NodeId>>, OutOfMemory>
+    ensures { SelectsWithin result tree.now roots.now matcher.now }
+{
+    let filtering = type_tests(tree, matcher);
+    if filtering > *left {
+        return Ok(None);
+    }
+    *left -= filtering;
+    if let [root] = roots {
+        if matcher.sole_type().is_some() {
+            return Ok(Some(select_below(tree, root, matcher)?));
+        }
+    }
+    let mut caches = SelectorCaches::metered(tree, *left);
+    let found = select_unless::<Spent>(tree, roots, matcher, &mut caches);
+    *left = caches.tests_left();
+    match found? {
+        Ok(ids) => Ok(Some(ids)),
+        Err(_) => Ok(None),
+    }
+}
+
+/// How many tests the types of the subjects take at most, which are asked before anything is
+/// counted: each at each node.
+fn type_tests(tree: &Tree, matcher: &Matcher) -> u64 {
+    match matcher.subject_types() {
+        Some(_) => (tree.len() as u64).saturating_mul(matcher.selectors().len() as u64),
+        None => 0,
+    }
+}
+
+/// The same, if nothing stops a match.
+fn select_unless<S: Stop>(
+    tree: &Tree,
+    roots: &[NodeId],
+    matcher: &Matcher,
+    caches: &mut SelectorCaches<'_>,
+) -> Result<Result<Vec<NodeId>, S>, OutOfMemory>
+    requires { caches.old ≡ tree.now }
+    ensures { SelectsUnless result tree.now roots.now matcher.now }
+{
     match roots {
-        [root] => select_below_within(tree, root, matcher, steps),
-        _ => select_all_within(tree, roots, matcher, steps),
+        [root] => select_below_unless::<S>(tree, root, matcher, caches),
+        _ => select_all_unless::<S>(tree, roots, matcher, caches),
     }
 }
 
 /// The same, with marks.
-fn select_all_within(
+fn select_all_unless<S: Stop>(
     tree: &Tree,
     roots: &[NodeId],
     matcher: &Matcher,
-    steps: u64,
-) -> Result<Option<Vec<NodeId>>, OutOfMemory>
-    ensures selected { SelectsWithin result tree.now roots.now matcher.now }
-    ensures no_limit { steps ≡ 2 ^ 64 - 1 → IfOk result (λ found. IsSome found) }
+    caches: &mut SelectorCaches<'_>,
+) -> Result<Result<Vec<NodeId>, S>, OutOfMemory>
+    requires { caches.old ≡ tree.now }
+    ensures { SelectsUnless result tree.now roots.now matcher.now }
 {
     let ids = first_occurrences(tree, Roots::Numbers(roots))?;
-    collect_within(tree, ids, matcher, steps)
+    collect_unless::<_, S>(tree, ids, matcher, caches)
 }
 
 /// The nodes below the roots, each once, in the order of the walks.

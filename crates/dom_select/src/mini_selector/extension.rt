@@ -19,16 +19,16 @@ use dom_trees::tree::Tree;
 
 /// A node that mini selectors, and paths of them or of names, are asked of.
 pub trait MiniSelect<'a> {
-    /// The nodes that names lead to, each of a descendant of the one before: each node once, in
-    /// document order. No name leads to the node itself, and to nothing where it is unknown.
+    /// The nodes that names reach, each of a descendant of the one before: each node once, in
+    /// document order. No name reaches the node itself, and nothing where it is unknown.
     fn find(&self, path: &[&str]) -> Result<Vec<NodeRef<'a>>, OutOfMemory>;
 
-    /// The nodes that the path leads to, each once, in document order. One of which nothing can be
-    /// read leads to the node itself, and to nothing where it is unknown; one with a bad value in
-    /// quotes leads to nothing.
+    /// The nodes that the path reaches, each once, in document order. One of which nothing can be
+    /// read reaches the node itself, and nothing where it is unknown; one with a bad value in
+    /// quotes reaches nothing.
     fn find_descendants(&self, path: &str) -> Result<Vec<NodeRef<'a>>, OutOfMemory>;
 
-    /// The nodes that the path leads to; `BadQuotedValue` where one of its values begins with a quote
+    /// The nodes that the path reaches; `BadQuotedValue` where one of its values begins with a quote
     /// and is empty, or isn't closed by that quote.
     fn try_find_descendants(&self, path: &str) -> Result<Vec<NodeRef<'a>>, MiniFault>;
 

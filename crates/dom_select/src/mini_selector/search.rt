@@ -1,4 +1,4 @@
-//! What a path of mini selectors leads to from a node: one traversal, which has for each step a
+//! What a path of mini selectors reaches from a node: one traversal, which has for each step a
 //! flag at each node that is still to be visited, and goes on only where a flag is set.
 
 ghost use Rattle.std.specs.Prelude.{◌≡◌, ◌≤◌, ◌<◌, ◌++◌, length, take, drop, map, IfOk, OnOk};
@@ -24,7 +24,7 @@ use dom_selectors::syntax::Combinator;
 use std::alloc::Global;
 
 /// A traversal under way: the nodes that are still to be visited, the last of them next, and the
-/// flags of each, one a step. Such a flag is set where a node that the steps before lead to stands
+/// flags of each, one a step. Such a flag is set where a node that the steps before reach stands
 /// to the node as the step's combinator says.
 #[derive(Drop)]
 pub(crate) struct PathSearch {
@@ -34,8 +34,8 @@ pub(crate) struct PathSearch {
     found: Vec<NodeId>,
 }
 
-/// The flag at a node, by the next one to the left of it: `here` states that the steps before lead
-/// to that one, and `on` is its flag.
+/// The flag at a node, by the next one to the left of it: `here` states that the steps before
+/// reach that one, and `on` is its flag.
 #[inline(always)]
 fn passed_on(combinator: Combinator, is_element: bool, here: bool, on: bool) -> bool
     ensures { result ≡ passed_on combinator is_element here on }
@@ -69,7 +69,7 @@ fn flag_beside(combinator: Combinator, is_element: bool, here: bool, on: bool) -
     on
 }
 
-/// Whether the path leads to the node with these flags, where `is_start` states that it is the
+/// Whether the path reaches the node with these flags, where `is_start` states that it is the
 /// start. The flags become those of its next sibling, and `below` those of its first child.
 fn step_flags(
     path: &[MiniSelector<'_>],
@@ -136,7 +136,7 @@ fn push_if(found: &mut Vec<NodeId>, id: NodeId, passes: bool) -> Result<(), OutO
 }
 
 /// Visits a node, whose flags stand behind those of the nodes to be visited: it is found, where the
-/// path leads to it, and its next sibling and first child are to be visited, where a flag is set.
+/// path reaches it, and its next sibling and first child are to be visited, where a flag is set.
 fn visit(
     nodes: &[TreeNode],
     path: &[MiniSelector<'_>],
@@ -206,7 +206,7 @@ fn wait_below(nodes: &[TreeNode], id: NodeId, search: &mut PathSearch) -> Result
     Ok(())
 }
 
-/// What a path leads to from a node.
+/// What a path reaches from a node.
 pub(crate) fn follow(
     alloc: Global,
     nodes: &[TreeNode],
@@ -250,7 +250,7 @@ fn follow_path(
     Ok(search.found)
 }
 
-/// What names, each of a descendant of the one before, lead to from a node.
+/// What names, each of a descendant of the one before, reach from a node.
 pub(crate) fn follow_names(
     alloc: Global,
     nodes: &[TreeNode],
