@@ -1,7 +1,7 @@
 -- What a value of the program reads as, by its parts.
 use Rattle.std.proofs.Common.{◌≡◌, map, sym, ap, ◌∙◌, Vec, Global}
 use Rattle.dom_selectors.specs.declared.syntax.Compound.{Compound, fold_out-Compound}
-use Rattle.dom_selectors.specs.declared.syntax.Nested.{Is, Not, Has}
+use Rattle.dom_selectors.specs.declared.syntax.Nested.{Nested, Is, Not, Has}
 use Rattle.dom_selectors.specs.declared.syntax.Nested.TheOpen.{Nested-F}
 use Rattle.dom_selectors.specs.declared.syntax.Nested.TheVariants.{rolls-Is, rolls-Not, rolls-Has}
 use Rattle.dom_selectors.specs.declared.syntax.Nested.TheFolds.{fold-roll-Nested}
@@ -32,3 +32,15 @@ read_has v = ap read_nested (sym (rolls-Has v)) ∙ fold-roll-Nested _ _ _ _ nes
 -- what has the same parts reads as the same
 pub same_compound : (a b : Compound) → a.parts.items ≡ b.parts.items → map read_nested a.nested.items ≡ map read_nested b.nested.items → read_compound a ≡ read_compound b
 same_compound a b parts lists = read_compound_is a ∙ (ap (λ ps. compound ps (lists_of (map read_nested a.nested.items))) parts ∙ (ap (λ ls. compound b.parts.items (lists_of ls)) lists ∙ sym (read_compound_is b)))
+
+pub same_step : (a b : Step) → a.combinator ≡ b.combinator → read_compound a.compound ≡ read_compound b.compound → read_step a ≡ read_step b
+same_step a b k c = read_step_is a ∙ (ap (λ x. (x, read_compound a.compound)) k ∙ (ap (λ x. (b.combinator, x)) c ∙ sym (read_step_is b)))
+
+pub same_is : (v w : Vec Selector Global) (list : Nested) → list ≡ Is w → map read_selector v.items ≡ map read_selector w.items → read_nested (Is v) ≡ read_nested list
+same_is v w list e same = read_is v ∙ (ap (λ ss. is_list (selector_list ss)) same ∙ (sym (read_is w) ∙ sym (ap read_nested e)))
+
+pub same_not : (v w : Vec Selector Global) (list : Nested) → list ≡ Not w → map read_selector v.items ≡ map read_selector w.items → read_nested (Not v) ≡ read_nested list
+same_not v w list e same = read_not v ∙ (ap (λ ss. not_list (selector_list ss)) same ∙ (sym (read_not w) ∙ sym (ap read_nested e)))
+
+pub same_has : (v w : Vec Selector Global) (list : Nested) → list ≡ Has w → map read_selector v.items ≡ map read_selector w.items → read_nested (Has v) ≡ read_nested list
+same_has v w list e same = read_has v ∙ (ap (λ ss. has_list (selector_list ss)) same ∙ (sym (read_has w) ∙ sym (ap read_nested e)))

@@ -1,7 +1,7 @@
-use Rattle.std.proofs.Common.{map, ap, ◌∙◌, arith}
+use Rattle.std.proofs.Common.{map, ap, refl, ◌∙◌, arith}
 use Rattle.dom_selectors.specs.ListsAsTrees.{lists_of, steps_of}
 use Rattle.dom_selectors.specs.ValuesAsTrees.{read_list, read_nested, read_selector, read_step}
-use Rattle.dom_selectors.proofs.Layers.{same_compound}
+use Rattle.dom_selectors.proofs.Layers.{same_compound, same_has, same_is, same_not, same_step}
 use Rattle.dom_selectors.proofs.Weights.{lists_weight, selectors_weight, steps_weight}
 use Rattle.dom_selectors.proofs.LoopLemmas.{compound_weighs, copied_more, first_weighs, has_weighs, is_weighs, lists_left, not_weighs, rest_weighs, selectors_left, step_weighs, steps_left}
 use Rattle.dom_selectors.proofs.copies.+copying.Goals as goal
@@ -63,3 +63,21 @@ copy_selector-copy_steps-requires t c = omega (arith, rest_weighs c.args.selecto
 
 pub copy_step-copy_compound-requires : goal.copy_step-copy_compound-requires
 copy_step-copy_compound-requires t c = omega (arith, step_weighs c.args.step.now, c.decreases)
+
+pub copy_list-returns-in_ok-copy_selectors-in-Is : goal.copy_list-returns-in_ok-copy_selectors-in-Is
+copy_list-returns-in_ok-copy_selectors-in-Is t c =
+    let copy = c.in_ok-copy_selectors-in-Is in
+    same_is copy.field-0 c.in-Is.selectors c.args.list.now c.in-Is.is (copy.ensures ∙ ap (map read_selector) c.deref.ensures.value)
+
+pub copy_list-returns-in_ok-copy_selectors-in-Not : goal.copy_list-returns-in_ok-copy_selectors-in-Not
+copy_list-returns-in_ok-copy_selectors-in-Not t c =
+    let copy = c.in_ok-copy_selectors-in-Not in
+    same_not copy.field-0 c.in-Not.selectors c.args.list.now c.in-Not.is (copy.ensures ∙ ap (map read_selector) c.deref-in-Not.ensures.value)
+
+pub copy_list-returns-in_ok-copy_selectors-in-Has : goal.copy_list-returns-in_ok-copy_selectors-in-Has
+copy_list-returns-in_ok-copy_selectors-in-Has t c =
+    let copy = c.in_ok-copy_selectors-in-Has in
+    same_has copy.field-0 c.in-Has.selectors c.args.list.now c.in-Has.is (copy.ensures ∙ ap (map read_selector) c.deref-in-Has.ensures.value)
+
+pub copy_step-returns : goal.copy_step-returns
+copy_step-returns t c = same_step _ c.args.step.now refl c.in_ok-compound.ensures

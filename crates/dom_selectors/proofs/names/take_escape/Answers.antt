@@ -30,6 +30,9 @@ slice_bounds-hex_number-end c = sym (length-take-le c.hex_len-len.result c.args.
 pub slice_bounds-after_space-count : goal.slice_bounds-after_space-count
 slice_bounds-after_space-count c = (hex_within _ _ c.args.text.now c.hex_len-len.ensures c.first_six.ensures).1
 
+pub offset_bounds-text-len : goal.offset_bounds-text-len
+offset_bounds-text-len c = omega (arith, (hex_within _ _ c.args.text.now c.hex_len-len.ensures c.first_six.ensures).0)
+
 pub returns-then-is_digit : goal.returns-then-is_digit
 returns-then-is_digit c =
     let text = c.args.text.now in
