@@ -2,7 +2,7 @@
 use Rattle.std.proofs.Common.{ℕ, ◌≡◌, ◌≢◌, ◌<◌, zero, suc, Bool, true, false, List, [], ◌∷◌, ◌++◌, Option, Some, None, refl, sym, ap, ◌∙◌, subst, inl, inr, length, arith}
 use Rattle.std.specs.Prelude.{◌==◌, ◌||◌, ◌&&◌, is_some, slice_get, slice_index_or}
 use Rattle.std.specs.Option.{option_map, option_map_or, option_and_then}
-use Rattle.std.proofs.lemmas.Bool.{cases_Bool, cases_lt, eqb-true, eq-eqb, eqb-false, ne_eqb, or_parts, true≢false}
+use Rattle.std.proofs.lemmas.Bool.{cases_Bool, cases_lt, eqb-true, eq-eqb, eqb-false, ne_eqb, or_parts, true≢false, or_right}
 use Rattle.std.proofs.lemmas.Option.{slice_get_past}
 use Rattle.dom_nodes.specs.declared.node_data.NodeData.{NodeData}
 use Rattle.dom_nodes.specs.declared.node_data.NodeData.TheVariants.{Document, Fragment, Doctype, Text, Comment, Element, ProcessingInstruction}
@@ -17,7 +17,8 @@ use Rattle.dom_links.specs.Trees.{trees, walk_below}
 use Rattle.dom_sanitize.specs.Clean.{Clean, Cleaned, Lists, kept}
 use Rattle.dom_sanitize.specs.Plan.{EachStep, IsKnown, MayPut, MayPutAll, MayPutAt, all_done, clear_one, cut_one, homed, ids, planned, put_one, staying}
 use Rattle.dom_sanitize.specs.declared.plan.Step.{Step}
-use Rattle.dom_sanitize.proofs.NumberLists.{one-stands, or-true, out_of-without, out_of_both, out_of_less, turned}
+use Rattle.dom_links.proofs.moves.Cuts.{one-stands}
+use Rattle.dom_sanitize.proofs.NumberLists.{out_of-without, out_of_both, out_of_less, turned}
 use Rattle.dom_sanitize.proofs.PlanLemmas.{absent-planned, alike-self, not_staying, root_planned}
 use Rattle.dom_sanitize.proofs.Planned.{HomeBears, HomeIn, HomesBefore, each-in, each-more, homes_bear, homes_before, homes_planned, not_planned, planned_once, step_walked}
 use Rattle.dom_sanitize.proofs.Moving.{Movable, children-all_cut, children-all_put, content-all_cut, content-all_put, list_past, long-all_cut, no_parent, out_of-homed}
@@ -177,7 +178,7 @@ module _ (allow : Lists) (old : Forest) (good : IsForest old) (are : AreTrees ol
   no_contents p k s e =
       let facts = good.contents_known k p e in
       elim (cases_Bool (stands_in p (ids all))) [
-        | inl t ↦ true≢false (sym (or-true (p == 0) _ (tops (slice_get old.content p) facts.1)) ∙ moves_below p (walked p t))
+        | inl t ↦ true≢false (sym (or_right (p == 0) _ (tops (slice_get old.content p) facts.1)) ∙ moves_below p (walked p t))
         | inr f ↦ facts.0 (sym (eqb-true 0 p (left_one (0 == p) (stands_in p (ids all)) f s)))
       ]
     where

@@ -2,7 +2,7 @@
 use Rattle.std.proofs.Common.{ℕ, ◌≡◌, Bool, true, false, List, [], ◌∷◌, ◌++◌, Option, Some, None, refl, sym, ap, ◌∙◌, subst, inl, inr}
 use Rattle.std.specs.Prelude.{◌==◌, ◌||◌, ◌⊎◌, filter, slice_get}
 use Rattle.std.specs.Option.{option_map, option_map_or}
-use Rattle.std.proofs.lemmas.Bool.{cases_Bool, eqb-true, eq-eqb, true≢false}
+use Rattle.std.proofs.lemmas.Bool.{cases_Bool, eqb-true, eq-eqb, true≢false, or_right, or_left}
 use Rattle.dom_nodes.specs.declared.name.Attr.{Attr}
 use Rattle.dom_nodes.specs.declared.node_data.NodeData.{NodeData}
 use Rattle.dom_nodes.specs.declared.node_data.NodeData.TheVariants.{Document, Fragment, Doctype, Text, Comment, Element, ProcessingInstruction}
@@ -16,7 +16,8 @@ use Rattle.dom_sanitize.specs.Clean.{Clean, nothing, stays, is_unwrapped, vanish
 use Rattle.dom_sanitize.specs.Laws.{AreAllowed, IsAllowed, NothingAppears}
 use Rattle.dom_sanitize.specs.declared.plan.Fate.{Fate}
 use Rattle.dom_sanitize.specs.declared.plan.Fate.TheVariants.{Stay, Unwrap, Vanish}
-use Rattle.dom_sanitize.proofs.NumberLists.{in_back, in_front, or-left, or-true, stands-append}
+use Rattle.dom_links.proofs.forest.Neighbours.{stands_in-append}
+use Rattle.dom_sanitize.proofs.NumberLists.{in_back, in_front}
 use Rattle.dom_sanitize.proofs.PlanLemmas.{AreInside, inside_rest}
 
 -- the data of a node that stays
@@ -69,7 +70,7 @@ append-numbers (x ∷ xs) ys zs = ap (λ ns. x ∷ ns) (append-numbers xs ys zs)
 in_parts : (xs ys : List ℕ) (n : ℕ) → stands_in n (xs ++ ys) ≡ true → (stands_in n xs ≡ true) ⊎ (stands_in n ys ≡ true)
 in_parts xs ys n s = elim (cases_Bool (stands_in n xs)) [
   | inl t ↦ inl t
-  | inr f ↦ inr (second (stands_in n xs) (stands_in n ys) f (sym (stands-append xs ys n) ∙ s))
+  | inr f ↦ inr (second (stands_in n xs) (stands_in n ys) f (sym (stands_in-append xs ys n) ∙ s))
 ]
   where
     second : (a b : Bool) → a ≡ false → (a || b) ≡ true → b ≡ true
@@ -112,13 +113,13 @@ module _ (forest : Forest) (are : AreTrees forest) where
   walk-nothing n s = true≢false (sym s ∙ ap (stands_in n) walk-none)
 
   pub walk-first : (x n : ℕ) (xs : List ℕ) → AreInside forest (x ∷ xs) → x ≡ n → stands_in n (walk (trees forest (x ∷ xs))) ≡ true
-  walk-first x n xs known e = ap (stands_in n) (walk-cons x xs known) ∙ or-left (x == n) _ (eq-eqb x n e)
+  walk-first x n xs known e = ap (stands_in n) (walk-cons x xs known) ∙ or_left (x == n) _ (eq-eqb x n e)
 
   pub walk-under : (x n : ℕ) (xs : List ℕ) → AreInside forest (x ∷ xs) → stands_in n (walk_below forest x) ≡ true → stands_in n (walk (trees forest (x ∷ xs))) ≡ true
-  walk-under x n xs known s = ap (stands_in n) (walk-cons x xs known) ∙ or-true (x == n) _ (in_front (walk_below forest x) (walk (trees forest xs)) n s)
+  walk-under x n xs known s = ap (stands_in n) (walk-cons x xs known) ∙ or_right (x == n) _ (in_front (walk_below forest x) (walk (trees forest xs)) n s)
 
   pub walk-later : (x n : ℕ) (xs : List ℕ) → AreInside forest (x ∷ xs) → stands_in n (walk (trees forest xs)) ≡ true → stands_in n (walk (trees forest (x ∷ xs))) ≡ true
-  walk-later x n xs known s = ap (stands_in n) (walk-cons x xs known) ∙ or-true (x == n) _ (in_back (walk_below forest x) (walk (trees forest xs)) n s)
+  walk-later x n xs known s = ap (stands_in n) (walk-cons x xs known) ∙ or_right (x == n) _ (in_back (walk_below forest x) (walk (trees forest xs)) n s)
 
 pub children_inside : (forest : Forest) → IsForest forest → (n : ℕ) → AreInside forest (children_of forest n)
 children_inside forest good n = λ m s. (good.once.in_children n m s).0

@@ -2,7 +2,7 @@
 use Rattle.std.proofs.Common.{ℕ, ◌≡◌, true, false, List, [], ◌∷◌, ◌++◌, Some, None, refl, sym, ap, ◌∙◌, subst, inl, inr}
 use Rattle.std.specs.Prelude.{◌==◌, ◌||◌, ◌&&◌, slice_get}
 use Rattle.std.specs.Option.{option_map}
-use Rattle.std.proofs.lemmas.Bool.{cases_Bool, eqb-true, eq-eqb, or_parts, true≢false}
+use Rattle.std.proofs.lemmas.Bool.{cases_Bool, eqb-true, eq-eqb, or_parts, true≢false, or_right, or_left}
 use Rattle.dom_links.specs.Forest.{Forest, children_of}
 use Rattle.dom_links.specs.Laws.{AreTrees}
 use Rattle.dom_links.specs.Lists.{stands_in, IsDistinct, without}
@@ -12,7 +12,9 @@ use Rattle.dom_sanitize.specs.Clean.{Clean, nothing, stays, is_unwrapped, vanish
 use Rattle.dom_sanitize.specs.Plan.{homed, ids, planned, staying}
 use Rattle.dom_sanitize.specs.declared.plan.Fate.TheVariants.{Stay, Unwrap, Vanish}
 use Rattle.dom_sanitize.specs.declared.plan.Step.{Step}
-use Rattle.dom_sanitize.proofs.NumberLists.{apart-back, distinct-append, in_back, in_front, or-left, or-true, other, out_parts, turned, without_all, without_none}
+use Rattle.dom_links.proofs.moves.BlockLists.{without_all, without_none}
+use Rattle.dom_links.proofs.forest.Neighbours.{distinct_parts}
+use Rattle.dom_sanitize.proofs.NumberLists.{apart-back, in_back, in_front, other, out_parts, turned}
 use Rattle.dom_sanitize.proofs.PlanLemmas.{Absent, Alike, AreInside, absent-append, absent-nothing, absent-planned, alike-back, alike-front, alike-then, cases_Fate, homed-append, inside_rest, no_parts, no_trees, not_staying, parts, root_planned, root_walked}
 
 -- a child of a node of the walk is in the walk
@@ -22,7 +24,7 @@ child_walked forest (Tree r h k l) [] m n good are known e s c = absurd (no_tree
 child_walked forest (Tree r h k l) (i ∷ ns) m n good are known e s c =
     let p = parts forest i ns r h k l are known e in
     let inside : AreInside forest (children_of forest i) = λ j u. (good.once.in_children i j u).0 in
-    or-true (r == n) _ (elim (cases_Bool (r == m)) [
+    or_right (r == n) _ (elim (cases_Bool (r == m)) [
       | inl t ↦ (let here : m ≡ i = sym (eqb-true r m t) ∙ p.root in
           in_front (walk k) (walk l) n (root_walked forest k (children_of forest i) n are inside p.children (ap (λ j. stands_in n (children_of forest j)) (sym here) ∙ c)))
       | inr f ↦ (let below : stands_in m (walk k ++ walk l) ≡ true = rw f at s in
@@ -35,7 +37,7 @@ child_walked forest (Tree r h k l) (i ∷ ns) m n good are known e s c =
     in_the_back : (xs ys : List ℕ) (m : ℕ) → stands_in m xs ≡ false → stands_in m (xs ++ ys) ≡ true → stands_in m ys ≡ true
     in_the_back [] ys m out s = s
     in_the_back (x ∷ xs) ys m out s = elim (cases_Bool (x == m)) [
-      | inl t ↦ absurd (true≢false (sym (or-left (x == m) (stands_in m xs) t) ∙ out))
+      | inl t ↦ absurd (true≢false (sym (or_left (x == m) (stands_in m xs) t) ∙ out))
       | inr f ↦ in_the_back xs ys m (rw f at out) (rw f at s)
     ]
 
@@ -85,25 +87,25 @@ module _ (allow : Lists) (old new : Forest) (all : List Step) (good : IsForest o
       Clean allow old new (n ∷ ns) (homed h (planned allow old h (Tree n c k l)))
   node_stays n h ns c k l fate below once out agree inner outer =
       let out_n = out_parts (walk k) (walk l) n once.0 in
-      let h_n : (h == n) ≡ false = other (n ∷ (walk k ++ walk l)) h n out (or-left (n == n) _ (eq-eqb n n refl)) in
+      let h_n : (h == n) ≡ false = other (n ∷ (walk k ++ walk l)) h n out (or_left (n == n) _ (eq-eqb n n refl)) in
       let n_h : (n == h) ≡ false = turned h n h_n in
       let out_h = out_parts (walk k) (walk l) h (rw n_h at out) in
       let split : planned allow old h (Tree n c k l) ≡ record { id = n; home = Some h } ∷ planned allow old n k ++ planned allow old h l = rw fate refl in
       let agree_k : Agree n k = λ m s.
       let in_all = in_front (walk k) (walk l) m s in
-      let h_m = other (n ∷ (walk k ++ walk l)) h m out (or-true (n == m) _ in_all) in
+      let h_m = other (n ∷ (walk k ++ walk l)) h m out (or_right (n == m) _ in_all) in
       let n_m = other (walk k ++ walk l) n m once.0 in_all in
-      alike-then m all _ _ (subst (Alike m all) split (agree m (or-true (n == m) _ in_all)))
-      (alike-front m (record { id = n; home = Some h }) _ _ h_m n_m (absent-planned allow old l h m h_m ((distinct-append (walk k) (walk l) once.1).2 m s)))
+      alike-then m all _ _ (subst (Alike m all) split (agree m (or_right (n == m) _ in_all)))
+      (alike-front m (record { id = n; home = Some h }) _ _ h_m n_m (absent-planned allow old l h m h_m ((distinct_parts (walk k) (walk l) once.1).2 m s)))
       in
       let agree_l : Agree h l = λ m s.
       let in_all = in_back (walk k) (walk l) m s in
-      let h_m = other (n ∷ (walk k ++ walk l)) h m out (or-true (n == m) _ in_all) in
+      let h_m = other (n ∷ (walk k ++ walk l)) h m out (or_right (n == m) _ in_all) in
       let n_m = other (walk k ++ walk l) n m once.0 in_all in
-      alike-then m all _ _ (subst (Alike m all) split (agree m (or-true (n == m) _ in_all)))
+      alike-then m all _ _ (subst (Alike m all) split (agree m (or_right (n == m) _ in_all)))
       (alike-back m (record { id = n; home = Some h }) _ _ h_m n_m (absent-planned allow old k n m n_m (apart-back (walk k) (walk l) m once.1 s)))
       in
-      let here = subst (Alike n all) split (agree n (or-left (n == n) _ (eq-eqb n n refl))) in
+      let here = subst (Alike n all) split (agree n (or_left (n == n) _ (eq-eqb n n refl))) in
       let homes : homed n all ≡ homed n (planned allow old n k) =
       here.homes ∙ rw h_n (homed_front n (planned allow old n k) (planned allow old h l) (absent-planned allow old l h n h_n out_n.1)) in
       let each : (m : ℕ) → stands_in m (children_of old n) ≡ true → stands_in m (ids all) ≡ true = λ m s.
@@ -120,23 +122,23 @@ module _ (allow : Lists) (old new : Forest) (all : List Step) (good : IsForest o
       Clean allow old new (n ∷ ns) (homed h (planned allow old h (Tree n c k l)))
   node_unwrapped n h ns c k l fate below once out agree inner outer =
       let out_n = out_parts (walk k) (walk l) n once.0 in
-      let h_n : (h == n) ≡ false = other (n ∷ (walk k ++ walk l)) h n out (or-left (n == n) _ (eq-eqb n n refl)) in
+      let h_n : (h == n) ≡ false = other (n ∷ (walk k ++ walk l)) h n out (or_left (n == n) _ (eq-eqb n n refl)) in
       let split : planned allow old h (Tree n c k l) ≡ record { id = n; home = None } ∷ planned allow old h k ++ planned allow old h l = rw fate refl in
       let agree_k : Agree h k = λ m s.
       let in_all = in_front (walk k) (walk l) m s in
-      let h_m = other (n ∷ (walk k ++ walk l)) h m out (or-true (n == m) _ in_all) in
+      let h_m = other (n ∷ (walk k ++ walk l)) h m out (or_right (n == m) _ in_all) in
       let n_m = other (walk k ++ walk l) n m once.0 in_all in
-      alike-then m all _ _ (subst (Alike m all) split (agree m (or-true (n == m) _ in_all)))
-      (alike-front m (record { id = n; home = None }) _ _ refl n_m (absent-planned allow old l h m h_m ((distinct-append (walk k) (walk l) once.1).2 m s)))
+      alike-then m all _ _ (subst (Alike m all) split (agree m (or_right (n == m) _ in_all)))
+      (alike-front m (record { id = n; home = None }) _ _ refl n_m (absent-planned allow old l h m h_m ((distinct_parts (walk k) (walk l) once.1).2 m s)))
       in
       let agree_l : Agree h l = λ m s.
       let in_all = in_back (walk k) (walk l) m s in
-      let h_m = other (n ∷ (walk k ++ walk l)) h m out (or-true (n == m) _ in_all) in
+      let h_m = other (n ∷ (walk k ++ walk l)) h m out (or_right (n == m) _ in_all) in
       let n_m = other (walk k ++ walk l) n m once.0 in_all in
-      alike-then m all _ _ (subst (Alike m all) split (agree m (or-true (n == m) _ in_all)))
+      alike-then m all _ _ (subst (Alike m all) split (agree m (or_right (n == m) _ in_all)))
       (alike-back m (record { id = n; home = None }) _ _ refl n_m (absent-planned allow old k h m h_m (apart-back (walk k) (walk l) m once.1 s)))
       in
-      let here = subst (Alike n all) split (agree n (or-left (n == n) _ (eq-eqb n n refl))) in
+      let here = subst (Alike n all) split (agree n (or_left (n == n) _ (eq-eqb n n refl))) in
       let none_k = absent-planned allow old k h n h_n out_n.0 in
       let none_l = absent-planned allow old l h n h_n out_n.1 in
       let homes : homed n all ≡ [] = here.homes ∙ homed_front n (planned allow old h k) (planned allow old h l) none_l ∙ none_k.not_home in
@@ -158,13 +160,13 @@ module _ (allow : Lists) (old new : Forest) (all : List Step) (good : IsForest o
       let agree_l : Agree h l = λ m s.
       let in_all = in_back (walk k) (walk l) m s in
       let n_m = other (walk k ++ walk l) n m once.0 in_all in
-      alike-then m all _ _ (subst (Alike m all) split (agree m (or-true (n == m) _ in_all)))
+      alike-then m all _ _ (subst (Alike m all) split (agree m (or_right (n == m) _ in_all)))
       (alike-back m (record { id = n; home = None }) [] (planned allow old h l) refl n_m (absent-nothing m))
       in
       -- none of them is put anywhere, and nothing below them
       let gone : (m : ℕ) → stands_in m (n ∷ walk k) ≡ true → stands_in m (walk l) ≡ false = λ m s. elim (cases_Bool (n == m)) [
         | inl t ↦ subst (λ (i : ℕ). stands_in i (walk l) ≡ false) (eqb-true n m t) out_n.1
-        | inr f ↦ (distinct-append (walk k) (walk l) once.1).2 m (rw f at s)
+        | inr f ↦ (distinct_parts (walk k) (walk l) once.1).2 m (rw f at s)
       ] in
       let in_tree : (m : ℕ) → stands_in m (n ∷ walk k) ≡ true → stands_in m (n ∷ (walk k ++ walk l)) ≡ true = λ m s. in_front (n ∷ walk k) (walk l) m s in
       let home_off : (m : ℕ) → stands_in m (n ∷ walk k) ≡ true → (h == m) ≡ false = λ m s. other (n ∷ (walk k ++ walk l)) h m out (in_tree m s) in
@@ -175,7 +177,7 @@ module _ (allow : Lists) (old new : Forest) (all : List Step) (good : IsForest o
         | inl t ↦ root_walked old k (children_of old n) i are (children_inside n) below (ap (λ j. stands_in i (children_of old j)) (eqb-true n m t) ∙ c)
         | inr f ↦ child_walked old k (children_of old n) m i good are (children_inside n) below (rw f at s) c
       ] in
-      let at_i = or-true (n == i) (stands_in i (walk k)) inside in
+      let at_i = or_right (n == i) (stands_in i (walk k)) inside in
       let n_i = other (walk k ++ walk l) n i once.0 (in_front (walk k) (walk l) i inside) in
       (alike i at_i).stands ∙ rw n_i (absent i at_i).not_id in
       let left : (m : ℕ) → stands_in m (n ∷ walk k) ≡ true → IsLeft old new m = λ m s. record {
@@ -194,7 +196,7 @@ module _ (allow : Lists) (old new : Forest) (all : List Step) (good : IsForest o
   clean_made (Tree r c k l) (n ∷ ns) h known e once out agree =
       let p = parts old n ns r c k l are known e in
       let below : k ≡ trees old (children_of old r) = p.children ∙ ap (λ i. trees old (children_of old i)) (sym p.root) in
-      let halves = distinct-append (walk k) (walk l) once.1 in
+      let halves = distinct_parts (walk k) (walk l) once.1 in
       let out_r = out_parts (walk k) (walk l) r once.0 in
       let r_h : (r == h) ≡ false = apart_from r h (walk k ++ walk l) out in
       let out_h = out_parts (walk k) (walk l) h (rw r_h at out) in

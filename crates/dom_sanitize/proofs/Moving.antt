@@ -1,14 +1,15 @@
 -- The children lists after nodes were cut out and put back, and that each move is allowed.
 use Rattle.std.proofs.Common.{ℕ, ◌≡◌, ◌<◌, ◌≤◌, ◌+◌, zero, suc, true, false, List, [], ◌∷◌, ◌++◌, Option, Some, None, refl, sym, ap, ◌∙◌, inl, inr, length, arith}
 use Rattle.std.specs.Prelude.{◌==◌, slice_index_or, map, if◌then◌else◌}
-use Rattle.std.proofs.lemmas.Bool.{cases_Bool, cases_lt, eqb-true, eq-eqb, or_parts, true≢false}
+use Rattle.std.proofs.lemmas.Bool.{cases_Bool, cases_lt, eqb-true, eq-eqb, or_parts}
 use Rattle.dom_links.specs.Forest.{Forest, children_of, owner_from, parent}
 use Rattle.dom_links.specs.Lists.{stands_in, IsDistinct, map_from, without}
 use Rattle.dom_links.specs.declared.gap.Gap.TheVariants.{FrontOf}
 use Rattle.dom_links.specs.Moves.{children_with, cut, moved_to}
 use Rattle.dom_sanitize.specs.Plan.{EachStep, all_done, cut_one, homed, ids, is_home, put_one}
 use Rattle.dom_sanitize.specs.declared.plan.Step.{Step}
-use Rattle.dom_sanitize.proofs.NumberLists.{out_of_both, without-cons, without_one}
+use Rattle.dom_links.proofs.forest.Neighbours.{without_one-none}
+use Rattle.dom_sanitize.proofs.NumberLists.{out_of_both, turned, without-cons}
 
 list_mapped : (f : List ℕ → List ℕ) (lists : List (List ℕ)) (n : ℕ) → f [] ≡ [] → slice_index_or (map f lists) n [] ≡ f (slice_index_or lists n [])
 list_mapped f [] n none = sym none
@@ -41,13 +42,13 @@ pub children-put : (x p : ℕ) (forest : Forest) (n : ℕ) → p < length forest
     children_of (moved_to (x ∷ []) (FrontOf p) forest) n ≡ (if p == n then x ∷ children_of forest n else children_of forest n)
 children-put x p forest n here out =
     let inner = cut (x ∷ []) forest in
-    let left : children_of inner n ≡ children_of forest n = children-cut x forest n ∙ without_one x (children_of forest n) out in
+    let left : children_of inner n ≡ children_of forest n = children-cut x forest n ∙ without_one-none (children_of forest n) x out in
     let long : length inner.children ≡ length forest.children = length-mapped (without (x ∷ [])) forest.children in
     elim (cases_lt n (length inner.children)) [
       | inl h ↦ (let made : children_of (moved_to (x ∷ []) (FrontOf p) forest) n ≡ children_with (FrontOf p) (x ∷ []) n (children_of inner n) = list_from 0 (children_with (FrontOf p) (x ∷ [])) inner.children n h ∙ ap (λ j. children_with (FrontOf p) (x ∷ []) j (children_of inner n)) (omega arith) in
           elim (cases_Bool (p == n)) [
             | inl t ↦ (let same : (n == p) ≡ true = eq-eqb n p (sym (eqb-true p n t)) in made ∙ rw (t, left) (rw same refl))
-            | inr f ↦ (let off : (n == p) ≡ false = turned_off p n f in made ∙ rw (f, left) (rw off refl))
+            | inr f ↦ (let off : (n == p) ≡ false = turned p n f in made ∙ rw (f, left) (rw off refl))
           ])
       | inr past ↦ (let off : (p == n) ≡ false = elim (cases_Bool (p == n)) [
         | inr f ↦ f
@@ -57,9 +58,6 @@ children-put x p forest n here out =
           let none_too : children_of (moved_to (x ∷ []) (FrontOf p) forest) n ≡ [] = list_past _ n (omega (arith, length-from 0 (children_with (FrontOf p) (x ∷ [])) inner.children)) in
           none_too ∙ rw off (sym none))
     ]
-  where
-    turned_off : (p n : ℕ) → (p == n) ≡ false → (n == p) ≡ false
-    turned_off p n f = elim (cases_Bool (n == p)) [ inr g ↦ g | inl t ↦ absurd (true≢false (sym (eq-eqb p n (sym (eqb-true n p t))) ∙ f)) ]
 
 -- all nodes are cut out
 pub children-all_cut : (steps : List Step) (forest : Forest) (n : ℕ) → children_of (all_done cut_one steps forest) n ≡ without (ids steps) (children_of forest n)

@@ -1,8 +1,8 @@
 -- A forest has one clean at most.
-use Rattle.std.proofs.Common.{ℕ, suc, ◌≡◌, ◌<◌, ◌≤◌, true, false, List, [], ◌∷◌, ◌++◌, Option, Some, None, refl, sym, ap, ◌∙◌, subst, inl, inr, length, arith}
+use Rattle.std.proofs.Common.{ℕ, suc, ◌≡◌, true, List, [], ◌∷◌, ◌++◌, Option, Some, None, refl, sym, ap, ◌∙◌, subst, inl, inr, length, arith}
 use Rattle.std.specs.Prelude.{◌==◌, slice_get, slice_index_or}
 use Rattle.std.specs.Option.{option_map}
-use Rattle.std.proofs.lemmas.Bool.{cases_Bool, eqb-true, eq-eqb, true≢false}
+use Rattle.std.proofs.lemmas.Bool.{cases_Bool, eqb-true, eq-eqb, true≢false, or_right, or_left}
 use Rattle.std.proofs.lemmas.Option.{same_Some}
 use Rattle.dom_nodes.specs.declared.node_data.NodeData.{NodeData}
 use Rattle.dom_links.specs.Forest.{Forest, children_of, owner_from, parent, run_of}
@@ -15,7 +15,6 @@ use Rattle.dom_sanitize.specs.Laws.{StaysClean}
 use Rattle.dom_sanitize.specs.declared.plan.Fate.{Fate}
 use Rattle.dom_sanitize.specs.declared.plan.Fate.TheVariants.{Stay, Unwrap, Vanish}
 use Rattle.dom_sanitize.proofs.CleanLemmas.{are_allowed, children_inside, same_everywhere, walk-cases, walk-nothing}
-use Rattle.dom_sanitize.proofs.NumberLists.{or-left, or-true}
 use Rattle.dom_sanitize.proofs.PlanLemmas.{AreInside, inside_rest}
 
 -- what a clean says of the first of the nodes side by side, by what becomes of it
@@ -130,10 +129,10 @@ module _ (allow : Lists) (old a b : Forest) (was : IsForest old) (were : AreTree
       }
     where
       first : (n : ℕ) (ns : List ℕ) → stands_in n (n ∷ ns) ≡ true
-      first n ns = or-left (n == n) (stands_in n ns) (eq-eqb n n refl)
+      first n ns = or_left (n == n) (stands_in n ns) (eq-eqb n n refl)
 
       behind : (n i : ℕ) (ns : List ℕ) → stands_in i ns ≡ true → stands_in i (n ∷ ns) ≡ true
-      behind n i ns s = or-true (n == i) (stands_in i ns) s
+      behind n i ns s = or_right (n == i) (stands_in i ns) s
 
   same_at : Cleaned allow old a → Cleaned allow old b → (n : ℕ) → SameAt a b n
   same_at one two n =

@@ -1,7 +1,7 @@
 -- What the steps of a cleaning say of each node.
 use Rattle.std.proofs.Common.{ℕ, ◌≡◌, ◌<◌, Bool, true, false, List, [], ◌∷◌, ◌++◌, refl, sym, ap, ◌∙◌, inl, inr, length}
 use Rattle.std.specs.Prelude.{◌==◌, ◌||◌, ◌&&◌, ◌⊎◌, is_some}
-use Rattle.std.proofs.lemmas.Bool.{cases_Bool, or_parts, true≢false}
+use Rattle.std.proofs.lemmas.Bool.{cases_Bool, or_parts, true≢false, or_right, or_left}
 use Rattle.dom_links.specs.Forest.{Forest, children_of}
 use Rattle.dom_links.specs.Laws.{AreTrees}
 use Rattle.dom_links.specs.Lists.{stands_in}
@@ -11,7 +11,8 @@ use Rattle.dom_sanitize.specs.Plan.{home_of, homed, ids, is_home, planned, stayi
 use Rattle.dom_sanitize.specs.declared.plan.Fate.{Fate}
 use Rattle.dom_sanitize.specs.declared.plan.Fate.TheVariants.{Stay, Unwrap, Vanish}
 use Rattle.dom_sanitize.specs.declared.plan.Step.{Step}
-use Rattle.dom_sanitize.proofs.NumberLists.{in_back, or-left, or-true, out_of_both, out_parts, stands-append}
+use Rattle.dom_links.proofs.forest.Neighbours.{stands_in-append}
+use Rattle.dom_sanitize.proofs.NumberLists.{in_back, out_of_both, out_parts}
 
 pub cases_Fate : (f : Fate) → (f ≡ Stay) ⊎ ((f ≡ Unwrap) ⊎ (f ≡ Vanish))
 cases_Fate Stay = inl refl
@@ -105,7 +106,7 @@ append-nothing (n ∷ ns) = ap (λ ms. n ∷ ms) (append-nothing ns)
 pub alike-front : (n : ℕ) (s : Step) (ss ts : List Step) → is_home s.home n ≡ false → (s.id == n) ≡ false → Absent n ts → Alike n (s ∷ ss ++ ts) ss
 alike-front n s ss ts one two none = record {
   homes = rw one (homed-append n ss ts ∙ rw none.not_home (append-nothing (homed n ss)));
-  stands = rw two (ap (stands_in n) (ids-append ss ts) ∙ stands-append (ids ss) (ids ts) n ∙ rw none.not_id (or-false (stands_in n (ids ss))));
+  stands = rw two (ap (stands_in n) (ids-append ss ts) ∙ stands_in-append (ids ss) (ids ts) n ∙ rw none.not_id (or-false (stands_in n (ids ss))));
   stays = rw two (staying-append n ss ts ∙ rw (not_staying n ts none.not_id) (or-false (staying n ss)));
 }
 
@@ -113,7 +114,7 @@ alike-front n s ss ts one two none = record {
 pub alike-back : (n : ℕ) (s : Step) (ss ts : List Step) → is_home s.home n ≡ false → (s.id == n) ≡ false → Absent n ss → Alike n (s ∷ ss ++ ts) ts
 alike-back n s ss ts one two none = record {
   homes = rw one (homed-append n ss ts ∙ rw none.not_home refl);
-  stands = rw two (ap (stands_in n) (ids-append ss ts) ∙ stands-append (ids ss) (ids ts) n ∙ rw none.not_id refl);
+  stands = rw two (ap (stands_in n) (ids-append ss ts) ∙ stands_in-append (ids ss) (ids ts) n ∙ rw none.not_id refl);
   stays = rw two (staying-append n ss ts ∙ rw (not_staying n ss none.not_id) refl);
 }
 
@@ -133,7 +134,7 @@ parts forest n ns r c k l are known e =
     record { root = cc; children = cc; later = cc }
 
 pub inside_rest : (forest : Forest) (n : ℕ) (ns : List ℕ) → AreInside forest (n ∷ ns) → AreInside forest ns
-inside_rest forest n ns known = λ m s. known m (or-true (n == m) (stands_in m ns) s)
+inside_rest forest n ns known = λ m s. known m (or_right (n == m) (stands_in m ns) s)
 
 pub no_parts : (forest : Forest) (n : ℕ) (ns : List ℕ) → AreTrees forest → AreInside forest (n ∷ ns) → NoTrees ≡ trees forest (n ∷ ns) → ⊥
 no_parts forest n ns are known e = let no = e ∙ are.a_tree n ns known in cc
@@ -148,8 +149,8 @@ root_walked forest NoTrees (m ∷ ns) n are known e s = absurd (no_parts forest 
 root_walked forest (Tree r c k l) (m ∷ ns) n are known e s =
     let p = parts forest m ns r c k l are known e in
     elim (cases_Bool (m == n)) [
-      | inl t ↦ or-left (r == n) _ (ap (λ i. i == n) p.root ∙ t)
-      | inr f ↦ or-true (r == n) _ (in_back (walk k) (walk l) n (root_walked forest l ns n are (inside_rest forest m ns known) p.later (rw f at s)))
+      | inl t ↦ or_left (r == n) _ (ap (λ i. i == n) p.root ∙ t)
+      | inr f ↦ or_right (r == n) _ (in_back (walk k) (walk l) n (root_walked forest l ns n are (inside_rest forest m ns known) p.later (rw f at s)))
     ]
 
 -- each root has a step
@@ -160,7 +161,7 @@ root_planned allow forest (Tree r c k l) (m ∷ ns) h n are known e s =
     let p = parts forest m ns r c k l are known e in
     let under = steps_under (fate_at allow forest r) (planned allow forest r k) (planned allow forest h k) in
     elim (cases_Bool (m == n)) [
-      | inl t ↦ or-left (r == n) _ (ap (λ i. i == n) p.root ∙ t)
-      | inr f ↦ or-true (r == n) _ (ap (stands_in n) (ids-append under (planned allow forest h l)) ∙ in_back (ids under) _ n
+      | inl t ↦ or_left (r == n) _ (ap (λ i. i == n) p.root ∙ t)
+      | inr f ↦ or_right (r == n) _ (ap (stands_in n) (ids-append under (planned allow forest h l)) ∙ in_back (ids under) _ n
           (root_planned allow forest l ns h n are (inside_rest forest m ns known) p.later (rw f at s)))
     ]

@@ -1,7 +1,7 @@
 -- What holds of each step of a plan.
 use Rattle.std.proofs.Common.{ℕ, ◌≡◌, true, false, List, [], ◌∷◌, ◌++◌, Some, refl, sym, ap, ◌∙◌, subst, inl, inr}
 use Rattle.std.specs.Prelude.{◌==◌, ◌||◌}
-use Rattle.std.proofs.lemmas.Bool.{cases_Bool, eqb-true, eq-eqb, or_parts, true≢false}
+use Rattle.std.proofs.lemmas.Bool.{cases_Bool, eqb-true, eq-eqb, or_parts, true≢false, or_right, or_left}
 use Rattle.dom_links.specs.Forest.{Forest, children_of}
 use Rattle.dom_links.specs.Laws.{AreTrees}
 use Rattle.dom_links.specs.Lists.{stands_in, IsDistinct}
@@ -12,7 +12,8 @@ use Rattle.dom_sanitize.specs.Plan.{EachStep, home_of, ids, planned, steps_under
 use Rattle.dom_sanitize.specs.declared.plan.Fate.{Fate}
 use Rattle.dom_sanitize.specs.declared.plan.Fate.TheVariants.{Stay, Unwrap, Vanish}
 use Rattle.dom_sanitize.specs.declared.plan.Step.{Step}
-use Rattle.dom_sanitize.proofs.NumberLists.{distinct-append, distinct-both, in_back, in_front, or-left, or-true, out_of_both, out_parts}
+use Rattle.dom_links.proofs.forest.Neighbours.{distinct_parts, distinct-append}
+use Rattle.dom_sanitize.proofs.NumberLists.{in_back, in_front, out_of_both, out_parts}
 use Rattle.dom_sanitize.proofs.PlanLemmas.{AreInside, ids-append, inside_rest, no_trees, parts}
 
 pub each-append : (P : Step → Type 0) (ss ts : List Step) → EachStep P ss → EachStep P ts → EachStep P (ss ++ ts)
@@ -31,8 +32,8 @@ each-under P Vanish ss ts one two = tt
 pub each-in : (ss : List Step) → EachStep (λ s. stands_in s.id (ids ss) ≡ true) ss
 each-in [] = tt
 each-in (s ∷ ss) = (
-  or-left (s.id == s.id) _ (eq-eqb s.id s.id refl),
-  each-more (λ t. stands_in t.id (ids ss) ≡ true) (λ t. stands_in t.id (ids (s ∷ ss)) ≡ true) ss (λ t h. or-true (s.id == t.id) _ h) (each-in ss),
+  or_left (s.id == s.id) _ (eq-eqb s.id s.id refl),
+  each-more (λ t. stands_in t.id (ids ss) ≡ true) (λ t. stands_in t.id (ids (s ∷ ss)) ≡ true) ss (λ t h. or_right (s.id == t.id) _ h) (each-in ss),
 )
 
 not_under : (f : Fate) (ss ts : List Step) (n : ℕ) → stands_in n (ids ss) ≡ false → stands_in n (ids ts) ≡ false → stands_in n (ids (steps_under f ss ts)) ≡ false
@@ -60,13 +61,13 @@ step_walked allow forest t h n s = elim (cases_Bool (stands_in n (walk t))) [
 pub planned_once : (allow : Lists) (forest : Forest) (t : Trees) (h : ℕ) → IsDistinct (walk t) → IsDistinct (ids (planned allow forest h t))
 planned_once allow forest NoTrees h once = tt
 planned_once allow forest (Tree r c k l) h once =
-    let halves = distinct-append (walk k) (walk l) once.1 in
+    let halves = distinct_parts (walk k) (walk l) once.1 in
     let out = out_parts (walk k) (walk l) r once.0 in
     let f = fate_at allow forest r in
     let under = steps_under f (planned allow forest r k) (planned allow forest h k) in
     let join = ids-append under (planned allow forest h l) in (
       ap (stands_in r) join ∙ out_of_both (ids under) _ r (not_under f _ _ r (not_planned allow forest k r r out.0) (not_planned allow forest k h r out.0)) (not_planned allow forest l h r out.1),
-      subst IsDistinct (sym join) (distinct-both (ids under) (ids (planned allow forest h l)) (once_under f _ _ (planned_once allow forest k r halves.0) (planned_once allow forest k h halves.0)) (planned_once allow forest l h halves.1)
+      subst IsDistinct (sym join) (distinct-append (ids under) (ids (planned allow forest h l)) (once_under f _ _ (planned_once allow forest k r halves.0) (planned_once allow forest k h halves.0)) (planned_once allow forest l h halves.1)
           (λ n s. not_planned allow forest l h n (halves.2 n (under_walked f n s)))),
     )
   where
@@ -87,7 +88,7 @@ HomeIn h ns s = (p : ℕ) → s.home ≡ Some p → ((h == p) || stands_in p ns)
 home_widens : (h i : ℕ) (ms ns : List ℕ) (s : Step) → ((h == i) || stands_in i ns) ≡ true → ((n : ℕ) → stands_in n ms ≡ true → stands_in n ns ≡ true) → HomeIn i ms s → HomeIn h ns s
 home_widens h i ms ns s start more home p e = elim (cases_Bool (i == p)) [
   | inl t ↦ subst (λ (j : ℕ). ((h == j) || stands_in j ns) ≡ true) (eqb-true i p t) start
-  | inr f ↦ or-true (h == p) _ (more p (rw f at (home p e)))
+  | inr f ↦ or_right (h == p) _ (more p (rw f at (home p e)))
 ]
 
 pub homes_planned : (allow : Lists) (forest : Forest) (t : Trees) (h : ℕ) → EachStep (HomeIn h (ids (planned allow forest h t))) (planned allow forest h t)
@@ -97,10 +98,10 @@ homes_planned allow forest (Tree r c k l) h =
     let under = steps_under f (planned allow forest r k) (planned allow forest h k) in
     let later = planned allow forest h l in
     let all = ids (planned allow forest h (Tree r c k l)) in
-    let front : (n : ℕ) → stands_in n (ids under) ≡ true → stands_in n all ≡ true = λ n s. or-true (r == n) _ (ap (stands_in n) (ids-append under later) ∙ in_front (ids under) (ids later) n s) in
-    let back : (n : ℕ) → stands_in n (ids later) ≡ true → stands_in n all ≡ true = λ n s. or-true (r == n) _ (ap (stands_in n) (ids-append under later) ∙ in_back (ids under) (ids later) n s) in
-    let at_r : ((h == r) || stands_in r all) ≡ true = or-true (h == r) _ (or-left (r == r) _ (eq-eqb r r refl)) in
-    let at_h : ((h == h) || stands_in h all) ≡ true = or-left (h == h) _ (eq-eqb h h refl) in (
+    let front : (n : ℕ) → stands_in n (ids under) ≡ true → stands_in n all ≡ true = λ n s. or_right (r == n) _ (ap (stands_in n) (ids-append under later) ∙ in_front (ids under) (ids later) n s) in
+    let back : (n : ℕ) → stands_in n (ids later) ≡ true → stands_in n all ≡ true = λ n s. or_right (r == n) _ (ap (stands_in n) (ids-append under later) ∙ in_back (ids under) (ids later) n s) in
+    let at_r : ((h == r) || stands_in r all) ≡ true = or_right (h == r) _ (or_left (r == r) _ (eq-eqb r r refl)) in
+    let at_h : ((h == h) || stands_in h all) ≡ true = or_left (h == h) _ (eq-eqb h h refl) in (
       here f h all,
       each-append (HomeIn h all) under later
           (each-under (HomeIn h all) f (planned allow forest r k) (planned allow forest h k)
@@ -110,7 +111,7 @@ homes_planned allow forest (Tree r c k l) h =
     )
   where
     here : (f : Fate) (h : ℕ) (all : List ℕ) (p : ℕ) → home_of f h ≡ Some p → ((h == p) || stands_in p all) ≡ true
-    here Stay h all p e = (let same : h ≡ p = cc in or-left (h == p) _ (eq-eqb h p same))
+    here Stay h all p e = (let same : h ≡ p = cc in or_left (h == p) _ (eq-eqb h p same))
     here Unwrap h all p e = absurd (let no = e in cc)
     here Vanish h all p e = absurd (let no = e in cc)
 
@@ -124,7 +125,7 @@ homes_bear allow forest (Tree r c k l) [] h good are known e bearing = absurd (n
 homes_bear allow forest (Tree r c k l) (n ∷ ns) h good are known e bearing =
     let p = parts forest n ns r c k l are known e in
     let f = fate_at allow forest r in
-    let holds : children_allowed_at forest h ≡ true = bearing n (or-left (n == n) _ (eq-eqb n n refl)) in
+    let holds : children_allowed_at forest h ≡ true = bearing n (or_left (n == n) _ (eq-eqb n n refl)) in
     let inside : AreInside forest (children_of forest n) = λ j u. (good.once.in_children n j u).0 in (
       here f h holds,
       each-append (HomeBears forest) (steps_under f (planned allow forest r k) (planned allow forest h k)) (planned allow forest h l)
@@ -158,7 +159,7 @@ pub homes_before : (allow : Lists) (forest : Forest) (t : Trees) (h : ℕ) → I
 homes_before allow forest NoTrees h once out = tt
 homes_before allow forest (Tree r c k l) h once out =
     let f = fate_at allow forest r in
-    let halves = distinct-append (walk k) (walk l) once.1 in
+    let halves = distinct_parts (walk k) (walk l) once.1 in
     let out_r = out_parts (walk k) (walk l) r once.0 in
     let two = or_parts (r == h) (stands_in h (walk k ++ walk l)) out in
     let out_h = out_parts (walk k) (walk l) h two.1 in

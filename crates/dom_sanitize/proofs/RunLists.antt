@@ -1,7 +1,7 @@
 -- The runs after nodes were cut out and put back.
-use Rattle.std.proofs.Common.{ℕ, ◌≡◌, ◌<◌, Bool, true, false, List, [], ◌∷◌, ◌++◌, Option, Some, None, refl, sym, ap, ◌∙◌, inl, inr, length, arith}
-use Rattle.std.specs.Prelude.{◌==◌, ◌||◌, ◌&&◌, is_some, if◌then◌else◌}
-use Rattle.std.proofs.lemmas.Bool.{cases_Bool, eq-eqb, eqb-true, or_parts, true≢false}
+use Rattle.std.proofs.Common.{ℕ, ◌≡◌, ◌<◌, Bool, true, false, List, [], ◌∷◌, Option, Some, None, refl, sym, ap, ◌∙◌, inl, inr, length, arith}
+use Rattle.std.specs.Prelude.{◌==◌, ◌&&◌, is_some, if◌then◌else◌}
+use Rattle.std.proofs.lemmas.Bool.{cases_Bool, eq-eqb, eqb-true, or_parts, true≢false, or_right, or_left}
 use Rattle.dom_links.specs.Forest.{Forest, run_of}
 use Rattle.dom_links.specs.Lists.{stands_in, without}
 use Rattle.dom_links.specs.declared.gap.Gap.TheVariants.{FrontOf}
@@ -9,7 +9,9 @@ use Rattle.dom_links.specs.Moves.{cut, moved_to, run_with}
 use Rattle.dom_sanitize.specs.Plan.{all_done, clear_one, cut_one, ids, put_one, staying}
 use Rattle.dom_sanitize.specs.declared.plan.Step.{Step}
 use Rattle.dom_sanitize.proofs.Moving.{length-from, list_from}
-use Rattle.dom_sanitize.proofs.NumberLists.{one-stands, or-left, or-true, turned, without_one}
+use Rattle.dom_links.proofs.forest.Neighbours.{without_one-none}
+use Rattle.dom_links.proofs.moves.Cuts.{one-stands}
+use Rattle.dom_sanitize.proofs.NumberLists.{turned}
 
 pub run-cut : (x : ℕ) (forest : Forest) (n : ℕ) → n < length forest.runs → run_of (cut (x ∷ []) forest) n ≡ (if x == n then x ∷ [] else without (x ∷ []) (run_of forest n))
 run-cut x forest n h =
@@ -52,7 +54,7 @@ runs-all_put [] forest = refl
 runs-all_put (s ∷ steps) forest = runs-put_one s.home s.id (all_done put_one steps forest) ∙ runs-all_put steps forest
 
 here : (x : ℕ) (xs : List ℕ) → stands_in x (x ∷ xs) ≡ true
-here x xs = or-left (x == x) (stands_in x xs) (eq-eqb x x refl)
+here x xs = or_left (x == x) (stands_in x xs) (eq-eqb x x refl)
 
 not_one : (x n : ℕ) → (x == n) ≡ false → stands_in x (n ∷ []) ≡ false
 not_one x n f = one-stands n x ∙ turned x n f
@@ -66,7 +68,7 @@ run-of_cut n (s ∷ steps) forest h is =
     run-cut s.id rest n known ∙ (elim (cases_Bool (s.id == n)) [
       | inl t ↦ rw t (ap (λ m. m ∷ []) (eqb-true s.id n t))
       | inr f ↦ (let below : stands_in n (ids steps) ≡ true = rw f at is in
-          rw f (ap (without (s.id ∷ [])) (run-of_cut n steps forest h below) ∙ without_one s.id (n ∷ []) (not_one s.id n f)))
+          rw f (ap (without (s.id ∷ [])) (run-of_cut n steps forest h below) ∙ without_one-none (n ∷ []) s.id (not_one s.id n f)))
     ])
 
 -- another run, in which none of them stood, is as it was
@@ -78,8 +80,8 @@ run-beside_cut n (s ∷ steps) forest h out none =
     let two = or_parts (s.id == n) (stands_in n (ids steps)) out in
     let known : n < length rest.runs = omega (arith, h, runs-all_cut steps forest) in
     run-cut s.id rest n known
-    ∙ rw two.0 (ap (without (s.id ∷ [])) (run-beside_cut n steps forest h two.1 (λ m t. none m (or-true (s.id == m) (stands_in m (ids steps)) t)))
-    ∙ without_one s.id (run_of forest n) (none s.id (here s.id (ids steps))))
+    ∙ rw two.0 (ap (without (s.id ∷ [])) (run-beside_cut n steps forest h two.1 (λ m t. none m (or_right (s.id == m) (stands_in m (ids steps)) t)))
+    ∙ without_one-none (run_of forest n) s.id (none s.id (here s.id (ids steps))))
 
 run-one_put : (home : Option ℕ) (x : ℕ) (forest : Forest) (n : ℕ) → n < length forest.runs →
     run_of (put_one (record { id = x; home = home }) forest) n ≡ (if (x == n) && is_some home then [] else (if is_some home then without (x ∷ []) (run_of forest n) else run_of forest n))
@@ -117,7 +119,7 @@ run-beside_put n (s ∷ steps) forest h out none =
     let rest = all_done put_one steps forest in
     let known : n < length rest.runs = omega (arith, h, runs-all_put steps forest) in
     let two = or_parts ((s.id == n) && is_some s.home) (staying n steps) out in
-    let later = run-beside_put n steps forest h two.1 (λ m t. none m (or-true (s.id == m) (stands_in m (ids steps)) t)) in
+    let later = run-beside_put n steps forest h two.1 (λ m t. none m (or_right (s.id == m) (stands_in m (ids steps)) t)) in
     run-one_put s.home s.id rest n known ∙ rw two.0 (still (is_some s.home) later two.0)
   where
     alone : (t : Bool) → (t && true) ≡ false → t ≡ false
@@ -126,7 +128,7 @@ run-beside_put n (s ∷ steps) forest h out none =
 
     still : (t : Bool) → run_of (all_done put_one steps forest) n ≡ run_of forest n → ((s.id == n) && t) ≡ false
         → (if t then without (s.id ∷ []) (run_of (all_done put_one steps forest) n) else run_of (all_done put_one steps forest) n) ≡ run_of forest n
-    still true same off = ap (without (s.id ∷ [])) same ∙ without_one s.id (run_of forest n) (none s.id (here s.id (ids steps)) (alone (s.id == n) off))
+    still true same off = ap (without (s.id ∷ [])) same ∙ without_one-none (run_of forest n) s.id (none s.id (here s.id (ids steps)) (alone (s.id == n) off))
     still false same off = same
 
 -- clearing leaves the runs

@@ -4,7 +4,6 @@ use Rattle.std.specs.Prelude.{slice_get, true, if◌then◌else◌, ◌||◌, Bo
 use Rattle.std.specs.List.{flat_map}
 use Rattle.std.specs.Option.{option_map, option_map_or}
 use Rattle.std.proofs.lemmas.Grind.{flat_map-append}
-use Rattle.dom_nodes.specs.declared.node_data.Element.{Element as ElementData}
 use Rattle.dom_nodes.specs.declared.node_data.NodeData.{NodeData}
 use Rattle.dom_nodes.specs.declared.node_data.NodeData.TheVariants.{Document, Fragment, Doctype, Text, Comment, Element, ProcessingInstruction}
 use Rattle.dom_nodes.specs.Words.{is_among}
