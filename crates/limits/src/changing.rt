@@ -236,15 +236,21 @@ fn wanted(alloc: Global, page: &Page, line: &str) -> Option<String> {
     shown(alloc, &document)
 }
 
-/// Makes a change with so much memory: all of it is done or nothing.
+/// Makes a change with so much memory.
 pub fn changes(alloc: Global, page: &Page, line: &str, memory: Memory) -> Option<Ending> {
-    if let ("grow", call) = cut(line) {
-        return grows(alloc, page, call, memory);
-    }
     let mut document = made(alloc)?;
-    let before = shown(alloc, &document)?;
-    let answer = changed_within(alloc, &mut document, page, line, memory)?;
-    let after = shown(alloc, &document)?;
+    match cut(line) {
+        ("grow", call) => grows(&mut document, page, call, memory),
+        _ => change_once(&mut document, page, line, memory),
+    }
+}
+
+/// Makes a change of a document: all of it is done or nothing.
+fn change_once(document: &mut Document, page: &Page, line: &str, memory: Memory) -> Option<Ending> {
+    let alloc = document.tree.allocator();
+    let before = shown(alloc, document)?;
+    let answer = changed_within(document, page, line, memory)?;
+    let after = shown(alloc, document)?;
     match answer {
         Ok(()) => Some(done_if(after != before && after == wanted(alloc, page, line)?)),
         Err(fault) => Some(refused_if(fault == EditFault::Memory && after == before)),
@@ -253,13 +259,12 @@ pub fn changes(alloc: Global, page: &Page, line: &str, memory: Memory) -> Option
 
 /// Makes the change that a line says, with so much memory.
 fn changed_within(
-    alloc: Global,
     document: &mut Document,
     page: &Page,
     line: &str,
     memory: Memory,
 ) -> Option<Result<(), EditFault>> {
-    let held = take_memory(alloc, memory)?;
+    let held = take_memory(document.tree.allocator(), memory)?;
     let answer = changed(document, page, line);
     drop(held);
     answer
@@ -282,13 +287,12 @@ fn grow(document: &mut Document, page: &Page, line: &str, step: usize) -> Option
 }
 
 /// Makes nodes by a call with so much memory. The first call says how many it makes.
-fn grows(alloc: Global, page: &Page, line: &str, memory: Memory) -> Option<Ending> {
-    let mut document = made(alloc)?;
+fn grows(document: &mut Document, page: &Page, line: &str, memory: Memory) -> Option<Ending> {
     let before = document.tree.len();
-    changed(&mut document, page, line)?.ok()?;
+    changed(document, page, line)?.ok()?;
     let step = document.tree.len().saturating_sub(before);
-    let held = take_memory(alloc, memory)?;
-    let ending = grow(&mut document, page, line, step);
+    let held = take_memory(document.tree.allocator(), memory)?;
+    let ending = grow(document, page, line, step);
     drop(held);
     document.tree.validate().ok()?;
     ending

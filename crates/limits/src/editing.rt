@@ -48,37 +48,40 @@ fn edited(document: &mut Document, nodes: Vec<NodeId>, edit: Edit) -> Result<(),
     }
 }
 
-/// Does it at the paragraphs with so much memory: exactly the first that the stop counts are then
-/// done.
+/// Does it at the paragraphs with so much memory.
 pub fn edits(alloc: Global, edit: Edit, memory: Memory) -> Option<Ending> {
     let mut document = Document::parse(alloc, MARKUP).ok()?;
-    match edited_within(alloc, &mut document, edit, memory)? {
-        Ok(()) => Some(done_if(is_done_at(alloc, &document, edit, NODES)?)),
+    edit_within(&mut document, edit, memory)
+}
+
+/// Does it with so much memory: exactly the first that the stop counts are then done.
+fn edit_within(document: &mut Document, edit: Edit, memory: Memory) -> Option<Ending> {
+    let alloc = document.tree.allocator();
+    let nodes = paragraphs(alloc, NODES)?;
+    let held = take_memory(alloc, memory)?;
+    let answer = edited(document, nodes, edit);
+    drop(held);
+    match answer {
+        Ok(()) => Some(done_if(is_done_at(document, edit, NODES)?)),
         Err(stop) if stop.fault == EditFault::Memory => {
-            Some(refused_if(is_done_at(alloc, &document, edit, stop.done)?))
+            Some(refused_if(is_done_at(document, edit, stop.done)?))
         }
         Err(_) => Some(Ending::Wrong),
     }
 }
 
-/// Does it at the paragraphs with so much memory.
-fn edited_within(
-    alloc: Global,
-    document: &mut Document,
-    edit: Edit,
-    memory: Memory,
-) -> Option<Result<(), SelectionFault>> {
-    let nodes = paragraphs(alloc, NODES)?;
-    let held = take_memory(alloc, memory)?;
-    let answer = edited(document, nodes, edit);
-    drop(held);
-    Some(answer)
+/// Whether a document is as one in which it is done at so many paragraphs.
+fn is_done_at(document: &Document, edit: Edit, count: usize) -> Option<bool> {
+    let alloc = document.tree.allocator();
+    let mut wanted = Document::parse(alloc, MARKUP).ok()?;
+    let nodes = paragraphs(alloc, count)?;
+    let is_done = edited(&mut wanted, nodes, edit).is_ok();
+    Some(is_done && have_same_html(&wanted, document))
 }
 
-/// Whether a document is as one in which it is done at so many paragraphs.
-fn is_done_at(alloc: Global, document: &Document, edit: Edit, count: usize) -> Option<bool> {
-    let mut wanted = Document::parse(alloc, MARKUP).ok()?;
-    edited(&mut wanted, paragraphs(alloc, count)?, edit).ok()?;
-    let html = wanted.root().html().ok()?;
-    Some(document.root().html().ok()? == html)
+fn have_same_html(document: &Document, other: &Document) -> bool {
+    match (document.root().html(), other.root().html()) {
+        (Ok(html), Ok(other)) => html == other,
+        _ => false,
+    }
 }

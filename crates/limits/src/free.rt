@@ -237,9 +237,9 @@ fn changes(alloc: Global, line: &str, memory: Memory) -> Option<Ending> {
 
 /// Puts other contents, whose memory is taken before, into a node.
 fn updates(alloc: Global, memory: Memory) -> Option<Ending> {
-    let mut document = Document::parse(alloc, MARKUP).ok()?;
-    let text = Text::new(alloc, LONG).ok()?;
     let id = NodeId::new(3)?;
+    let text = Text::new(alloc, LONG).ok()?;
+    let mut document = Document::parse(alloc, MARKUP).ok()?;
     let held = take_memory(alloc, memory)?;
     let change = move |edit: &mut NodeEdit| edit.contents = text;
     let answer = document.tree.update_node(&id, change);

@@ -78,95 +78,106 @@ fn refusals(alloc: Global, page: &Page, limited: Limited<'_>, is_onward: bool) -
     None
 }
 
+/// Prints how a call ended, and returns whether that was printed.
+fn show(rt: &HostRuntime, name: &str, ending: &str) -> bool {
+    println!(rt; "{name}: {ending}").is_ok()
+}
+
 /// Prints how a call ended whose requests were refused.
-fn count(rt: &HostRuntime, page: &Page, name: &str, limited: Limited<'_>) -> Option<()> {
+fn count(rt: &HostRuntime, page: &Page, name: &str, limited: Limited<'_>) -> bool {
     let alone = refusals(rt.alloc(), page, limited, false);
     let with_later = refusals(rt.alloc(), page, limited, true);
     match (alone, with_later) {
         (Some(alone), Some(later)) if alone > 0 && later > 0 => {
             let all = alone.saturating_add(later);
-            println!(rt; "{name}: {all} refused, then done").ok()
+            println!(rt; "{name}: {all} refused, then done").is_ok()
         }
-        _ => println!(rt; "{name}: wrong").ok(),
+        _ => show(rt, name, "wrong"),
     }
 }
 
 /// Prints whether a call is done with no request.
-fn count_free(rt: &HostRuntime, page: &Page, name: &str) -> Option<()> {
+fn count_free(rt: &HostRuntime, page: &Page, name: &str) -> bool {
     let ending = free::tries(rt.alloc(), page, name, Memory::Before(1));
-    if ending == Some(Ending::Done) && !was_refused(rt.alloc()) {
-        println!(rt; "{name}: done without a request").ok()
-    } else {
-        println!(rt; "{name}: wrong").ok()
-    }
-}
-
-/// Prints how each call ended whose requests the counter refused in turn.
-fn count_all(rt: &HostRuntime) -> Option<()> {
-    let page = Page::new(rt.alloc())?;
-    for (name, call) in &CALLS {
-        count(rt, &page, name, Limited::Call(*call))?;
-    }
-    for line in &CHANGES {
-        count(rt, &page, line, Limited::Change(line))?;
-    }
-    for (name, read) in &READS {
-        count(rt, &page, name, Limited::Read(*read))?;
-    }
-    for name in &FREE {
-        count_free(rt, &page, name)?;
-    }
-    Some(())
-}
-
-/// Prints that a call was done with ample memory.
-fn show_done(rt: &HostRuntime, name: &str, ending: Option<Ending>) -> Option<()> {
-    let word = if ending == Some(Ending::Done) {
-        "done"
+    let is_free = ending == Some(Ending::Done) && !was_refused(rt.alloc());
+    let ending = if is_free {
+        "done without a request"
     } else {
         "wrong"
     };
-    println!(rt; "{name}: {word}").ok()
+    show(rt, name, ending)
+}
+
+/// Prints how each call ended whose requests the counter refused in turn.
+fn count_all(rt: &HostRuntime, page: &Page) -> bool {
+    let mut is_shown = true;
+    for (name, call) in &CALLS {
+        is_shown &= count(rt, page, name, Limited::Call(*call));
+    }
+    for line in &CHANGES {
+        is_shown &= count(rt, page, line, Limited::Change(line));
+    }
+    for (name, read) in &READS {
+        is_shown &= count(rt, page, name, Limited::Read(*read));
+    }
+    for name in &FREE {
+        is_shown &= count_free(rt, page, name);
+    }
+    is_shown
+}
+
+/// Prints that a call was done with ample memory.
+fn show_done(rt: &HostRuntime, name: &str, ending: Option<Ending>) -> bool {
+    let is_done = ending == Some(Ending::Done);
+    show(rt, name, if is_done { "done" } else { "wrong" })
+}
+
+/// Prints how a call ended with ample memory.
+fn try_one(rt: &HostRuntime, page: &Page, name: &str, limited: Limited<'_>) -> bool {
+    let ending = ending_of(rt.alloc(), page, limited, Memory::Ample);
+    show_done(rt, name, ending)
 }
 
 /// Prints how each call ended with ample memory.
-fn try_all(rt: &HostRuntime) -> Option<()> {
-    let (alloc, page) = (rt.alloc(), Page::new(rt.alloc())?);
+fn try_all(rt: &HostRuntime, page: &Page) -> bool {
+    let mut is_shown = true;
     for (name, call) in &CALLS {
-        show_done(rt, name, tried(alloc, &page, *call, Memory::Ample))?;
+        is_shown &= try_one(rt, page, name, Limited::Call(*call));
     }
     for line in &CHANGES {
-        let ending = changing::changes(alloc, &page, line, Memory::Ample);
-        show_done(rt, line, ending)?;
+        is_shown &= try_one(rt, page, line, Limited::Change(line));
     }
     for (name, read) in &READS {
-        show_done(rt, name, reading::reads(alloc, &page, *read, Memory::Ample))?;
+        is_shown &= try_one(rt, page, name, Limited::Read(*read));
     }
     for name in &FREE {
-        show_done(rt, name, free::tries(alloc, &page, name, Memory::Ample))?;
+        let ending = free::tries(rt.alloc(), page, name, Memory::Ample);
+        is_shown &= show_done(rt, name, ending);
     }
-    Some(())
+    is_shown
 }
 
 /// Prints how each call ended in an address space of some hundred megabytes with ever more of it.
-fn limit_all(rt: &HostRuntime) -> Option<()> {
-    let page = Page::new(rt.alloc())?;
+fn limit_all(rt: &HostRuntime, page: &Page) -> bool {
+    let mut is_shown = true;
     for (name, call) in &CALLS {
-        let ending = match is_refused_first(rt.alloc(), &page, *call) {
+        let ending = match is_refused_first(rt.alloc(), page, *call) {
             Some(true) => "refused, then done",
             Some(false) => "never refused",
             None => "wrong",
         };
-        println!(rt; "{name}: {ending}").ok()?;
+        is_shown &= show(rt, name, ending);
     }
-    Some(())
+    is_shown
 }
 
-fn run(rt: &HostRuntime, words: &[String]) -> Option<()> {
+/// Does what the words say. Returns whether each line was printed; None where they say nothing.
+fn run(rt: &HostRuntime, words: &[String]) -> Option<bool> {
+    let page = Page::new(rt.alloc())?;
     match words {
-        [] => try_all(rt),
-        [word] if word.as_str() == "space" => limit_all(rt),
-        [word] if word.as_str() == "counted" => count_all(rt),
+        [] => Some(try_all(rt, &page)),
+        [word] if word.as_str() == "space" => Some(limit_all(rt, &page)),
+        [word] if word.as_str() == "counted" => Some(count_all(rt, &page)),
         _ => None,
     }
 }
@@ -179,7 +190,7 @@ fn main(rt: HostRuntime) -> ExitCode {
         return ExitCode::from(5);
     };
     match run(&rt, words.as_slice()) {
-        Some(()) => ExitCode::from(0),
-        None => ExitCode::from(1),
+        Some(true) => ExitCode::from(0),
+        _ => ExitCode::from(1),
     }
 }

@@ -345,9 +345,15 @@ fn size_of(alloc: Global, page: &Page, some: &Selection<'_>, read: Read) -> Opti
 /// Makes a call that reads, with so much memory.
 pub fn reads(alloc: Global, page: &Page, read: Read, memory: Memory) -> Option<Ending> {
     let some = page.document.select("p, li, td").ok()?;
-    let wanted = size_of(alloc, page, &some, read)?.ok()?;
+    reads_again(page, &some, read, memory)
+}
+
+/// Makes the call, and again with so much memory: the answer is the same, or a refusal.
+fn reads_again(page: &Page, some: &Selection<'_>, read: Read, memory: Memory) -> Option<Ending> {
+    let alloc = page.document.tree.allocator();
+    let wanted = size_of(alloc, page, some, read)?.ok()?;
     let held = take_memory(alloc, memory)?;
-    let answer = size_of(alloc, page, &some, read);
+    let answer = size_of(alloc, page, some, read);
     drop(held);
     Some(match answer? {
         Ok(size) => done_if(size == wanted),
