@@ -2,11 +2,10 @@
 //! pieces: the pieces are always read by tree construction.
 
 use super::{OPTIONS, in_pieces};
-use crate::index::random::{Dice, add};
-use dom_html5::parse_page;
+use crate::index::random::{Dice, add, close};
+use dom_html5::{PageFault, parse_page};
 use dom_query::Document;
 use std::alloc::Global;
-use std::process::Abort;
 use std::test::Fail;
 
 const NAMES: [&str; 32] = [
@@ -71,51 +70,43 @@ fn leaves_in(parent: &str) -> &'static [&'static str] {
     }
 }
 
-fn close(page: &mut String, name: &str) -> Option<()> {
-    add(page, "</")?;
-    add(page, name)?;
-    add(page, ">")
-}
-
 /// Adds a leaf, an end or a start.
-fn add_piece(page: &mut String, open: &mut Vec<&'static str>, dice: &mut Dice) -> Option<()> {
+fn add_piece(page: &mut String, open: &mut Vec<&'static str>, dice: &mut Dice) {
     let parent = open.last().copied().unwrap_or("body");
     match dice.roll(4) {
         0 => add(page, dice.pick(leaves_in(parent))),
-        1 => match open.pop() {
-            Some(name) => close(page, name),
-            None => Some(()),
-        },
+        1 => close(page, open),
         _ => {
             let name = dice.pick(names_in(parent));
-            add(page, "<")?;
-            add(page, name)?;
-            add(page, ">")?;
-            open.push(name).ok()
+            add(page, "<");
+            add(page, name);
+            add(page, ">");
+            open.push(name).ok();
         }
     }
 }
 
 /// A page whose elements nest, with some pieces in its body.
-fn page(alloc: Global, dice: &mut Dice) -> Option<String> {
+fn page(alloc: Global, dice: &mut Dice) -> String {
     let mut page = String::new(alloc);
     let mut open: Vec<&'static str> = Vec::new(alloc);
-    add(&mut page, "<!DOCTYPE html><html><head>")?;
-    add(&mut page, dice.pick(&HEADS))?;
-    add(&mut page, "</head><body class=c>")?;
+    add(&mut page, "<!DOCTYPE html><html><head>");
+    add(&mut page, dice.pick(&HEADS));
+    add(&mut page, "</head><body class=c>");
     let pieces = dice.roll(12);
     for _ in 0..pieces {
-        add_piece(&mut page, &mut open, dice)?;
+        add_piece(&mut page, &mut open, dice);
     }
     for _ in 0..open.len() {
-        close(&mut page, open.pop()?)?;
+        close(&mut page, &mut open);
     }
-    add(&mut page, "</body></html>")?;
-    Some(page)
+    add(&mut page, "</body></html>");
+    page
 }
 
-/// The HTML of the document, and how many nodes there are below its root.
-fn nodes_of(document: &Document) -> Option<(String, usize)> {
+/// The HTML of a document that is read, and how many nodes there are below its root.
+fn nodes_of(read: Result<Document, PageFault>) -> Option<(String, usize)> {
+    let document = read.ok()?;
     let ids = document.tree.descendant_ids_of(&document.tree.root_id());
     Some((document.html().ok()?, ids.ok()?.len()))
 }
@@ -197,14 +188,12 @@ const KEPT: [&str; 14] = [
 ];
 
 /// A page that has this in its element `html`.
-fn framed(alloc: Global, front: &str, inner: &str, back: &str) -> Option<String> {
+fn framed(alloc: Global, front: &str, inner: &str, back: &str) -> String {
     let mut page = String::new(alloc);
-    add(&mut page, "<!DOCTYPE html><html>")?;
-    add(&mut page, front)?;
-    add(&mut page, inner)?;
-    add(&mut page, back)?;
-    add(&mut page, "</html>")?;
-    Some(page)
+    for text in &["<!DOCTYPE html><html>", front, inner, back, "</html>"] {
+        add(&mut page, text);
+    }
+    page
 }
 
 const FRONT: &str = "<head></head><body>";
@@ -213,10 +202,10 @@ const BACK: &str = "</body>";
 
 /// Whether a page with this inside has that HTML inside, read whole and in pieces.
 fn is_read_as(alloc: Global, front: &str, back: &str, row: (&str, &str)) -> Option<bool> {
-    let page = framed(alloc, front, row.0, back)?;
-    let html = framed(alloc, front, row.1, back)?;
-    let (whole, _) = nodes_of(&parse_page(alloc, page.as_str(), OPTIONS).ok()?)?;
-    let (pieces, _) = nodes_of(&in_pieces(alloc, page.as_str()).ok()?)?;
+    let page = framed(alloc, front, row.0, back);
+    let html = framed(alloc, front, row.1, back);
+    let (whole, _) = nodes_of(parse_page(alloc, page.as_str(), OPTIONS))?;
+    let (pieces, _) = nodes_of(in_pieces(alloc, page.as_str()))?;
     Some(whole.as_str() == html.as_str() && pieces.as_str() == html.as_str())
 }
 
@@ -236,9 +225,9 @@ fn reads_pages_at_the_border_of_calm_ones(rt: HostRuntime) -> Result<(), Fail> {
 
 /// Whether a random page is one tree by both ways.
 fn is_one_tree(alloc: Global, dice: &mut Dice) -> Option<bool> {
-    let page = page(alloc, dice)?;
-    let (whole, count) = nodes_of(&parse_page(alloc, page.as_str(), OPTIONS).ok()?)?;
-    let (pieces, others) = nodes_of(&in_pieces(alloc, page.as_str()).ok()?)?;
+    let page = page(alloc, dice);
+    let (whole, count) = nodes_of(parse_page(alloc, page.as_str(), OPTIONS))?;
+    let (pieces, others) = nodes_of(in_pieces(alloc, page.as_str()))?;
     Some(whole.as_str() == pieces.as_str() && count == others)
 }
 

@@ -1,8 +1,8 @@
 //! The shape of a page.
 
+use super::has_html;
 use dom_html5::make_page;
 use dom_query::Document;
-use std::process::Abort;
 use std::test::Fail;
 
 /// Explicit markup, and the page that is made of it: what is a page already stays.
@@ -25,12 +25,15 @@ const MADE: [(&str, &str); 4] = [
     ),
 ];
 
+/// Whether the page that is made of a document has that HTML.
+fn is_made(mut document: Document, html: &str) -> bool {
+    make_page(&mut document.tree).is_ok() && has_html(&document, html)
+}
+
 #[test]
 fn makes_pages(rt: HostRuntime) -> Result<(), Fail> {
     for (markup, html) in &MADE {
-        let mut document = Document::parse(rt.alloc(), markup)?;
-        make_page(&mut document.tree)?;
-        assert!(rt; document.html()?.as_str() == *html);
+        assert!(rt; is_made(Document::parse(rt.alloc(), markup)?, html));
     }
     Ok(())
 }

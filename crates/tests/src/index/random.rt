@@ -4,6 +4,7 @@
 use dom_index::index::TreeIndex;
 use dom_index::selecting::select_nodes;
 use dom_markup::document::Document;
+use dom_nodes::fault::OutOfMemory;
 use dom_nodes::node_id::NodeId;
 use dom_select::matcher::Matcher;
 use dom_select::matcher::several::select_below_all;
@@ -12,15 +13,14 @@ use dom_trees::tree::Tree;
 use std::alloc::Global;
 use std::test::Fail;
 
-const NAMES: [&str; 6] = ["div", "p", "b", "i", "x-y", "template"];
-
-const STARTS: [&str; 6] = [
-    "<div>",
-    "<p class=k>",
-    "<b>",
-    "<i id=x>",
-    "<x-y>",
-    "<template>",
+/// Starts of elements, with the names that end them.
+const STARTS: [(&str, &str); 6] = [
+    ("<div>", "div"),
+    ("<p class=k>", "p"),
+    ("<b>", "b"),
+    ("<i id=x>", "i"),
+    ("<x-y>", "x-y"),
+    ("<template>", "template"),
 ];
 
 const LEAVES: [&str; 4] = ["t", " ", "<!--c-->", "<p></p>"];
@@ -77,77 +77,77 @@ impl Dice {
     }
 }
 
-pub(crate) fn add(text: &mut String, word: &str) -> Option<()> {
-    text.push_str(word).ok()
+/// Adds a word to a text of a test, for which there is ample memory.
+pub(crate) fn add(text: &mut String, word: &str) {
+    text.push_str(word).ok();
+}
+
+/// Adds the end of the innermost open element, if there is one.
+pub(crate) fn close(text: &mut String, open: &mut Vec<&'static str>) {
+    if let Some(name) = open.pop() {
+        add(text, "</");
+        add(text, name);
+        add(text, ">");
+    }
 }
 
 /// Adds a leaf, an end or a start.
-fn add_piece(text: &mut String, open: &mut Vec<usize>, dice: &mut Dice) -> Option<()> {
+fn add_piece(text: &mut String, open: &mut Vec<&'static str>, dice: &mut Dice) {
     match dice.roll(4) {
         0 => add(text, dice.pick(&LEAVES)),
-        1 => close(text, open.pop()),
+        1 => close(text, open),
         _ => {
-            let n = dice.roll(6);
-            add(text, STARTS.get(n)?)?;
-            open.push(n).ok()
+            if let Some((start, name)) = STARTS.get(dice.roll(6)) {
+                add(text, start);
+                open.push(*name).ok();
+            }
         }
     }
 }
 
 /// A few elements, texts and comments.
-pub(crate) fn markup(alloc: Global, dice: &mut Dice) -> Option<String> {
+pub(crate) fn markup(alloc: Global, dice: &mut Dice) -> String {
     let mut text = String::new(alloc);
-    let mut open: Vec<usize> = Vec::new(alloc);
+    let mut open: Vec<&'static str> = Vec::new(alloc);
     let pieces = dice.roll(24);
     for _ in 0..pieces {
-        add_piece(&mut text, &mut open, dice)?;
+        add_piece(&mut text, &mut open, dice);
     }
     for _ in 0..open.len() {
-        close(&mut text, open.pop())?;
+        close(&mut text, &mut open);
     }
-    Some(text)
-}
-
-fn close(text: &mut String, name: Option<usize>) -> Option<()> {
-    let Some(n) = name else {
-        return Some(());
-    };
-    add(text, "</")?;
-    add(text, NAMES.get(n)?)?;
-    add(text, ">")
+    text
 }
 
 /// Adds up to three compounds.
-fn add_compounds(text: &mut String, dice: &mut Dice) -> Option<()> {
-    add(text, dice.pick(&COMPOUNDS))?;
+fn add_compounds(text: &mut String, dice: &mut Dice) {
+    add(text, dice.pick(&COMPOUNDS));
     for _ in 0..dice.roll(3) {
-        add(text, dice.pick(&COMBINATORS))?;
-        add(text, dice.pick(&COMPOUNDS))?;
+        add(text, dice.pick(&COMBINATORS));
+        add(text, dice.pick(&COMPOUNDS));
     }
-    Some(())
 }
 
 /// One selector or two, each of up to three compounds.
-fn selector(alloc: Global, dice: &mut Dice) -> Option<String> {
+fn selector(alloc: Global, dice: &mut Dice) -> String {
     let mut text = String::new(alloc);
     for n in 0..dice.roll(2).saturating_add(1) {
         if n > 0 {
-            add(&mut text, ", ")?;
+            add(&mut text, ", ");
         }
-        add_compounds(&mut text, dice)?;
+        add_compounds(&mut text, dice);
     }
-    Some(text)
+    text
 }
 
 /// Cuts a few nodes out, so that there are several runs.
-fn cut_some(tree: &mut Tree, dice: &mut Dice) -> Option<()> {
+fn cut_some(tree: &mut Tree, dice: &mut Dice) {
     for _ in 0..dice.roll(3) {
-        let id = NodeId::new(dice.roll(tree.len()))?;
+        let id = some_id(tree.len(), dice);
         if id != NodeId::root() {
             let _cut = tree.remove_from_parent(&id);
         }
     }
-    Some(())
 }
 
 pub(crate) fn are_those(nodes: &[NodeRef<'_>], ids: &[NodeId]) -> bool {
@@ -162,48 +162,65 @@ pub(crate) fn are_those(nodes: &[NodeRef<'_>], ids: &[NodeId]) -> bool {
     true
 }
 
-/// The root, and up to two other nodes.
-fn some_roots(tree: &Tree, dice: &mut Dice) -> Option<Vec<NodeId>> {
-    let mut roots = vec![in tree.allocator(); NodeId::root()].ok()?;
-    for _ in 0..dice.roll(3) {
-        roots
-            .push(NodeId::new(dice.roll(tree.len().saturating_add(1)))?)
-            .ok()?;
+/// A number below this one, as that of a node.
+fn some_id(below: usize, dice: &mut Dice) -> NodeId {
+    match NodeId::new(dice.roll(below)) {
+        Some(id) => id,
+        None => NodeId::root(),
     }
-    Some(roots)
+}
+
+/// The root, and up to two other nodes, which the tree may lack.
+fn some_roots(tree: &Tree, dice: &mut Dice) -> Vec<NodeId> {
+    let mut roots = Vec::new(tree.allocator());
+    roots.push(NodeId::root()).ok();
+    for _ in 0..dice.roll(3) {
+        roots.push(some_id(tree.len().saturating_add(1), dice)).ok();
+    }
+    roots
 }
 
 /// A random forest.
 fn forest(alloc: Global, dice: &mut Dice) -> Option<Document> {
-    let source = markup(alloc, dice)?;
+    let source = markup(alloc, dice);
     let mut document = Document::parse(alloc, source.as_str()).ok()?;
-    cut_some(&mut document.tree, dice)?;
+    cut_some(&mut document.tree, dice);
     Some(document)
 }
 
 /// A random matcher.
 fn some_matcher(alloc: Global, dice: &mut Dice) -> Option<Matcher> {
-    Matcher::new(alloc, selector(alloc, dice)?.as_str()).ok()
+    Matcher::new(alloc, selector(alloc, dice).as_str()).ok()
+}
+
+/// Whether these nodes are selected.
+fn are_selected(nodes: Result<Vec<NodeRef<'_>>, OutOfMemory>, ids: &[NodeId]) -> bool {
+    match nodes {
+        Ok(nodes) => are_those(&nodes, ids),
+        Err(_) => false,
+    }
 }
 
 /// Whether tables select these nodes.
-fn by_tables(tree: &Tree, roots: &[NodeId], matcher: &Matcher, asked: &[NodeId]) -> Option<bool> {
-    let mut index = TreeIndex::new(tree).ok()?;
-    Some(are_those(&index.select(matcher, roots).ok()?, asked))
+fn by_tables(tree: &Tree, roots: &[NodeId], matcher: &Matcher, asked: &[NodeId]) -> bool {
+    match TreeIndex::new(tree) {
+        Ok(mut index) => are_selected(index.select(matcher, roots), asked),
+        Err(_) => false,
+    }
 }
 
 /// Whether the choice between tables and asking selects these nodes.
-fn by_choice(tree: &Tree, roots: &[NodeId], matcher: &Matcher, asked: &[NodeId]) -> Option<bool> {
-    Some(are_those(&select_nodes(tree, roots, matcher).ok()?, asked))
+fn by_choice(tree: &Tree, roots: &[NodeId], matcher: &Matcher, asked: &[NodeId]) -> bool {
+    are_selected(select_nodes(tree, roots, matcher), asked)
 }
 
 /// How many nodes a matcher selects below the roots; None where the ways differ.
 fn same_below(tree: &Tree, roots: &[NodeId], matcher: &Matcher) -> Option<usize> {
     let asked = select_below_all(tree, roots, matcher).ok()?;
-    if !by_tables(tree, roots, matcher, &asked)? || !by_choice(tree, roots, matcher, &asked)? {
-        return None;
+    if by_tables(tree, roots, matcher, &asked) && by_choice(tree, roots, matcher, &asked) {
+        return Some(asked.len());
     }
-    Some(asked.len())
+    None
 }
 
 /// How many nodes a selector selects below random roots of a random forest; None where the two ways
@@ -211,7 +228,7 @@ fn same_below(tree: &Tree, roots: &[NodeId], matcher: &Matcher) -> Option<usize>
 fn same(alloc: Global, seed: u64) -> Option<usize> {
     let mut dice = Dice { state: seed };
     let document = forest(alloc, &mut dice)?;
-    let roots = some_roots(&document.tree, &mut dice)?;
+    let roots = some_roots(&document.tree, &mut dice);
     let matcher = some_matcher(alloc, &mut dice)?;
     same_below(&document.tree, &roots, &matcher)
 }

@@ -50,94 +50,82 @@ fn written_by(
     scope: TraversalScope,
     calls: usize,
     most: usize,
-) -> Result<(Frail, Result<(), WriteFault>), Fail> {
+) -> (Frail, Result<(), WriteFault>) {
     let mut frail = Frail {
         taken: Vec::new(node.tree.allocator()),
         most,
         calls,
     };
     let result = node.write_html(scope, &mut frail);
-    Ok((frail, result))
+    (frail, result)
 }
 
-/// Shows what a writer that takes so many bytes a call, and fails after so many calls, got.
-fn shows_taken(
-    rt: &impl Abort,
-    (node, scope): (&NodeRef<'_>, TraversalScope),
-    (calls, most): (usize, usize),
-    wanted: Result<(), WriteFault>,
-    taken: &[u8],
-) -> Result<(), Fail> {
-    let (frail, result) = written_by(node, scope, calls, most)?;
-    assert!(rt; result == wanted);
-    assert_eq!(rt; frail.taken.as_slice(), taken);
-    Ok(())
+/// Whether a writer that takes a byte a call, and fails after so many calls, got these.
+fn is_stopped(node: &NodeRef<'_>, scope: TraversalScope, calls: usize, taken: &[u8]) -> bool {
+    let (frail, result) = written_by(node, scope, calls, 1);
+    result == Err(WriteFault::Write) && frail.taken.as_slice() == taken
 }
 
-/// Shows that a writer which takes no bytes is called once.
-fn shows_full(rt: &impl Abort, node: &NodeRef<'_>, scope: TraversalScope) -> Result<(), Fail> {
-    let (full, result) = written_by(node, scope, 1, 0)?;
-    assert!(rt; result == Err(WriteFault::Write));
-    assert_eq!(rt; full.calls, 0);
-    Ok(())
+/// Whether a writer that doesn't fail got all.
+fn is_whole(node: &NodeRef<'_>, scope: TraversalScope, whole: &[u8]) -> bool {
+    let (frail, result) = written_by(node, scope, whole.len(), 3);
+    result == Ok(()) && frail.taken.as_slice() == whole
+}
+
+/// Whether a writer which takes no bytes is called once.
+fn is_called_once(node: &NodeRef<'_>, scope: TraversalScope) -> bool {
+    let (full, result) = written_by(node, scope, 1, 0);
+    result == Err(WriteFault::Write) && full.calls == 0
 }
 
 /// Shows what writers get that fail at each byte of the whole text, and one that doesn't fail.
-fn shows_stops(
-    rt: &impl Abort,
-    node: &NodeRef<'_>,
-    scope: TraversalScope,
-    whole: &str,
-) -> Result<(), Fail> {
-    let failed = Err(WriteFault::Write);
+fn shows_stops(rt: &impl Abort, node: &NodeRef<'_>, scope: TraversalScope, whole: &str) {
+    let whole = whole.as_bytes();
     for calls in 0..whole.len() {
-        let taken = &whole.as_bytes()[..calls];
-        shows_taken(rt, (node, scope), (calls, 1), failed, taken)?;
+        assert!(rt; is_stopped(node, scope, calls, &whole[..calls]));
     }
-    shows_taken(
-        rt,
-        (node, scope),
-        (whole.len(), 3),
-        Ok(()),
-        whole.as_bytes(),
-    )?;
-    shows_full(rt, node, scope)
+    assert!(rt; is_whole(node, scope, whole) && is_called_once(node, scope));
 }
 
 #[test]
 fn stops_where_the_writer_fails(rt: HostRuntime) -> Result<(), Fail> {
+    let id = NodeId::new(2).ok_or("id")?;
     let document = Document::parse(rt.alloc(), PAGE)?;
-    shows_stops(&rt, &document.root(), TraversalScope::IncludeNode, PAGE)?;
-    shows_stops(&rt, &document.root(), TraversalScope::ChildrenOnly, PAGE)?;
-    let paragraph = NodeRef::new(NodeId::new(2).ok_or("id")?, &document.tree);
-    shows_stops(&rt, &paragraph, TraversalScope::IncludeNode, PARAGRAPH)?;
-    shows_stops(&rt, &paragraph, TraversalScope::ChildrenOnly, BELOW)
+    shows_stops(&rt, &document.root(), TraversalScope::IncludeNode, PAGE);
+    shows_stops(&rt, &document.root(), TraversalScope::ChildrenOnly, PAGE);
+    let paragraph = NodeRef::new(id, &document.tree);
+    shows_stops(&rt, &paragraph, TraversalScope::IncludeNode, PARAGRAPH);
+    shows_stops(&rt, &paragraph, TraversalScope::ChildrenOnly, BELOW);
+    Ok(())
 }
 
-/// Shows what a writer gets that takes all, and that one which fails stops the writing.
-fn shows_serialized(
-    rt: &impl Abort,
-    node: &SerializableNodeRef<'_>,
-    scope: TraversalScope,
-    whole: &str,
-) -> Result<(), Fail> {
+/// Whether a writer that takes all gets this.
+fn is_serialized(node: &SerializableNodeRef<'_>, scope: TraversalScope, whole: &str) -> bool {
     let mut out: Vec<u8> = Vec::new(node.0.tree.allocator());
-    node.serialize(scope, &mut out)?;
-    assert_eq!(rt; out.as_slice(), whole.as_bytes());
+    let result = node.serialize(scope, &mut out);
+    result == Ok(()) && out.as_slice() == whole.as_bytes()
+}
+
+/// Whether a writer which fails stops the writing.
+fn is_failing(node: &SerializableNodeRef<'_>, scope: TraversalScope) -> bool {
     let mut frail = Frail {
         taken: Vec::new(node.0.tree.allocator()),
         most: 2,
         calls: 5,
     };
-    assert!(rt; node.serialize(scope, &mut frail) == Err(WriteFault::Write));
-    Ok(())
+    node.serialize(scope, &mut frail) == Err(WriteFault::Write)
 }
 
 #[test]
 fn serialize_stops_where_the_writer_fails(rt: HostRuntime) -> Result<(), Fail> {
-    let document = Document::parse(rt.alloc(), PAGE)?;
     let id = NodeId::new(2).ok_or("id")?;
+    let document = Document::parse(rt.alloc(), PAGE)?;
     let node = SerializableNodeRef::from(NodeRef::new(id, &document.tree));
-    shows_serialized(&rt, &node, TraversalScope::IncludeNode, PARAGRAPH)?;
-    shows_serialized(&rt, &node, TraversalScope::ChildrenOnly, BELOW)
+    for (scope, whole) in &[
+        (TraversalScope::IncludeNode, PARAGRAPH),
+        (TraversalScope::ChildrenOnly, BELOW),
+    ] {
+        assert!(rt; is_serialized(&node, *scope, whole) && is_failing(&node, *scope));
+    }
+    Ok(())
 }

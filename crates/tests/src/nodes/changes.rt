@@ -68,23 +68,35 @@ fn has(changed: &TreeNode, attr: &str, value: &str) -> bool {
     }
 }
 
-/// Shows that the class is there in other letters.
-fn shows_class(rt: &impl Abort, element: &Element) {
-    assert!(rt; element.has_class_bytes(b"L", CaseSensitivity::AsciiCaseInsensitive));
-    assert!(rt; !element.has_class_bytes(b"L", CaseSensitivity::CaseSensitive));
+/// Whether the class is there in other letters.
+fn has_class(element: &Element) -> bool {
+    let case = CaseSensitivity::AsciiCaseInsensitive;
+    element.has_class_bytes(b"L", case)
+        && !element.has_class_bytes(b"L", CaseSensitivity::CaseSensitive)
 }
 
-/// Shows what the changes left.
-fn shows_changed(rt: &impl Abort, changed: &TreeNode) {
-    assert!(rt; changed.is_element() && changed.is_link() && changed.may_have_children());
-    assert!(rt; has(changed, "href", "u") && has(changed, "class", "l"));
-    assert!(rt; !has(changed, "x", "1") && !has(changed, "id", "k") && !has(changed, "lang", "en"));
+/// Whether the changes left an element that is a link.
+fn is_linking(changed: &TreeNode) -> bool {
+    changed.is_element() && changed.is_link() && changed.may_have_children()
 }
 
-/// Shows that the node is no text, comment, doctype, document or fragment.
-fn shows_no_other(rt: &impl Abort, changed: &TreeNode) {
-    assert!(rt; !changed.is_text() && !changed.is_comment() && !changed.is_doctype());
-    assert!(rt; !changed.is_document() && !changed.is_fragment());
+/// Whether the changes left these attributes.
+fn has_changed(changed: &TreeNode) -> bool {
+    has(changed, "href", "u") && has(changed, "class", "l") && !has(changed, "x", "1")
+}
+
+/// Whether the changes took these attributes.
+fn has_lost(changed: &TreeNode) -> bool {
+    !has(changed, "id", "k") && !has(changed, "lang", "en")
+}
+
+/// Whether the node is a text, a comment, a doctype, a document or a fragment.
+fn is_other(changed: &TreeNode) -> bool {
+    changed.is_text()
+        || changed.is_comment()
+        || changed.is_doctype()
+        || changed.is_document()
+        || changed.is_fragment()
 }
 
 /// Puts another name and other attributes in.
@@ -99,13 +111,21 @@ fn replace(alloc: Global, changed: &mut TreeNode) -> Result<(), Fail> {
     Ok(())
 }
 
+/// Whether the copy is of the replaced element.
+fn is_replaced(copy: &TreeNode) -> bool {
+    has(copy, "y", "2") && !has(copy, "href", "u") && !copy.is_link()
+}
+
+fn is_named(copy: &TreeNode, name: &str) -> bool {
+    match copy.as_element() {
+        Some(element) => element.node_name() == name,
+        None => false,
+    }
+}
+
 /// Shows the copy of the replaced element.
 fn shows_replaced(rt: &impl Abort, copy: TreeNode) {
-    assert!(rt; has(&copy, "y", "2") && !has(&copy, "href", "u") && !copy.is_link());
-    assert!(rt;
-        copy.as_element()
-            .is_some_and(|element| element.node_name() == "i")
-    );
+    assert!(rt; is_replaced(&copy) && is_named(&copy, "i"));
 }
 
 #[test]
@@ -113,9 +133,9 @@ fn nodes_are_changed(rt: HostRuntime) -> Result<(), Fail> {
     let mut changed = element(rt.alloc())?;
     change(&mut changed)?;
     remove_some(&mut changed);
-    shows_changed(&rt, &changed);
-    shows_class(&rt, changed.as_element().ok_or("element")?);
-    shows_no_other(&rt, &changed);
+    assert!(rt; is_linking(&changed) && has_changed(&changed) && has_lost(&changed));
+    assert!(rt; has_class(changed.as_element().ok_or("element")?));
+    assert!(rt; !is_other(&changed));
     replace(rt.alloc(), &mut changed)?;
     shows_replaced(&rt, changed.try_clone()?);
     Ok(())

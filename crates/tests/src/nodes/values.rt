@@ -38,27 +38,25 @@ fn template(alloc: Global) -> Result<Element, Fail> {
 
 /// Shows that a text is the one wanted.
 fn shows_text(rt: &impl Abort, text: String, wanted: &str) {
-    assert_eq!(rt; text.as_str(), wanted);
+    assert!(rt; text.as_str() == wanted);
 }
 
-/// Shows which numbers there are.
-fn shows_numbers(rt: &impl Abort) -> Result<(), Fail> {
-    let last = NodeId::new(4294967294).ok_or("a number")?;
-    assert_eq!(rt; last.value(), 4294967294);
-    assert!(rt; NodeId::new(4294967295).is_none());
-    assert_eq!(rt; NodeId::root().value(), 0);
-    assert!(rt; NodeId::root() < last);
-    Ok(())
+/// Whether this is a number, and is below that one.
+fn is_below(number: Option<NodeId>, other: NodeId) -> bool {
+    match number {
+        Some(id) => id < other,
+        None => false,
+    }
 }
 
 #[test]
 fn numbers_end_below_the_last_u32(rt: HostRuntime) -> Result<(), Fail> {
-    shows_numbers(&rt)?;
-    let seven = NodeId::new(7).ok_or("a number")?;
+    let last = NodeId::new(4294967294).ok_or("a number")?;
+    assert!(rt; is_below(NodeId::new(0), last) && NodeId::new(4294967295).is_none());
     shows_text(
         &rt,
-        format!(in rt.alloc(); "{seven:?}")?,
-        "NodeId { value: 7 }",
+        format!(in rt.alloc(); "{last:?}")?,
+        "NodeId { value: 4294967294 }",
     );
     Ok(())
 }
@@ -93,25 +91,27 @@ fn faults_have_messages(rt: HostRuntime) -> Result<(), Fail> {
     shows_edit_faults(&rt, bad)
 }
 
-/// Shows on which line and in which column a byte of a text stands.
-fn shows_position(rt: &impl Abort, at: usize, wanted: (usize, usize)) {
-    let fault = MarkupFault {
-        kind: MarkupFaultKind::BadTag,
-        at,
-    };
-    let (line, column) = fault.line_and_column("a\n\u{e9}<b\n");
-    assert_eq!(rt; line, wanted.0);
-    assert_eq!(rt; column, wanted.1);
+/// Bytes of a text, and on which line and in which column each stands.
+const POSITIONS: [(usize, usize, usize); 6] = [
+    (0, 1, 1),
+    (1, 1, 2),
+    (2, 2, 1),
+    (4, 2, 2),
+    (7, 3, 1),
+    (99, 3, 1),
+];
+
+/// The line and the column of a byte of the text.
+fn position(at: usize) -> (usize, usize) {
+    let kind = MarkupFaultKind::BadTag;
+    MarkupFault { kind, at }.line_and_column("a\n\u{e9}<b\n")
 }
 
 #[test]
 fn faults_have_lines_and_columns(rt: HostRuntime) -> Result<(), Fail> {
-    shows_position(&rt, 0, (1, 1));
-    shows_position(&rt, 1, (1, 2));
-    shows_position(&rt, 2, (2, 1));
-    shows_position(&rt, 4, (2, 2));
-    shows_position(&rt, 7, (3, 1));
-    shows_position(&rt, 99, (3, 1));
+    for (at, line, column) in &POSITIONS {
+        assert!(rt; position(*at) == (*line, *column));
+    }
     Ok(())
 }
 
@@ -160,55 +160,73 @@ fn names(alloc: Global) -> Result<Vec<QualName>, Fail> {
     Ok(names)
 }
 
-/// Shows that a copy of a name is the same.
-fn shows_same(rt: &impl Abort, copy: QualName, name: &QualName) {
-    assert!(rt; copy == *name);
-    assert!(rt; copy.is_same(name));
+/// Whether a copy of a name is the same.
+fn is_copy(copy: QualName, name: &QualName) -> bool {
+    copy == *name && copy.is_same(name)
 }
 
-/// Shows that each name is the same as itself alone.
-fn shows_different(rt: &impl Abort, names: &[QualName]) {
+/// Whether each name is the same as itself alone.
+fn are_different(names: &[QualName]) -> bool {
     for i in 0..names.len() {
         for j in 0..names.len() {
-            assert!(rt; (names[i] == names[j]) == (i == j));
+            if (names[i] == names[j]) != (i == j) {
+                return false;
+            }
         }
     }
+    true
 }
 
 #[test]
 fn names_differ_by_each_part(rt: HostRuntime) -> Result<(), Fail> {
     let names = names(rt.alloc())?;
     for name in &names {
-        shows_same(&rt, name.try_clone()?, name);
+        assert!(rt; is_copy(name.try_clone()?, name));
     }
-    shows_different(&rt, &names);
+    assert!(rt; are_different(&names));
     Ok(())
 }
 
-/// Shows a name's prefix and local name, and that it is in this namespace.
-fn shows_parts(rt: &impl Abort, name: &QualName, ns: &Namespace, parts: (Option<&str>, &str)) {
-    assert!(rt; name.prefix() == parts.0);
-    assert!(rt; name.ns().is_same(&ns.by_ref()));
-    assert_eq!(rt; name.local().as_str(), parts.1);
+/// Whether a name has this prefix and local name, and is in this namespace.
+fn has_parts(name: &QualName, ns: &Namespace, prefix: Option<&str>, local: &str) -> bool {
+    name.prefix() == prefix && name.ns().is_same(&ns.by_ref()) && name.local().as_str() == local
+}
+
+/// Whether a prefixed name has its parts, before and after another local name is put in.
+fn has_renamed_parts(mut name: QualName, local: LocalName) -> bool {
+    let ns = Namespace::XLink;
+    let had_parts = has_parts(&name, &ns, Some("xlink"), "href");
+    name.set_local(local);
+    had_parts && has_parts(&name, &ns, Some("xlink"), "rare-name")
+}
+
+/// Parts without a prefix and a local name.
+fn other_parts(alloc: Global) -> Result<NameParts, Fail> {
+    Ok(NameParts {
+        prefix: None,
+        ns: Namespace::Other(RareText::new(alloc, "urn:x")?),
+        local: LocalName::empty(),
+    })
+}
+
+/// Whether a name has a copy of the parts.
+fn has_other_parts(alloc: Global, parts: &NameParts) -> Result<bool, Fail> {
+    let name = QualName::new(alloc, parts.try_clone()?)?;
+    Ok(has_parts(&name, &parts.ns, None, "") && parts.ns.try_clone()?.is_same(&parts.ns))
+}
+
+/// Whether a plain name has that local name alone.
+fn is_plain(local: LocalName, wanted: &str) -> bool {
+    has_parts(&QualName::plain(local), &Namespace::None, None, wanted)
 }
 
 #[test]
 fn names_lend_their_parts(rt: HostRuntime) -> Result<(), Fail> {
     let alloc = rt.alloc();
-    let mut name = prefixed_name(alloc)?;
-    shows_parts(&rt, &name, &Namespace::XLink, (Some("xlink"), "href"));
-    name.set_local(LocalName::new(alloc, "rare-name")?);
-    shows_parts(&rt, &name, &Namespace::XLink, (Some("xlink"), "rare-name"));
-    let other = Namespace::Other(RareText::new(alloc, "urn:x")?);
-    let parts = NameParts {
-        prefix: None,
-        ns: other.try_clone()?,
-        local: LocalName::empty(),
-    };
-    let name = QualName::new(alloc, parts.try_clone()?)?;
-    shows_parts(&rt, &name, &other, (None, ""));
-    let name = QualName::plain(LocalName::new(alloc, "id")?);
-    shows_parts(&rt, &name, &Namespace::None, (None, "id"));
+    let local = LocalName::new(alloc, "rare-name")?;
+    assert!(rt; has_renamed_parts(prefixed_name(alloc)?, local));
+    assert!(rt; has_other_parts(alloc, &other_parts(alloc)?)?);
+    assert!(rt; is_plain(LocalName::new(alloc, "id")?, "id"));
     Ok(())
 }
 
@@ -281,21 +299,31 @@ fn element(alloc: Global, attrs: Attrs) -> Result<NodeData, Fail> {
     Ok(NodeData::Element(Element::new(name, attrs, None, false)))
 }
 
+/// Whether data is copied without memory as a short text.
+fn is_short(data: &NodeData) -> bool {
+    data.short_text().is_some()
+}
+
+/// Whether data is copied without memory as an element with its name alone.
+fn is_bare(data: &NodeData) -> bool {
+    data.bare_element().is_some()
+}
+
 /// Shows which data is copied without memory: a short text, and an element with its name alone.
-fn shows_small(rt: &impl Abort, data: &NodeData, is_short: bool, is_bare: bool) {
-    assert!(rt; data.short_text().is_some() == is_short);
-    assert!(rt; data.bare_element().is_some() == is_bare);
+fn shows_small(rt: &impl Abort, data: NodeData, wanted: (bool, bool)) {
+    assert!(rt; is_short(&data) == wanted.0 && is_bare(&data) == wanted.1);
 }
 
 #[test]
 fn small_data_is_copied_without_memory(rt: HostRuntime) -> Result<(), Fail> {
     let alloc = rt.alloc();
     let contents = Text::new(alloc, "short")?;
-    shows_small(&rt, &NodeData::Text { contents }, true, false);
-    shows_small(&rt, &long_text(alloc)?, false, false);
-    shows_small(&rt, &element(alloc, Attrs::new(alloc))?, false, true);
-    shows_small(&rt, &element(alloc, two_classes(alloc)?)?, false, false);
-    shows_small(&rt, &NodeData::Element(template(alloc)?), false, false);
+    shows_small(&rt, NodeData::Text { contents }, (true, false));
+    shows_small(&rt, long_text(alloc)?, (false, false));
+    shows_small(&rt, element(alloc, Attrs::new(alloc))?, (false, true));
+    let classes = two_classes(alloc)?;
+    shows_small(&rt, element(alloc, classes)?, (false, false));
+    shows_small(&rt, NodeData::Element(template(alloc)?), (false, false));
     Ok(())
 }
 

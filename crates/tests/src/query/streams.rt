@@ -51,12 +51,12 @@ fn words(alloc: Global, texts: &[&str]) -> Result<Vec<String>, AllocError> {
 
 /// Shows that bytes are those of a text.
 fn shows_bytes(rt: &impl Abort, bytes: &[u8], wanted: &str) {
-    assert_eq!(rt; bytes, wanted.as_bytes());
+    assert!(rt; bytes == wanted.as_bytes());
 }
 
 /// Shows the status of a drive.
 fn shows_status(rt: &impl Abort, status: u8, wanted: u8) {
-    assert_eq!(rt; status, wanted);
+    assert!(rt; status == wanted);
 }
 
 /// Words, markup, and the status.
@@ -101,10 +101,9 @@ fn shows_line(rt: &impl Abort, status: u8, line_bytes: &[u8]) {
     shows_bytes(rt, line_bytes, line);
 }
 
-/// Shows what a writer took.
+/// Shows that a writer took the first bytes, so many.
 fn shows_taken(rt: &impl Abort, taken: &[u8], whole: &str, left: usize) {
-    assert!(rt; whole.as_bytes().starts_with(taken));
-    assert!(rt; taken.len() == left);
+    assert!(rt; whole.as_bytes().starts_with(taken) && taken.len() == left);
 }
 
 /// The status where the writer takes so many bytes. What it took begins the whole output.
@@ -202,25 +201,30 @@ fn run_into(
     (ended, out)
 }
 
-/// Shows that a run whose writer fails at each of its writes in turn ends so, and has written a
-/// beginning of the whole.
-fn shows_stops(
-    rt: &(impl Abort + Alloc<A = Global>),
-    script: &[u8],
-    whole: &[u8],
-    most: usize,
-) -> Result<(), Fail> {
+/// Whether a run ended where its writer, with so many writes left, failed.
+fn is_failed(ended: Result<(), RunFault>, out: &Failing, left: usize) -> bool {
+    ended == Err(RunFault::Write) && out.left == left
+}
+
+/// Whether a run whose writer fails at each of its writes in turn ends so, and has written a
+/// beginning of the whole, until it has written the whole.
+fn stops(alloc: Global, script: &[u8], whole: &[u8], most: usize) -> bool {
     for left in 0..=whole.len() {
-        let (ended, out) = run_into(rt.alloc(), script, (left, most));
-        assert!(rt; whole.starts_with(out.taken.as_slice()));
+        let (ended, out) = run_into(alloc, script, (left, most));
         if ended.is_ok() {
-            assert!(rt; out.taken.len() == whole.len());
-            return Ok(());
+            return out.taken.as_slice() == whole;
         }
-        assert!(rt; ended == Err(RunFault::Write));
-        assert!(rt; out.left == 0);
+        if !is_failed(ended, &out, 0) || !whole.starts_with(out.taken.as_slice()) {
+            return false;
+        }
     }
-    return Err("a run that never ends well")?;
+    false
+}
+
+/// Whether a run fails whose writer takes no byte.
+fn is_refused(alloc: Global, script: &[u8]) -> bool {
+    let (ended, out) = run_into(alloc, script, (9, 0));
+    is_failed(ended, &out, 8)
 }
 
 #[test]
@@ -229,11 +233,9 @@ fn runs_stop_where_the_writer_fails(rt: HostRuntime) -> Result<(), Fail> {
         let mut whole: Vec<u8> = Vec::new(rt.alloc());
         assert!(rt; run(rt.alloc(), SOURCE, script, &mut whole) == Ok(()));
         for most in &[1, 2, 7, usize::MAX] {
-            shows_stops(&rt, script, whole.as_slice(), *most)?;
+            assert!(rt; stops(rt.alloc(), script, whole.as_slice(), *most));
         }
-        let (ended, out) = run_into(rt.alloc(), script, (9, 0));
-        assert!(rt; ended == Err(RunFault::Write));
-        assert!(rt; out.left == 8);
+        assert!(rt; is_refused(rt.alloc(), script));
     }
     Ok(())
 }

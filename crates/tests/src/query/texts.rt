@@ -16,7 +16,7 @@ fn shows<D: Display + Drop>(
     want: &str,
 ) -> Result<(), Fail> {
     let text = format!(in rt.alloc(); "{fault}")?;
-    assert_eq!(rt; text.as_str(), want);
+    assert!(rt; text.as_str() == want);
     Ok(())
 }
 

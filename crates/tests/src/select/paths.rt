@@ -20,15 +20,15 @@ const COMBINATORS: [&str; 4] = [" ", " > ", " + ", " ~ "];
 const START: &str = "#start";
 
 /// The path, from its first combinator on.
-fn some_path(alloc: Global, first: &str, dice: &mut Dice) -> Option<String> {
+fn some_path(alloc: Global, first: &str, dice: &mut Dice) -> String {
     let mut text = String::new(alloc);
-    add(&mut text, first)?;
-    add(&mut text, dice.pick(&MINIS))?;
+    add(&mut text, first);
+    add(&mut text, dice.pick(&MINIS));
     for _ in 0..dice.roll(3) {
-        add(&mut text, dice.pick(&COMBINATORS))?;
-        add(&mut text, dice.pick(&MINIS))?;
+        add(&mut text, dice.pick(&COMBINATORS));
+        add(&mut text, dice.pick(&MINIS));
     }
-    Some(text)
+    text
 }
 
 /// An element below the root, if there is one.
@@ -46,15 +46,21 @@ fn some_start(tree: &Tree, dice: &mut Dice) -> Option<NodeId> {
     found
 }
 
+/// The nodes that the selector means.
+fn meant(tree: &Tree, selector: &str) -> Option<Vec<NodeId>> {
+    match Matcher::new(tree.allocator(), selector) {
+        Ok(matcher) => select_below(tree, &NodeId::root(), &matcher).ok(),
+        Err(_) => None,
+    }
+}
+
 /// How many nodes a path leads to from a node; None where the selector means others.
 fn same_from(tree: &Tree, start: NodeId, path: &str, selector: &str) -> Option<usize> {
-    let found = NodeRef::new(start, tree).find_descendants(path).ok()?;
-    let matcher = Matcher::new(tree.allocator(), selector).ok()?;
-    let meant = select_below(tree, &NodeId::root(), &matcher).ok()?;
-    if !are_those(&found, &meant) {
-        return None;
+    let meant = meant(tree, selector)?;
+    match NodeRef::new(start, tree).find_descendants(path) {
+        Ok(found) if are_those(&found, &meant) => Some(found.len()),
+        _ => None,
     }
-    Some(found.len())
 }
 
 /// The same from an element below the root.
@@ -65,19 +71,19 @@ fn same_from_element(document: &mut Document, dice: &mut Dice) -> Option<usize> 
     let alloc = document.tree.allocator();
     let mut node = document.tree.node_mut(&start)?;
     node.set_attr("id", "start").ok()?;
-    let path = some_path(alloc, dice.pick(&COMBINATORS), dice)?;
+    let path = some_path(alloc, dice.pick(&COMBINATORS), dice);
     let mut selector = String::new(alloc);
-    add(&mut selector, START)?;
-    add(&mut selector, path.as_str())?;
+    add(&mut selector, START);
+    add(&mut selector, path.as_str());
     same_from(&document.tree, start, path.as_str(), selector.as_str())
 }
 
 /// The same from the root and from an element of a random forest.
 fn same(alloc: Global, seed: u64) -> Option<usize> {
     let mut dice = Dice { state: seed };
-    let source = markup(alloc, &mut dice)?;
+    let source = markup(alloc, &mut dice);
     let mut document = Document::parse(alloc, source.as_str()).ok()?;
-    let path = some_path(alloc, "", &mut dice)?;
+    let path = some_path(alloc, "", &mut dice);
     let of_root = same_from(&document.tree, NodeId::root(), path.as_str(), path.as_str())?;
     let of_element = same_from_element(&mut document, &mut dice)?;
     Some(of_root.saturating_add(of_element))
