@@ -3,7 +3,7 @@
 
 use dom_query::{
     Attrs, Document, Element, Link, LocalName, Matcher, NodeData, NodeId, QualName, Text, Tree,
-    TreeNode, parse_selector_list, run,
+    TreeNode, ValidateFault, parse_selector_list, run,
 };
 use named_calls::words::cut;
 use std::alloc::Global;
@@ -160,21 +160,35 @@ fn nodes_of(alloc: Global, line: &str) -> Option<Vec<TreeNode>> {
     Some(nodes)
 }
 
+/// What nodes print for a programmer.
+fn printed(alloc: Global, nodes: &[TreeNode]) -> Option<String> {
+    format!(in alloc; "{nodes:?}").ok()
+}
+
 /// Whether the nodes are a forest's, by `from_nodes` and `validate`, and whether they come back as
 /// they were given.
 fn check(rt: &HostRuntime, nodes: Vec<TreeNode>) -> Option<()> {
-    let given = format!(in rt.alloc(); "{nodes:?}").ok()?;
+    let given = printed(rt.alloc(), &nodes)?;
     match Tree::from_nodes(nodes) {
-        Ok(tree) => {
-            let is_kept = format!(in rt.alloc(); "{:?}", tree.nodes()).ok()? == given;
-            let is_valid = tree.validate().is_ok();
-            println!(rt; "forest {is_kept} {is_valid}").ok()
-        }
-        Err((back, fault)) => {
-            let is_kept = format!(in rt.alloc(); "{back:?}").ok()? == given;
-            println!(rt; "{fault:?} {is_kept}").ok()
-        }
+        Ok(tree) => show_forest(rt, &tree, given.as_str()),
+        Err((back, fault)) => show_refused(rt, &back, fault, given.as_str()),
     }
+}
+
+fn show_forest(rt: &HostRuntime, tree: &Tree, given: &str) -> Option<()> {
+    let is_kept = printed(rt.alloc(), tree.nodes())?.as_str() == given;
+    let is_valid = tree.validate().is_ok();
+    println!(rt; "forest {is_kept} {is_valid}").ok()
+}
+
+fn show_refused(
+    rt: &HostRuntime,
+    back: &[TreeNode],
+    fault: ValidateFault,
+    given: &str,
+) -> Option<()> {
+    let is_kept = printed(rt.alloc(), back)?.as_str() == given;
+    println!(rt; "{fault:?} {is_kept}").ok()
 }
 
 /// Answers for the nodes of each line, which stand apart by `;`.

@@ -15,9 +15,14 @@ pub const PAGE: &str = "<html><head><title>Tea | tea.example</title></head><body
 /// Prints the title of the page and, as Markdown, the part that has most to read.
 pub fn print_article<W: Write>(alloc: Global, html: &str, out: &mut W) -> Result<(), TourFault> {
     let document = Document::parse(alloc, html)?;
+    print_title(&document, out)?;
+    print_longest(&document, out)
+}
+
+fn print_title<W: Write>(document: &Document, out: &mut W) -> Result<(), TourFault> {
     let title = document.select_single("title")?;
     writeln!(out, "title: {}", title.text()?)?;
-    print_longest(&document, out)
+    Ok(())
 }
 
 /// Prints the block with most to read, as Markdown.
@@ -26,7 +31,10 @@ fn print_longest<W: Write>(document: &Document, out: &mut W) -> Result<(), TourF
         writeln!(out, "no article")?;
         return Ok(());
     };
-    let article = NodeRef::new(id, &document.tree);
+    print_markdown(&NodeRef::new(id, &document.tree), out)
+}
+
+fn print_markdown<W: Write>(article: &NodeRef<'_>, out: &mut W) -> Result<(), TourFault> {
     writeln!(out, "from: {}", article.id_attr().unwrap_or(""))?;
     writeln!(out, "{}", article.md(None)?)?;
     Ok(())

@@ -9,7 +9,15 @@ use std::io::Write;
 pub fn print_found<W: Write>(alloc: Global, out: &mut W) -> Result<(), TourFault> {
     let page = "<main><p id=a>One</p><p class='new hot'>Two</p><hr><p>Three</p></main>";
     let document = Document::parse(alloc, page)?;
+    print_marked(alloc, &document, out)
+}
 
+/// Prints what a selector marks.
+fn print_marked<W: Write>(
+    alloc: Global,
+    document: &Document,
+    out: &mut W,
+) -> Result<(), TourFault> {
     // A selector is read once, and asked of as many trees as you like.
     let marked = Matcher::new(alloc, "p:is(#a, .hot)")?;
     for paragraph in DescendantMatches::new(document.root(), &marked) {

@@ -18,21 +18,32 @@ mod walking;
 mod writing;
 
 use fault::TourFault;
+use std::alloc::Global;
+use std::io::Write;
+
+/// Prints what the snippets print that read, change and write trees.
+fn print_snippets<W: Write>(alloc: Global, out: &mut W) -> Result<(), TourFault> {
+    links::print_links(alloc, links::PAGE, out)?;
+    reading::print_page(alloc, out)?;
+    finding::print_found(alloc, out)?;
+    walking::print_list(alloc, out)?;
+    changing::print_changed(alloc, out)?;
+    many::print_marked(alloc, out)?;
+    writing::print_written(alloc, out)
+}
+
+/// Prints what the small programs print.
+fn print_programs<W: Write>(alloc: Global, out: &mut W) -> Result<(), TourFault> {
+    parens::print_read(alloc, out)?;
+    addresses::print_links(alloc, addresses::PAGE, out)?;
+    rewriting::print_rewritten(alloc, rewriting::PAGE, out)?;
+    article::print_article(alloc, article::PAGE, out)?;
+    comments::print_comments(alloc, &comments::COMMENTS, out)?;
+    pages::print_page(alloc, pages::PAGE, out)
+}
 
 fn main(rt: HostRuntime) -> Result<(), TourFault> {
-    let alloc = rt.alloc();
     let mut out = rt.stdout();
-    links::print_links(alloc, links::PAGE, &mut out)?;
-    reading::print_page(alloc, &mut out)?;
-    finding::print_found(alloc, &mut out)?;
-    walking::print_list(alloc, &mut out)?;
-    changing::print_changed(alloc, &mut out)?;
-    many::print_marked(alloc, &mut out)?;
-    writing::print_written(alloc, &mut out)?;
-    parens::print_read(alloc, &mut out)?;
-    addresses::print_links(alloc, addresses::PAGE, &mut out)?;
-    rewriting::print_rewritten(alloc, rewriting::PAGE, &mut out)?;
-    article::print_article(alloc, article::PAGE, &mut out)?;
-    comments::print_comments(alloc, &comments::COMMENTS, &mut out)?;
-    pages::print_page(alloc, pages::PAGE, &mut out)
+    print_snippets(rt.alloc(), &mut out)?;
+    print_programs(rt.alloc(), &mut out)
 }

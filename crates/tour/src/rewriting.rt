@@ -13,13 +13,17 @@ pub const PAGE: &str = "<h1>Tea</h1><script>track(1<2)</script>\
 /// Prints the page as it is to be served.
 pub fn print_rewritten<W: Write>(alloc: Global, html: &str, out: &mut W) -> Result<(), TourFault> {
     let mut document = Document::parse(alloc, html)?;
-    clean(&mut document)?;
-    mark_links(&mut document)?;
-    load_late(&mut document)?;
-    dress(&mut document)?;
-    gather_notes(&mut document)?;
+    rewrite(&mut document)?;
     writeln!(out, "{}", document.root().html()?)?;
     Ok(())
+}
+
+fn rewrite(document: &mut Document) -> Result<(), TourFault> {
+    clean(document)?;
+    mark_links(document)?;
+    load_late(document)?;
+    dress(document)?;
+    gather_notes(document)
 }
 
 /// The nodes that the selectors select, to be changed.
