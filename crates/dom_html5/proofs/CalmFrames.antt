@@ -1,5 +1,5 @@
 -- The HTML of a calm document begins with a doctype and `<html`, and ends with the end tags of `body` and `html`.
-use Rattle.std.proofs.Common.{◌≡◌, ℕ, ◌+◌, ◌-◌, false, List, [], ◌∷◌, ◌++◌, length, map, drop, refl, sym, ap, ◌∙◌, subst, arith, append-nil, append_assoc, length-append}
+use Rattle.std.proofs.Common.{◌≡◌, ℕ, ◌+◌, ◌-◌, false, List, [], ◌∷◌, ◌++◌, length, map, drop, take, refl, sym, ap, ◌∙◌, subst, arith, append-nil, append_assoc, length-append}
 use Rattle.std.specs.Prelude.{codes}
 use Rattle.std.specs.Char.{to_ascii_lowercase}
 use Rattle.std.specs.List.{flat_map}
@@ -76,3 +76,9 @@ pub calm_framed : (trees : ValueTrees) → IsCalmDocument trees → IsFramed (te
 calm_framed trees calm =
     subst (λ (ts : ValueTrees). IsFramed (text_of_trees false ts)) (sym calm.is)
     (document_framed calm.html_attributes calm.head_attributes calm.body_attributes calm.head calm.body calm.space)
+
+-- a page with such a frame has no byte order mark
+pub no_mark : (page rest : List ℕ) → page ≡ 239 ∷ 187 ∷ 191 ∷ rest → IsFramed page → ⊥
+no_mark page rest e framed =
+    let front : map to_ascii_lowercase (take 20 (239 ∷ 187 ∷ 191 ∷ rest)) ≡ codes "<!doctype html><html" = ap (λ (bs : List ℕ). map to_ascii_lowercase (take 20 bs)) (sym e) ∙ framed.front in
+    cc

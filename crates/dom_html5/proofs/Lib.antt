@@ -8,3 +8,5 @@ mod MadeNodes
 mod NodeRows
 mod PartLemmas
 mod ScopeLemmas
+mod StackOrder
+mod Ways

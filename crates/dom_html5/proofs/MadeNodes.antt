@@ -8,6 +8,7 @@ use Rattle.std.proofs.lemmas.List.{length_push}
 use Rattle.dom_nodes.specs.Kinds.{children_allowed, contents_named, is_element, is_fragment, is_top}
 use Rattle.dom_nodes.specs.Changes.{with_attrs, with_missing}
 use Rattle.dom_nodes.specs.declared.name.Attr.{Attr}
+use Rattle.dom_nodes.specs.declared.node_data.Element.{Element as Parts}
 use Rattle.dom_nodes.specs.declared.node_data.NodeData.{NodeData}
 use Rattle.dom_nodes.specs.declared.node_data.NodeData.TheVariants.{Document, Fragment, Doctype, Text, Comment, Element, ProcessingInstruction}
 use Rattle.dom_links.specs.Lists.{stands_in, without}
@@ -25,7 +26,9 @@ use Rattle.dom_links.proofs.forest.Neighbours.{stands_in-append, stands_in-witho
 use Rattle.dom_links.proofs.forest.Places.{siblings_child}
 use Rattle.dom_links.specs.AddedTexts.{lengthened, text_before, with_more, with_node_at, with_text_at}
 use Rattle.dom_links.specs.Contents.{changed_at, with_content}
+use Rattle.dom_links.proofs.forest.Changing.{keeps_attrs as kind_with_attrs}
 use Rattle.dom_links.proofs.moves.BlockKept.{children_move}
+use Rattle.dom_links.proofs.texts.AddingTexts.{keeps_longer as kind_longer}
 use Rattle.std.proofs.Common.{Result, Ok, Err, IfOk}
 use Rattle.dom_nodes.specs.declared.fault.EditFault.{EditFault}
 use Rattle.dom_nodes.specs.declared.name.NameParts.{NameParts}
@@ -38,37 +41,42 @@ use Rattle.std.specs.Prelude.{MatchResult}
 use Rattle.dom_html5.specs.declared.fault.PageFault.{PageFault}
 use Rattle.dom_html5.specs.Elements.{limit_of}
 use Rattle.dom_html5.proofs.Enclosing.{children_into}
-use Rattle.dom_html5.specs.Elements.{Grows, IsCopy, IsElement, IsMade, IsNew, IsRooted}
+use Rattle.dom_html5.specs.Elements.{IsCopy, IsElement, IsMade, IsNew, IsRooted}
 
--- ---- what grows
+-- ---- what is kept
 
-pub grows_on : (a b c : Forest) → Grows a b → Grows b c → Grows a c
-grows_on a b c one two = record { elements = λ n h. two.elements n (one.elements n h); root = λ h. two.root (one.root h) }
+-- elements stay elements, and the root stays a document or a fragment
+pub record Keeps (old new : Forest) : Type 0 where
+  pub elements : (n : ℕ) → IsElement old n → IsElement new n
+  pub root : IsRooted old → IsRooted new
 
-pub grows_same : (a b : Forest) → b ≡ a → Grows a b
-grows_same a b e = record {
+pub keeps_on : (a b c : Forest) → Keeps a b → Keeps b c → Keeps a c
+keeps_on a b c one two = record { elements = λ n h. two.elements n (one.elements n h); root = λ h. two.root (one.root h) }
+
+pub keeps_same : (a b : Forest) → b ≡ a → Keeps a b
+keeps_same a b e = record {
   elements = λ n h. ap (λ (f : Forest). element_at f n) e ∙ h;
   root = λ h. ap (λ (f : Forest). option_map_or is_top (slice_get f.content 0) false) e ∙ h;
 }
 
 -- where the data stays
-pub grows_contents : (a b : Forest) → b.content ≡ a.content → Grows a b
-grows_contents a b e = record {
+pub keeps_contents : (a b : Forest) → b.content ≡ a.content → Keeps a b
+keeps_contents a b e = record {
   elements = λ n h. ap (λ (cs : List NodeData). option_map_or is_element (slice_get cs n) false) e ∙ h;
   root = λ h. ap (λ (cs : List NodeData). option_map_or is_top (slice_get cs 0) false) e ∙ h;
 }
 
-pub grows_node : (content : NodeData) (f : Forest) → Grows f (with_node content f)
-grows_node content f = record {
+pub keeps_node : (content : NodeData) (f : Forest) → Keeps f (with_node content f)
+keeps_node content f = record {
   elements = λ n h. test-more is_element f.content content n h;
   root = λ h. test-more is_top f.content content 0 h;
 }
 
-pub grows_new : (f g : Forest) (id : ℕ) → IsNew f g id → Grows f g
-grows_new f g id new = elim new.made [
-  | inl plain ↦ grows_on f (with_node new.content f) g (grows_node new.content f) (grows_same _ g plain.1)
-  | inr holds ↦ grows_on f (with_node new.content f) g (grows_node new.content f)
-      (grows_on (with_node new.content f) (with_lone_template new.content f) g (grows_node Fragment (with_node new.content f)) (grows_same _ g holds.1))
+pub keeps_new : (f g : Forest) (id : ℕ) → IsNew f g id → Keeps f g
+keeps_new f g id new = elim new.made [
+  | inl plain ↦ keeps_on f (with_node new.content f) g (keeps_node new.content f) (keeps_same _ g plain.1)
+  | inr holds ↦ keeps_on f (with_node new.content f) g (keeps_node new.content f)
+      (keeps_on (with_node new.content f) (with_lone_template new.content f) g (keeps_node Fragment (with_node new.content f)) (keeps_same _ g holds.1))
 ]
 
 -- ---- what is new
@@ -167,7 +175,7 @@ known_new f g id new = elim new.made [
       let e = ap (λ (h : Forest). length h.content) holds.1 in (omega (arith, long, more, e), omega (arith, long, more, e, new.number)))
 ]
 
-one_of : (x n : ℕ) → stands_in n (x ∷ []) ≡ true → x ≡ n
+pub one_of : (x n : ℕ) → stands_in n (x ∷ []) ≡ true → x ≡ n
 one_of x n s = elim (cases_Bool (x == n)) [ inl t ↦ eqb-true x n t | inr f ↦ (let no = rw f at s in cc) ]
 
 -- the move of one node is allowed
@@ -191,24 +199,32 @@ new_allowed f g id gap good new opens =
 
 -- ---- copies
 
+-- an element is no other node
+element_is : (o : Option NodeData) → option_map_or is_element o false ≡ true → (e : Parts) × (o ≡ Some (Element e))
+element_is None a = cc
+element_is (Some Document) a = cc
+element_is (Some Fragment) a = cc
+element_is (Some (Element e)) a = (e, refl)
+element_is (Some (Doctype c d e)) a = cc
+element_is (Some (Text c)) a = cc
+element_is (Some (Comment c)) a = cc
+element_is (Some (ProcessingInstruction c d)) a = cc
+
+pub element_no_top : (o : Option NodeData) → option_map_or is_element o false ≡ true → option_map_or is_top o false ≡ false
+element_no_top o a = ap (λ (p : Option NodeData). option_map_or is_top p false) (element_is o a).1
+
+element_allows : (o : Option NodeData) → option_map_or is_element o false ≡ true → option_map_or children_allowed o false ≡ true
+element_allows o a = ap (λ (p : Option NodeData). option_map_or children_allowed p false) (element_is o a).1
+
 pub copy_is_new : (f g : Forest) (id : ℕ) → IsCopy f g id → IsNew f g id
-copy_is_new f g id copy = record { content = copy.content; number = copy.number; movable = element_moves copy.content copy.element; made = inl copy.made }
-  where
-    element_moves : (content : NodeData) → is_element content ≡ true → is_top content ≡ false
-    element_moves Document h = cc
-    element_moves Fragment h = cc
-    element_moves (Element e) h = refl
-    element_moves (Doctype a b c) h = refl
-    element_moves (Text a) h = refl
-    element_moves (Comment a) h = refl
-    element_moves (ProcessingInstruction a b) h = refl
+copy_is_new f g id copy = record { content = copy.content; number = copy.number; movable = element_no_top (Some copy.content) copy.element; made = inl copy.made }
 
 pub element-copied : (f g : Forest) (id : ℕ) → IsCopy f g id → IsElement g id
 unfolding copy_is_new
 element-copied f g id copy = element-made f g id (record { node = copy_is_new f g id copy; element = copy.element })
 
 -- nothing is above a new node without contents
-none_above : (f g : Forest) (id m : ℕ) → IsForest f → IsCopy f g id → IsParentOrHost g m id → ⊥
+pub none_above : (f g : Forest) (id m : ℕ) → IsForest f → IsCopy f g id → IsParentOrHost g m id → ⊥
 none_above f g id m good copy step = at (subst (λ (h : Forest). IsParentOrHost h m id) copy.made.1 step)
   where
     at : IsParentOrHost (with_node copy.content f) m id → ⊥
@@ -222,38 +238,8 @@ none_above f g id m good copy step = at (subst (λ (h : Forest). IsParentOrHost 
     ]
 
 -- the elements are no root
-not_root : (f : Forest) (x : ℕ) → IsRooted f → IsElement f x → (x ≡ 0 → ⊥)
-not_root f x rooted element e = no_both (slice_get f.content 0) rooted (subst (λ (n : ℕ). IsElement f n) e element)
-  where
-    no_both : (o : Option NodeData) → option_map_or is_top o false ≡ true → option_map_or is_element o false ≡ true → ⊥
-    no_both None a b = cc
-    no_both (Some Document) a b = cc
-    no_both (Some Fragment) a b = cc
-    no_both (Some (Element e)) a b = cc
-    no_both (Some (Doctype c d e)) a b = cc
-    no_both (Some (Text c)) a b = cc
-    no_both (Some (Comment c)) a b = cc
-    no_both (Some (ProcessingInstruction c d)) a b = cc
-
-element_no_top : (o : Option NodeData) → option_map_or is_element o false ≡ true → option_map_or is_top o false ≡ false
-element_no_top None a = cc
-element_no_top (Some Document) a = cc
-element_no_top (Some Fragment) a = cc
-element_no_top (Some (Element e)) a = refl
-element_no_top (Some (Doctype c d e)) a = refl
-element_no_top (Some (Text c)) a = refl
-element_no_top (Some (Comment c)) a = refl
-element_no_top (Some (ProcessingInstruction c d)) a = refl
-
-element_allows : (o : Option NodeData) → option_map_or is_element o false ≡ true → option_map_or children_allowed o false ≡ true
-element_allows None a = cc
-element_allows (Some Document) a = refl
-element_allows (Some Fragment) a = refl
-element_allows (Some (Element e)) a = refl
-element_allows (Some (Doctype c d e)) a = cc
-element_allows (Some (Text c)) a = cc
-element_allows (Some (Comment c)) a = cc
-element_allows (Some (ProcessingInstruction c d)) a = cc
+pub not_root : (f : Forest) (x : ℕ) → IsRooted f → IsElement f x → (x ≡ 0 → ⊥)
+not_root f x rooted element e = (let low = element_no_top (slice_get f.content 0) (subst (λ (n : ℕ). IsElement f n) e element) in cc)
 
 top_allows : (o : Option NodeData) → option_map_or is_top o false ≡ true → option_map_or children_allowed o false ≡ true
 top_allows None a = cc
@@ -285,7 +271,7 @@ element_known f x element = within is_element f.content x element
 pub into_copy : (f g : Forest) (id x : ℕ) → IsForest f → IsRooted f → IsElement f x → IsCopy f g id → AllowedList g (EndOf id) (x ∷ [])
 into_copy f g id x good rooted element copy =
     let new = copy_is_new f g id copy in
-    let grown = grows_new f g id new in
+    let grown = keeps_new f g id new in
     let known = element_known f x element in
     one_allowed g (EndOf id) x ((known_new f g id new).1, element_opens g id (element-copied f g id copy)) (record {
       moves = element_moves g x (grown.root rooted) (grown.elements x element);
@@ -307,69 +293,6 @@ children_into_copy f g id p good after copy =
       };
     }
 
--- a node that isn't among those moved was among the children before
-stood : (t m n : ℕ) (moved old : List ℕ) → stands_in n moved ≡ false → stands_in n (cond (m == t) (without moved old ++ moved) (without moved old)) ≡ true → stands_in n old ≡ true
-stood t m n moved old other s = elim (cases_Bool (m == t)) [
-  | inl e ↦ (let both : (stands_in n (without moved old) || stands_in n moved) ≡ true = sym (stands_in-append (without moved old) moved n) ∙ rw e at s in
-      left (stands_in n old) (stands_in n moved) other (ap (λ b. b || stands_in n moved) (sym (stands_in-without moved old n)) ∙ both))
-  | inr f ↦ (let one : stands_in n (without moved old) ≡ true = rw f at s in only (stands_in n old) (stands_in n moved) (sym (stands_in-without moved old n) ∙ one))
-]
-  where
-    left : (a b : Bool) → b ≡ false → ((a && not b) || b) ≡ true → a ≡ true
-    left true b e h = refl
-    left false b e h = (let no : b ≡ true = h in cc)
-
-    only : (a b : Bool) → (a && not b) ≡ true → a ≡ true
-    only true b h = refl
-    only false b h = h
-
--- a step in the forest where the children of p went into t is an old one, or one from p to a child was
-step_reparented : (g h : Forest) (t p m n : ℕ) → IsForest g → IsForest h → h ≡ reparented p (Some t) g → IsParentOrHost h m n → IsParentOrHost g m n ⊎ IsParentOrHost g p n
-step_reparented g h t p m n good after is (inr held) = inl (inr (ap (λ (f : Forest). contents_at f m) (sym is) ∙ held))
-step_reparented g h t p m n good after is (inl q) =
-    let known = step_inside h m n after (inl q) in
-    let above = parent_inside h n m after q in
-    let same = ap (λ (f : Forest). length f.content) is in
-    let each = good.once.children_each in
-    let moved = children_of g p in
-    let here : stands_in n (children_of h m) ≡ true = ap (stands_in n) (sym (siblings_child h n m q)) ∙ after.once.placed n known in
-    let now : stands_in n (children_of (moved_to moved (EndOf t) g) m) ≡ true = ap (λ (f : Forest). stands_in n (children_of f m)) (sym is) ∙ here in
-    let then : stands_in n (cond (m == t) (without moved (children_of g m) ++ moved) (without moved (children_of g m))) ≡ true =
-    ap (stands_in n) (sym (children_into g t m moved (omega (arith, above, same, each)))) ∙ now in
-    elim (cases_Bool (stands_in n moved)) [
-      | inl t ↦ inr (child_step g p n good t)
-      | inr other ↦ inl (child_step g m n good (stood t m n moved (children_of g m) other then))
-    ]
-
--- a way there is an old one, or one from p was
-ways_reparented : (g h : Forest) (t p : ℕ) → IsForest g → IsForest h → h ≡ reparented p (Some t) g → (m n : ℕ) → IsHostAncestor h m n → IsHostAncestor g m n ⊎ IsHostAncestor g p n
-ways_reparented g h t p good after is _ _ (one_step m n step) = elim (step_reparented g h t p m n good after is step) [
-  | inl old ↦ inl (one_step m n old)
-  | inr child ↦ inr (one_step p n child)
-]
-ways_reparented g h t p good after is _ _ (then_step m k n way step) = elim (step_reparented g h t p k n good after is step) [
-  | inr child ↦ inr (one_step p n child)
-  | inl old ↦ (elim (ways_reparented g h t p good after is m k way) [
-    | inl before ↦ inl (then_step m k n before old)
-    | inr below ↦ inr (then_step p k n below old)
-  ])
-]
-
--- the copy that took the children of a node may be put into that node
-pub copy_back : (f g h : Forest) (id p : ℕ) → IsForest f → IsForest g → IsForest h → IsElement f p → IsCopy f g id → h ≡ reparented p (Some id) g → AllowedList h (EndOf p) (id ∷ [])
-copy_back f g h id p good middle after element copy is =
-    let new = copy_is_new f g id copy in
-    let known = element_known f p element in
-    let inside : IsElement h p = (grows_contents g h (ap (λ (k : Forest). k.content) is)).elements p ((grows_new f g id new).elements p element) in
-    one_allowed h (EndOf p) id (element_known h p inside, element_opens h p inside) (record {
-      moves = ap (λ (k : Forest). stays k id) is ∙ moves_new f g id good new;
-      apart = λ e. absurd (omega (arith, known, copy.number, e));
-      free = λ way. elim (ways_reparented g h id p middle after is id p way) [
-        | inl old ↦ (let far = from_new f g id p good new old in absurd (omega (arith, far, known)))
-        | inr circle ↦ middle.acyclic p circle
-      ];
-    })
-
 -- ---- texts and attributes
 
 -- a test that a change keeps is kept
@@ -381,58 +304,29 @@ test-changed test change keeps (y ∷ xs) zero (suc n) h = h
 test-changed test change keeps (y ∷ xs) (suc x) zero h = h
 test-changed test change keeps (y ∷ xs) (suc x) (suc n) h = test-changed test change keeps xs x n h
 
-pub grows_changed : (f : Forest) (x : ℕ) (change : NodeData → NodeData) → ((y : NodeData) → is_element y ≡ true → is_element (change y) ≡ true) → ((y : NodeData) → is_top y ≡ true → is_top (change y) ≡ true) →
-    Grows f (with_content x change f)
-grows_changed f x change elements tops = record {
+pub keeps_changed : (f : Forest) (x : ℕ) (change : NodeData → NodeData) → ((y : NodeData) → is_element y ≡ true → is_element (change y) ≡ true) → ((y : NodeData) → is_top y ≡ true → is_top (change y) ≡ true) →
+    Keeps f (with_content x change f)
+keeps_changed f x change elements tops = record {
   elements = λ n h. test-changed is_element change elements f.content x n h;
   root = λ h. test-changed is_top change tops f.content x 0 h;
 }
 
-element_longer : (more : List ℕ) (y : NodeData) → is_element y ≡ true → is_element (lengthened more y) ≡ true
-element_longer more Document h = h
-element_longer more Fragment h = h
-element_longer more (Element e) h = h
-element_longer more (Doctype a b c) h = h
-element_longer more (Text a) h = h
-element_longer more (Comment a) h = h
-element_longer more (ProcessingInstruction a b) h = h
+-- a change that leaves each element an element
+element_changed : (change : NodeData → NodeData) → ((e : Parts) → is_element (change (Element e)) ≡ true) → (y : NodeData) → is_element y ≡ true → is_element (change y) ≡ true
+element_changed change keeps y h =
+    let found = element_is (Some y) h in
+    let is : y ≡ Element found.0 = (let some = found.1 in cc) in
+    ap (λ (z : NodeData). is_element (change z)) is ∙ keeps found.0
 
-top_longer : (more : List ℕ) (y : NodeData) → is_top y ≡ true → is_top (lengthened more y) ≡ true
-top_longer more Document h = h
-top_longer more Fragment h = h
-top_longer more (Element e) h = h
-top_longer more (Doctype a b c) h = h
-top_longer more (Text a) h = h
-top_longer more (Comment a) h = h
-top_longer more (ProcessingInstruction a b) h = h
+keeps_more : (before : Option ℕ) (gap : Gap) (text : List ℕ) (f : Forest) → Keeps f (with_more before gap text f)
+keeps_more None gap text f = keeps_on f (with_node (Text text) f) _ (keeps_node (Text text) f) (keeps_contents (with_node (Text text) f) (with_node_at gap (Text text) f) refl)
+keeps_more (Some n) gap text f = keeps_changed f n (lengthened text) (element_changed (lengthened text) (λ e. refl)) (λ y top. (kind_longer text y).top ∙ top)
 
-grows_more : (before : Option ℕ) (gap : Gap) (text : List ℕ) (f : Forest) → Grows f (with_more before gap text f)
-grows_more None gap text f = grows_on f (with_node (Text text) f) _ (grows_node (Text text) f) (grows_contents (with_node (Text text) f) (with_node_at gap (Text text) f) refl)
-grows_more (Some n) gap text f = grows_changed f n (lengthened text) (element_longer text) (top_longer text)
+pub keeps_text : (f g : Forest) (gap : Gap) (text : List ℕ) → g ≡ with_text_at gap text f → Keeps f g
+keeps_text f g gap text e = keeps_on f (with_text_at gap text f) g (keeps_more (text_before gap f) gap text f) (keeps_same _ g e)
 
-pub grows_text : (f g : Forest) (gap : Gap) (text : List ℕ) → g ≡ with_text_at gap text f → Grows f g
-grows_text f g gap text e = grows_on f (with_text_at gap text f) g (grows_more (text_before gap f) gap text f) (grows_same _ g e)
-
-element_attrs : (change : List Attr → List Attr) (y : NodeData) → is_element y ≡ true → is_element (with_attrs change y) ≡ true
-element_attrs change Document h = h
-element_attrs change Fragment h = h
-element_attrs change (Element e) h = h
-element_attrs change (Doctype a b c) h = h
-element_attrs change (Text a) h = h
-element_attrs change (Comment a) h = h
-element_attrs change (ProcessingInstruction a b) h = h
-
-top_attrs : (change : List Attr → List Attr) (y : NodeData) → is_top y ≡ true → is_top (with_attrs change y) ≡ true
-top_attrs change Document h = h
-top_attrs change Fragment h = h
-top_attrs change (Element e) h = h
-top_attrs change (Doctype a b c) h = h
-top_attrs change (Text a) h = h
-top_attrs change (Comment a) h = h
-top_attrs change (ProcessingInstruction a b) h = h
-
-pub grows_attrs : (f g : Forest) (x : ℕ) (change : List Attr → List Attr) → g ≡ with_content x (with_attrs change) f → Grows f g
-grows_attrs f g x change e = grows_on f (with_content x (with_attrs change) f) g (grows_changed f x (with_attrs change) (element_attrs change) (top_attrs change)) (grows_same _ g e)
+pub keeps_attrs : (f g : Forest) (x : ℕ) (change : List Attr → List Attr) → g ≡ with_content x (with_attrs change) f → Keeps f g
+keeps_attrs f g x change e = keeps_on f (with_content x (with_attrs change) f) g (keeps_changed f x (with_attrs change) (element_changed (with_attrs change) (λ e. refl)) (λ y top. (kind_with_attrs change y).top ∙ top)) (keeps_same _ g e)
 
 -- ---- places
 
@@ -492,26 +386,18 @@ comment_call (Ok n) call f g text is makes =
     let done = subst (λ (k : Result ℕ EditFault). Makes k f g (making (comment_node text))) is makes in
     record { content = comment_node text; number = done.number; movable = refl; made = inl (refl, done.ok) }
 
-pub text_call : (r : Result Unit EditFault) (f g : Forest) (gap : Gap) (text : List ℕ) → Edits r f g (adding_text gap text) → Grows f g
-text_call (Ok done) f g gap text edits = grows_text f g gap text edits.ok
-text_call (Err fault) f g gap text edits = grows_same f g edits.err
-
-pub attrs_call : (r : Result Unit EditFault) (f g : Forest) (x : ℕ) (attrs : List Attr) → Edits r f g (adding_attrs x attrs) → Grows f g
-attrs_call (Ok done) f g x attrs edits = grows_attrs f g x (with_missing attrs) edits.ok
-attrs_call (Err fault) f g x attrs edits = grows_same f g edits.err
-
 -- a new node may be put at an open gap, and elements stay elements
 pub new_moves : (f g : Forest) (id : ℕ) (gap : Gap) → IsForest f → IsNew f g id → IsOpenGap gap f → MayMove gap (Node id) g
 new_moves f g id gap good new opens = record { known = (known_new f g id new).1; list = new_allowed f g id gap good new opens }
 
-pub grows_put : (f g h : Forest) (id : ℕ) → IsNew f g id → h.content ≡ g.content → Grows f h
-grows_put f g h id new e = grows_on f g h (grows_new f g id new) (grows_contents g h e)
+pub keeps_put : (f g h : Forest) (id : ℕ) → IsNew f g id → h.content ≡ g.content → Keeps f h
+keeps_put f g h id new e = keeps_on f g h (keeps_new f g id new) (keeps_contents g h e)
 
 pub made_put : (f g h : Forest) (id : ℕ) → IsMade f g id → h.content ≡ g.content → IsElement h id
-made_put f g h id new e = (grows_contents g h e).elements id (element-made f g id new)
+made_put f g h id new e = (keeps_contents g h e).elements id (element-made f g id new)
 
 pub copy_put : (f g h : Forest) (id : ℕ) → IsCopy f g id → h.content ≡ g.content → IsElement h id
-copy_put f g h id copy e = (grows_contents g h e).elements id (element-copied f g id copy)
+copy_put f g h id copy e = (keeps_contents g h e).elements id (element-copied f g id copy)
 
 pub forest_copied : (f g : Forest) (id : ℕ) → IsForest f → IsCopy f g id → IsForest g
 forest_copied f g id good copy = subst IsForest (sym copy.made.1) (forest-more copy.content f good (λ c named. no_contents c named))
@@ -522,15 +408,9 @@ forest_copied f g id good copy = subst IsForest (sym copy.made.1) (forest-more c
 pub copy_takes : (f g : Forest) (id x : ℕ) → IsForest f → IsRooted f → IsElement f x → IsCopy f g id → MayMove (EndOf id) (Node x) g
 copy_takes f g id x good rooted element copy =
     let new = copy_is_new f g id copy in
-    record { known = element_known g x ((grows_new f g id new).elements x element); list = into_copy f g id x good rooted element copy }
+    record { known = element_known g x ((keeps_new f g id new).elements x element); list = into_copy f g id x good rooted element copy }
 
 pub copy_takes_children : (f g : Forest) (id p : ℕ) → IsForest f → IsElement f p → IsCopy f g id → MayReparentOf p (Some id) g
 copy_takes_children f g id p good element copy =
     let new = copy_is_new f g id copy in
-    (element_known g p ((grows_new f g id new).elements p element), children_into_copy f g id p good (forest_copied f g id good copy) copy)
-
-pub copy_goes_back : (f g h : Forest) (id p : ℕ) → IsForest f → IsForest h → IsElement f p → IsCopy f g id → h ≡ reparented p (Some id) g → MayMove (EndOf p) (Node id) h
-copy_goes_back f g h id p good after element copy e = record {
-  known = element_known h id ((grows_contents g h (ap (λ (k : Forest). k.content) e)).elements id (element-copied f g id copy));
-  list = copy_back f g h id p good (forest_copied f g id good copy) after element copy e;
-}
+    (element_known g p ((keeps_new f g id new).elements p element), children_into_copy f g id p good (forest_copied f g id good copy) copy)

@@ -74,6 +74,7 @@ impl TreeBuilder {
             tree,
             placing: Placing {
                 foster: false,
+                in_head: false,
                 max_depth: usize::MAX,
             },
             mode: Mode::Initial,

@@ -1,6 +1,7 @@
 //! Pages whose bytes come in pieces.
 
 ghost use Rattle.std.specs.Prelude.{◌≡◌, ◌≤◌, length};
+ghost use Rattle.dom_html5.specs.Calm.{IsFramed};
 ghost use Rattle.dom_html5.specs.Shape.{ReadsPage};
 
 use crate::fault::PageFault;
@@ -31,10 +32,17 @@ impl Waiting {
             return bytes;
         }
         self.is_begun = true;
-        match bytes.strip_prefix(b"\xef\xbb\xbf") {
-            Some(rest) => rest,
-            None => bytes,
-        }
+        without_mark(bytes)
+    }
+}
+
+/// The bytes without a byte order mark at their beginning. The frame of a calm page has none.
+pub(crate) fn without_mark(bytes: &[u8]) -> &[u8]
+    ensures { IsFramed bytes.now → result.now ≡ bytes.now }
+{
+    match bytes.strip_prefix(b"\xef\xbb\xbf") {
+        Some(rest) => rest,
+        None => bytes,
     }
 }
 

@@ -2,6 +2,8 @@
 //! list of active formatting elements, the head and the form element pointer.
 
 ghost use Rattle.std.specs.Prelude.{◌≡◌};
+ghost use Rattle.dom_links.specs.Sound.{IsOpenGap};
+ghost use Rattle.dom_html5.specs.Elements.{IsRooted};
 
 mod adopting;
 mod edits;
@@ -52,28 +54,27 @@ impl Model for GrowingTree {
 impl GrowingTree {
     /// A page with nothing in it.
     pub fn page(alloc: Global) -> Result<GrowingTree, PageFault> {
-        let document = Document::new(alloc)?;
-        Ok(GrowingTree {
-            document,
-            open: OpenElements::new(alloc),
-            formatting: ActiveFormatting::new(alloc),
-            head: None,
-            form: FormPointer::None,
-            context: None,
-        })
+        Ok(GrowingTree::over(alloc, Document::new(alloc)?))
     }
 
     /// A fragment with nothing in it.
     pub fn fragment(alloc: Global) -> Result<GrowingTree, PageFault> {
-        let document = Document::fragment_sink(alloc)?;
-        Ok(GrowingTree {
+        Ok(GrowingTree::over(alloc, Document::fragment_sink(alloc)?))
+    }
+
+    /// A document of which nothing is known yet.
+    fn over(alloc: Global, document: Document) -> GrowingTree
+        requires { IsRooted document.tree }
+        ensures { result ≡ document.tree }
+    {
+        GrowingTree {
             document,
             open: OpenElements::new(alloc),
             formatting: ActiveFormatting::new(alloc),
             head: None,
             form: FormPointer::None,
             context: None,
-        })
+        }
     }
 
     pub fn into_document(self) -> Document {
@@ -120,6 +121,16 @@ impl GrowingTree {
         Ok(())
     }
 
+    /// The gap where a node goes.
+    fn gap(&self, placing: Placing) -> Gap
+        ensures { IsOpenGap result self.now }
+    {
+        match self.head {
+            Some(head) if placing.in_head => Gap::EndOf(head),
+            _ => gap(&self.document.tree, &self.open, placing),
+        }
+    }
+
     /// Inserts the element of a tag, and opens it.
     pub fn insert(
         &mut self,
@@ -128,7 +139,7 @@ impl GrowingTree {
         name: Name,
         tag: &Tag,
     ) -> Result<(), PageFault> {
-        let gap = gap(&self.document.tree, &self.open, placing);
+        let gap = self.gap(placing);
         let open = put_element(&mut self.document.tree, gap, ns, name, tag)?;
         self.open.push(&open)
     }
@@ -160,26 +171,6 @@ impl GrowingTree {
         }
     }
 
-    /// Opens the head again.
-    pub fn open_head(&mut self) -> Result<(), PageFault> {
-        let Some(head) = self.head else {
-            return Ok(());
-        };
-        self.open.push(&Open {
-            id: head,
-            ns: Ns::Html,
-            name: Name::Head,
-            holds_html: false,
-        })
-    }
-
-    /// Takes the head off the stack, wherever it stands.
-    pub fn close_head(&mut self) {
-        if let Some(head) = self.head {
-            self.remove(head);
-        }
-    }
-
     /// Makes the current node the form.
     pub fn set_form(&mut self) {
         if let Some(form) = self.open.current() {
@@ -206,7 +197,7 @@ impl GrowingTree {
 
     /// Inserts characters. The document itself holds none.
     pub fn put_text(&mut self, placing: Placing, text: &str) -> Result<(), PageFault> {
-        let gap = gap(&self.document.tree, &self.open, placing);
+        let gap = self.gap(placing);
         let at_top = is_at_top(&gap);
         if at_top && self.context.is_none() {
             return Ok(());
@@ -216,7 +207,7 @@ impl GrowingTree {
 
     /// Inserts a comment.
     pub fn put_comment(&mut self, placing: Placing, text: &str) -> Result<(), PageFault> {
-        let gap = gap(&self.document.tree, &self.open, placing);
+        let gap = self.gap(placing);
         put_comment(&mut self.document.tree, gap, text)
     }
 
@@ -259,7 +250,7 @@ impl GrowingTree {
         let Some(Entry::Element(open)) = self.formatting.get(index) else {
             return Ok(());
         };
-        let gap = gap(&self.document.tree, &self.open, placing);
+        let gap = self.gap(placing);
         let copy = put_copy(&mut self.document.tree, gap, open)?;
         self.open.push(&copy)?;
         self.formatting.replace(index, &copy);

@@ -1,6 +1,6 @@
 //! Reading a page or a fragment, whole or in pieces.
 
-ghost use Rattle.std.specs.Prelude.{◌≡◌, ◌↔◌, IfOk, IsTrue};
+ghost use Rattle.std.specs.Prelude.{◌≡◌, ◌↔◌, IfOk, IsTrue, IsUtf8};
 ghost use Rattle.dom_links.specs.Forest.{Forest};
 ghost use Rattle.dom_markup.specs.Numbered.{document_of};
 ghost use Rattle.dom_markup.specs.ValueTrees.{ValueTrees};
@@ -9,7 +9,7 @@ ghost use Rattle.dom_html5.specs.Calm.{IsCalmPage, ReadsCalm, SpellsCalmPage};
 ghost use Rattle.dom_html5.specs.Shape.{IsPage, ReadsPage};
 
 use crate::builder::{Mode, TreeBuilder};
-use crate::bytes::Waiting;
+use crate::bytes::{Waiting, without_mark};
 use crate::calm::read_calm;
 use crate::fault::PageFault;
 use crate::growing::GrowingTree;
@@ -109,12 +109,13 @@ pub fn parse_page_bytes(
     source: &[u8],
     options: Options,
 ) -> Result<Document, PageFault>
-    ensures { IfOk result (λ document. IsPage document.tree) }
+    ensures page { IfOk result (λ document. IsPage document.tree) }
+    ensures calm { (trees : ValueTrees) → IsUtf8 source.now → IsCalmPage source.now trees
+        → ReadsCalm options → IfOk result (λ document. document.tree ≡ document_of trees) }
+    ensures same { (forest : Forest) → IsUtf8 source.now → SpellsCalmPage source.now forest
+        → ReadsCalm options → IfOk result (λ document. SameTree forest 0 document.tree 0) }
 {
-    let source = match source.strip_prefix(b"\xef\xbb\xbf") {
-        Some(rest) => rest,
-        None => source,
-    };
+    let source = without_mark(source);
     if let Ok(text) = str::from_utf8(source) {
         return parse_page(alloc, text, options);
     }

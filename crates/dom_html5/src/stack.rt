@@ -1,7 +1,7 @@
 //! The stack of open elements.
 
 ghost use Rattle.std.specs.Prelude.{◌≡◌, [], ◌∷◌, ◌++◌, Contains, IfSome, OnErr, OnOk};
-ghost use Rattle.std.specs.Prelude.{insert, remove, slice_set};
+ghost use Rattle.std.specs.Prelude.{◌+◌, insert, remove, slice_get, slice_set, take};
 ghost use Rattle.std.specs.Option.{option_to_list};
 
 use crate::fault::PageFault;
@@ -55,14 +55,37 @@ impl OpenElements {
         self.elements.len()
     }
 
-    pub fn as_slice(&self) -> &[Open] {
+    pub fn as_slice(&self) -> &[Open]
+        ensures { result.now ≡ self.now.elements.items }
+    {
         self.elements.as_slice()
     }
 
+    /// The elements below a place.
+    pub fn before(&self, place: usize) -> &[Open]
+        ensures { result.now ≡ take place self.now.elements.items }
+    {
+        if place >= self.elements.len() {
+            return self.elements.as_slice();
+        }
+        &self.elements.as_slice()[..place]
+    }
+
     pub fn get(&self, place: usize) -> Option<Open>
-        ensures { IfSome result (Contains self.now.elements.items) }
+        ensures found { IfSome result (Contains self.now.elements.items) }
+        ensures value { result ≡ slice_get self.now.elements.items place }
     {
         self.elements.get(place).copied()
+    }
+
+    /// The element right behind a place.
+    pub fn behind(&self, place: usize) -> Option<Open>
+        ensures { result ≡ slice_get self.now.elements.items (place + 1) }
+    {
+        if place >= self.elements.len() {
+            return None;
+        }
+        self.elements.get(place + 1).copied()
     }
 
     /// The current node.
@@ -133,13 +156,16 @@ impl OpenElements {
         self.count(element, true);
     }
 
-    pub fn insert(&mut self, place: usize, element: &Open) -> Result<(), PageFault>
+    /// Opens an element right behind the one at a place.
+    pub fn insert_behind(&mut self, place: usize, element: &Open) -> Result<(), PageFault>
         ensures ok { let old = self.old.elements.items in
-            OnOk result (self.new.elements.items ≡ insert old place element.now) }
+            OnOk result (self.new.elements.items ≡ insert old (place + 1) element.now) }
         ensures err { OnErr result (self.new.elements.items ≡ self.old.elements.items) }
     {
-        let place = place.min(self.elements.len());
-        self.elements.insert(place, *element)?;
+        if place >= self.elements.len() {
+            return self.push(element);
+        }
+        self.elements.insert(place + 1, *element)?;
         self.count(element, true);
         Ok(())
     }

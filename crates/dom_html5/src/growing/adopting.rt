@@ -1,17 +1,15 @@
 //! Reconstructing the active formatting elements, and the adoption agency algorithm.
 
-ghost use Rattle.std.specs.Prelude.{◌≡◌, IfOk};
-ghost use Rattle.dom_html5.specs.Elements.{Grows, IsElement};
+ghost use Rattle.std.specs.Prelude.{◌≡◌};
+ghost use Rattle.dom_html5.specs.Elements.{IsElement};
 
 use super::GrowingTree;
-use super::edits::{put_children_into_copy, put_into_copy};
+use super::edits::{is_forest, move_to, put_children_into_copy, put_into_copy};
 use super::placing::{Placing, gap_in};
 use crate::fault::PageFault;
 use crate::formatting::Entry;
 use crate::name::Name;
 use crate::stack::Open;
-use dom_links::gap::Moving;
-use dom_nodes::node_id::NodeId;
 
 impl GrowingTree {
     /// Reconstructs the active formatting elements: opens those again that aren't open.
@@ -64,7 +62,8 @@ impl GrowingTree {
     }
 
     /// One round of the outer loop, with the places of the formatting element and of the furthest
-    /// block on the stack.
+    /// block on the stack. From the block down what stands between them leaves the stack or is
+    /// renewed, so what was adopted last stands right behind each place that the loop comes to.
     fn adopt_once(
         &mut self,
         place: usize,
@@ -78,7 +77,7 @@ impl GrowingTree {
             return Ok(());
         };
         let mut bookmark = self.formatting.index_of(formatting.id).unwrap_or(0);
-        let mut last = furthest.id;
+        let mut renewed = false;
         let mut round: usize = 0;
         for node_place in (place.saturating_add(1)..furthest_place).rev() {
             round = round.saturating_add(1);
@@ -87,10 +86,11 @@ impl GrowingTree {
             };
             match self.formatting.index_of(node.id) {
                 Some(index) if round <= 3 => {
-                    if last == furthest.id {
+                    if !renewed {
                         bookmark = index.saturating_add(1);
+                        renewed = true;
                     }
-                    last = self.renew(node_place, index, last)?;
+                    self.renew(node_place, index)?;
                 }
                 Some(index) => {
                     bookmark = self.remove_entry_before(index, bookmark);
@@ -99,71 +99,63 @@ impl GrowingTree {
                 None => self.remove_at(node_place),
             }
         }
-        self.put_below(place.saturating_sub(1), last, foster);
-        self.adopt_children(formatting, furthest.id, bookmark)
+        self.put_below(place, foster);
+        match self.open.place_of(furthest.id) {
+            Some(furthest_place) => self.adopt_children(place, furthest_place, bookmark),
+            None => Ok(()),
+        }
     }
 
-    /// A copy of an element takes its place on the stack and in the list; what was adopted last
-    /// goes below it. Returns the copy.
-    fn renew(&mut self, place: usize, index: usize, last: NodeId) -> Result<NodeId, PageFault>
-        requires { IsElement self.old last }
-        ensures grows { Grows self.old self.new }
-        ensures element { IfOk result (IsElement self.new) }
-    {
-        let Some(node) = self.open.get(place) else {
-            return Ok(last);
+    /// A copy of an element takes its place on the stack and in the list; the element right behind
+    /// it goes below the copy.
+    fn renew(&mut self, place: usize, index: usize) -> Result<(), PageFault> {
+        let (Some(node), Some(last)) = (self.open.get(place), self.open.behind(place)) else {
+            return Ok(());
         };
+        let last = last.id;
         let copy = put_into_copy(&mut self.document.tree, node, last)?;
         self.formatting.replace(index, &copy);
         self.open.replace(place, &copy);
-        Ok(copy.id)
+        Ok(())
     }
 
-    /// Puts what was adopted below the element at a place of the stack, or before a table. Where
-    /// it would come below itself it stays.
-    fn put_below(&mut self, place: usize, last: NodeId, foster: bool)
-        requires { IsElement self.old last }
-        ensures { Grows self.old self.new }
-    {
-        let Some(common) = self.open.get(place) else {
+    /// Puts the element right behind a place of the stack below the one before it, or before a
+    /// table.
+    fn put_below(&mut self, place: usize, foster: bool) {
+        let Some(last) = self.open.behind(place) else {
             return;
         };
-        let gap = gap_in(&self.document.tree, &self.open, foster, common);
-        let _ = self.document.tree.move_to(gap, Moving::Node(last));
+        let gap = gap_in(&self.document.tree, self.open.before(place), foster);
+        is_forest(&self.document.tree);
+        move_to(&mut self.document.tree, gap, last.id);
     }
 
     /// The children of the furthest block go below a copy of the formatting element, and that below
-    /// the block.
+    /// the block. The copy is open in place of the element, right behind the block.
     fn adopt_children(
         &mut self,
-        formatting: Open,
-        furthest: NodeId,
+        place: usize,
+        furthest_place: usize,
         bookmark: usize,
-    ) -> Result<(), PageFault>
-        requires formatting { IsElement self.old formatting.id }
-        requires furthest { IsElement self.old furthest }
-    {
+    ) -> Result<(), PageFault> {
+        let Some(formatting) = self.open.get(place) else {
+            return Ok(());
+        };
+        let Some(furthest) = self.open.get(furthest_place) else {
+            return Ok(());
+        };
+        is_forest(&self.document.tree);
         let old = formatting.id;
-        let copy = self.copy_above_children(formatting, furthest)?;
+        let parent = furthest.id;
+        let copy = put_children_into_copy(&mut self.document.tree, formatting, parent)?;
+        self.open.insert_behind(furthest_place, &copy)?;
         let bookmark = match self.formatting.index_of(old) {
             Some(index) => self.remove_entry_before(index, bookmark),
             None => bookmark,
         };
         self.insert_entry(bookmark, &copy)?;
         self.remove(old);
-        match self.open.place_of(furthest) {
-            Some(place) => self.insert_open(place.saturating_add(1), &copy),
-            None => Ok(()),
-        }
-    }
-
-    /// Puts the children of an element into a copy of another one, and that into the element.
-    fn copy_above_children(&mut self, formatting: Open, furthest: NodeId) -> Result<Open, PageFault>
-        requires formatting { IsElement self.old formatting.id }
-        requires furthest { IsElement self.old furthest }
-        ensures { IfOk result (λ copy. IsElement self.new copy.id) }
-    {
-        put_children_into_copy(&mut self.document.tree, formatting, furthest)
+        Ok(())
     }
 
     /// Adds an entry at an index of the list.
@@ -172,13 +164,6 @@ impl GrowingTree {
         ensures { self.new ≡ self.old }
     {
         self.formatting.insert(index, element)
-    }
-
-    /// Opens an element at a place of the stack.
-    fn insert_open(&mut self, place: usize, element: &Open) -> Result<(), PageFault>
-        requires { IsElement self.old element.now.id }
-    {
-        self.open.insert(place, element)
     }
 
     /// Removes an entry; returns where a bookmark then is.

@@ -7,7 +7,8 @@ ghost use Rattle.dom_links.specs.Moves.{moved_to};
 ghost use Rattle.dom_links.specs.Sound.{IsForest, IsOpenGap};
 ghost use Rattle.dom_links.specs.declared.gap.Moving.TheVariants.{Node};
 ghost use Rattle.dom_trees.specs.Edits.{MayMove, MayReparentOf};
-ghost use Rattle.dom_html5.specs.Elements.{Grows, IsCopy, IsElement, IsMade, IsNew, IsRooted};
+ghost use Rattle.dom_html5.specs.Elements.{Grows, IsAround, IsCopy, IsElement, IsFresh, IsInside};
+ghost use Rattle.dom_html5.specs.Elements.{IsMade, IsNew, IsRooted};
 
 use crate::attributes::{attrs_of, element_name, holds_html};
 use crate::fault::{PageFault, made, settled};
@@ -62,6 +63,7 @@ pub fn put_text(tree: &mut Tree, gap: Gap, text: &str) -> Result<(), PageFault>
     requires { IsOpenGap gap tree.old }
     ensures { Grows tree.old tree.new }
 {
+    is_forest(tree);
     settled(tree.add_text_at(gap, text))
 }
 
@@ -80,6 +82,7 @@ pub fn put_comment(tree: &mut Tree, gap: Gap, text: &str) -> Result<(), PageFaul
 {
     is_forest(tree);
     let comment = create_comment(tree, text)?;
+    is_forest(tree);
     move_to(tree, gap, comment);
     Ok(())
 }
@@ -89,6 +92,7 @@ pub fn put_doctype(tree: &mut Tree, parts: [&str; 3]) -> Result<(), PageFault>
     requires { IsRooted tree.old }
     ensures { Grows tree.old tree.new }
 {
+    is_forest(tree);
     let [name, public_id, system_id] = parts;
     made(tree.append_doctype_of(&NodeId::root(), name, public_id, system_id))?;
     Ok(())
@@ -149,10 +153,11 @@ pub fn put_element(
 ) -> Result<Open, PageFault>
     requires { IsOpenGap gap tree.old }
     ensures grows { Grows tree.old tree.new }
-    ensures element { IfOk result (λ made. IsElement tree.new made.id) }
+    ensures element { IfOk result (λ made. IsFresh tree.old tree.new made.id) }
 {
     is_forest(tree);
     let made = create_for(tree, ns, name, tag)?;
+    is_forest(tree);
     move_to(tree, gap, made.id);
     Ok(made)
 }
@@ -195,7 +200,7 @@ pub fn put_copy(tree: &mut Tree, gap: Gap, element: Open) -> Result<Open, PageFa
     requires gap { IsOpenGap gap tree.old }
     requires element { IsElement tree.old element.id }
     ensures grows { Grows tree.old tree.new }
-    ensures element { IfOk result (λ copy. IsElement tree.new copy.id) }
+    ensures element { IfOk result (λ copy. IsFresh tree.old tree.new copy.id) }
 {
     is_forest(tree);
     let copy = copy_of(tree, element)?;
@@ -209,7 +214,7 @@ pub fn put_into_copy(tree: &mut Tree, element: Open, id: NodeId) -> Result<Open,
     requires element { IsElement tree.old element.id }
     requires moved { IsElement tree.old id }
     ensures grows { Grows tree.old tree.new }
-    ensures element { IfOk result (λ copy. IsElement tree.new copy.id) }
+    ensures element { IfOk result (λ copy. IsAround tree.old tree.new copy.id id) }
 {
     is_forest(tree);
     let copy = copy_of(tree, element)?;
@@ -226,7 +231,7 @@ pub fn put_children_into_copy(
     requires element { IsElement tree.old element.id }
     requires parent { IsElement tree.old parent }
     ensures grows { Grows tree.old tree.new }
-    ensures element { IfOk result (λ copy. IsElement tree.new copy.id) }
+    ensures element { IfOk result (λ copy. IsInside tree.old tree.new copy.id parent) }
 {
     is_forest(tree);
     let copy = copy_of(tree, element)?;

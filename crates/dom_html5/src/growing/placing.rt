@@ -1,8 +1,11 @@
 //! The appropriate place for inserting a node.
 
-ghost use Rattle.std.specs.Prelude.{◌≡◌, true};
+ghost use Rattle.std.specs.Prelude.{◌≡◌, List, ℕ, true};
 ghost use Rattle.dom_links.specs.Sound.{IsOpenGap, children_allowed_at};
+ghost use Rattle.dom_links.specs.Sound.{AtOrBelow, target};
 ghost use Rattle.dom_html5.specs.Elements.{AreOpen, IsElement, IsPlace, IsRooted};
+ghost use Rattle.dom_html5.specs.Elements.{LiesAt, LiesIn};
+ghost use Rattle.dom_html5.specs.declared.stack.Open.{Open as AnOpen};
 
 use super::edits::is_forest;
 use crate::name::Name;
@@ -16,6 +19,8 @@ use dom_trees::tree::Tree;
 pub struct Placing {
     /// Whether foster parenting is on.
     pub foster: bool,
+    /// Whether elements go into the head, behind which the current node stands.
+    pub in_head: bool,
     /// So many elements may lie in one another.
     pub max_depth: usize,
 }
@@ -40,7 +45,9 @@ fn is_foster_target(target: &Open) -> bool {
 /// The contents of a template; else the element itself.
 fn inside(tree: &Tree, id: NodeId) -> NodeId
     requires { IsElement tree.now id }
-    ensures { children_allowed_at tree.now result ≡ true }
+    ensures open { children_allowed_at tree.now result ≡ true }
+    ensures held { (x : ℕ) → IsElement tree.now x → AtOrBelow tree.now x result
+        → AtOrBelow tree.now x id }
 {
     is_forest(tree);
     match tree.tree_node(&id) {
@@ -49,23 +56,36 @@ fn inside(tree: &Tree, id: NodeId) -> NodeId
     }
 }
 
-/// The place with that element as the target.
-fn place_in(tree: &Tree, stack: &OpenElements, foster: bool, target: Open) -> Place
+/// The place with the last of these open elements as the target.
+fn place_in(tree: &Tree, elements: &[Open], foster: bool) -> Place
     requires root { IsRooted tree.now }
-    requires stack { AreOpen tree.now stack.now.elements.items }
-    requires target { IsElement tree.now target.id }
-    ensures { IsPlace tree.now result }
+    requires open { AreOpen tree.now elements.now }
+    ensures place { IsPlace tree.now result }
+    ensures lies { LiesAt tree.now elements.now result }
 {
-    if foster && is_foster_target(&target) {
-        return foster_place(tree, stack);
+    let Some(target) = elements.last() else {
+        return root_place(tree);
+    };
+    if foster && is_foster_target(target) {
+        return foster_place(tree, elements);
     }
     Place::EndOf(inside(tree, target.id))
 }
 
-/// The place on the stack of the last table or template.
-fn last_table(stack: &OpenElements) -> Option<usize> {
-    let mut place = stack.len();
-    for open in stack.as_slice().iter().rev() {
+/// The end of the root.
+fn root_place(tree: &Tree) -> Place
+    requires { IsRooted tree.now }
+    ensures place { IsPlace tree.now result }
+    ensures lies { (elements : List AnOpen) → LiesAt tree.now elements result }
+{
+    is_forest(tree);
+    Place::EndOf(tree.root_id())
+}
+
+/// The place of the last table or template.
+fn last_table(elements: &[Open]) -> Option<usize> {
+    let mut place = elements.len();
+    for open in elements.iter().rev() {
         place = place.saturating_sub(1);
         if open.is_html(Name::Table) || open.is_html(Name::Template) {
             return Some(place);
@@ -75,38 +95,40 @@ fn last_table(stack: &OpenElements) -> Option<usize> {
 }
 
 /// Where foster parenting puts a node: before the last table, or into a template behind it.
-fn foster_place(tree: &Tree, stack: &OpenElements) -> Place
+fn foster_place(tree: &Tree, elements: &[Open]) -> Place
     requires root { IsRooted tree.now }
-    requires stack { AreOpen tree.now stack.now.elements.items }
-    ensures { IsPlace tree.now result }
+    requires open { AreOpen tree.now elements.now }
+    ensures place { IsPlace tree.now result }
+    ensures lies { LiesAt tree.now elements.now result }
 {
-    let Some(place) = last_table(stack) else {
-        return bottom_place(tree, stack);
+    let Some(place) = last_table(elements) else {
+        return bottom_place(tree, elements);
     };
-    let Some(table) = stack.get(place) else {
-        return bottom_place(tree, stack);
+    let Some(table) = elements.get(place) else {
+        return bottom_place(tree, elements);
     };
     if table.is_html(Name::Template) {
         return Place::EndOf(inside(tree, table.id));
     }
     if place == 0 {
-        return bottom_place(tree, stack);
+        return bottom_place(tree, elements);
     }
-    match stack.get(place.saturating_sub(1)) {
+    match elements.get(place.saturating_sub(1)) {
         Some(other) => Place::Table(table.id, other.id),
-        None => bottom_place(tree, stack),
+        None => bottom_place(tree, elements),
     }
 }
 
 /// The end of the element `html`, or of the root where nothing is open.
-fn bottom_place(tree: &Tree, stack: &OpenElements) -> Place
+fn bottom_place(tree: &Tree, elements: &[Open]) -> Place
     requires root { IsRooted tree.now }
-    requires stack { AreOpen tree.now stack.now.elements.items }
-    ensures { IsPlace tree.now result }
+    requires open { AreOpen tree.now elements.now }
+    ensures place { IsPlace tree.now result }
+    ensures lies { LiesAt tree.now elements.now result }
 {
-    match stack.get(0) {
+    match elements.first() {
         Some(html) => Place::EndOf(html.id),
-        None => Place::EndOf(tree.root_id()),
+        None => root_place(tree),
     }
 }
 
@@ -125,7 +147,9 @@ fn place_above(tree: &Tree, id: NodeId) -> Place
 /// The gap at a place.
 fn gap_of(tree: &Tree, place: Place) -> Gap
     requires { IsPlace tree.now place }
-    ensures { IsOpenGap result tree.now }
+    ensures open { IsOpenGap result tree.now }
+    ensures lies { (elements : List AnOpen) → LiesAt tree.now elements place
+        → LiesIn tree.now elements (target result) }
 {
     is_forest(tree);
     match place {
@@ -137,14 +161,14 @@ fn gap_of(tree: &Tree, place: Place) -> Gap
     }
 }
 
-/// The gap where a node goes with that element as the target.
-pub fn gap_in(tree: &Tree, stack: &OpenElements, foster: bool, target: Open) -> Gap
+/// The gap where a node goes with the last of these open elements as the target.
+pub fn gap_in(tree: &Tree, elements: &[Open], foster: bool) -> Gap
     requires root { IsRooted tree.now }
-    requires stack { AreOpen tree.now stack.now.elements.items }
-    requires target { IsElement tree.now target.id }
-    ensures { IsOpenGap result tree.now }
+    requires open { AreOpen tree.now elements.now }
+    ensures open { IsOpenGap result tree.now }
+    ensures lies { LiesIn tree.now elements.now (target result) }
 {
-    gap_of(tree, place_in(tree, stack, foster, target))
+    gap_of(tree, place_in(tree, elements, foster))
 }
 
 /// The gap where a node goes. Where the elements lie as deep as they may, it is behind the current
@@ -154,10 +178,7 @@ pub fn gap(tree: &Tree, stack: &OpenElements, placing: Placing) -> Gap
     requires stack { AreOpen tree.now stack.now.elements.items }
     ensures { IsOpenGap result tree.now }
 {
-    let Some(current) = stack.current() else {
-        return gap_of(tree, Place::EndOf(tree.root_id()));
-    };
-    let place = match place_in(tree, stack, placing.foster, current) {
+    let place = match place_in(tree, stack.as_slice(), placing.foster) {
         Place::EndOf(parent) if stack.len() >= placing.max_depth => place_above(tree, parent),
         place => place,
     };

@@ -200,9 +200,9 @@ impl TreeBuilder {
         if !self.tree.has_head() {
             return Ok(Next::Done);
         }
-        self.tree.open_head()?;
+        self.placing.in_head = true;
         let step = self.head_element(name, tag)?;
-        self.tree.close_head();
+        self.placing.in_head = false;
         Ok(step)
     }
 }

@@ -1,4 +1,4 @@
-use Rattle.dom_html5.proofs.MadeNodes.{attrs_call}
+use Rattle.dom_html5.proofs.Ways.{attrs_call}
 use Rattle.dom_html5.proofs.growing.edits.add_attrs.Goals as goal
 
 pub returns : goal.returns

@@ -1,13 +1,14 @@
-use Rattle.std.proofs.Common.{ap}
-use Rattle.dom_links.specs.Forest.{Forest}
-use Rattle.dom_html5.proofs.MadeNodes.{copy_is_new, copy_put, grows_put, new_moves}
+use Rattle.dom_html5.proofs.MadeNodes.{copy_is_new, forest_copied, new_moves}
+use Rattle.dom_html5.proofs.Ways.{fresh_copy, grows_put}
 use Rattle.dom_html5.proofs.growing.edits.put_copy.Goals as goal
 
 pub move_to-requires : goal.move_to-requires
 move_to-requires c = new_moves _ _ _ _ c.is_forest.ensures (copy_is_new _ _ _ c.in_ok-copy.ensures.ok) c.requires.gap
 
 pub returns-clause-grows : goal.returns-clause-grows
-returns-clause-grows c = grows_put _ _ _ _ (copy_is_new _ _ _ c.in_ok-copy.ensures.ok) (ap (λ (k : Forest). k.content) c.move_to.ensures)
+returns-clause-grows c =
+    let copy = c.in_ok-copy.ensures.ok in
+    grows_put _ _ _ _ _ c.is_forest.ensures (forest_copied _ _ _ c.is_forest.ensures copy) (copy_is_new _ _ _ copy) c.requires.gap c.move_to.ensures
 
 pub returns-clause-element : goal.returns-clause-element
-returns-clause-element c = copy_put _ _ c.move_to.new.tree _ c.in_ok-copy.ensures.ok (ap (λ (k : Forest). k.content) c.move_to.ensures)
+returns-clause-element c = fresh_copy _ _ _ _ _ c.is_forest.ensures c.in_ok-copy.ensures.ok c.requires.gap c.move_to.ensures

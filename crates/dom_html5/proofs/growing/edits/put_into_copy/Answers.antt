@@ -1,13 +1,12 @@
-use Rattle.std.proofs.Common.{ap}
-use Rattle.dom_links.specs.Forest.{Forest}
-use Rattle.dom_html5.proofs.MadeNodes.{copy_is_new, copy_put, copy_takes, grows_put}
+use Rattle.dom_html5.proofs.MadeNodes.{copy_takes}
+use Rattle.dom_html5.proofs.Ways.{grows_around, is_around}
 use Rattle.dom_html5.proofs.growing.edits.put_into_copy.Goals as goal
 
 pub move_to-requires : goal.move_to-requires
 move_to-requires c = copy_takes _ _ _ _ c.is_forest.ensures c.requires.rooted c.requires.moved c.in_ok-copy.ensures.ok
 
 pub returns-clause-grows : goal.returns-clause-grows
-returns-clause-grows c = grows_put _ _ _ _ (copy_is_new _ _ _ c.in_ok-copy.ensures.ok) (ap (λ (k : Forest). k.content) c.move_to.ensures)
+returns-clause-grows c = grows_around _ _ _ _ _ c.is_forest.ensures c.requires.moved c.in_ok-copy.ensures.ok c.move_to.ensures
 
 pub returns-clause-element : goal.returns-clause-element
-returns-clause-element c = copy_put _ _ c.move_to.new.tree _ c.in_ok-copy.ensures.ok (ap (λ (k : Forest). k.content) c.move_to.ensures)
+returns-clause-element c = is_around _ _ _ _ _ c.is_forest.ensures c.requires.moved c.in_ok-copy.ensures.ok c.move_to.ensures
