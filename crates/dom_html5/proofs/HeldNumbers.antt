@@ -1,5 +1,5 @@
 -- The numbers that tree construction holds, as its stack, its list and its tree change.
-use Rattle.std.proofs.Common.{ℕ, ◌≡◌, ◌+◌, suc, List, [], ◌∷◌, ◌++◌, Option, Some, take, drop, length, Result, Ok, Err, sym, ap, subst}
+use Rattle.std.proofs.Common.{ℕ, ◌≡◌, ◌+◌, suc, List, [], ◌∷◌, ◌++◌, Option, Some, take, drop, Result, Ok, Err, sym, ap, subst}
 use Rattle.std.specs.Prelude.{All, OnErr, OnOk, insert, remove, slice_get, slice_set}
 use Rattle.std.specs.Option.{option_to_list}
 use Rattle.std.proofs.lemmas.List.Elements.{All-append, All-cons, All-drop, All-pop, All-push, All-same, All-set, All-take, All-weaker}

@@ -1,29 +1,26 @@
 -- Nodes that tree construction makes, and where they may go.
-use Rattle.std.proofs.Common.{ℕ, ◌≡◌, ◌<◌, ◌≤◌, ◌+◌, Bool, true, false, List, [], ◌∷◌, ◌++◌, Option, Some, None, refl, sym, ap, ◌∙◌, subst, arith, inl, inr, length}
-use Rattle.std.proofs.Common.{zero, suc, cond, ◌⊎◌}
-use Rattle.std.specs.Prelude.{◌==◌, ◌||◌, ◌&&◌, not, slice_get}
+use Rattle.std.proofs.Common.{ℕ, ◌≡◌, ◌<◌, ◌≤◌, ◌+◌, Bool, true, false, List, [], ◌∷◌, Option, Some, None, refl, sym, ap, ◌∙◌, subst, arith, inl, inr, length}
+use Rattle.std.proofs.Common.{zero, suc, ◌⊎◌}
+use Rattle.std.specs.Prelude.{◌==◌, ◌||◌, not, slice_get}
 use Rattle.std.specs.Option.{option_map_or}
 use Rattle.std.proofs.lemmas.Bool.{cases_Bool, eqb-true, ne_eqb}
 use Rattle.std.proofs.lemmas.List.{length_push}
 use Rattle.dom_nodes.specs.Kinds.{children_allowed, contents_named, is_element, is_fragment, is_top}
-use Rattle.dom_nodes.specs.Changes.{with_attrs, with_missing}
+use Rattle.dom_nodes.specs.Changes.{with_attrs}
 use Rattle.dom_nodes.specs.declared.name.Attr.{Attr}
 use Rattle.dom_nodes.specs.declared.node_data.Element.{Element as Parts}
 use Rattle.dom_nodes.specs.declared.node_data.NodeData.{NodeData}
 use Rattle.dom_nodes.specs.declared.node_data.NodeData.TheVariants.{Document, Fragment, Doctype, Text, Comment, Element, ProcessingInstruction}
-use Rattle.dom_links.specs.Lists.{stands_in, without}
+use Rattle.dom_links.specs.Lists.{stands_in}
 use Rattle.dom_links.specs.Forest.{Forest, children_of, parent}
 use Rattle.dom_links.specs.Growth.{IsFree, with_lone_template, with_node}
-use Rattle.dom_links.specs.ListMoves.{AllowedList, element_at, reparented}
-use Rattle.dom_links.specs.Moves.{moved_to}
+use Rattle.dom_links.specs.ListMoves.{AllowedList, element_at}
 use Rattle.dom_links.specs.declared.gap.Gap.{Gap}
 use Rattle.dom_links.specs.declared.gap.Gap.TheVariants.{After, Before, EndOf, FrontOf}
 use Rattle.dom_links.specs.Sound.{IsForest, IsHostAncestor, IsOpenGap, IsParentOrHost, MayPlace, children_allowed_at, contents_at, is_open, one_step, stays, target, then_step}
 use Rattle.dom_links.proofs.forest.Climbs.{contents_at-known, fragment_is_top, no_way}
-use Rattle.dom_links.proofs.forest.Depth.{child_step, parent_inside, step_inside}
+use Rattle.dom_links.proofs.forest.Depth.{child_step, parent_inside}
 use Rattle.dom_links.proofs.forest.Grown.{contents-more, forest-more, new_parentless, parent-more, slice_get-before, slice_get-there, test-more, within}
-use Rattle.dom_links.proofs.forest.Neighbours.{stands_in-append, stands_in-without}
-use Rattle.dom_links.proofs.forest.Places.{siblings_child}
 use Rattle.dom_links.specs.AddedTexts.{lengthened, text_before, with_more, with_node_at, with_text_at}
 use Rattle.dom_links.specs.Contents.{changed_at, with_content}
 use Rattle.dom_links.proofs.forest.Changing.{keeps_attrs as kind_with_attrs}
@@ -33,14 +30,13 @@ use Rattle.std.proofs.Common.{Result, Ok, Err, IfOk}
 use Rattle.dom_nodes.specs.declared.fault.EditFault.{EditFault}
 use Rattle.dom_nodes.specs.declared.name.NameParts.{NameParts}
 use Rattle.dom_links.specs.declared.gap.Moving.TheVariants.{Node}
-use Rattle.dom_trees.specs.Edits.{Edits, Makes, MayMove, MayReparentOf, making}
-use Rattle.dom_trees.specs.Growing.{adding_attrs, adding_text, flagged_element, making_element, with_new_element}
+use Rattle.dom_trees.specs.Edits.{Makes, MayMove, MayReparentOf, making}
+use Rattle.dom_trees.specs.Growing.{flagged_element, making_element, with_new_element}
 use Rattle.dom_trees.specs.NewNodes.{comment_node}
 use Rattle.dom_trees.specs.declared.tree.growing.ElementFlags.{ElementFlags}
 use Rattle.std.specs.Prelude.{MatchResult}
 use Rattle.dom_html5.specs.declared.fault.PageFault.{PageFault}
 use Rattle.dom_html5.specs.Elements.{limit_of}
-use Rattle.dom_html5.proofs.Enclosing.{children_into}
 use Rattle.dom_html5.specs.Elements.{IsCopy, IsElement, IsMade, IsNew, IsRooted}
 
 -- ---- what is kept

@@ -1,5 +1,5 @@
 -- The order of the open elements, as the stack and the tree change.
-use Rattle.std.proofs.Common.{ℕ, ◌≡◌, ◌<◌, ◌≤◌, ◌+◌, suc, List, [], ◌∷◌, ◌++◌, Option, Some, sym, ap, ◌∙◌, subst, zero, arith, inl, inr, take, drop, length}
+use Rattle.std.proofs.Common.{ℕ, ◌≡◌, ◌<◌, ◌≤◌, ◌+◌, suc, List, [], ◌∷◌, ◌++◌, Some, sym, ap, ◌∙◌, subst, zero, arith, inl, inr, take, drop, length}
 use Rattle.std.specs.Prelude.{All, insert, remove, slice_get, slice_set}
 use Rattle.std.specs.List.{AllPairs}
 use Rattle.std.proofs.Math.ListN.{get_or}

@@ -1,18 +1,18 @@
 -- Ways between nodes, after the edits that tree construction makes.
-use Rattle.std.proofs.Common.{ℕ, ◌≡◌, ◌<◌, ◌⊎◌, zero, suc, true, false, List, [], ◌∷◌, ◌++◌, Option, Some, None, Result, Ok, Err, refl, sym, ap, ◌∙◌, subst, arith, inl, inr, cond, length}
-use Rattle.std.specs.Prelude.{◌==◌, MatchResult, slice_get, option_and_then}
+use Rattle.std.proofs.Common.{ℕ, ◌≡◌, ◌<◌, ◌⊎◌, zero, suc, true, false, List, [], ◌∷◌, ◌++◌, Option, Some, None, Result, Ok, Err, refl, sym, ap, ◌∙◌, subst, arith, inl, inr, length}
+use Rattle.std.specs.Prelude.{MatchResult, slice_get, option_and_then}
 use Rattle.std.proofs.lemmas.Bool.{cases_Bool, cond-false}
 use Rattle.std.proofs.lemmas.List.{length_push}
-use Rattle.dom_nodes.specs.Kinds.{contents_named, is_element, is_fragment, is_top}
+use Rattle.dom_nodes.specs.Kinds.{contents_named, is_fragment, is_top}
 use Rattle.dom_nodes.specs.Changes.{with_attrs, with_missing}
 use Rattle.dom_nodes.specs.declared.fault.EditFault.{EditFault}
 use Rattle.dom_nodes.specs.declared.name.Attr.{Attr}
 use Rattle.dom_nodes.specs.declared.node_data.NodeData.{NodeData}
 use Rattle.dom_nodes.specs.declared.node_data.NodeData.TheVariants.{Fragment, Text}
-use Rattle.dom_links.specs.AddedTexts.{lengthened, text_before, with_more, with_text_at}
+use Rattle.dom_links.specs.AddedTexts.{lengthened, text_before, with_more}
 use Rattle.dom_links.specs.Contents.{KeepsKind, changed_at, with_content}
 use Rattle.dom_links.specs.Forest.{Forest, StandsOnce, children_of, parent, siblings}
-use Rattle.dom_links.specs.Growth.{HasFreeContents, with_child, with_lone_template, with_node}
+use Rattle.dom_links.specs.Growth.{HasFreeContents, with_child, with_node}
 use Rattle.dom_links.specs.ListMoves.{AreNodes, reparented}
 use Rattle.dom_links.specs.Lists.{stands_in}
 use Rattle.dom_links.specs.Moves.{cut, moved_to, owner_at, put}
@@ -23,12 +23,12 @@ use Rattle.dom_links.proofs.forest.Appends.{cut-alone, new_alone}
 use Rattle.dom_links.proofs.forest.Changing.{keeps_attrs as kind_with_attrs}
 use Rattle.dom_links.proofs.forest.Climbs.{fragment_is_top, no_way, one_above}
 use Rattle.dom_links.proofs.forest.Depth.{child_step, step_inside}
-use Rattle.dom_links.proofs.forest.Grown.{contents-more, forest-more, parent-more, within}
+use Rattle.dom_links.proofs.forest.Grown.{contents-more, forest-more, parent-more}
 use Rattle.dom_links.proofs.forest.Neighbours.{around}
 use Rattle.dom_links.proofs.forest.Places.{siblings_once}
-use Rattle.dom_links.proofs.moves.Acyclicity.{further, joined, onward}
+use Rattle.dom_links.proofs.moves.Acyclicity.{further, onward}
 use Rattle.dom_links.proofs.moves.BlockCuts.{once-cut_list}
-use Rattle.dom_links.proofs.moves.BlockFills.{AreAlone, FilledList, parent-put_in, parent-put_out}
+use Rattle.dom_links.proofs.moves.BlockFills.{FilledList, parent-put_in, parent-put_out}
 use Rattle.dom_links.proofs.moves.BlockGaps.{put-after, put-before, put-end_of, put-front_of}
 use Rattle.dom_links.proofs.moves.BlockKept.{alone-cut_list, children_are}
 use Rattle.dom_links.proofs.moves.BlockMoves.{no_other}
