@@ -4,6 +4,7 @@ ghost use Rattle.std.specs.Prelude.{◌≡◌, ◌∷◌, ◌++◌, [], IfOk, On
 ghost use Rattle.dom_index.specs.NodeTests.{ArePlain, IsPlain};
 ghost use Rattle.dom_index.specs.Tracks.{AreChainsOf, IsPrepared};
 
+use crate::counting::count_compound;
 use crate::node_tests::NodeTest;
 use dom_nodes::fault::OutOfMemory;
 use dom_selectors::syntax::{Compound, Selector, Step};
@@ -16,6 +17,9 @@ pub(crate) struct Chain<'s> {
     pub(crate) first: &'s Compound,
     pub(crate) steps: &'s [Step],
     pub(crate) tests: Vec<NodeTest<'s>>,
+    /// How many tests the last compound takes at a node, and how many the others.
+    pub(crate) subject_tests: u64,
+    pub(crate) row_tests: u64,
 }
 
 impl<'s> Chain<'s> {
@@ -28,14 +32,20 @@ impl<'s> Chain<'s> {
     {
         let mut tests = Vec::new(tree.allocator());
         push_test(&mut tests, NodeTest::new(first, tree)?)?;
+        let mut subject_tests = count_compound(first);
+        let mut row_tests: u64 = 0;
         for i in 0..steps.len() {
             let test = NodeTest::new(&steps[i].compound, tree)?;
             push_test(&mut tests, test)?;
+            row_tests = row_tests.saturating_add(subject_tests);
+            subject_tests = count_compound(&steps[i].compound);
         }
         Ok(Chain {
             first,
             steps,
             tests,
+            subject_tests,
+            row_tests,
         })
     }
 }

@@ -4,6 +4,7 @@
 mod chains;
 mod collect;
 mod combinators;
+mod counting;
 mod evaluation;
 pub mod index;
 mod node_set;

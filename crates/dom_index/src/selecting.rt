@@ -1,35 +1,37 @@
 //! What a selector selects below some nodes: by a test of each candidate, or by an index of the
 //! tree where that takes less.
 
-ghost use Rattle.std.specs.Prelude.{◌≡◌, ◌∷◌, ◌++◌, [], IfOk, IfSome, OnOk};
+ghost use Rattle.std.specs.Prelude.{◌≡◌, ◌≤◌, ◌∷◌, ◌++◌, ◌+◌, ◌*◌, [], length, IfOk, OnOk};
+ghost use Rattle.dom_select.specs.Descendants.{SelectsWithin};
 ghost use Rattle.dom_select.specs.Selected.{Selected};
+ghost use Rattle.dom_index.specs.CompoundCounts.{selectors_count};
 ghost use Rattle.dom_index.specs.Index.{Finds};
 ghost use Rattle.dom_trees.specs.Views.{refs_to};
 
+use crate::counting::{count_compounds, count_outer};
 use crate::index::TreeIndex;
 use crate::plain::are_plain;
 use crate::streaming::select_plain;
 use dom_nodes::fault::OutOfMemory;
 use dom_nodes::node_id::NodeId;
 use dom_select::matcher::Matcher;
-use dom_select::matcher::descendants::select_below;
-use dom_select::matcher::several::{select_below_all, select_within};
+use dom_select::matcher::several::select_metered;
 use dom_selectors::syntax::{Combinator, Compound, Nested, Selector, Step};
 use dom_trees::node_ref::NodeRef;
 use dom_trees::tree::Tree;
 
-/// How many steps of a match are worth an index, for each node of the tree.
-const STEPS_PER_NODE: u64 = 8;
+/// How many tests are worth an index, for each node of the tree, beside one for each compound.
+const MORE_TESTS_PER_NODE: u64 = 8;
 
 /// How many compounds a list may have to be selected in one traversal, which keeps for each node of
 /// the path a number for each selector and a flag for each combinator.
-const MOST_COMPOUNDS: usize = 32;
+const MOST_COMPOUNDS: u64 = 32;
 
 /// The numbers of the elements below the roots that match one of the matcher's selectors, each
-/// once, in the order of the traversals. Each candidate is tested where that takes few steps. Where
+/// once, in the order of the traversals. Each candidate is tested where that takes few tests. Where
 /// descendant combinators may take more, flags along the path of one traversal state which
-/// compounds are reached; with other combinators, or `:has`, an index is made once very many steps
-/// were taken. Where `:has` has descendant or `~` combinators, it is made at once.
+/// compounds are reached; with other combinators, or `:has`, an index is made once very many tests
+/// were made. Where `:has` has descendant or `~` combinators, it is made at once.
 pub fn select_ids(
     tree: &Tree,
     roots: &[NodeId],
@@ -37,32 +39,61 @@ pub fn select_ids(
 ) -> Result<Vec<NodeId>, OutOfMemory>
     ensures { IfOk result (λ ids. Selected tree.now roots.now matcher.now ids.items) }
 {
-    let selectors = matcher.selectors();
-    if needs_index(selectors) {
-        return select_by_index(tree, roots, matcher);
-    }
-    if !needs_budget(selectors) {
-        return select_by_node(tree, roots, matcher);
-    }
-    match select_along_path(tree, roots, matcher)? {
-        Some(ids) => Ok(ids),
-        None => select_within_budget(tree, roots, matcher),
-    }
+    let mut tests = 0;
+    select_counted(tree, roots, matcher, &mut tests)
 }
 
-/// The same as `select_ids`: by a test of each candidate, or by an index of the tree where that
-/// takes very many steps.
-fn select_within_budget(
+/// The same. It adds to `tests` how many tests of one compound at one node were made, after a
+/// refusal too. A step of a match to another node counts as a test. What is tested at each candidate
+/// is counted for all nodes at once, and a row of flags as a whole, also where fewer tests do.
+pub fn select_counted(
     tree: &Tree,
     roots: &[NodeId],
     matcher: &Matcher,
+    tests: &mut u128,
 ) -> Result<Vec<NodeId>, OutOfMemory>
-    ensures { IfOk result (λ ids. Selected tree.now roots.now matcher.now ids.items) }
+    ensures found { IfOk result (λ ids. Selected tree.now roots.now matcher.now ids.items) }
+    ensures tests { tests.new
+        ≤ tests.old + (2 * selectors_count matcher.now + 8) * length tree.now.content }
 {
-    match select_within(tree, roots, matcher, step_budget(tree))? {
-        Some(ids) => Ok(ids),
-        None => select_by_index(tree, roots, matcher),
+    if needs_index(matcher.selectors()) {
+        return select_by_index(tree, roots, matcher, tests);
     }
+    let limit = test_limit(tree, matcher);
+    let mut left = limit;
+    let found = select_within_limit(tree, roots, matcher, &mut left);
+    *tests = tests.saturating_add(limit.saturating_sub(left) as u128);
+    match found? {
+        Some(ids) => Ok(ids),
+        None => select_by_index(tree, roots, matcher, tests),
+    }
+}
+
+/// How many tests may be made before an index is.
+fn test_limit(tree: &Tree, matcher: &Matcher) -> u64
+    ensures { result ≤ (selectors_count matcher.now + 8) * length tree.now.content }
+{
+    let compounds = count_compounds(matcher.selectors());
+    let each = compounds.saturating_add(MORE_TESTS_PER_NODE);
+    each.saturating_mul(tree.len() as u64)
+}
+
+/// The same as `select_ids`, or None where that takes more tests than `left`, from which those that
+/// are made are taken.
+fn select_within_limit(
+    tree: &Tree,
+    roots: &[NodeId],
+    matcher: &Matcher,
+    left: &mut u64,
+) -> Result<Option<Vec<NodeId>>, OutOfMemory>
+    ensures { SelectsWithin result tree.now roots.now matcher.now }
+{
+    if needs_budget(matcher.selectors()) {
+        if let Some(ids) = select_along_path(tree, roots, matcher, left)? {
+            return Ok(Some(ids));
+        }
+    }
+    select_metered(tree, roots, matcher, left)
 }
 
 /// The nodes of the numbers that `select_ids` returns.
@@ -77,16 +108,21 @@ pub fn select_nodes<'a>(
     nodes_of(tree, &ids)
 }
 
-/// The same as `select_ids`, by an index of the tree.
+/// The same as `select_counted`, by an index of the tree.
 fn select_by_index(
     tree: &Tree,
     roots: &[NodeId],
     matcher: &Matcher,
+    tests: &mut u128,
 ) -> Result<Vec<NodeId>, OutOfMemory>
-    ensures { IfOk result (λ ids. Selected tree.now roots.now matcher.now ids.items) }
+    ensures found { IfOk result (λ ids. Selected tree.now roots.now matcher.now ids.items) }
+    ensures tests { tests.new
+        ≤ tests.old + selectors_count matcher.now * length tree.now.content }
 {
     let mut index = TreeIndex::new(tree)?;
-    index.select_ids(matcher, roots)
+    let found = index.select_ids(matcher, roots);
+    *tests = tests.saturating_add(index.tests());
+    found
 }
 
 /// The same below one root, for a few compounds with descendant and child combinators alone and
@@ -95,45 +131,21 @@ fn select_along_path(
     tree: &Tree,
     roots: &[NodeId],
     matcher: &Matcher,
+    left: &mut u64,
 ) -> Result<Option<Vec<NodeId>>, OutOfMemory>
-    ensures { IfOk result (λ found. IfSome found
-        (λ ids. Selected tree.now roots.now matcher.now ids.items)) }
+    ensures { SelectsWithin result tree.now roots.now matcher.now }
 {
     let [root] = roots else {
         return Ok(None);
     };
     let selectors = matcher.selectors();
-    if count_compounds(selectors) > MOST_COMPOUNDS {
+    if count_outer(selectors) > MOST_COMPOUNDS {
         return Ok(None);
     }
     if !are_plain(selectors) {
         return Ok(None);
     }
-    let ids = select_plain(tree, root, selectors)?;
-    Ok(Some(ids))
-}
-
-/// How many compounds the selectors have, but for nested ones.
-fn count_compounds(selectors: &[Selector]) -> usize {
-    let mut count = selectors.len();
-    for selector in selectors {
-        count = count.saturating_add(selector.rest.len());
-    }
-    count
-}
-
-/// The same, by a test of each candidate.
-fn select_by_node(
-    tree: &Tree,
-    roots: &[NodeId],
-    matcher: &Matcher,
-) -> Result<Vec<NodeId>, OutOfMemory>
-    ensures { IfOk result (λ ids. Selected tree.now roots.now matcher.now ids.items) }
-{
-    match roots {
-        [root] => select_below(tree, root, matcher),
-        _ => select_below_all(tree, roots, matcher),
-    }
+    select_plain(tree, root, selectors, left)
 }
 
 /// The nodes of these numbers.
@@ -156,11 +168,6 @@ fn push_node<'a>(nodes: &mut Vec<NodeRef<'a>>, node: &NodeRef<'a>) -> Result<(),
         Ok(()) => Ok(()),
         Err(_) => Err(OutOfMemory),
     }
-}
-
-/// How many steps are worth an index of the tree.
-fn step_budget(tree: &Tree) -> u64 {
-    (tree.len() as u64).saturating_mul(STEPS_PER_NODE)
 }
 
 /// Whether the test of one candidate may visit all nodes for each of them: by descendant or `~`

@@ -34,12 +34,37 @@ struct Rows {
 }
 
 /// What the selectors of a traversal share: sibling indexes, by number the place on the path at
-/// which a node was added last, and room for nodes that are still to be added.
+/// which a node was added last, room for nodes that are still to be added, and how many tests may
+/// still be made.
 #[derive(Drop)]
 struct Shared<'t> {
     caches: SelectorCaches<'t>,
     places: Vec<u32>,
     missing: Vec<NodeId>,
+    tests_left: u64,
+}
+
+/// Why a traversal stops: memory was refused, or no more tests may be made.
+#[derive(Clone, Copy)]
+enum Halt {
+    Memory,
+    Spent,
+}
+
+impl From<OutOfMemory> for Halt {
+    fn from(_fault: OutOfMemory) -> Halt {
+        Halt::Memory
+    }
+}
+
+/// Takes the tests of a row from those that may still be made.
+#[inline(always)]
+fn take_row(chain: &Chain<'_>, left: &mut u64) -> Result<(), Halt> {
+    if chain.row_tests > *left {
+        return Err(Halt::Spent);
+    }
+    *left -= chain.row_tests;
+    Ok(())
 }
 
 /// Whether all nodes above are left operands of the combinator.
@@ -216,7 +241,7 @@ fn follow(
     rows: &mut Rows,
     visited: &Visited<'_>,
     shared: &mut Shared<'_>,
-) -> Result<(), OutOfMemory>
+) -> Result<(), Halt>
     requires { IsFollowing chain.now rows.old visited.now.tree.now shared.old.caches }
     ensures following { OnOk result
         (IsFollowing chain.now rows.new visited.now.tree.now shared.new.caches) }
@@ -228,6 +253,7 @@ fn follow(
     let depth = find_missing(&rows.path, &shared.places, visited, &mut shared.missing)?;
     cut(chain, rows, depth);
     while let Some(id) = shared.missing.pop() {
+        take_row(chain, &mut shared.tests_left)?;
         let above = Visited::new(tree, id);
         enter(chain, rows, &above, &mut shared.caches, &mut shared.places)?;
     }
@@ -241,7 +267,7 @@ fn visit(
     rows: &mut Rows,
     visited: &Visited<'_>,
     shared: &mut Shared<'_>,
-) -> Result<bool, OutOfMemory>
+) -> Result<bool, Halt>
     requires { IsFollowing chain.now rows.old visited.now.tree.now shared.old.caches }
     ensures is { IfOk result
         (λ b. Decides b (Reaches chain.now visited.now.tree.now visited.now.id)) }
@@ -268,7 +294,7 @@ fn visit_all(
     rows: &mut Vec<Rows>,
     visited: &Visited<'_>,
     shared: &mut Shared<'_>,
-) -> Result<bool, OutOfMemory>
+) -> Result<bool, Halt>
     requires { AreFollowing chains.now rows.old.items visited.now.tree.now shared.old.caches }
     ensures is { IfOk result
         (λ b. Decides b (SomeReaches chains.now visited.now.tree.now visited.now.id)) }
@@ -291,7 +317,7 @@ fn is_selected(
     tree: &Tree,
     id: NodeId,
     shared: &mut Shared<'_>,
-) -> Result<bool, OutOfMemory>
+) -> Result<bool, Halt>
     requires { AreFollowing chains.now rows.old.items tree.now shared.old.caches }
     ensures is { IfOk result (λ b. Decides b (IsReached chains.now tree.now id)) }
     ensures following { OnOk result
@@ -334,43 +360,66 @@ fn push_rows(all: &mut Vec<Rows>, rows: Rows) -> Result<(), OutOfMemory>
     }
 }
 
-/// The elements below the root that one of the selectors matches.
+/// The elements below the root that one of the selectors matches, or None where that took too many
+/// tests.
 fn select_along(
     tree: &Tree,
     root: &NodeId,
     chains: &[Chain<'_>],
-) -> Result<Vec<NodeId>, OutOfMemory>
-    requires { ArePrepared chains.now }
-    ensures { IfOk result (λ ids. FiltersTo (IsReached chains.now tree.now)
-        (walk_below tree.now root.now) ids.items) }
+    shared: &mut Shared<'_>,
+) -> Result<Option<Vec<NodeId>>, OutOfMemory>
+    requires prepared { ArePrepared chains.now }
+    requires caches { shared.old.caches ≡ tree.now }
+    ensures { IfOk result (λ found. IfSome found (λ ids. FiltersTo (IsReached chains.now tree.now)
+        (walk_below tree.now root.now) ids.items)) }
 {
     let mut rows = empty_paths(tree, chains)?;
-    let mut shared = Shared {
-        caches: SelectorCaches::new(tree),
-        places: vec![in tree.allocator(); 0; tree.len()]?,
-        missing: Vec::new(tree.allocator()),
-    };
     let mut matched = Vec::new(tree.allocator());
     for id in tree.descendant_ids_of_it(root) {
-        if !is_selected(chains, &mut rows, tree, id, &mut shared)? {
-            continue;
+        match is_selected(chains, &mut rows, tree, id, shared) {
+            Ok(true) => matched.push(id)?,
+            Ok(false) => {}
+            Err(Halt::Spent) => return Ok(None),
+            Err(Halt::Memory) => return Err(OutOfMemory),
         }
-        matched.push(id)?;
     }
-    Ok(matched)
+    Ok(Some(matched))
 }
 
-/// The elements below the root that one of the plain selectors matches.
+/// How many tests the last compounds take where they are tested at all nodes of the tree.
+fn subject_tests(tree: &Tree, chains: &[Chain<'_>]) -> u64 {
+    let mut count: u64 = 0;
+    for i in 0..chains.len() {
+        count = count.saturating_add(chains[i].subject_tests);
+    }
+    count.saturating_mul(tree.len() as u64)
+}
+
+/// The elements below the root that one of the plain selectors matches. `left` is how many tests
+/// may be made, and what is left of them when it returns; None where more were needed.
 pub(crate) fn select_plain(
     tree: &Tree,
     root: &NodeId,
     selectors: &[Selector],
-) -> Result<Vec<NodeId>, OutOfMemory>
+    left: &mut u64,
+) -> Result<Option<Vec<NodeId>>, OutOfMemory>
     requires { ArePlain selectors.now }
-    ensures { IfOk result (λ ids. Selected tree.now (root.now ∷ [])
-        (read_list selectors.now) ids.items) }
+    ensures { IfOk result (λ found. IfSome found (λ ids. Selected tree.now (root.now ∷ [])
+        (read_list selectors.now) ids.items)) }
 {
     forest_laws(tree);
     let chains = prepare_all(selectors, tree)?;
-    select_along(tree, root, &chains)
+    let asked = subject_tests(tree, &chains);
+    if asked > *left {
+        return Ok(None);
+    }
+    let mut shared = Shared {
+        caches: SelectorCaches::new(tree),
+        places: vec![in tree.allocator(); 0; tree.len()]?,
+        missing: Vec::new(tree.allocator()),
+        tests_left: *left - asked,
+    };
+    let found = select_along(tree, root, &chains, &mut shared);
+    *left = shared.tests_left;
+    found
 }
