@@ -31,8 +31,7 @@ use Rattle.dom_links.proofs.moves.BlockCuts.{once-cut_list}
 use Rattle.dom_links.proofs.moves.BlockFills.{FilledList, parent-put_in, parent-put_out}
 use Rattle.dom_links.proofs.moves.BlockGaps.{put-after, put-before, put-end_of, put-front_of}
 use Rattle.dom_links.proofs.moves.BlockKept.{alone-cut_list, children_are}
-use Rattle.dom_links.proofs.moves.BlockMoves.{no_other}
-use Rattle.dom_links.proofs.moves.Cuts.{parent-cut}
+use Rattle.dom_links.proofs.moves.Cuts.{no_other, parent-cut}
 use Rattle.dom_links.proofs.texts.AddingTexts.{keeps_longer as kind_longer}
 use Rattle.dom_links.specs.declared.gap.Moving.TheVariants.{Node}
 use Rattle.dom_trees.specs.Edits.{Edits, Makes, MayMove, appending}
