@@ -1,5 +1,6 @@
 -- Texts of nodes, joined, of which a beginning was written.
-use Rattle.std.proofs.Common.{◌≡◌, ◌<◌, ◌+◌, ℕ, List, [], ◌++◌, Option, sym, ◌∙◌, ap, append_assoc, append-nil, take, drop, length, get_or, subst}
+use Rattle.std.proofs.Common.{◌≡◌, ◌<◌, ◌≤◌, ◌+◌, ℕ, List, [], ◌++◌, Option, sym, ◌∙◌, ap, append_assoc, append-nil, take, drop, length, get_or, subst}
+use Rattle.std.proofs.lemmas.List.{take_all}
 use Rattle.std.specs.List.{flat_map}
 use Rattle.std.specs.Io.KnownBytes.{Appends}
 use Rattle.dom_markup.specs.Writing.{AppendsBeginning}
@@ -23,3 +24,9 @@ module _ (f : ℕ → List ℕ) (ns : List ℕ) (k n : ℕ) (within : k < length
   -- then a beginning of the next one's was
   pub joined-next : (text : List ℕ) → text ≡ f n → Appends a b (flat_map f (take k ns)) → AppendsBeginning b c text → AppendsBeginning a c (flat_map f ns ++ end)
   joined-next text so written begun = fault-first a c _ _ _ (beginning-then a b c (flat_map f (take k ns)) (f n) written (subst (AppendsBeginning b c) so begun)) split
+
+-- all the texts were written, and then a beginning of what follows them
+pub joined-all : (f : ℕ → List ℕ) (ns : List ℕ) (k : ℕ) → length ns ≤ k → (a b c : Option (List ℕ)) (end : List ℕ)
+    → Appends a b (flat_map f (take k ns)) → AppendsBeginning b c end → AppendsBeginning a c (flat_map f ns ++ end)
+joined-all f ns k past a b c end written begun =
+    subst (λ ms. AppendsBeginning a c (flat_map f ms ++ end)) (take_all k ns past) (beginning-then a b c (flat_map f (take k ns)) end written begun)

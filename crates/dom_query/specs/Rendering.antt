@@ -1,5 +1,5 @@
 -- What lines write of the selected nodes.
-use Rattle.std.specs.Prelude.{ℕ, List, [], ◌∷◌, ◌++◌, Option, Result, decimal, length, unwrap_or}
+use Rattle.std.specs.Prelude.{ℕ, Bool, false, true, List, [], ◌∷◌, ◌++◌, Option, Result, decimal, length, unwrap_or}
 use Rattle.std.specs.List.{flat_map}
 use Rattle.dom_links.specs.Forest.{Forest}
 use Rattle.dom_links.specs.Texts.{text_of}
@@ -21,6 +21,11 @@ first_html scope forest (n ∷ ns) = html_in scope forest n
 abbrev pub first_attr : List ℕ → Forest → List ℕ → List ℕ
 first_attr name forest [] = []
 first_attr name forest (n ∷ ns) = unwrap_or (node_attr forest n name) []
+
+-- the text of a node, plain or formatted
+abbrev pub node_text : Bool → Forest → ℕ → List ℕ
+node_text false = text_of
+node_text true = formatted_node
 
 -- the texts of the nodes, joined
 abbrev pub texts_of : Forest → List ℕ → List ℕ

@@ -1,10 +1,10 @@
 //! What lines write.
 
-ghost use Rattle.std.specs.Prelude.{◌≡◌, decimal, length, IfErr};
+ghost use Rattle.std.specs.Prelude.{◌≡◌, decimal, length, string_bytes, IfErr, IfOk};
+ghost use Rattle.std.specs.List.{flat_map};
 ghost use Rattle.dom_markup.specs.Scopes.{html_in};
 ghost use Rattle.dom_query.specs.Faults.{GaveOut};
-ghost use Rattle.dom_query.specs.Rendering.{first_attr, first_html, formatted_of, PutsLine};
-ghost use Rattle.dom_query.specs.Rendering.{rendered, texts_of};
+ghost use Rattle.dom_query.specs.Rendering.{first_attr, first_html, node_text, rendered, PutsLine};
 
 use crate::numbers::write_number;
 use crate::runner::RunFault;
@@ -12,6 +12,7 @@ use crate::script::Rendering;
 use dom_markup::serializing::{NodeMarkup, TraversalScope, WriteFault};
 use dom_markup::writing::write_bytes;
 use dom_md::formatting::formatted_node;
+use dom_nodes::fault::OutOfMemory;
 use dom_nodes::node_id::NodeId;
 use dom_trees::node_ref::NodeRef;
 use dom_trees::tree::Tree;
@@ -25,26 +26,30 @@ fn write_count<W: Write>(selection: &[NodeId], out: &mut W) -> Result<(), WriteF
     write_bytes(out, b"\n")
 }
 
-/// Writes the texts of the nodes, and a line feed.
-fn write_texts<W: Write>(tree: &Tree, selection: &[NodeId], out: &mut W) -> Result<(), RunFault>
-    ensures writes { PutsLine W.contents out.old out.new result (texts_of tree.now selection.now) }
-    ensures cause { IfErr result GaveOut }
+/// The text of the node, plain or formatted.
+fn node_text(tree: &Tree, id: NodeId, formatted: bool) -> Result<String, OutOfMemory>
+    ensures { IfOk result (λ text. string_bytes text ≡ node_text formatted tree.now id) }
 {
-    for id in selection {
-        let text = NodeRef::new(*id, tree).text()?;
-        write_bytes(out, text.as_bytes())?;
+    let node = NodeRef::new(id, tree);
+    if formatted {
+        return formatted_node(&node);
     }
-    Ok(write_bytes(out, b"\n")?)
+    node.text()
 }
 
-/// Writes the formatted texts of the nodes, each with its own tags, and a line feed.
-fn write_formatted<W: Write>(tree: &Tree, selection: &[NodeId], out: &mut W) -> Result<(), RunFault>
+/// Writes the texts of the nodes, plain or formatted, each with its own tags, and a line feed.
+fn write_texts<W: Write>(
+    tree: &Tree,
+    selection: &[NodeId],
+    formatted: bool,
+    out: &mut W,
+) -> Result<(), RunFault>
     ensures writes { PutsLine W.contents out.old out.new result
-        (formatted_of tree.now selection.now) }
+        (flat_map (node_text formatted tree.now) selection.now) }
     ensures cause { IfErr result GaveOut }
 {
     for id in selection {
-        let text = formatted_node(&NodeRef::new(*id, tree))?;
+        let text = node_text(tree, *id, formatted)?;
         write_bytes(out, text.as_bytes())?;
     }
     Ok(write_bytes(out, b"\n")?)
@@ -115,8 +120,8 @@ pub fn render<W: Write>(
 {
     match rendering {
         Rendering::Count => write_count(selection, out)?,
-        Rendering::Text => write_texts(tree, selection, out)?,
-        Rendering::Formatted => write_formatted(tree, selection, out)?,
+        Rendering::Text => write_texts(tree, selection, false, out)?,
+        Rendering::Formatted => write_texts(tree, selection, true, out)?,
         Rendering::Html => write_first(tree, selection, TraversalScope::IncludeNode, out)?,
         Rendering::InnerHtml => write_first(tree, selection, TraversalScope::ChildrenOnly, out)?,
         Rendering::Document => write_node(tree, NodeId::root(), TraversalScope::IncludeNode, out)?,

@@ -1,7 +1,0 @@
-use Rattle.std.proofs.Common.{take}
-use Rattle.std.specs.Io.KnownBytes.{Appends}
-use Rattle.dom_query.specs.Rendering.{formatted_of}
-use Rattle.dom_query.proofs.runner.rendering.write_formatted.Given as goal
-
-abbrev pub invariant-loop-id : goal.invariant-loop-id
-invariant-loop-id g l = Appends (g.W.Write.contents l.fn.out) (g.W.Write.contents l.out) (formatted_of l.tree (take l.id-index l.selection))
