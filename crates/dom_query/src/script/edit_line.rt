@@ -90,11 +90,7 @@ pub fn are_names(text: &str) -> bool
 pub fn names_of(alloc: Global, text: &str) -> Result<Vec<&str>, OutOfMemory>
     ensures { IfOk result (λ names. map (λ name. name.now) names.items ≡ names_in text.now) }
 {
-    let mut names = Vec::new(alloc);
-    for name in text.split(' ') {
-        names.push(name)?;
-    }
-    Ok(names)
+    Ok(text.split(' ').collect(alloc)?)
 }
 
 /// The edit that the line is, if it is one without an argument.

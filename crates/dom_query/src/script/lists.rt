@@ -52,11 +52,7 @@ pub fn lists_behind(alloc: Global, line: &str) -> Result<Option<Text>, OutOfMemo
 pub fn lists_of(alloc: Global, text: &str) -> Result<Vec<&str>, OutOfMemory>
     ensures { IfOk result (λ lists. map (λ list. list.now) lists.items ≡ lists_in text.now) }
 {
-    let mut lists = Vec::new(alloc);
-    for list in text.split(';') {
-        lists.push(list)?;
-    }
-    Ok(lists)
+    Ok(text.split(';').collect(alloc)?)
 }
 
 /// The names of a list.
