@@ -10,10 +10,8 @@ use Rattle.dom_selectors.specs.Grammar.{StandsFor}
 use Rattle.dom_selectors.specs.Syntax.{SelectorList}
 use Rattle.dom_query.specs.declared.script.Command.TheVariants.{Nothing, Query, Navigate, Render, Attr, Edit, Sanitize}
 use Rattle.dom_query.specs.declared.script.Navigation.{Navigation}
-use Rattle.dom_query.specs.declared.script.Navigation.TheVariants.{Parent, Children, Ancestors, Next, Prev, First, Last}
 use Rattle.dom_query.specs.declared.script.QueryKind.TheVariants.{Select, Find, Filter, Add}
 use Rattle.dom_query.specs.declared.script.Rendering.{Rendering}
-use Rattle.dom_query.specs.declared.script.Rendering.TheVariants.{Count, Text, Formatted, Html, InnerHtml, Document}
 use Rattle.dom_query.specs.Cleaning.{IsNoSanitize, are_lists}
 use Rattle.dom_query.specs.EditLine.{IsNoEdit}
 use Rattle.dom_query.specs.Script.{HasNoSelector, HasSelector, IsBad, IsNoQuery, navigation_word, rendering_word}
@@ -51,42 +49,6 @@ argument-once line word a b (inl p) (inl q) = let e : 32 ∷ a ≡ 32 ∷ b = be
 argument-once line word a b (inl p) (inr q) = let e : 32 ∷ a ≡ [] = behind-is line word (32 ∷ a) [] p (q.0 ∙ sym (append-nil word)) in cc
 argument-once line word a b (inr p) (inl q) = let e : 32 ∷ b ≡ [] = behind-is line word (32 ∷ b) [] q (p.0 ∙ sym (append-nil word)) in cc
 argument-once line word a b (inr p) (inr q) = p.1 ∙ sym q.1
-
--- the line is no direction
-pub record IsNoNavigation (line : List ℕ) : Type 0 where
-  pub parent : line ≢ codes "parent"
-  pub children : line ≢ codes "children"
-  pub ancestors : line ≢ codes "ancestors"
-  pub next : line ≢ codes "next"
-  pub prev : line ≢ codes "prev"
-  pub first : line ≢ codes "first"
-  pub last : line ≢ codes "last"
-
-pub no-navigation : (line : List ℕ) → IsNoNavigation line → (navigation : Navigation) → line ≢ navigation_word navigation
-no-navigation line none Parent e = none.parent e
-no-navigation line none Children e = none.children e
-no-navigation line none Ancestors e = none.ancestors e
-no-navigation line none Next e = none.next e
-no-navigation line none Prev e = none.prev e
-no-navigation line none First e = none.first e
-no-navigation line none Last e = none.last e
-
--- the line renders nothing
-pub record IsNoRendering (line : List ℕ) : Type 0 where
-  pub count : line ≢ codes "count"
-  pub text : line ≢ codes "text"
-  pub formatted : line ≢ codes "formatted"
-  pub html : line ≢ codes "html"
-  pub inner_html : line ≢ codes "inner-html"
-  pub document : line ≢ codes "document"
-
-pub no-rendering : (line : List ℕ) → IsNoRendering line → (rendering : Rendering) → line ≢ rendering_word rendering
-no-rendering line none Count e = none.count e
-no-rendering line none Text e = none.text e
-no-rendering line none Formatted e = none.formatted e
-no-rendering line none Html e = none.html e
-no-rendering line none InnerHtml e = none.inner_html e
-no-rendering line none Document e = none.document e
 
 -- the line is no query
 pub no-query : (line : List ℕ) → HasNoSelector line (codes "select") → HasNoSelector line (codes "find") → HasNoSelector line (codes "filter") → HasNoSelector line (codes "add") → IsNoQuery line
