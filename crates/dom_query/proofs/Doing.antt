@@ -14,7 +14,7 @@ use Rattle.dom_select.specs.Selected.{Selected}
 use Rattle.dom_sanitize.specs.Clean.{Lists}
 use Rattle.dom_sanitize.specs.Laws.{HasOneClean}
 use Rattle.dom_query.specs.declared.script.Command.{Command}
-use Rattle.dom_query.specs.declared.script.Command.TheVariants.{Nothing, Query, Navigate, Render, Attr, Edit, Sanitize}
+use Rattle.dom_query.specs.declared.script.Command.TheVariants.{Query, Edit, Sanitize}
 use Rattle.dom_query.specs.declared.script.QueryKind.{QueryKind}
 use Rattle.dom_query.specs.declared.script.QueryKind.TheVariants.{Select, Find, Filter, Add}
 use Rattle.dom_query.specs.Cleaning.{allow_of}
@@ -50,37 +50,24 @@ queried-once one forest (n ∷ ns) Add selector a b (more, p, is) (others, q, so
 -- a command writes one text and leaves one selection and one forest at most
 pub does-once : OneSelection → OneClean → (forest : Forest) (selection : List ℕ) (command : Command) (text other selected others : List ℕ) (after last : Forest)
     → Does forest selection command text after selected → Does forest selection command other last others → (text ≡ other) × (selected ≡ others) × (after ≡ last)
-does-once one clean forest selection Nothing text other selected others after last a b = (a.0 ∙ sym b.0, a.1 ∙ sym b.1, a.2 ∙ sym b.2)
 does-once one clean forest selection (Query kind selector) text other selected others after last a b =
     (a.0 ∙ sym b.0, queried-once one forest selection kind selector selected others a.1 b.1, a.2 ∙ sym b.2)
-does-once one clean forest selection (Navigate navigation) text other selected others after last a b = (a.0 ∙ sym b.0, a.1 ∙ sym b.1, a.2 ∙ sym b.2)
-does-once one clean forest selection (Render rendering) text other selected others after last a b = (a.0 ∙ sym b.0, a.1 ∙ sym b.1, a.2 ∙ sym b.2)
-does-once one clean forest selection (Attr name) text other selected others after last a b = (a.0 ∙ sym b.0, a.1 ∙ sym b.1, a.2 ∙ sym b.2)
 does-once one clean forest selection (Edit edit) text other selected others after last a b =
     (a.0 ∙ sym b.0, a.1 ∙ sym b.1, each-once (line_edit edit) (targets edit selection) forest after last a.2 b.2)
 does-once one clean forest selection (Sanitize lists) text other selected others after last a b =
     (a.0 ∙ sym b.0, a.1 ∙ sym b.1, clean (allow_of lists) forest a.2.was after last a.2.is b.2.is a.2.cleaned b.2.cleaned)
+does-once one clean forest selection _ text other selected others after last a b = (a.0 ∙ sym b.0, a.1 ∙ sym b.1, a.2 ∙ sym b.2)
 
 -- a command that is done isn't refused
 does-not-fail : (forest : Forest) (selection : List ℕ) (command : Command) (text selected : List ℕ) (after : Forest) (fault : EditFault)
     → Does forest selection command text after selected → Fails forest selection command fault → IsRefusal fault → ⊥
-does-not-fail forest selection Nothing text selected after fault does fails is = fails
-does-not-fail forest selection (Query kind selector) text selected after fault does fails is = fails
-does-not-fail forest selection (Navigate navigation) text selected after fault does fails is = fails
-does-not-fail forest selection (Render rendering) text selected after fault does fails is = fails
-does-not-fail forest selection (Attr name) text selected after fault does fails is = fails
-does-not-fail forest selection (Sanitize lists) text selected after fault does fails is = fails
 does-not-fail forest selection (Edit edit) text selected after fault does fails is = done-not-refused edit (targets edit selection) forest after fault does.2 fails is
+does-not-fail forest selection _ text selected after fault does fails is = fails
 
 fails-once : (forest : Forest) (selection : List ℕ) (command : Command) (fault other : EditFault)
     → Fails forest selection command fault → Fails forest selection command other → IsRefusal fault → IsRefusal other → fault ≡ other
-fails-once forest selection Nothing fault other p q is so = absurd p
-fails-once forest selection (Query kind selector) fault other p q is so = absurd p
-fails-once forest selection (Navigate navigation) fault other p q is so = absurd p
-fails-once forest selection (Render rendering) fault other p q is so = absurd p
-fails-once forest selection (Attr name) fault other p q is so = absurd p
-fails-once forest selection (Sanitize lists) fault other p q is so = absurd p
 fails-once forest selection (Edit edit) fault other p q is so = refused-once edit (targets edit selection) forest fault other p q is so
+fails-once forest selection _ fault other p q is so = absurd p
 
 -- commands write one text and end in one way at most
 pub does-all-once : OneSelection → OneClean → (forest : Forest) (selection : List ℕ) (line : ℕ) (commands : List Command) (text other : List ℕ) (ending last : Ending) → IsEnding ending → IsEnding last

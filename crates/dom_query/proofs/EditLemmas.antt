@@ -15,10 +15,10 @@ use Rattle.std.proofs.lemmas.Bool.{false≢true}
 use Rattle.dom_links.specs.Insertions.{gap_at}
 use Rattle.dom_links.specs.Sound.{is_open}
 use Rattle.dom_links.specs.declared.gap.Place.{Place}
-use Rattle.dom_links.specs.declared.gap.Place.TheVariants.{After, Around, AtEnd, AtFront, Before, InsteadOfChildren, InsteadOfNode}
+use Rattle.dom_links.specs.declared.gap.Place.TheVariants.{AtEnd, AtFront, InsteadOfChildren}
 use Rattle.dom_edits.specs.Edits.{Each, PutKnownCause, putting_known}
 use Rattle.dom_query.specs.declared.script.edit_line.EditLine.{EditLine}
-use Rattle.dom_query.specs.declared.script.edit_line.EditLine.TheVariants.{SetAttr, RemoveAttr, Rename, AddClass, RemoveClass, SetText, Strip, Put, Remove, Unwrap, Normalize}
+use Rattle.dom_query.specs.declared.script.edit_line.EditLine.TheVariants.{SetText, Strip, Put, Remove, Unwrap}
 use Rattle.dom_query.specs.Editing.{EditsOrFails, FailsAtOne, IsRefusal, line_edit, rewriting}
 
 -- ---- changes of data
@@ -28,14 +28,8 @@ each-rewrites change [] old new done = done
 each-rewrites change (n ∷ ns) old new done = (done.0, each-rewrites change ns _ new done.1)
 
 rewrite-cause : (n : ℕ) (change : Change) (forest : Forest) (fault : EditFault) → ChangeCause n change forest fault → JoinCause n forest fault
-rewrite-cause n change forest UnknownNode evidence = evidence
 rewrite-cause n change forest Memory evidence = tt
-rewrite-cause n change forest NoChildrenHere evidence = evidence
-rewrite-cause n change forest RootOrFragment evidence = evidence
-rewrite-cause n change forest Cycle evidence = evidence
-rewrite-cause n change forest TooManyNodes evidence = evidence
-rewrite-cause n change forest BadContents evidence = evidence
-rewrite-cause n change forest (Markup fault) evidence = evidence
+rewrite-cause n change forest _ evidence = evidence
 
 fails-rewrites : (change : Change) (ns : List ℕ) (old : Forest) (fault : EditFault) → FailsAtOne (λ n. changing n change) ns old fault → FailsAtOne (rewriting (changed change)) ns old fault
 fails-rewrites change ns old fault (done, after, stops) = (
@@ -60,35 +54,20 @@ line-rewrites (Err fault) old new ns change evidence is edits = record {
 
 -- ---- refusals
 
-known-unknown : (n : ℕ) (forest : Forest) (fault : EditFault) → KnownCause n forest fault → (fault ≡ UnknownNode) × (length forest.content ≤ n)
-known-unknown n forest UnknownNode evidence = (refl, evidence)
-known-unknown n forest Memory evidence = absurd evidence
-known-unknown n forest NoChildrenHere evidence = absurd evidence
-known-unknown n forest RootOrFragment evidence = absurd evidence
-known-unknown n forest Cycle evidence = absurd evidence
-known-unknown n forest TooManyNodes evidence = absurd evidence
-known-unknown n forest BadContents evidence = absurd evidence
-known-unknown n forest (Markup fault) evidence = absurd evidence
+known-unknown : (n : ℕ) (forest : Forest) (fault : EditFault) → IsRefusal fault → KnownCause n forest fault → (fault ≡ UnknownNode) × (length forest.content ≤ n)
+known-unknown n forest UnknownNode is evidence = (refl, evidence)
+known-unknown n forest _ is evidence = absurd evidence
 
 join-unknown : (n : ℕ) (forest : Forest) (fault : EditFault) → IsRefusal fault → JoinCause n forest fault → (fault ≡ UnknownNode) × (length forest.content ≤ n)
 join-unknown n forest UnknownNode is evidence = (refl, evidence)
 join-unknown n forest Memory is evidence = absurd is
-join-unknown n forest NoChildrenHere is evidence = absurd evidence
-join-unknown n forest RootOrFragment is evidence = absurd evidence
-join-unknown n forest Cycle is evidence = absurd evidence
-join-unknown n forest TooManyNodes is evidence = absurd evidence
-join-unknown n forest BadContents is evidence = absurd evidence
-join-unknown n forest (Markup fault) is evidence = absurd evidence
+join-unknown n forest _ is evidence = absurd evidence
 
 set-unknown : (n : ℕ) (forest : Forest) (fault : EditFault) → IsRefusal fault → SetCause n forest fault → (fault ≡ UnknownNode) × (length forest.content ≤ n)
 set-unknown n forest UnknownNode is evidence = (refl, evidence)
 set-unknown n forest Memory is evidence = absurd is
-set-unknown n forest NoChildrenHere is evidence = absurd evidence
-set-unknown n forest RootOrFragment is evidence = absurd evidence
-set-unknown n forest Cycle is evidence = absurd evidence
 set-unknown n forest TooManyNodes is evidence = absurd is
-set-unknown n forest BadContents is evidence = absurd evidence
-set-unknown n forest (Markup fault) is evidence = absurd evidence
+set-unknown n forest _ is evidence = absurd evidence
 
 -- ---- one refusal
 
@@ -119,19 +98,13 @@ lacks-children : (place : Place) (n : ℕ) (forest : Forest) → LacksChildren f
 lacks-children AtEnd n forest lacks = (refl, lacks)
 lacks-children AtFront n forest lacks = (refl, lacks)
 lacks-children InsteadOfChildren n forest lacks = (refl, lacks)
-lacks-children Before n forest lacks = absurd lacks
-lacks-children After n forest lacks = absurd lacks
-lacks-children InsteadOfNode n forest lacks = absurd lacks
-lacks-children Around n forest lacks = absurd lacks
+lacks-children _ n forest lacks = absurd lacks
 
 lacks-siblings : (place : Place) (n : ℕ) (forest : Forest) → LacksSiblings forest (gap_at place n) → (RootOrFragment ≡ fault_for place) × (is_open (gap_at place n) forest ≡ false)
 lacks-siblings AtEnd n forest lacks = absurd lacks
 lacks-siblings AtFront n forest lacks = absurd lacks
 lacks-siblings InsteadOfChildren n forest lacks = absurd lacks
-lacks-siblings Before n forest lacks = (refl, ap not lacks)
-lacks-siblings After n forest lacks = (refl, ap not lacks)
-lacks-siblings InsteadOfNode n forest lacks = (refl, ap not lacks)
-lacks-siblings Around n forest lacks = (refl, ap not lacks)
+lacks-siblings _ n forest lacks = (refl, ap not lacks)
 
 -- x is unknown, or known and closed there
 abbrev PutRefusal : Place → ℕ → Forest → EditFault → Type 0
@@ -165,17 +138,12 @@ puts-once place read = record {
 }
 
 line-refusal : (edit : EditLine) → HasOneRefusal (line_edit edit)
-line-refusal (SetAttr name value) = unknown-once _ (record { known = λ n forest may. may; unknown = join-unknown })
-line-refusal (RemoveAttr name) = unknown-once _ (record { known = λ n forest may. may; unknown = join-unknown })
-line-refusal (Rename name) = unknown-once _ (record { known = λ n forest may. may; unknown = join-unknown })
-line-refusal (AddClass classes) = unknown-once _ (record { known = λ n forest may. may; unknown = join-unknown })
-line-refusal (RemoveClass classes) = unknown-once _ (record { known = λ n forest may. may; unknown = join-unknown })
 line-refusal (SetText text) = unknown-once _ (record { known = λ n forest may. may; unknown = set-unknown })
-line-refusal (Strip names) = unknown-once _ (record { known = λ n forest may. may; unknown = λ n forest fault is evidence. known-unknown n forest fault evidence })
+line-refusal (Strip names) = unknown-once _ (record { known = λ n forest may. may; unknown = known-unknown })
 line-refusal (Put place read) = puts-once place read
-line-refusal Remove = unknown-once _ (record { known = λ n forest may. may; unknown = λ n forest fault is evidence. known-unknown n forest fault evidence })
-line-refusal Unwrap = unknown-once _ (record { known = λ n forest may. may; unknown = λ n forest fault is evidence. known-unknown n forest fault evidence })
-line-refusal Normalize = unknown-once _ (record { known = λ n forest may. may; unknown = join-unknown })
+line-refusal Remove = unknown-once _ (record { known = λ n forest may. may; unknown = known-unknown })
+line-refusal Unwrap = unknown-once _ (record { known = λ n forest may. may; unknown = known-unknown })
+line-refusal _ = unknown-once _ (record { known = λ n forest may. may; unknown = join-unknown })
 
 -- what is done at each of the nodes leaves one forest
 pub each-once : (edit : ℕ → TreeEdit) (ns : List ℕ) (old a b : Forest) → Each edit ns old a → Each edit ns old b → a ≡ b

@@ -11,7 +11,7 @@ use Rattle.dom_query.specs.declared.script.Navigation.TheVariants.{Parent, Child
 use Rattle.dom_query.specs.declared.script.QueryKind.{QueryKind}
 use Rattle.dom_query.specs.declared.script.QueryKind.TheVariants.{Select, Find, Filter, Add}
 use Rattle.dom_query.specs.declared.script.Rendering.TheVariants.{Count, Text, Formatted, Html, InnerHtml, Document}
-use Rattle.dom_query.specs.Script.{AreCommands, FirstBad, HasSelector, IsBad, IsCommand, IsNoScript, IsScript, lines_of, query_word}
+use Rattle.dom_query.specs.Script.{AreCommands, FirstBad, HasSelector, IsBad, IsCommand, IsNoScript, IsScript, lines_of, navigation_word, query_word, rendering_word}
 use Rattle.dom_links.specs.Forest.{Forest}
 use Rattle.dom_links.specs.declared.gap.Place.{Place}
 use Rattle.dom_links.specs.declared.gap.Place.TheVariants.{After, Around, AtEnd, AtFront, Before, InsteadOfChildren, InsteadOfNode}
@@ -146,22 +146,11 @@ with_markup line word place read h spaced bare = with_argument line word h.0 (pu
 is_read : (line : List ℕ) (command : Command) → IsCommand line command → IsReadAs (reading (word_in line)) line command
 is_read line Nothing p = at_word line [] Nothing p refl
 is_read line (Query Select selector) p = with_argument line (codes "select") p.0 (kind Select) (Query Select selector) p.1 refl refl (query_read line Select selector p)
-is_read line (Query Find selector) p = with_argument line (codes "find") p.0 (kind Find) (Query Find selector) p.1 refl refl (query_read line Find selector p)
-is_read line (Query Filter selector) p = with_argument line (codes "filter") p.0 (kind Filter) (Query Filter selector) p.1 refl refl (query_read line Filter selector p)
-is_read line (Query Add selector) p = with_argument line (codes "add") p.0 (kind Add) (Query Add selector) p.1 refl refl (query_read line Add selector p)
+is_read line (Query other selector) p = with_argument line (query_word other) p.0 (kind other) (Query other selector) p.1 refl refl (query_read line other selector p)
 is_read line (Navigate Parent) p = at_word line (codes "parent") (Navigate Parent) p refl
-is_read line (Navigate Children) p = at_word line (codes "children") (Navigate Children) p refl
-is_read line (Navigate Ancestors) p = at_word line (codes "ancestors") (Navigate Ancestors) p refl
-is_read line (Navigate Next) p = at_word line (codes "next") (Navigate Next) p refl
-is_read line (Navigate Prev) p = at_word line (codes "prev") (Navigate Prev) p refl
-is_read line (Navigate First) p = at_word line (codes "first") (Navigate First) p refl
-is_read line (Navigate Last) p = at_word line (codes "last") (Navigate Last) p refl
+is_read line (Navigate other) p = at_word line (navigation_word other) (Navigate other) p refl
 is_read line (Render Count) p = at_word line (codes "count") (Render Count) p refl
-is_read line (Render Text) p = at_word line (codes "text") (Render Text) p refl
-is_read line (Render Formatted) p = at_word line (codes "formatted") (Render Formatted) p refl
-is_read line (Render Html) p = at_word line (codes "html") (Render Html) p refl
-is_read line (Render InnerHtml) p = at_word line (codes "inner-html") (Render InnerHtml) p refl
-is_read line (Render Document) p = at_word line (codes "document") (Render Document) p refl
+is_read line (Render other) p = at_word line (rendering_word other) (Render other) p refl
 is_read line (Attr name) p = with_text line (codes "attr") name Attr p.0 refl refl
 is_read line (Edit (SetAttr name value)) p =
     with_argument line (codes "set-attr") p.0 setting (Edit (SetAttr name value)) p.1 refl refl (record { argument = p.0; name = name; value = value; has = p.1; pair = p.2; is = refl })
