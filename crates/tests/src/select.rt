@@ -1,5 +1,6 @@
 //! Tests of `dom_select`.
 
 mod closures;
+mod counted;
 mod paths;
 mod roots;
