@@ -1,12 +1,13 @@
 -- Texts of words with one space between any two, and lists of words.
-use Rattle.std.proofs.Common.{◌≡◌, ℕ, ◌<◌, List, [], ◌∷◌, ◌++◌, length, Bool, true, false, not, ◌&&◌, ◌||◌, cond, codes, is_some, refl, sym, ap, ◌∙◌, inl, inr, append_assoc, append-nil, arith}
+use Rattle.std.proofs.Common.{◌≡◌, ℕ, ◌+◌, ◌<◌, ◌≤◌, List, [], ◌∷◌, ◌++◌, length, Bool, true, false, not, ◌&&◌, ◌||◌, cond, codes, is_some, refl, sym, ap, ◌∙◌, inl, inr, append_assoc, append-nil, arith}
 use Rattle.std.proofs.lemmas.Bool.{cases_Bool}
 use Rattle.std.proofs.lemmas.List.Elements.{filter-append}
 use Rattle.std.proofs.lemmas.List.Folds.{list_any-append}
 use Rattle.std.proofs.lemmas.Slice.Eq.{bytes_eq-Decides}
 use Rattle.std.specs.Char.{is_ascii_whitespace}
-use Rattle.std.specs.List.{filter}
+use Rattle.std.specs.List.{AllPass, filter}
 use Rattle.std.specs.Str.{NoCharPasses, bytes_eq}
+use Rattle.std.specs.Str.Iter.{IsAsciiSeparator}
 use Rattle.dom_nodes.specs.declared.name.Attr.{Attr}
 use Rattle.dom_nodes.specs.declared.case_sensitivity.CaseSensitivity.{CaseSensitivity}
 use Rattle.dom_nodes.specs.Attrs.{attr_of}
@@ -55,6 +56,22 @@ words-split text space rest white =
 pub record IsWord (word : List ℕ) : Type 0 where
   pub some : 0 < length word
   pub dark : NoCharPasses is_ascii_whitespace word
+
+-- what an iterator over the words of a text says of a word that it gives, and of the text that is left
+abbrev pub CutsWord : List ℕ → List ℕ → List ℕ → Type 0
+CutsWord text word rest =
+    (0 < length word) × NoCharPasses is_ascii_whitespace word × (length word + length rest ≤ length text)
+    × ((gap : List ℕ) × (sep : List ℕ) × (text ≡ gap ++ (word ++ (sep ++ rest))) × AllPass is_ascii_whitespace gap × IsAsciiSeparator sep rest)
+
+pub record IsFirstWord (text word rest : List ℕ) : Type 0 where
+  pub is_word : IsWord word
+  pub words : words_of text ≡ word ∷ words_of rest
+
+pub first_word : (text word rest : List ℕ) → CutsWord text word rest → IsFirstWord text word rest
+first_word text word rest h = record {
+  is_word = record { some = h.0; dark = h.1 };
+  words = words-cut text h.3.0 word h.3.1 rest h.3.2 h.0 h.1 h.3.3 h.3.4;
+}
 
 pub words-one : (word : List ℕ) → IsWord word → words_of word ≡ word ∷ []
 words-one word h = words-cut word [] word [] [] (sym (append-nil word)) h.some h.dark (λ k c low. absurd (omega arith)) (λ k c low. absurd (omega arith), omega arith, λ e. refl)

@@ -1,5 +1,8 @@
 //! What is wrong with markup, and why an edit is refused.
 
+ghost use Rattle.std.specs.Prelude.{◌≡◌};
+ghost use Rattle.dom_nodes.specs.declared.fault.EditFault.TheVariants.{Memory};
+
 use std::alloc::{AllocError, AllocFailed};
 
 /// A request for memory was refused.
@@ -95,9 +98,6 @@ pub enum EditFault {
 }
 
 impl From<AllocError> for EditFault {
-    ghost use Rattle.std.specs.Prelude.{◌≡◌};
-    ghost use Rattle.dom_nodes.specs.declared.fault.EditFault.TheVariants.{Memory};
-
     ghost from_gives = { λ _ fault. fault ≡ Memory };
 
     fn from(_refused: AllocError) -> EditFault {
@@ -106,9 +106,6 @@ impl From<AllocError> for EditFault {
 }
 
 impl<T: Drop> From<AllocFailed<T>> for EditFault {
-    ghost use Rattle.std.specs.Prelude.{◌≡◌};
-    ghost use Rattle.dom_nodes.specs.declared.fault.EditFault.TheVariants.{Memory};
-
     ghost from_gives = { λ _ fault. fault ≡ Memory };
 
     fn from(_refused: AllocFailed<T>) -> EditFault {
@@ -117,9 +114,6 @@ impl<T: Drop> From<AllocFailed<T>> for EditFault {
 }
 
 impl From<OutOfMemory> for EditFault {
-    ghost use Rattle.std.specs.Prelude.{◌≡◌};
-    ghost use Rattle.dom_nodes.specs.declared.fault.EditFault.TheVariants.{Memory};
-
     ghost from_gives = { λ _ fault. fault ≡ Memory };
 
     fn from(_refused: OutOfMemory) -> EditFault {

@@ -3,8 +3,8 @@ use Rattle.std.specs.Prelude.{string_bytes}
 use Rattle.std.specs.Str.Iter.{split_ascii_whitespace_text}
 use Rattle.dom_nodes.specs.Words.{words_of, is_among}
 use Rattle.dom_nodes.specs.Classes.{words_with, words_joined}
-use Rattle.dom_nodes.proofs.WordLemmas.{words-cut, words-white}
-use Rattle.dom_nodes.proofs.ClassLemmas.{IsWord, filter-all, joined-with_word, words-with_word, words_with-known, words_with-new}
+use Rattle.dom_nodes.proofs.WordLemmas.{words-white}
+use Rattle.dom_nodes.proofs.ClassLemmas.{filter-all, first_word, joined-with_word, words-with_word, words_with-known, words_with-new}
 use Rattle.dom_nodes.proofs.node_data.classes.words_with.Goals as goal
 
 pub loop-word-init : goal.loop-word-init
@@ -20,23 +20,20 @@ loop-word-init c =
 
 pub loop-word-preserved-then-has_word : goal.loop-word-preserved-then-has_word
 loop-word-preserved-then-has_word c =
-    let step = c.in-Some.ensures.steps in
     let word = c.in-Some.word.now in
-    let cut = words-cut _ step.3.0 word step.3.1 _ step.3.2 step.0 step.1 step.3.3 step.3.4 in
+    let cut = first_word _ word _ c.in-Some.ensures.steps in
     let made = words_of (string_bytes c.loop-word.made) in
     let among = ap (λ text. is_among word (words_of text)) (sym c.as_str.ensures.value) ∙ sym c.has_word.ensures ∙ c.if-has_word.true in (
       tt,
       tt,
       c.loop-word.invariant.2,
-      sym (ap (words_with made) cut ∙ words_with-known made word _ among) ∙ c.loop-word.invariant.3,
+      sym (ap (words_with made) cut.words ∙ words_with-known made word _ among) ∙ c.loop-word.invariant.3,
     )
 
 pub loop-word-preserved : goal.loop-word-preserved
 loop-word-preserved c =
-    let step = c.in-Some.ensures.steps in
     let word = c.in-Some.word.now in
-    let cut = words-cut _ step.3.0 word step.3.1 _ step.3.2 step.0 step.1 step.3.3 step.3.4 in
-    let is_word : IsWord word = record { some = step.0; dark = step.1 } in
+    let cut = first_word _ word _ c.in-Some.ensures.steps in
     let before = string_bytes c.loop-word.made in
     let made = words_of before in
     let pushed = c.in_ok-push_word.ensures in
@@ -44,10 +41,10 @@ loop-word-preserved c =
     let among = ap (λ text. is_among word (words_of text)) (sym c.as_str.ensures.value) ∙ sym c.has_word.ensures ∙ c.if-has_word.false in (
       tt,
       tt,
-      rw pushed (joined-with_word before word is_word c.loop-word.invariant.2),
+      rw pushed (joined-with_word before word cut.is_word c.loop-word.invariant.2),
       ap (λ text. words_with (words_of text) left) pushed
-          ∙ ap (λ words. words_with words left) (words-with_word before word is_word)
-          ∙ sym (ap (words_with made) cut ∙ words_with-new made word left among)
+          ∙ ap (λ words. words_with words left) (words-with_word before word cut.is_word)
+          ∙ sym (ap (words_with made) cut.words ∙ words_with-new made word left among)
           ∙ c.loop-word.invariant.3,
     )
 
