@@ -19,20 +19,7 @@ pub fn index_at(nodes: &[TreeNode], id: &NodeId, kind: IndexKind) -> u64
     ensures is { result ≡ index_at kind (forest_of nodes.now) id.now }
     ensures few { result ≤ 4294967295 }
 {
-    let Some(node) = find_node(nodes, *id) else {
-        return 1;
-    };
-    let backwards = is_from_first(kind);
-    let mut next = neighbour(node, backwards);
-    let mut index = 1;
-    while let Some(at) = next {
-        let other = node_at(nodes, at);
-        if counts(kind, &node.content, &other.content) {
-            index += 1;
-        }
-        next = neighbour(other, backwards);
-    }
-    index
+    index_with(nodes, id, kind, &[])
 }
 
 /// The same, where some indexes are known already: the siblings are counted as far as one of them.
@@ -46,8 +33,7 @@ pub fn index_with(nodes: &[TreeNode], id: &NodeId, kind: IndexKind, known: &[u32
     let Some(node) = find_node(nodes, *id) else {
         return 1;
     };
-    let back = is_from_first(kind);
-    let mut next = neighbour(node, back);
+    let mut next = counted_neighbour(node, kind);
     let mut index = 1;
     while let Some(at) = next {
         let other = node_at(nodes, at);
@@ -58,7 +44,7 @@ pub fn index_with(nodes: &[TreeNode], id: &NodeId, kind: IndexKind, known: &[u32
             }
             index += 1;
         }
-        next = neighbour(other, back);
+        next = counted_neighbour(other, kind);
     }
     index
 }
@@ -87,8 +73,7 @@ pub fn note_indexes(nodes: &[TreeNode], id: &NodeId, kind: IndexKind, index: u64
     let Some(node) = find_node(nodes, *id) else {
         return;
     };
-    let back = is_from_first(kind);
-    let mut next = neighbour(node, back);
+    let mut next = counted_neighbour(node, kind);
     let mut passed = 1;
     while let Some(at) = next {
         let other = node_at(nodes, at);
@@ -99,7 +84,7 @@ pub fn note_indexes(nodes: &[TreeNode], id: &NodeId, kind: IndexKind, index: u64
             note(known, at, index - passed);
             passed += 1;
         }
-        next = neighbour(other, back);
+        next = counted_neighbour(other, kind);
     }
 }
 
@@ -111,6 +96,14 @@ fn note(known: &mut [u32], id: NodeId, index: u64)
     if place < known.len() {
         known[place] = index as u32;
     }
+}
+
+/// Who stands beside a node on the side where the siblings are counted.
+fn counted_neighbour(node: &TreeNode, kind: IndexKind) -> Option<NodeId>
+    ensures { result ≡ (if is_from_first kind then node.now.prev_sibling
+        else node.now.next_sibling) }
+{
+    neighbour(node, is_from_first(kind))
 }
 
 fn is_from_first(kind: IndexKind) -> bool

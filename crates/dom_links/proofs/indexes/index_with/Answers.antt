@@ -1,6 +1,6 @@
-use Rattle.std.proofs.Common.{true, ◌≡◌, ◌<◌, ◌+◌, ℕ, sym, ap, ◌∙◌, subst, arith, inl, inr}
+use Rattle.std.proofs.Common.{true, ◌≡◌, ◌<◌, ◌+◌, ℕ, refl, sym, ap, ◌∙◌, subst, arith, inl, inr}
 use Rattle.dom_links.specs.Forest.{forest_of}
-use Rattle.dom_links.specs.Indexes.{counts, index_at}
+use Rattle.dom_links.specs.Indexes.{counts, index_at, is_from_first}
 use Rattle.dom_links.proofs.moves.Cuts.{length-contents}
 use Rattle.dom_links.proofs.walks.IndexLemmas.{Counted, counts_is, counts_on, one_counted, index_past, starts}
 use Rattle.dom_links.proofs.walks.KnownLemmas.{as_far, never_many}
@@ -13,7 +13,7 @@ returns-in_default-clause-is c = index_past (forest_of c.args.nodes.now) c.args.
 pub loop-next-init : goal.loop-next-init
 loop-next-init c =
     let long = length-contents (forest_of c.args.nodes.now) c.args.nodes.now c.requires.sound.arena.links in
-    starts (forest_of c.args.nodes.now) c.args.kind c.args.id.now c.in-Some.node.now c.is_from_first-back.result c.neighbour-next.result c.requires.sound.forest (omega (arith, c.requires.sound.numbered)) c.in-Some.ensures c.is_from_first-back.ensures c.neighbour-next.ensures
+    starts (forest_of c.args.nodes.now) c.args.kind c.args.id.now c.in-Some.node.now (is_from_first c.args.kind) c.counted_neighbour-next.result c.requires.sound.forest (omega (arith, c.requires.sound.numbered)) c.in-Some.ensures refl c.counted_neighbour-next.ensures
 
 pub returns-then-there-gt0-clause-is : goal.returns-then-there-gt0-clause-is
 returns-then-there-gt0-clause-is c =
@@ -30,11 +30,11 @@ returns-then-there-gt0-clause-few c =
     let is = returns-then-there-gt0-clause-is c in
     omega arith
 
-passed : (c : goal.After-neighbour-next-in-Some-next) → Counted (forest_of c.args.nodes.now) c.args.kind c.args.id.now c.loop-next.next c.neighbour-next-in-Some-next.result c.if-counts.index
+passed : (c : goal.After-counted_neighbour-next-in-Some-next) → Counted (forest_of c.args.nodes.now) c.args.kind c.args.id.now c.loop-next.next c.counted_neighbour-next-in-Some-next.result c.if-counts.index
 passed c =
     let grown = one_counted c.counts.result c.loop-next.index c.if-counts.index (elim c.if-counts.branch [ then-counts+else-there-gt0 w ↦ inl (w.if-counts.true, w.index-is) | else-counts w ↦ inr (w.if-counts.false, w.index-is) ]) in
-    counts_on (forest_of c.args.nodes.now) c.args.kind c.args.id.now c.in-Some-next.at c.in-Some.node.now c.node_at-other.result.now c.is_from_first-back.result c.loop-next.next c.neighbour-next-in-Some-next.result
-    c.loop-next.index c.if-counts.index c.counts.result c.requires.sound.forest c.loop-next.invariant c.in-Some-next.is grown c.in-Some.ensures.content_is c.node_at-other.ensures c.is_from_first-back.ensures c.neighbour-next-in-Some-next.ensures c.counts.ensures
+    counts_on (forest_of c.args.nodes.now) c.args.kind c.args.id.now c.in-Some-next.at c.in-Some.node.now c.node_at-other.result.now (is_from_first c.args.kind) c.loop-next.next c.counted_neighbour-next-in-Some-next.result
+    c.loop-next.index c.if-counts.index c.counts.result c.requires.sound.forest c.loop-next.invariant c.in-Some-next.is grown c.in-Some.ensures.content_is c.node_at-other.ensures refl c.counted_neighbour-next-in-Some-next.ensures c.counts.ensures
 
 pub loop-next-smaller : goal.loop-next-smaller
 loop-next-smaller c = Counted.fewer (passed c)
