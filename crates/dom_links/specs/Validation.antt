@@ -5,6 +5,8 @@ use Rattle.dom_nodes.specs.declared.node_data.TreeNode.{TreeNode}
 use Rattle.dom_nodes.specs.Kinds.{contents_named, is_fragment, is_top, children_allowed}
 use Rattle.dom_links.specs.declared.validation.ValidateFault.{ValidateFault}
 use Rattle.dom_links.specs.declared.validation.ValidateFault.TheVariants.{NoRoot, RootPlaced, BadId, UnknownLink, BadLink, Cycle, NotLinked, SiblingCycle, NoChildrenHere, PlacedFragment, BadContents, TooManyNodes, Memory}
+use Rattle.dom_links.specs.declared.validation.each.NodeCheck.{NodeCheck}
+use Rattle.dom_links.specs.declared.validation.each.NodeCheck.TheVariants.{Neighbours, Linked, OpenParent, Alone}
 use Rattle.dom_links.specs.Forest.{parent_link, prev_link, next_link, first_link, last_link, contents_of, arena_ids}
 use Rattle.dom_links.specs.Sound.{IsSoundArena}
 
@@ -105,6 +107,13 @@ ParentAllowsChildren nodes n = IfSome (parent_link nodes n) (λ p. option_map_or
 abbrev pub IsAlone : List TreeNode → ℕ → Type 0
 IsAlone nodes n = ((n == 0) || option_map_or is_top (slice_get (contents_of nodes) n) false) ≡ true →
     (parent_link nodes n ≡ None) × (prev_link nodes n ≡ None) × (next_link nodes n ≡ None)
+
+-- what a check of each node states of n
+abbrev pub Passes : NodeCheck → List TreeNode → ℕ → Type 0
+Passes Neighbours nodes n = Agrees nodes n
+Passes Linked nodes n = IsLinked nodes n
+Passes OpenParent nodes n = ParentAllowsChildren nodes n
+Passes Alone nodes n = IsAlone nodes n
 
 -- what n names as its contents
 abbrev pub contents_link : List TreeNode → ℕ → Option ℕ

@@ -2,15 +2,17 @@
 
 ghost use Rattle.std.specs.Prelude.{◌≡◌, [], Err, IfErr, MatchResult};
 ghost use Rattle.dom_links.specs.Sound.{IsSoundArena};
-ghost use Rattle.dom_links.specs.declared.validation.ValidateFault.TheVariants.{NoRoot};
+ghost use Rattle.dom_links.specs.declared.validation.ValidateFault.TheVariants.{Memory, NoRoot};
 ghost use Rattle.dom_links.specs.Validation.{IsRefused, IsFirstFault};
 
 mod contents;
 mod cycles;
+mod each;
 mod links;
 
 use crate::ops::TreeNodeOps;
 use dom_nodes::node_data::TreeNode;
+use each::{NodeCheck, all_pass};
 use std::alloc::{AllocError, Global};
 
 /// Why raw nodes are no forest's. The faults are looked for in this order.
@@ -58,9 +60,6 @@ pub enum ValidateFault {
 }
 
 impl From<AllocError> for ValidateFault {
-    ghost use Rattle.std.specs.Prelude.{◌≡◌};
-    ghost use Rattle.dom_links.specs.declared.validation.ValidateFault.TheVariants.{Memory};
-
     ghost from_gives = { λ _ fault. fault ≡ Memory };
 
     fn from(_refused: AllocError) -> ValidateFault {
@@ -83,7 +82,7 @@ impl TreeNodeOps {
         if cycles::has_ancestor_cycle(alloc, nodes, &hosts)? {
             return Err(ValidateFault::Cycle);
         }
-        if !links::are_linked(nodes) {
+        if !all_pass(nodes, NodeCheck::Linked) {
             return Err(ValidateFault::NotLinked);
         }
         if cycles::has_sibling_cycle(alloc, nodes)? {

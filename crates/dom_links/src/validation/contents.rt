@@ -8,6 +8,7 @@ ghost use Rattle.dom_links.specs.Validation.{ParentAllowsChildren, PassesEarlier
 ghost use Rattle.dom_links.specs.declared.validation.ValidateFault.TheVariants.{NoChildrenHere};
 
 use crate::validation::ValidateFault;
+use crate::validation::each::{NodeCheck, all_pass};
 use crate::validation::links::links_to;
 use dom_nodes::node_data::TreeNode;
 use dom_nodes::node_id::NodeId;
@@ -25,10 +26,10 @@ pub(crate) fn check_contents(
         (λ fault. IsRefused nodes.now fault) }
     ensures cause { IfErr result (λ fault. IsFirstFault nodes.now fault) }
 {
-    if !parents_allow_children(nodes) {
+    if !all_pass(nodes, NodeCheck::OpenParent) {
         return Err(ValidateFault::NoChildrenHere);
     }
-    if !stay_alone(nodes) {
+    if !all_pass(nodes, NodeCheck::Alone) {
         return Err(ValidateFault::PlacedFragment);
     }
     if !host_contents(nodes, hosts) {
@@ -57,7 +58,7 @@ pub(crate) fn hosts_of(alloc: Global, nodes: &[TreeNode]) -> Result<Vec<Option<N
 }
 
 /// Whether the parent of a node may have children.
-fn parent_allows_children(nodes: &[TreeNode], n: usize) -> bool
+pub(crate) fn parent_allows_children(nodes: &[TreeNode], n: usize) -> bool
     requires known { AreLinksKnown nodes.now }
     requires here { n < length nodes.now }
     ensures { MatchBool result (ParentAllowsChildren nodes.now n)
@@ -69,21 +70,8 @@ fn parent_allows_children(nodes: &[TreeNode], n: usize) -> bool
     nodes[parent.value()].content.may_have_children()
 }
 
-/// Whether all parents may have children.
-pub(crate) fn parents_allow_children(nodes: &[TreeNode]) -> bool
-    requires { AreLinksKnown nodes.now }
-    ensures { TestsEach result nodes.now (ParentAllowsChildren nodes.now) }
-{
-    for n in 0..nodes.len() {
-        if !parent_allows_children(nodes, n) {
-            return false;
-        }
-    }
-    true
-}
-
 /// Whether a root, document or fragment has no parent and no neighbours.
-fn stays_alone(nodes: &[TreeNode], n: usize) -> bool
+pub(crate) fn stays_alone(nodes: &[TreeNode], n: usize) -> bool
     requires { n < length nodes.now }
     ensures { MatchBool result (IsAlone nodes.now n) (IsAlone nodes.now n → ⊥) }
 {
@@ -98,18 +86,6 @@ fn stays_alone(nodes: &[TreeNode], n: usize) -> bool
         return false;
     }
     node.next_sibling.get().is_none()
-}
-
-/// Whether the root, the documents and the fragments stand alone.
-pub(crate) fn stay_alone(nodes: &[TreeNode]) -> bool
-    ensures { TestsEach result nodes.now (IsAlone nodes.now) }
-{
-    for n in 0..nodes.len() {
-        if !stays_alone(nodes, n) {
-            return false;
-        }
-    }
-    true
 }
 
 /// Whether the contents that a node names are a fragment that it alone holds.

@@ -11,6 +11,7 @@ ghost use Rattle.dom_links.specs.Validation.{TestsEach};
 ghost use Rattle.dom_links.specs.declared.validation.ValidateFault.TheVariants.{NoRoot};
 
 use crate::validation::ValidateFault;
+use crate::validation::each::{NodeCheck, all_pass};
 use dom_nodes::node_data::TreeNode;
 use dom_nodes::node_id::NodeId;
 
@@ -33,7 +34,7 @@ pub(crate) fn check_links(nodes: &[TreeNode]) -> Result<(), ValidateFault>
     if !are_known(nodes) {
         return Err(ValidateFault::UnknownLink);
     }
-    if !agree(nodes) {
+    if !all_pass(nodes, NodeCheck::Neighbours) {
         return Err(ValidateFault::BadLink);
     }
     Ok(())
@@ -109,7 +110,7 @@ pub(crate) fn links_to(link: Option<NodeId>, n: usize) -> bool
 }
 
 /// Whether the neighbours of a node name it as theirs.
-fn agrees(nodes: &[TreeNode], n: usize) -> bool
+pub(crate) fn agrees(nodes: &[TreeNode], n: usize) -> bool
     requires known { AreLinksKnown nodes.now }
     requires here { n < length nodes.now }
     ensures { MatchBool result (Agrees nodes.now n) (Agrees nodes.now n → ⊥) }
@@ -128,30 +129,16 @@ fn agrees(nodes: &[TreeNode], n: usize) -> bool
     true
 }
 
-/// Whether neighbours name each other.
-pub(crate) fn agree(nodes: &[TreeNode]) -> bool
-    requires { AreLinksKnown nodes.now }
-    ensures { TestsEach result nodes.now (Agrees nodes.now) }
-{
-    for n in 0..nodes.len() {
-        if !agrees(nodes, n) {
-            return false;
-        }
-    }
-    true
-}
-
 /// Whether who stands before a node has the same parent.
 fn shares_parent(nodes: &[TreeNode], n: usize) -> bool
     requires known { AreLinksKnown nodes.now }
     requires here { n < length nodes.now }
     ensures { MatchBool result (SharesParent nodes.now n) (SharesParent nodes.now n → ⊥) }
 {
-    let node = &nodes[n];
-    let Some(prev) = node.prev_sibling.get() else {
+    let Some(prev) = nodes[n].prev_sibling.get() else {
         return true;
     };
-    nodes[prev.value()].parent.get() == node.parent.get()
+    nodes[prev.value()].parent.get() == nodes[n].parent.get()
 }
 
 /// Whether a link, if there is one, names a node whose parent is n.
@@ -187,7 +174,7 @@ fn is_named(nodes: &[TreeNode], n: usize) -> bool
 }
 
 /// Whether a node and its parent name each other.
-fn is_linked(nodes: &[TreeNode], n: usize) -> bool
+pub(crate) fn is_linked(nodes: &[TreeNode], n: usize) -> bool
     requires known { AreLinksKnown nodes.now }
     requires here { n < length nodes.now }
     ensures { MatchBool result (IsLinked nodes.now n) (IsLinked nodes.now n → ⊥) }
@@ -202,17 +189,4 @@ fn is_linked(nodes: &[TreeNode], n: usize) -> bool
         return false;
     }
     is_named(nodes, n)
-}
-
-/// Whether nodes and their parents name each other.
-pub(crate) fn are_linked(nodes: &[TreeNode]) -> bool
-    requires { AreLinksKnown nodes.now }
-    ensures { TestsEach result nodes.now (IsLinked nodes.now) }
-{
-    for n in 0..nodes.len() {
-        if !is_linked(nodes, n) {
-            return false;
-        }
-    }
-    true
 }

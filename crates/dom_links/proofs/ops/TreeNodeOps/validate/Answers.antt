@@ -17,9 +17,9 @@ returns-then-branch-clause-cause c = (
   search rules,
 )
 
-pub returns-then-not-are_linked-clause-sound : goal.returns-then-not-are_linked-clause-sound
-returns-then-not-are_linked-clause-sound c = λ sound.
-    let bad = c.if-not-are_linked.ensures in
+pub returns-then-not-all_pass-clause-sound : goal.returns-then-not-all_pass-clause-sound
+returns-then-not-all_pass-clause-sound c = λ sound.
+    let bad = c.if-not-all_pass.ensures in
     bad.2 (sound_linked c.args.nodes.now bad.0 sound bad.1)
 
 pub returns-then-branch-2-clause-sound : goal.returns-then-branch-2-clause-sound
@@ -30,6 +30,6 @@ returns-clause-sound c =
     let steps : (n : ℕ) → Ends (parent_or_host c.args.nodes.now c.in_ok-hosts.hosts.items) n =
     subst (λ (hosts : List (Option ℕ)). (n : ℕ) → Ends (parent_or_host c.args.nodes.now hosts) n) c.deref.ensures.value (rw c.if-branch.false at c.in_ok-has_ancestor_cycle.ensures) in
     MatchResult-weaker c.check_contents.result c.check_contents.ensures.sound
-    (λ _ hold. accepted c.args.nodes.now c.in_ok-hosts.hosts.items c.in_ok-check_links.ensures.sound c.if-not-are_linked.ensures
+    (λ _ hold. accepted c.args.nodes.now c.in_ok-hosts.hosts.items c.in_ok-check_links.ensures.sound c.if-not-all_pass.ensures
     (rw c.if-branch-2.false at c.in_ok-has_sibling_cycle.ensures) steps (subst (ContentsHold c.args.nodes.now) c.deref-2.ensures.value hold))
     (λ _ refused. refused)

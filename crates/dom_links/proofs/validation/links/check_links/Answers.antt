@@ -14,7 +14,7 @@ returns-then-not-are_known-clause-sound c = λ sound.
     let away = c.if-not-are_known.ensures in
     sound_not_astray c.args.nodes.now away.0 sound away.1 away.2
 
-pub returns-then-not-agree-clause-sound : goal.returns-then-not-agree-clause-sound
-returns-then-not-agree-clause-sound c = λ sound.
-    let bad = c.if-not-agree.ensures in
+pub returns-then-not-all_pass-clause-sound : goal.returns-then-not-all_pass-clause-sound
+returns-then-not-all_pass-clause-sound c = λ sound.
+    let bad = c.if-not-all_pass.ensures in
     bad.2 (sound_agrees c.args.nodes.now bad.0 sound bad.1)

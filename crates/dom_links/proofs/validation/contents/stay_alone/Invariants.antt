@@ -1,7 +1,0 @@
-use Rattle.std.proofs.Common.{ℕ, ◌<◌}
-use Rattle.dom_links.specs.Validation.{IsAlone}
-use Rattle.dom_links.proofs.validation.contents.stay_alone.Given as goal
-
--- so holds of the nodes so far
-abbrev pub invariant-loop-n : goal.invariant-loop-n
-invariant-loop-n l = (k : ℕ) → k < l.n → IsAlone l.nodes k
