@@ -15,12 +15,10 @@ pub use Rattle.dom_links.specs.declared.gap.Place.TheVariants.{AtEnd as at_end, 
 -- the gap that they go to, as seen from x
 abbrev pub gap_at : Place → ℕ → Gap
 gap_at at_end x = end_of x
-gap_at at_front x = front_of x
-gap_at before_it x = before_node x
-gap_at after_it x = after_node x
 gap_at instead_of_children x = end_of x
-gap_at instead_of_node x = before_node x
-gap_at around_it x = before_node x
+gap_at at_front x = front_of x
+gap_at after_it x = after_node x
+gap_at _ x = before_node x
 
 -- x is wrapped in the node, if there is one and it is an element
 abbrev pub wrapped_by : Option ℕ → ℕ → Forest → Forest

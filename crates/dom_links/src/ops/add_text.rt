@@ -6,14 +6,11 @@ ghost use Rattle.dom_links.specs.AddedTexts.{TextCause, lengthened, text_before,
 ghost use Rattle.dom_links.specs.ArenaEdits.{Becomes};
 ghost use Rattle.dom_links.specs.Contents.{Changed};
 ghost use Rattle.dom_links.specs.Forest.{forest_of};
-ghost use Rattle.dom_links.specs.ListMoves.{moved_nodes};
-ghost use Rattle.dom_links.specs.Moves.{moved_to};
-ghost use Rattle.dom_links.specs.Sound.{Allowed, IsOpenGap, IsSoundArena, target};
-ghost use Rattle.dom_links.specs.declared.gap.Moving.TheVariants.{Node};
+ghost use Rattle.dom_links.specs.Sound.{IsOpenGap, IsSoundArena, target};
 
-use crate::gap::{Gap, Moving};
+use crate::gap::Gap;
 use crate::ops::TreeNodeOps;
-use crate::ops::moves::insertion_point_at;
+use crate::ops::moves::{insertion_point_at, put_alone};
 use crate::ops::set_text::{is_text_at, owned_text};
 use dom_nodes::fault::{EditFault, OutOfMemory};
 use dom_nodes::node_data::{NodeData, TreeNode};
@@ -88,16 +85,4 @@ fn put_new_text(nodes: &mut Vec<TreeNode>, gap: Gap, text: &str) -> Result<(), E
     let made = TreeNodeOps::create_node(nodes, NodeData::Text { contents })?;
     put_alone(nodes, gap, made);
     Ok(())
-}
-
-/// Moves one node to a gap.
-#[tactic(auto, using(crate::proofs::moves::Cuts::no_other))]
-fn put_alone(nodes: &mut [TreeNode], gap: Gap, x: NodeId)
-    requires sound { IsSoundArena nodes.old }
-    requires allowed { Allowed (forest_of nodes.old) gap x }
-    ensures made { let old = forest_of nodes.old
-        in forest_of nodes.new ≡ moved_to (moved_nodes old (Node x)) gap old }
-    ensures sound { IsSoundArena nodes.new }
-{
-    TreeNodeOps::move_to(nodes, gap, Moving::Node(x));
 }

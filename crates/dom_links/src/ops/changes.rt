@@ -4,11 +4,11 @@
 ghost use Rattle.std.specs.Prelude.{◌≡◌, IsOk, OnErr, OnOk, false};
 ghost use Rattle.std.specs.Fn.{FnOnceReturnsAtMut};
 ghost use Rattle.dom_nodes.specs.Change.{changed};
-ghost use Rattle.dom_links.specs.Forest.{forest_of};
+ghost use Rattle.dom_nodes.specs.Changes.{with_attrs, with_missing};
 ghost use Rattle.dom_links.specs.Contents.{Changed, IsUpdatedAt, may_allocate_at};
+ghost use Rattle.dom_links.specs.Forest.{forest_of};
 ghost use Rattle.dom_links.specs.ListMoves.{element_at};
 ghost use Rattle.dom_links.specs.Sound.{IsSoundArena};
-ghost use Rattle.dom_nodes.specs.Changes.{with_attrs, with_missing};
 
 use dom_nodes::fault::OutOfMemory;
 use dom_nodes::node_data::{Attrs, Change, NodeEdit, TreeNode};

@@ -69,8 +69,8 @@ pub(crate) fn add_child(
     t: NodeId,
     content: NodeData,
 ) -> Result<NodeId, EditFault>
-    requires linked { IsArenaOf (forest_of nodes.old.items) nodes.old.items }
     requires target_known { t < vec_len nodes.old }
+    requires linked { IsArenaOf (forest_of nodes.old.items) nodes.old.items }
     ensures ok { OnOk result (Appended nodes.old.items nodes.new.items t content) }
     ensures adds { AddsNodes result nodes.old nodes.new 1 NoRoom }
 {

@@ -5,8 +5,9 @@ ghost use Rattle.dom_links.specs.Forest.{IsArenaOf, forest_of, children_of};
 ghost use Rattle.dom_links.specs.ListMoves.{ChildrenRemoved, Reparents, Replaced, Unwrapped};
 ghost use Rattle.dom_links.specs.ListMoves.{Wrapped, with_later};
 ghost use Rattle.dom_links.specs.Lists.{stands_in};
-ghost use Rattle.dom_links.specs.Moves.{cut};
-ghost use Rattle.dom_links.specs.Sound.{IsForest};
+ghost use Rattle.dom_links.specs.Moves.{cut, end_of};
+ghost use Rattle.dom_links.specs.SetTexts.{with_only_child};
+ghost use Rattle.dom_links.specs.Sound.{Allowed, IsForest, IsSoundArena};
 
 use crate::gap::{Gap, Moving};
 use crate::ops::TreeNodeOps;
@@ -62,6 +63,18 @@ pub fn remove_children(nodes: &mut [TreeNode], x: NodeId)
         return;
     };
     cut_with_later(nodes, first);
+}
+
+/// Cuts the children of a node out, and makes another node its only child.
+#[tactic(auto, using(crate::proofs::moves::Cuts::no_other))]
+pub(crate) fn set_only_child(nodes: &mut [TreeNode], x: NodeId, child: NodeId)
+    requires sound { IsSoundArena nodes.old }
+    requires allowed { Allowed (forest_of nodes.old) (end_of x) child }
+    ensures made { forest_of nodes.new ≡ with_only_child x child (forest_of nodes.old) }
+    ensures sound { IsSoundArena nodes.new }
+{
+    remove_children(nodes, x);
+    TreeNodeOps::append_child_of(nodes, x, child);
 }
 
 /// Puts a node right before another, and cuts that one out.

@@ -5,8 +5,8 @@ ghost use Rattle.dom_links.specs.Forest.{IsArenaOf, forest_of, run_of};
 ghost use Rattle.dom_links.specs.ListMoves.{CanMove, Moves, moved_nodes, moving_id};
 ghost use Rattle.dom_links.specs.Lists.{first, stands_in};
 ghost use Rattle.dom_links.specs.Moves.{StartsRun, after_node, before_node, cut, end_of, front_of};
-ghost use Rattle.dom_links.specs.Moves.{before_gap, owner_at, put, after_gap};
-ghost use Rattle.dom_links.specs.Sound.{Removed, target};
+ghost use Rattle.dom_links.specs.Moves.{after_gap, before_gap, moved_to, owner_at, put};
+ghost use Rattle.dom_links.specs.Sound.{Allowed, IsSoundArena, Removed, target};
 ghost use Rattle.dom_links.specs.declared.gap.Moving.TheVariants.{Node, WholeList, WithLater};
 
 use crate::gap::{Gap, Moving};
@@ -107,6 +107,18 @@ impl TreeNodeOps {
     {
         TreeNodeOps::move_to(nodes, Gap::After(t), Moving::WithLater(x));
     }
+}
+
+/// Moves one node that may stand there to a gap.
+#[tactic(auto, using(crate::proofs::moves::Cuts::no_other))]
+pub(crate) fn put_alone(nodes: &mut [TreeNode], gap: Gap, x: NodeId)
+    requires sound { IsSoundArena nodes.old }
+    requires allowed { Allowed (forest_of nodes.old) gap x }
+    ensures made { let old = forest_of nodes.old
+        in forest_of nodes.new ≡ moved_to (moved_nodes old (Node x)) gap old }
+    ensures sound { IsSoundArena nodes.new }
+{
+    TreeNodeOps::move_to(nodes, gap, Moving::Node(x));
 }
 
 /// Cuts nodes out of their list, and returns the first of them. They are then a run of their own.

@@ -4,11 +4,9 @@ ghost use Rattle.std.specs.Prelude.{◌≡◌, ◌<◌, ◌++◌, ◌∷◌, [],
 ghost use Rattle.std.specs.Prelude.{IfErr, MatchResult, string_bytes};
 ghost use Rattle.dom_nodes.specs.declared.fault.EditFault.TheVariants.{Memory};
 ghost use Rattle.dom_links.specs.Forest.{forest_of};
-ghost use Rattle.dom_links.specs.Normalized.{front_texts, is_empty_text, starts_text_run};
-ghost use Rattle.dom_links.specs.Normalized.{nearest_before};
-ghost use Rattle.dom_links.specs.Normalized.{normalized};
-ghost use Rattle.dom_links.specs.Rewrites.{is_text_after, listed, rewrite_at, rewrites};
-ghost use Rattle.dom_links.specs.Rewrites.{rewritten};
+ghost use Rattle.dom_links.specs.Normalized.{front_texts, is_empty_text, nearest_before};
+ghost use Rattle.dom_links.specs.Normalized.{normalized, starts_text_run};
+ghost use Rattle.dom_links.specs.Rewrites.{is_text_after, listed, rewrite_at, rewrites, rewritten};
 ghost use Rattle.dom_links.specs.Sound.{IsSoundArena};
 ghost use Rattle.dom_links.specs.Texts.{text_at};
 ghost use Rattle.dom_links.specs.Trees.{walk_below};

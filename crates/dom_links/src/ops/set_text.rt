@@ -6,15 +6,13 @@ ghost use Rattle.dom_links.specs.ArenaEdits.{Becomes};
 ghost use Rattle.dom_links.specs.Contents.{Changed};
 ghost use Rattle.dom_links.specs.Forest.{forest_of};
 ghost use Rattle.dom_links.specs.ListMoves.{element_at};
-ghost use Rattle.dom_links.specs.Moves.{end_of};
-ghost use Rattle.dom_links.specs.SetTexts.{SetTextCause, is_text_at, with_text_data};
-ghost use Rattle.dom_links.specs.SetTexts.{with_text_content};
-ghost use Rattle.dom_links.specs.SetTexts.{with_only_child};
-ghost use Rattle.dom_links.specs.Sound.{Allowed, IsSoundArena};
+ghost use Rattle.dom_links.specs.SetTexts.{SetTextCause, is_text_at, with_text_content};
+ghost use Rattle.dom_links.specs.SetTexts.{with_text_data};
+ghost use Rattle.dom_links.specs.Sound.{IsSoundArena};
 
 use crate::iters::find_node;
 use crate::ops::TreeNodeOps;
-use crate::ops::lists::remove_children;
+use crate::ops::lists::set_only_child;
 use dom_nodes::fault::EditFault;
 use dom_nodes::node_data::{NodeData, TreeNode};
 use dom_nodes::node_id::NodeId;
@@ -75,18 +73,6 @@ fn replace_children(nodes: &mut Vec<TreeNode>, x: NodeId, text: &str) -> Result<
     let child = TreeNodeOps::create_node(nodes, NodeData::Text { contents })?;
     set_only_child(nodes, x, child);
     Ok(())
-}
-
-/// Cuts the children of a node out, and makes another node its only child.
-#[tactic(auto, using(crate::proofs::moves::Cuts::no_other))]
-fn set_only_child(nodes: &mut [TreeNode], x: NodeId, child: NodeId)
-    requires sound { IsSoundArena nodes.old }
-    requires allowed { Allowed (forest_of nodes.old) (end_of x) child }
-    ensures made { forest_of nodes.new ≡ with_only_child x child (forest_of nodes.old) }
-    ensures sound { IsSoundArena nodes.new }
-{
-    remove_children(nodes, x);
-    TreeNodeOps::append_child_of(nodes, x, child);
 }
 
 /// Gives a text other contents. Any other node stays, and so does all for an unknown number.

@@ -11,11 +11,11 @@ returns c = λ content seven.
     record {
       above_three = refl;
       above_five = refl;
+      ends = (refl, refl);
       beside_three = refl;
       after_three = refl;
       before_three = refl;
       before_two = refl;
-      ends = (refl, refl);
       below_root = ap (λ most. walk (trees_to (small content) most (children_of (small content) 0))) seven;
       below_five = ap (λ most. walk (trees_to (small content) most (children_of (small content) 5))) seven;
       up_from_four = up;
