@@ -13,21 +13,19 @@ IsTokenFault BadDeclaration = Unit {0}
 IsTokenFault Instruction = Unit {0}
 IsTokenFault _ = ⊥
 
+-- a limit was met
+abbrev pub IsLimitFault : MarkupFaultKind → Type 0
+IsLimitFault TooManyNodes = Unit {0}
+IsLimitFault Memory = Unit {0}
+IsLimitFault _ = ⊥
+
 -- what is read does not nest, or a limit was met
 abbrev pub IsNestingFault : MarkupFaultKind → Type 0
 IsNestingFault Unclosed = Unit {0}
 IsNestingFault MismatchedEnd = Unit {0}
 IsNestingFault StrayEnd = Unit {0}
 IsNestingFault MisplacedDoctype = Unit {0}
-IsNestingFault TooManyNodes = Unit {0}
-IsNestingFault Memory = Unit {0}
-IsNestingFault _ = ⊥
-
--- a limit was met
-abbrev pub IsLimitFault : MarkupFaultKind → Type 0
-IsLimitFault TooManyNodes = Unit {0}
-IsLimitFault Memory = Unit {0}
-IsLimitFault _ = ⊥
+IsNestingFault kind = IsLimitFault kind
 
 -- the mark stands in the text
 abbrev pub Holds : List ℕ → List ℕ → Type 0

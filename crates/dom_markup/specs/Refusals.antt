@@ -29,17 +29,9 @@ pub record BeginsTooManyNodes (text : List ℕ) : Type 0 where
 
 -- what a fault says of the text
 abbrev pub Refused : List ℕ → MarkupFaultKind → Type 0
-Refused text BadTag = SpellsNothing text
-Refused text Unclosed = SpellsNothing text
-Refused text MismatchedEnd = SpellsNothing text
-Refused text StrayEnd = SpellsNothing text
-Refused text SlashOnOpen = SpellsNothing text
-Refused text BadComment = SpellsNothing text
-Refused text BadDeclaration = SpellsNothing text
-Refused text MisplacedDoctype = SpellsNothing text
-Refused text Instruction = SpellsNothing text
 Refused text TooManyNodes = BeginsTooManyNodes text
 Refused text Memory = Unit {0}
+Refused text _ = SpellsNothing text
 
 -- ---- where a fault stands
 
@@ -55,27 +47,18 @@ LeavesSomeOpen items = (innermost : Frame) × (outer : List Frame) × LeavesOpen
 
 -- the item ends an element, and another is the innermost open one
 abbrev pub EndsAnother : List Item → Item → Type 0
-EndsAnother items (start_tag name attributes) = ⊥
 EndsAnother items (end_tag name) = (innermost : Frame) × (outer : List Frame) × LeavesOpen items (innermost ∷ outer) × (name ≢ innermost.name)
-EndsAnother items (characters contents) = ⊥
-EndsAnother items (comment contents) = ⊥
-EndsAnother items (doctype name public system) = ⊥
+EndsAnother items _ = ⊥
 
 -- the item ends an element, and none is open
 abbrev pub EndsNothing : List Item → Item → Type 0
-EndsNothing items (start_tag name attributes) = ⊥
 EndsNothing items (end_tag name) = LeavesOpen items []
-EndsNothing items (characters contents) = ⊥
-EndsNothing items (comment contents) = ⊥
-EndsNothing items (doctype name public system) = ⊥
+EndsNothing items _ = ⊥
 
 -- the item is a doctype, and an element is open
 abbrev pub IsInside : List Item → Item → Type 0
-IsInside items (start_tag name attributes) = ⊥
-IsInside items (end_tag name) = ⊥
-IsInside items (characters contents) = ⊥
-IsInside items (comment contents) = ⊥
 IsInside items (doctype name public system) = LeavesSomeOpen items
+IsInside items _ = ⊥
 
 -- the item begins a node, or two, and no number is left for one of these
 pub record IsOneTooMany (items : List Item) (item : Item) : Type 0 where
@@ -163,14 +146,10 @@ pub record EndsOpenAt (text : List ℕ) (at : ℕ) : Type 0 where
 
 -- what a fault of this kind says of a byte of the text
 abbrev pub IsFaultAt : List ℕ → ℕ → MarkupFaultKind → Type 0
-IsFaultAt text at BadTag = BeginsNothingAt text at BadTag
-IsFaultAt text at SlashOnOpen = BeginsNothingAt text at SlashOnOpen
-IsFaultAt text at BadComment = BeginsNothingAt text at BadComment
-IsFaultAt text at BadDeclaration = BeginsNothingAt text at BadDeclaration
-IsFaultAt text at Instruction = BeginsNothingAt text at Instruction
-IsFaultAt text at Unclosed = EndsOpenAt text at ⊎ BeginsNothingAt text at Unclosed
 IsFaultAt text at MismatchedEnd = StopsBefore text at MismatchedEnd
 IsFaultAt text at StrayEnd = StopsBefore text at StrayEnd
 IsFaultAt text at MisplacedDoctype = StopsBefore text at MisplacedDoctype
 IsFaultAt text at TooManyNodes = StopsBefore text at TooManyNodes
+IsFaultAt text at Unclosed = EndsOpenAt text at ⊎ BeginsNothingAt text at Unclosed
 IsFaultAt text at Memory = Unit {0}
+IsFaultAt text at kind = BeginsNothingAt text at kind

@@ -2,10 +2,10 @@
 use Rattle.std.proofs.Common.{◌≡◌, ℕ, List, [], ◌∷◌, ◌++◌, sym, ap, ◌∙◌, append_assoc}
 use Rattle.std.specs.Prelude.{codes}
 use Rattle.dom_nodes.specs.declared.fault.MarkupFaultKind.{MarkupFaultKind}
-use Rattle.dom_nodes.specs.declared.fault.MarkupFaultKind.TheVariants.{BadTag, Unclosed, MismatchedEnd, StrayEnd, SlashOnOpen, BadComment, BadDeclaration, MisplacedDoctype, Instruction, TooManyNodes, Memory}
+use Rattle.dom_nodes.specs.declared.fault.MarkupFaultKind.TheVariants.{BadTag, MismatchedEnd, StrayEnd, SlashOnOpen, BadComment, BadDeclaration, MisplacedDoctype, Instruction, TooManyNodes, Memory}
 use Rattle.dom_markup.specs.Names.{Mode, markup, text_of, raw_text_of}
 use Rattle.dom_markup.specs.Markup.{Item, Begins, SpellsItemsUpTo, Spells, mode_after, mode_past}
-use Rattle.dom_markup.specs.Markup.Item.{start_tag, end_tag, characters, comment, doctype}
+use Rattle.dom_markup.specs.Markup.Item.{end_tag}
 use Rattle.dom_markup.specs.ValueTrees.{ValueTrees}
 use Rattle.dom_markup.specs.FaultKinds.{Holds, HoldsMark, IsLimitFault, IsNestingFault, IsTokenFault}
 use Rattle.dom_markup.specs.Refusals.{BeginsNothingAt, EndsNothing, IsFaultAt, Refused, Cause, StopsBefore}
@@ -15,17 +15,12 @@ use Rattle.dom_markup.proofs.grammar.Whole.{items_left, nothing_left}
 -- ---- faults of tokens
 
 pub token_fault : (mode : Mode) (left : List ℕ) (kind : MarkupFaultKind) → Cause mode left kind → IsTokenFault kind
-token_fault mode left BadTag s = tt
-token_fault mode left Unclosed s = tt
 token_fault mode left MismatchedEnd s = s
 token_fault mode left StrayEnd s = s
-token_fault mode left SlashOnOpen s = tt
-token_fault mode left BadComment s = tt
-token_fault mode left BadDeclaration s = tt
 token_fault mode left MisplacedDoctype s = s
-token_fault mode left Instruction s = tt
 token_fault mode left TooManyNodes s = s
 token_fault mode left Memory s = s
+token_fault mode left kind s = tt
 
 -- a text that is items up to its end has no place where nothing begins
 whole_items : (text : List ℕ) (at : ℕ) (kind : MarkupFaultKind) (items : List Item) → SpellsItemsUpTo markup text items [] → BeginsNothingAt text at kind → ⊥
@@ -35,16 +30,11 @@ whole_items text at kind items whole none =
 
 pub nesting_fault : (text : List ℕ) (at : ℕ) (kind : MarkupFaultKind) (items : List Item) → SpellsItemsUpTo markup text items [] → IsFaultAt text at kind → IsNestingFault kind
 nesting_fault text at BadTag items whole fault = whole_items text at BadTag items whole fault
-nesting_fault text at Unclosed items whole fault = tt
-nesting_fault text at MismatchedEnd items whole fault = tt
-nesting_fault text at StrayEnd items whole fault = tt
 nesting_fault text at SlashOnOpen items whole fault = whole_items text at SlashOnOpen items whole fault
 nesting_fault text at BadComment items whole fault = whole_items text at BadComment items whole fault
 nesting_fault text at BadDeclaration items whole fault = whole_items text at BadDeclaration items whole fault
-nesting_fault text at MisplacedDoctype items whole fault = tt
 nesting_fault text at Instruction items whole fault = whole_items text at Instruction items whole fault
-nesting_fault text at TooManyNodes items whole fault = tt
-nesting_fault text at Memory items whole fault = tt
+nesting_fault text at kind items whole fault = tt
 
 -- ---- marks
 
@@ -72,43 +62,25 @@ stray_mark text at stops = by_item stops.item stops.begins stops.cause
     front = suffix_of markup text stops.items stops.left stops.spelled
 
     by_item : (item : Item) → Begins (mode_past markup stops.items) stops.left item stops.rest → EndsNothing stops.items item → Holds (codes "</") text
-    by_item (start_tag name attributes) b cause = absurd cause
     by_item (end_tag name) b cause =
         let mark = end_mark (mode_past markup stops.items) stops.left name stops.rest b in
         mark_behind (codes "</") text front.0 stops.left mark.0 front.1 mark.1
-    by_item (characters contents) b cause = absurd cause
-    by_item (comment contents) b cause = absurd cause
-    by_item (doctype name public system) b cause = absurd cause
+    by_item item b cause = absurd cause
 
 pub fault_mark : (text : List ℕ) (at : ℕ) (kind : MarkupFaultKind) → IsFaultAt text at kind → HoldsMark text kind
-fault_mark text at BadTag fault = tt
-fault_mark text at Unclosed fault = tt
-fault_mark text at MismatchedEnd fault = tt
 fault_mark text at StrayEnd fault = stray_mark text at fault
-fault_mark text at SlashOnOpen fault = tt
 fault_mark text at BadComment fault =
     let front = suffix_of markup text fault.items fault.left fault.spelled in
     mark_behind (codes "<!--") text front.0 fault.left fault.cause.1 front.1 fault.cause.2
-fault_mark text at BadDeclaration fault = tt
-fault_mark text at MisplacedDoctype fault = tt
 fault_mark text at Instruction fault =
     let front = suffix_of markup text fault.items fault.left fault.spelled in
     mark_behind (codes "<?") text front.0 fault.left fault.cause.1 front.1 fault.cause.2
-fault_mark text at TooManyNodes fault = tt
-fault_mark text at Memory fault = tt
+fault_mark text at kind fault = tt
 
 -- ---- limits
 
 -- a text that spells trees is refused for a limit alone
 pub limit_fault : (text : List ℕ) (trees : ValueTrees) (kind : MarkupFaultKind) → Spells text trees → Refused text kind → IsLimitFault kind
-limit_fault text trees BadTag spells refused = refused trees spells
-limit_fault text trees Unclosed spells refused = refused trees spells
-limit_fault text trees MismatchedEnd spells refused = refused trees spells
-limit_fault text trees StrayEnd spells refused = refused trees spells
-limit_fault text trees SlashOnOpen spells refused = refused trees spells
-limit_fault text trees BadComment spells refused = refused trees spells
-limit_fault text trees BadDeclaration spells refused = refused trees spells
-limit_fault text trees MisplacedDoctype spells refused = refused trees spells
-limit_fault text trees Instruction spells refused = refused trees spells
 limit_fault text trees TooManyNodes spells refused = tt
 limit_fault text trees Memory spells refused = tt
+limit_fault text trees kind spells refused = refused trees spells

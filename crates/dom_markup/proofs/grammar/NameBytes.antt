@@ -1,28 +1,23 @@
 -- Bytes above `>` at the front of a name, which are tested by many at once.
-use Rattle.std.proofs.Common.{◌≡◌, ℕ, ◌+◌, ◌<◌, zero, suc, Bool, true, false, not, List, [], ◌∷◌, ◌++◌, drop, refl, sym, ◌∙◌, subst, arith}
+use Rattle.std.proofs.Common.{◌≡◌, ℕ, ◌+◌, ◌<◌, ◌≤◌, ◌==◌, zero, suc, Bool, true, false, not, List, [], ◌∷◌, ◌++◌, drop, refl, sym, ◌∙◌, subst, arith}
 use Rattle.std.specs.Prelude.{nat_le}
 use Rattle.std.specs.List.{prefix_len}
 use Rattle.std.specs.Simd.Lanes.{chunk}
 use Rattle.std.proofs.lemmas.Bool.{leb-false, ne_eqb, not-true}
 use Rattle.std.proofs.lemmas.Simd.{chunk-drop}
-use Rattle.dom_markup.specs.Bytes.{is_low, is_name_byte}
+use Rattle.dom_markup.specs.Bytes.{is_low, is_name_byte, is_whitespace}
+
+-- no whitespace stands above a space
+pub no_whitespace : (b : ℕ) → 32 < b → is_whitespace b ≡ false
+no_whitespace b high =
+    let other : (k : ℕ) → k ≤ 32 → (b == k) ≡ false = λ k h. ne_eqb b k (λ e. omega (arith, e)) in
+    rw (other 9 (omega arith), other 10 (omega arith), other 12 (omega arith), other 13 (omega arith), other 32 (omega arith)) refl
 
 -- all that names leave out stands at `>` or below
 pub above : (b : ℕ) → 62 < b → is_name_byte b ≡ true
-above b high = rw (
-  ne_eqb b 9 (λ e. omega (arith, e, high)),
-  ne_eqb b 10 (λ e. omega (arith, e, high)),
-  ne_eqb b 12 (λ e. omega (arith, e, high)),
-  ne_eqb b 13 (λ e. omega (arith, e, high)),
-  ne_eqb b 32 (λ e. omega (arith, e, high)),
-  ne_eqb b 47 (λ e. omega (arith, e, high)),
-  ne_eqb b 62 (λ e. omega (arith, e, high)),
-  ne_eqb b 60 (λ e. omega (arith, e, high)),
-  ne_eqb b 61 (λ e. omega (arith, e, high)),
-  ne_eqb b 34 (λ e. omega (arith, e, high)),
-  ne_eqb b 39 (λ e. omega (arith, e, high)),
-  ne_eqb b 0 (λ e. omega (arith, e, high)),
-) refl
+above b high =
+    let other : (k : ℕ) → k ≤ 62 → (b == k) ≡ false = λ k h. ne_eqb b k (λ e. omega (arith, e)) in
+    rw (no_whitespace b (omega arith), other 47 (omega arith), other 62 (omega arith), other 60 (omega arith), other 61 (omega arith), other 34 (omega arith), other 39 (omega arith), other 0 (omega arith)) refl
 
 -- where p passes all that q does, a run of q is the beginning of one of p
 past_run : (q p : ℕ → Bool) → ((b : ℕ) → q b ≡ true → p b ≡ true) → (front xs : List ℕ) (k : ℕ) → k ≡ prefix_len q front →

@@ -94,22 +94,14 @@ items_of-same top up no_trees (doctype_node n r s u) x y a b p q e = absurd (end
 items_of-same top up no_trees (element_node m c v u) x y a b p q e = absurd (ends x (start_tag m c) _ p e)
 items_of-same top up (text_node c t) no_trees x y a b p q e = absurd (ends y (characters c) (items_of t ++ x) q (sym e))
 items_of-same top up (text_node c t) (text_node d u) x y a b p q e =
-    let same : items_of t ++ x ≡ items_of u ++ y = cc in
-    let first : c ≡ d = cc in
-    let more = items_of-same top up t u x y a b p q same in
-    (cc (first, more.0), more.1)
-items_of-same top up (text_node c t) (comment_node d u) x y a b p q e = cc
-items_of-same top up (text_node c t) (doctype_node n r s u) x y a b p q e = cc
-items_of-same top up (text_node c t) (element_node m d v u) x y a b p q e = cc
+    let more = items_of-same top up t u x y a b p q cc in
+    (cc (more.0), more.1)
+items_of-same top up (text_node c t) u x y a b p q e = cc
 items_of-same top up (comment_node c t) no_trees x y a b p q e = absurd (ends y (comment c) (items_of t ++ x) q (sym e))
 items_of-same top up (comment_node c t) (comment_node d u) x y a b p q e =
-    let same : items_of t ++ x ≡ items_of u ++ y = cc in
-    let first : c ≡ d = cc in
-    let more = items_of-same top up t u x y a b p q same in
-    (cc (first, more.0), more.1)
-items_of-same top up (comment_node c t) (text_node d u) x y a b p q e = cc
-items_of-same top up (comment_node c t) (doctype_node n r s u) x y a b p q e = cc
-items_of-same top up (comment_node c t) (element_node m d v u) x y a b p q e = cc
+    let more = items_of-same top up t u x y a b p q cc in
+    (cc (more.0), more.1)
+items_of-same top up (comment_node c t) u x y a b p q e = cc
 items_of-same top up (doctype_node n r s t) no_trees x y a b p q e = absurd (ends y (doctype n r s) (items_of t ++ x) q (sym e))
 items_of-same top up (doctype_node n r s t) (doctype_node m v w u) x y a b p q e =
     let same : items_of t ++ x ≡ items_of u ++ y = cc in
@@ -118,13 +110,8 @@ items_of-same top up (doctype_node n r s t) (doctype_node m v w u) x y a b p q e
     let three : s ≡ w = cc in
     let more = items_of-same top up t u x y a.1 b.1 p q same in
     (cc (one, two, three, more.0), more.1)
-items_of-same top up (doctype_node n r s t) (text_node d u) x y a b p q e = cc
-items_of-same top up (doctype_node n r s t) (comment_node d u) x y a b p q e = cc
-items_of-same top up (doctype_node n r s t) (element_node m d v u) x y a b p q e = cc
+items_of-same top up (doctype_node n r s t) u x y a b p q e = cc
 items_of-same top up (element_node n c k t) no_trees x y a b p q e = absurd (ends y (start_tag n c) _ q (sym e))
-items_of-same top up (element_node n c k t) (text_node d u) x y a b p q e = cc
-items_of-same top up (element_node n c k t) (comment_node d u) x y a b p q e = cc
-items_of-same top up (element_node n c k t) (doctype_node m r s u) x y a b p q e = cc
 items_of-same top up (element_node n c k t) (element_node m d v u) x y a b p q e =
     let name : n ≡ m = cc in
     let attributes : c ≡ d = cc in
@@ -149,6 +136,7 @@ items_of-same top up (element_node n c k t) (element_node m d v u) x y a b p q e
           let more = items_of-same top up t u x y a.2 b.2 p q behind in
           (cc (name, attributes, children.0, more.0), more.1))
     ]
+items_of-same top up (element_node n c k t) u x y a b p q e = cc
 
 pub bytes_eq-differs : (xs ys : List ℕ) → (xs ≡ ys → ⊥) → bytes_eq xs ys ≡ false
 bytes_eq-differs xs ys differ = go (bytes_eq xs ys) refl

@@ -85,15 +85,9 @@ text_same n text (characters c) (end_tag y) r s p q = absurd (end_first text n s
 text_same n text (characters c) (characters d) r s p q =
     let same = tag_same n text p.0 q.0 r s p.2 q.2 in
     (ap characters (p.3 ∙ ap decoded same.0 ∙ sym q.3), same.1)
-text_same n text (start_tag x a) j r s p q = absurd p
-text_same n text (comment c) j r s p q = absurd p
-text_same n text (doctype x y z) j r s p q = absurd p
-text_same n text (end_tag x) (start_tag y a) r s p q = absurd q
-text_same n text (end_tag x) (comment c) r s p q = absurd q
-text_same n text (end_tag x) (doctype y z w) r s p q = absurd q
-text_same n text (characters x) (start_tag y a) r s p q = absurd q
-text_same n text (characters x) (comment c) r s p q = absurd q
-text_same n text (characters x) (doctype y z w) r s p q = absurd q
+text_same n text (end_tag x) j r s p q = absurd q
+text_same n text (characters x) j r s p q = absurd q
+text_same n text i j r s p q = absurd p
 
 raw_same : (n text : List ℕ) (i j : Item) (r s : List ℕ) → Begins (raw_text_of n) text i r → Begins (raw_text_of n) text j s → (i ≡ j) × (r ≡ s)
 raw_same n text (end_tag x) (end_tag y) r s p q = (ap end_tag (p.0 ∙ sym q.0), (end_same text n n r s p.1 q.1).1)
@@ -102,15 +96,9 @@ raw_same n text (characters c) (end_tag y) r s p q = absurd (end_first text n s 
 raw_same n text (characters c) (characters d) r s p q =
     let same = tag_same n text c d r s p.1 q.1 in
     (ap characters same.0, same.1)
-raw_same n text (start_tag x a) j r s p q = absurd p
-raw_same n text (comment c) j r s p q = absurd p
-raw_same n text (doctype x y z) j r s p q = absurd p
-raw_same n text (end_tag x) (start_tag y a) r s p q = absurd q
-raw_same n text (end_tag x) (comment c) r s p q = absurd q
-raw_same n text (end_tag x) (doctype y z w) r s p q = absurd q
-raw_same n text (characters x) (start_tag y a) r s p q = absurd q
-raw_same n text (characters x) (comment c) r s p q = absurd q
-raw_same n text (characters x) (doctype y z w) r s p q = absurd q
+raw_same n text (end_tag x) j r s p q = absurd q
+raw_same n text (characters x) j r s p q = absurd q
+raw_same n text i j r s p q = absurd p
 
 pub Begins-same : (mode : Mode) (text : List ℕ) (i j : Item) (r s : List ℕ) → Begins mode text i r → Begins mode text j s → (i ≡ j) × (r ≡ s)
 Begins-same markup text i j r s p q = markup_same text i j r s p q

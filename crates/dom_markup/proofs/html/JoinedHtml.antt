@@ -9,7 +9,7 @@ use Rattle.std.proofs.lemmas.List.Concat.{flat_map-append}
 use Rattle.std.proofs.lemmas.Str.{chars-append, chars-nil}
 use Rattle.dom_nodes.specs.Kinds.{is_text, children_allowed}
 use Rattle.dom_nodes.specs.declared.node_data.NodeData.{NodeData}
-use Rattle.dom_nodes.specs.declared.node_data.NodeData.TheVariants.{Document, Fragment, Doctype, Text, Comment, Element, ProcessingInstruction}
+use Rattle.dom_nodes.specs.declared.node_data.NodeData.TheVariants.{Text}
 use Rattle.dom_links.specs.Forest.{Forest, children_of, parent}
 use Rattle.dom_links.specs.Readings.{JoinsTexts, Reading, ReadsAlike, read_as}
 use Rattle.dom_links.specs.SetTexts.{is_text_at}
@@ -59,28 +59,16 @@ bears_no_text : (forest : Forest) (n : ℕ) → children_allowed_at forest n ≡
 bears_no_text forest n h = go (slice_get forest.content n) h
   where
     go : (o : Option NodeData) → option_map_or children_allowed o false ≡ true → option_map_or is_text o false ≡ false
-    go None h = refl
-    go (Some Document) h = refl
-    go (Some Fragment) h = refl
-    go (Some (Doctype a b c)) h = refl
     go (Some (Text a)) h = cc
-    go (Some (Comment a)) h = refl
-    go (Some (Element a)) h = refl
-    go (Some (ProcessingInstruction a b)) h = refl
+    go o h = refl
 
 -- a text keeps no texts below, and is no void element
 text_is_none : (test : NodeData → Bool) → ((text : List ℕ) → test (Text text) ≡ false) → (forest : Forest) (n : ℕ) → is_text_at forest n ≡ true → option_map_or test (slice_get forest.content n) false ≡ false
 text_is_none test none forest n text = go (slice_get forest.content n) text
   where
     go : (o : Option NodeData) → option_map_or is_text o false ≡ true → option_map_or test o false ≡ false
-    go None h = cc
-    go (Some Document) h = cc
-    go (Some Fragment) h = cc
-    go (Some (Doctype a b c)) h = cc
     go (Some (Text a)) h = none a
-    go (Some (Comment a)) h = cc
-    go (Some (Element a)) h = cc
-    go (Some (ProcessingInstruction a b)) h = cc
+    go o h = cc
 
 pub written_alike : (x : ℕ) (new old : Forest) → IsForest old → ReadsAlike html_reading x new old → WritesAlike x new old
 unfolding html_of inner_html_of

@@ -4,7 +4,7 @@ use Rattle.std.specs.Prelude.{codes, nat_lt, ◌||◌, if◌then◌else◌}
 use Rattle.std.specs.Char.{to_ascii_lowercase, encode_utf8}
 use Rattle.std.specs.List.{list_all}
 use Rattle.std.specs.Str.{IsUtf8, bytes_eq}
-use Rattle.std.proofs.lemmas.Bool.{cases_Bool, cases_lt, and_parts, and_from, ne_eqb, le-ltb, lt-ltb}
+use Rattle.std.proofs.lemmas.Bool.{cases_Bool, cases_lt, and_parts, and_from, le-ltb, lt-ltb}
 use Rattle.std.proofs.lemmas.List.Folds.{list_any-append}
 use Rattle.std.proofs.lemmas.Str.{length-encode}
 use Rattle.std.proofs.lemmas.Str.Ascii.{lowercase-lowercase}
@@ -18,6 +18,7 @@ use Rattle.dom_markup.specs.ValueTrees.ValueTrees.{no_trees, text_node, comment_
 use Rattle.dom_markup.specs.Markup.{Item, IsTagName, EndsTag, has_name, kept_after, BeginsStart, BeginsEnd, begins_markup, text_front, EndsAtTag, EndsAtMark, SpellsItemsUpTo, items_of, AreInPlace, Spells, LacksEnd}
 use Rattle.dom_markup.specs.Markup.Item.{end_tag as the_end}
 use Rattle.dom_markup.specs.Plain.{HoldsNoClose, IsPlainName, ArePlain, begins_with_text, IsPlainIn, IsPlainTrees, HaveNoIdentifiers}
+use Rattle.dom_markup.proofs.grammar.NameBytes.{above}
 use Rattle.dom_markup.proofs.plain.PlainText.{assoc, tails, bytes_eq-swapped, or_none, none_or, void_not_raw, void_not_text}
 
 -- the texts and values of trees are UTF-8
@@ -38,9 +39,7 @@ small_letter : (m : ℕ) → 96 < m → m < 123 → is_letter m ≡ true
 small_letter m low high = rw (lt-ltb 64 m (omega arith), le-ltb m 91 (omega arith), lt-ltb 96 m low, lt-ltb m 123 high) refl
 
 pub small_name : (m : ℕ) → 96 < m → is_name_byte m ≡ true
-small_name m low =
-    let other : (k : ℕ) → k ≤ 96 → (m == k) ≡ false = λ k h. ne_eqb m k (λ e. omega (arith, e)) in
-    rw (other 9 (omega arith), other 10 (omega arith), other 12 (omega arith), other 13 (omega arith), other 32 (omega arith), other 47 (omega arith), other 62 (omega arith), other 60 (omega arith), other 61 (omega arith), other 34 (omega arith), other 39 (omega arith), other 0 (omega arith)) refl
+small_name m low = above m (omega arith)
 
 -- the byte stays, or is a capital letter that becomes a small one
 lower_keeps : (p : ℕ → Bool) → ((m : ℕ) → 96 < m → m < 123 → p m ≡ true) → (b : ℕ) → p b ≡ true → p (to_ascii_lowercase b) ≡ true
@@ -204,12 +203,8 @@ raw_read name no_trees text items last utf8 spelled = (tt, tt, (spelled.0, spell
 raw_read name (text_node contents no_trees) text items last utf8 spelled =
     (no_end name text contents spelled.0 spelled.1.1, (spelled.1.0, utf8.0, refl, tt), (spelled.2.0, spelled.2.2))
 raw_read name (text_node contents (text_node second later)) text items last utf8 spelled = absurd (no_second name text contents spelled.0 second spelled.2.0 spelled.1.1 spelled.2.1.1 spelled.2.1.0)
-raw_read name (text_node contents (comment_node second later)) text items last utf8 spelled = absurd spelled.2.1
-raw_read name (text_node contents (doctype_node a b c later)) text items last utf8 spelled = absurd spelled.2.1
-raw_read name (text_node contents (element_node a b c later)) text items last utf8 spelled = absurd spelled.2.1
-raw_read name (comment_node second later) text items last utf8 spelled = absurd spelled.1
-raw_read name (doctype_node a b c later) text items last utf8 spelled = absurd spelled.1
-raw_read name (element_node a b c later) text items last utf8 spelled = absurd spelled.1
+raw_read name (text_node contents later) text items last utf8 spelled = absurd spelled.2.1
+raw_read name children text items last utf8 spelled = absurd spelled.1
 
 text_read : (name : List ℕ) (children : ValueTrees) (text : List ℕ) (items : List Item) (last : List ℕ) → TextsAreUtf8 children →
     SpellsItemsUpTo (text_of name) text (items_of children ++ (the_end name ∷ items)) last →
@@ -220,12 +215,8 @@ text_read name (text_node contents no_trees) text items last utf8 spelled =
     (tt, (λ none. decoded-some begins.0 begins.1 (sym begins.3 ∙ none), utf8.0, refl, tt), (spelled.2.0, spelled.2.2))
 text_read name (text_node contents (text_node second later)) text items last utf8 spelled =
     absurd (no_second name text spelled.1.0 spelled.0 spelled.2.1.0 spelled.2.0 spelled.1.2 spelled.2.1.2 spelled.2.1.1)
-text_read name (text_node contents (comment_node second later)) text items last utf8 spelled = absurd spelled.2.1
-text_read name (text_node contents (doctype_node a b c later)) text items last utf8 spelled = absurd spelled.2.1
-text_read name (text_node contents (element_node a b c later)) text items last utf8 spelled = absurd spelled.2.1
-text_read name (comment_node second later) text items last utf8 spelled = absurd spelled.1
-text_read name (doctype_node a b c later) text items last utf8 spelled = absurd spelled.1
-text_read name (element_node a b c later) text items last utf8 spelled = absurd spelled.1
+text_read name (text_node contents later) text items last utf8 spelled = absurd spelled.2.1
+text_read name children text items last utf8 spelled = absurd spelled.1
 
 children_read : (name : List ℕ) (children : ValueTrees) (text : List ℕ) (items : List Item) (last : List ℕ) → TextsAreUtf8 children →
     ((items : List Item) → SpellsItemsUpTo markup text (items_of children ++ items) last → IsPlainTrees false children × ((rest : List ℕ) × SpellsItemsUpTo markup rest items last)) →

@@ -357,12 +357,8 @@ raw_utf8 name (text_node contents no_trees) text items last utf8 spelled =
     let parts = utf8_at_tag name text contents spelled.0 spelled.1.1 utf8 in
     ((parts.0, tt), (spelled.2.0, utf8_end spelled.0 name spelled.2.0 spelled.2.1.1 parts.1, spelled.2.2))
 raw_utf8 name (text_node contents (text_node second later)) text items last utf8 spelled = absurd (no_second name text contents spelled.0 second spelled.2.0 spelled.1.1 spelled.2.1.1 spelled.2.1.0)
-raw_utf8 name (text_node contents (comment_node second later)) text items last utf8 spelled = absurd spelled.2.1
-raw_utf8 name (text_node contents (doctype_node a b c later)) text items last utf8 spelled = absurd spelled.2.1
-raw_utf8 name (text_node contents (element_node a b c later)) text items last utf8 spelled = absurd spelled.2.1
-raw_utf8 name (comment_node second later) text items last utf8 spelled = absurd spelled.1
-raw_utf8 name (doctype_node a b c later) text items last utf8 spelled = absurd spelled.1
-raw_utf8 name (element_node a b c later) text items last utf8 spelled = absurd spelled.1
+raw_utf8 name (text_node contents later) text items last utf8 spelled = absurd spelled.2.1
+raw_utf8 name children text items last utf8 spelled = absurd spelled.1
 
 text_utf8 : (name : List ℕ) (children : ValueTrees) (text : List ℕ) (items : List Item) (last : List ℕ) → IsUtf8 text →
     SpellsItemsUpTo (text_of name) text (items_of children ++ (the_end name ∷ items)) last → TextsAreUtf8 children × Goes items last
@@ -373,12 +369,8 @@ text_utf8 name (text_node contents no_trees) text items last utf8 spelled =
     ((subst IsUtf8 (sym begins.3) (decoded-utf8 begins.0 parts.0), tt), (spelled.2.0, utf8_end spelled.0 name spelled.2.0 spelled.2.1.1 parts.1, spelled.2.2))
 text_utf8 name (text_node contents (text_node second later)) text items last utf8 spelled =
     absurd (no_second name text spelled.1.0 spelled.0 spelled.2.1.0 spelled.2.0 spelled.1.2 spelled.2.1.2 spelled.2.1.1)
-text_utf8 name (text_node contents (comment_node second later)) text items last utf8 spelled = absurd spelled.2.1
-text_utf8 name (text_node contents (doctype_node a b c later)) text items last utf8 spelled = absurd spelled.2.1
-text_utf8 name (text_node contents (element_node a b c later)) text items last utf8 spelled = absurd spelled.2.1
-text_utf8 name (comment_node second later) text items last utf8 spelled = absurd spelled.1
-text_utf8 name (doctype_node a b c later) text items last utf8 spelled = absurd spelled.1
-text_utf8 name (element_node a b c later) text items last utf8 spelled = absurd spelled.1
+text_utf8 name (text_node contents later) text items last utf8 spelled = absurd spelled.2.1
+text_utf8 name children text items last utf8 spelled = absurd spelled.1
 
 children_utf8 : (name : List ℕ) (children : ValueTrees) (text : List ℕ) (items : List Item) (last : List ℕ) → IsUtf8 text →
     ((items : List Item) → SpellsItemsUpTo markup text (items_of children ++ items) last → TextsAreUtf8 children × Goes items last) →

@@ -477,33 +477,24 @@ nests-whole trees h = ap (nests []) (sym (append-nil (items_of trees))) ∙ nest
 
 -- an item that ends another element than the innermost open one belongs to no trees
 pub no_trees_end : (items : List Item) (item : Item) → EndsAnother items item → (trees : ValueTrees) (more : List Item) → AreInPlace true trees → items_of trees ≡ (items ++ item ∷ []) ++ more → ⊥
-no_trees_end items (start_tag n a) h trees more g e = h
-no_trees_end items (characters c) h trees more g e = h
-no_trees_end items (comment c) h trees more g e = h
-no_trees_end items (doctype n p s) h trees more g e = h
 no_trees_end items (end_tag n) h trees more g e =
     let nested : nests [] (items_of trees) ≡ nests (names (h.0 ∷ h.1)) (end_tag n ∷ more) =
     ap (nests []) (e ∙ append_assoc items (end_tag n ∷ []) more) ∙ nests-left items (h.0 ∷ h.1) h.2 (end_tag n ∷ more) in
     let differ : bytes_eq h.0.name n ≡ false = bytes_eq-differs h.0.name n (λ is. h.3 (sym is)) in
     true≢false (sym (nests-whole trees g) ∙ nested ∙ ap (λ b. b && nests (names h.1) more) differ)
+no_trees_end items item h trees more g e = h
 
 -- nor does one where nothing is open
 pub no_trees_stray : (items : List Item) (item : Item) → EndsNothing items item → (trees : ValueTrees) (more : List Item) → AreInPlace true trees → items_of trees ≡ (items ++ item ∷ []) ++ more → ⊥
-no_trees_stray items (start_tag n a) h trees more g e = h
-no_trees_stray items (characters c) h trees more g e = h
-no_trees_stray items (comment c) h trees more g e = h
-no_trees_stray items (doctype n p s) h trees more g e = h
 no_trees_stray items (end_tag n) h trees more g e =
     true≢false (sym (nests-whole trees g) ∙ ap (nests []) (e ∙ append_assoc items (end_tag n ∷ []) more) ∙ nests-left items [] h (end_tag n ∷ more))
+no_trees_stray items item h trees more g e = h
 
 -- nor does a doctype where an element is open
 pub no_trees_inside : (items : List Item) (item : Item) → IsInside items item → (trees : ValueTrees) (more : List Item) → AreInPlace true trees → items_of trees ≡ (items ++ item ∷ []) ++ more → ⊥
-no_trees_inside items (start_tag n a) h trees more g e = h
-no_trees_inside items (end_tag n) h trees more g e = h
-no_trees_inside items (characters c) h trees more g e = h
-no_trees_inside items (comment c) h trees more g e = h
 no_trees_inside items (doctype n p s) h trees more g e =
     true≢false (sym (nests-whole trees g) ∙ ap (nests []) (e ∙ append_assoc items (doctype n p s ∷ []) more) ∙ nests-left items (h.0 ∷ h.1) h.2 (doctype n p s ∷ more))
+no_trees_inside items item h trees more g e = h
 
 -- where an element is open, the items so far aren't those of trees
 pub no_trees_open : (items : List Item) → LeavesSomeOpen items → (trees : ValueTrees) → AreInPlace true trees → items_of trees ≡ items → ⊥

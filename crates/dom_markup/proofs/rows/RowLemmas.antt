@@ -7,7 +7,7 @@ use Rattle.std.proofs.lemmas.Option.{slice_get_past}
 use Rattle.dom_nodes.specs.Kinds.{is_fragment, is_top}
 use Rattle.dom_nodes.specs.declared.node_data.Element.{Element}
 use Rattle.dom_nodes.specs.declared.node_data.NodeData.{NodeData}
-use Rattle.dom_nodes.specs.declared.node_data.NodeData.TheVariants.{Document, Fragment, Doctype, Text, Comment, Element as AnElement, ProcessingInstruction}
+use Rattle.dom_nodes.specs.declared.node_data.NodeData.TheVariants.{Fragment, Element as AnElement}
 use Rattle.dom_nodes.specs.declared.node_data.TreeNode.{TreeNode}
 use Rattle.dom_links.specs.Forest.{Forest, children_of, siblings}
 use Rattle.dom_links.specs.Sound.{IsForest, contents_at, stays}
@@ -25,14 +25,8 @@ known_node xs n x read = elim (cases_lt n (length xs)) [
 ]
 
 fragment_is_top : (o : Option NodeData) → option_map_or is_fragment o false ≡ true → option_map_or is_top o false ≡ true
-fragment_is_top None h = h
-fragment_is_top (Some Document) h = cc
 fragment_is_top (Some Fragment) h = refl
-fragment_is_top (Some (Doctype a b c)) h = cc
-fragment_is_top (Some (Text a)) h = cc
-fragment_is_top (Some (Comment a)) h = cc
-fragment_is_top (Some (AnElement a)) h = cc
-fragment_is_top (Some (ProcessingInstruction a b)) h = cc
+fragment_is_top o h = cc
 
 fragment_known : (xs : List NodeData) (n : ℕ) → option_map_or is_fragment (slice_get xs n) false ≡ true → n < length xs
 fragment_known xs n fragment = elim (cases_lt n (length xs)) [
