@@ -1,6 +1,6 @@
 -- The nodes of a read document stand for its trees.
-use Rattle.std.proofs.Common.{◌≡◌, ℕ, zero, suc, ◌+◌, ◌<◌, ◌≤◌, Bool, true, false, cond, List, [], ◌∷◌, ◌++◌, length, get_or, Some, None, refl, sym, ap, ◌∙◌, subst, arith, append-nil, add-zero, slice_get, inl, inr, map, length-append}
-use Rattle.std.specs.Prelude.{◌==◌, ◌⊎◌}
+use Rattle.std.proofs.Common.{◌≡◌, ℕ, zero, suc, ◌+◌, ◌<◌, ◌≤◌, Bool, true, false, cond, List, [], ◌∷◌, ◌++◌, length, get_or, Option, Some, None, refl, sym, ap, ◌∙◌, subst, arith, append-nil, add-zero, slice_get, inl, inr, map, length-append}
+use Rattle.std.specs.Prelude.{◌==◌, ◌⊎◌, MatchBool, MatchOption}
 use Rattle.std.proofs.lemmas.Bool.{eq-eqb, ne_eqb}
 use Rattle.dom_nodes.specs.declared.node_data.NodeData.{NodeData}
 use Rattle.dom_nodes.specs.declared.node_data.NodeData.TheVariants.{Document, Fragment, Doctype, Text, Comment}
@@ -10,7 +10,7 @@ use Rattle.dom_markup.specs.Names.{is_template}
 use Rattle.dom_markup.specs.Numbered.{Row, read_attr, read_element, size, rows_from, rows_of, children_among, document_of}
 use Rattle.dom_markup.specs.ValueTrees.{Attribute, ValueTrees}
 use Rattle.dom_markup.specs.ValueTrees.ValueTrees.{no_trees, text_node, comment_node, doctype_node, element_node}
-use Rattle.dom_markup.specs.Plain.{Represents, StandForAttributes}
+use Rattle.dom_markup.specs.Plain.{IsElement, Represents, StandForAttributes}
 
 -- ---- children among rows
 
@@ -171,6 +171,13 @@ read_attrs : (attributes : List Attribute) → StandForAttributes (map read_attr
 read_attrs [] = tt
 read_attrs (attribute ∷ attributes) = (refl, refl, refl, read_attrs attributes)
 
+-- an element as it was read is one of this name and with these attributes
+element_read : (forest : Forest) (n : ℕ) (name : List ℕ) (attributes : List Attribute) (contents : Option ℕ) (below : List ℕ) → slice_get forest.content n ≡ Some (read_element name attributes contents) →
+    MatchBool (is_template name) (MatchOption contents ⊥ (λ inner. (children_of forest n ≡ []) × (below ≡ children_of forest inner))) ((contents ≡ None) × (below ≡ children_of forest n)) →
+    IsElement forest n name attributes below
+element_read forest n name attributes contents below read holds =
+    record { attrs = map read_attr attributes; contents = contents; flag = false; read = read; named = read_attrs attributes; holds = holds }
+
 -- an element that is no template
 element_represents : (forest : Forest) (p n : ℕ) (name : List ℕ) (attributes : List Attribute) (children later : ValueTrees) → p < n → is_template name ≡ false →
     HasRows forest n (child_row p (read_element name attributes None) ∷ (rows_from n (n + 1) children ++ rows_from p (n + 1 + size children) later)) →
@@ -188,14 +195,7 @@ element_represents forest p n name attributes children later below t has inner o
       children_among (n + 1 + size children) rest p,
       children_among (n + 1) first n,
       first_among p n content (first ++ rest) ∙ ap (λ ks. n ∷ ks) (beside p n (n + 1) children later below (omega arith)),
-      record {
-        attrs = map read_attr attributes;
-        contents = None;
-        flag = false;
-        read = first_content forest n _ _ has;
-        named = read_attrs attributes;
-        holds = rw t (refl, sym own);
-      },
+      element_read forest n name attributes None (children_among (n + 1) first n) (first_content forest n _ _ has) (rw t (refl, sym own)),
       inner parts.inner,
       outer parts.outer,
     )
@@ -220,14 +220,7 @@ template_represents forest p n name attributes children later below t has inner 
       children_among (n + 2 + size children) rest p,
       children_among (n + 2) first (n + 1),
       first_among p n content (fragment_row ∷ (first ++ rest)) ∙ ap (λ ks. n ∷ ks) (ap (λ i. children_among i (first ++ rest) p) many ∙ beside p (n + 1) (n + 2) children later (omega arith) (omega arith)),
-      record {
-        attrs = map read_attr attributes;
-        contents = Some (n + 1);
-        flag = false;
-        read = first_content forest n _ _ has;
-        named = read_attrs attributes;
-        holds = rw t (none, sym own);
-      },
+      element_read forest n name attributes (Some (n + 1)) (children_among (n + 2) first (n + 1)) (first_content forest n _ _ has) (rw t (none, sym own)),
       inner parts.inner,
       outer parts.outer,
     )

@@ -145,22 +145,27 @@ content_row [] n content e = absurd (cc)
 content_row (row ∷ rows) zero content e = (row, refl, cc)
 content_row (row ∷ rows) (suc n) content e = content_row rows n content e
 
+-- the contents of an element come right after it, and are a fragment
+held_next : (rows : List Row) → AreInOrder (contents_of_rows rows) 0 rows → (n c : ℕ) → contents_at (forest_of_rows rows) n ≡ Some c →
+    (c ≡ n + 1) × (option_map_or is_fragment (slice_get (contents_of_rows rows) c) false ≡ true)
+held_next rows order n c held = by_content (slice_get (contents_of_rows rows) n) refl
+  where
+    by_content : (o : Option NodeData) → slice_get (contents_of_rows rows) n ≡ o → (c ≡ n + 1) × (option_map_or is_fragment (slice_get (contents_of_rows rows) c) false ≡ true)
+    by_content None read = absurd (none_some (ap (λ o. Rattle.std.specs.Prelude.option_and_then contents_named o) (sym read) ∙ held))
+      where
+        none_some : None ≡ Some c → ⊥
+        none_some e = cc
+    by_content (Some content) read =
+        let row = content_row rows n content read in
+        let zero-n : 0 + n ≡ n = omega arith in
+        let named : contents_named row.0.content ≡ Some c = ap contents_named row.2 ∙ (ap (λ o. Rattle.std.specs.Prelude.option_and_then contents_named o) (sym read) ∙ held) in
+        let good = (order_at (contents_of_rows rows) 0 n rows row.0 order row.1).holds c named in
+        (omega (arith, good.0), good.1)
+
 -- a step goes to a greater number
 step_up : (rows : List Row) → AreInOrder (contents_of_rows rows) 0 rows → (m n : ℕ) → IsParentOrHost (forest_of_rows rows) m n → m < n
 step_up rows order m n (inl up) = parent_below rows order n m (sym (parent_is rows order n) ∙ up)
-step_up rows order m n (inr held) = by_content (slice_get (contents_of_rows rows) m) refl
-  where
-    by_content : (o : Option NodeData) → slice_get (contents_of_rows rows) m ≡ o → m < n
-    by_content None read = absurd (none_some (ap (λ o. Rattle.std.specs.Prelude.option_and_then contents_named o) (sym read) ∙ held))
-      where
-        none_some : None ≡ Some n → ⊥
-        none_some e = cc
-    by_content (Some content) read =
-        let row = content_row rows m content read in
-        let zero-m : 0 + m ≡ m = omega arith in
-        let named : contents_named row.0.content ≡ Some n = ap contents_named row.2 ∙ (ap (λ o. Rattle.std.specs.Prelude.option_and_then contents_named o) (sym read) ∙ held) in
-        let is = ((order_at (contents_of_rows rows) 0 m rows row.0 order row.1).holds n named).0 in
-        omega (arith, is)
+step_up rows order m n (inr held) = omega (arith, (held_next rows order m n held).0)
 
 pub reach_up : (rows : List Row) → AreInOrder (contents_of_rows rows) 0 rows → (m n : ℕ) → IsHostAncestor (forest_of_rows rows) m n → m < n
 reach_up rows order m n (one_step _ _ s) = step_up rows order m n s
@@ -205,22 +210,7 @@ rows_forest rows some order =
           (let named = sym (parent_is rows order n) ∙ e in
           let has = has_parent rows n p named in
           ((order_at (contents_of_rows rows) 0 n rows has.row order has.is).below p has.names_it).1);
-      contents_known = λ n c e. (let held = holds_next n c e in (λ z. omega (arith, held.0, z), held.1));
-      contents_once = λ m n c e f. (let one = (holds_next m c e).0 in let two = (holds_next n c f).0 in omega (arith, one, two));
+      contents_known = λ n c e. (let held = held_next rows order n c e in (λ z. omega (arith, held.0, z), held.1));
+      contents_once = λ m n c e f. (let one = (held_next rows order m c e).0 in let two = (held_next rows order n c f).0 in omega (arith, one, two));
       acyclic = λ n r. (let less = reach_up rows order n n r in omega (arith, less));
     }
-  where
-    holds_next : (n c : ℕ) → contents_at (forest_of_rows rows) n ≡ Some c → (c ≡ n + 1) × (option_map_or is_fragment (slice_get (contents_of_rows rows) c) false ≡ true)
-    holds_next n c e = by_content (slice_get (contents_of_rows rows) n) refl
-      where
-        by_content : (o : Option NodeData) → slice_get (contents_of_rows rows) n ≡ o → (c ≡ n + 1) × (option_map_or is_fragment (slice_get (contents_of_rows rows) c) false ≡ true)
-        by_content None read = absurd (none_some (ap (λ o. Rattle.std.specs.Prelude.option_and_then contents_named o) (sym read) ∙ e))
-          where
-            none_some : None ≡ Some c → ⊥
-            none_some e = cc
-        by_content (Some content) read =
-            let row = content_row rows n content read in
-            let zero-n : 0 + n ≡ n = omega arith in
-            let named : contents_named row.0.content ≡ Some c = ap contents_named row.2 ∙ (ap (λ o. Rattle.std.specs.Prelude.option_and_then contents_named o) (sym read) ∙ e) in
-            let good = (order_at (contents_of_rows rows) 0 n rows row.0 order row.1).holds c named in
-            (omega (arith, good.0), good.1)

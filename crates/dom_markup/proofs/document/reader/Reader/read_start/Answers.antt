@@ -23,11 +23,10 @@ returns-in_err-number c =
 
 pub returns-then-void : goal.returns-then-void
 returns-then-void c =
-    let started = c.in_ok-started.started in
-    let name = folded started.written.now in
     let tag = c.in_ok-started.ensures in
     let grows = c.in_ok-number.ensures in
-    let made = grows.grown.1 ∙ started_is (parent_number c.args.self.now) started tag.0 c.args.self.now.tree tag.2 in
+    let made = grows.grown.1 ∙ started_is (parent_number c.args.self.now) c.in_ok-started.started tag.0 c.args.self.now.tree tag.2 in
+    let name = folded c.in_ok-started.started.written.now in
     let void = ap (λ (n : List ℕ). is_among n void_names) (sym tag.2.local) ∙ (sym c.is_void_name-void.ensures ∙ c.if-void.true) in
     λ items h. (start_tag name tag.0, tag.1, c.within_named-within.ensures ∙ ap mode_in tag.2.local, void_read items _ _ name tag.0 h made grows.stack void)
 
