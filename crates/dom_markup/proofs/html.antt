@@ -2,6 +2,7 @@
 pub mod WritingLemmas
 pub mod CutLemmas
 pub mod EscapeLemmas
+pub mod TreatedNames
 pub mod PendingLemmas
 pub mod InertLemmas
 pub mod JoinedHtml

@@ -28,60 +28,32 @@ pub(crate) const RAW_NAMES: [&str; 7] = [
 /// The elements that hold one text alone, in which references are read.
 pub(crate) const TEXT_NAMES: [&str; 2] = ["title", "textarea"];
 
-/// Whether the known name of each number is one of `VOID_NAMES`.
+/// How markup treats the element of each known name, by the name's number; 0 as any other.
 #[rattlefmt::skip]
-static VOID: [bool; 247] = [
-    false, false, false, false, false, false, false, false, false, true, false, false, false,
-    false, false, false, false, false, false, false, true, false, false, false, false, false,
-    false, false, false, false, false, false, false, false, false, true, false, false, false,
-    false, false, true, false, false, false, false, false, false, false, false, false, false,
-    false, false, false, false, false, true, false, false, true, true, false, false, false,
-    false, false, false, false, false, false, false, false, false, true, false, false, false,
-    false, true, false, false, false, false, false, false, false, false, false, false, false,
-    false, false, false, false, false, false, false, false, false, false, false, false, true,
-    true, true, false, false, false, false, false, false, true, false, false, false, false,
-    false, false, false, false, false, false, false, true, false, false, false, false, false,
-    false, false, false, false, false, false, false, false, false, false, false, false, false,
-    false, false, false, true, false, false, false, false, false, false, false, false, false,
-    false, true, false, false, false, false, false, false, false, false, false, false, false,
-    false, true, false, false, false, false, false, false, false, false, false, false, false,
-    false, false, false, false, false, false, false, false, false, false, false, true, false,
-    false, false, false, false, false, false, false, false, false, false, false, false, false,
-    false, false, false, false, false, false, false, false, false, false, false, false, false,
-    false, false, false, false, false, false, false, false, false, false, false, false, false,
-    false, false, false, false, false, false, false, false, false, false, false, false, false,
+static TREATED: [u8; 247] = [
+    0, 0, 0, 0, 0, 0, 0, 0, 0, 1, 0, 0, 0, 0, 0, 0, 0, 0, 0, 0, 1, 0, 0, 0, 0, 0, 0, 0, 0, 0,
+    0, 0, 0, 0, 0, 1, 0, 0, 0, 0, 0, 1, 0, 0, 0, 0, 0, 0, 0, 0, 0, 0, 0, 0, 0, 0, 0, 1, 2, 0,
+    1, 1, 0, 0, 0, 0, 0, 0, 0, 0, 0, 0, 0, 0, 1, 0, 0, 0, 0, 1, 0, 0, 0, 0, 0, 0, 0, 0, 0, 0,
+    0, 0, 0, 0, 0, 0, 0, 0, 0, 0, 0, 0, 0, 1, 1, 1, 0, 0, 0, 0, 0, 0, 1, 0, 0, 0, 0, 0, 2, 0,
+    0, 0, 0, 0, 1, 0, 0, 0, 0, 0, 0, 0, 0, 0, 0, 0, 0, 0, 0, 0, 0, 0, 0, 0, 2, 0, 1, 0, 0, 0,
+    0, 0, 0, 0, 2, 0, 0, 1, 0, 0, 0, 0, 0, 0, 0, 0, 0, 0, 0, 0, 1, 0, 0, 0, 0, 0, 0, 0, 0, 0,
+    0, 0, 2, 0, 0, 0, 0, 0, 0, 0, 0, 0, 0, 1, 0, 0, 0, 0, 0, 0, 0, 0, 0, 0, 0, 0, 0, 0, 0, 2,
+    0, 0, 0, 0, 0, 0, 0, 0, 0, 0, 0, 0, 0, 0, 0, 0, 2, 0, 0, 0, 0, 0, 0, 0, 0, 0, 0, 0, 0, 0,
+    0, 0, 0, 0, 0, 0, 0,
 ];
 
-/// Whether the known name of each number is one of `RAW_NAMES`.
-#[rattlefmt::skip]
-static RAW: [bool; 247] = [
-    false, false, false, false, false, false, false, false, false, false, false, false, false,
-    false, false, false, false, false, false, false, false, false, false, false, false, false,
-    false, false, false, false, false, false, false, false, false, false, false, false, false,
-    false, false, false, false, false, false, false, false, false, false, false, false, false,
-    false, false, false, false, false, false, true, false, false, false, false, false, false,
-    false, false, false, false, false, false, false, false, false, false, false, false, false,
-    false, false, false, false, false, false, false, false, false, false, false, false, false,
-    false, false, false, false, false, false, false, false, false, false, false, false, false,
-    false, false, false, false, false, false, false, false, false, false, false, false, false,
-    false, true, false, false, false, false, false, false, false, false, false, false, false,
-    false, false, false, false, false, false, false, false, false, false, false, false, false,
-    false, true, false, false, false, false, false, false, false, false, false, true, false,
-    false, false, false, false, false, false, false, false, false, false, false, false, false,
-    false, false, false, false, false, false, false, false, false, false, false, false, false,
-    true, false, false, false, false, false, false, false, false, false, false, false, false,
-    false, false, false, false, false, false, false, false, false, false, false, false, false,
-    false, true, false, false, false, false, false, false, false, false, false, false, false,
-    false, false, false, false, false, true, false, false, false, false, false, false, false,
-    false, false, false, false, false, false, false, false, false, false, false, false, false,
-];
+/// What `TREATED` holds for each name of `VOID_NAMES`.
+const IS_VOID: u8 = 1;
+
+/// What `TREATED` holds for each name of `RAW_NAMES`.
+const IS_RAW: u8 = 2;
 
 /// Whether an element of that name is a start tag alone. Known names are compared by number.
 pub(crate) fn is_void_name(name: &LocalName) -> bool
     ensures { result ≡ is_among name.now void_names }
 {
     match name.number() {
-        Some(number) => VOID[number as usize],
+        Some(number) => TREATED[number as usize] == IS_VOID,
         None => is_void_text(name.as_str()),
     }
 }
@@ -91,7 +63,7 @@ pub(crate) fn is_raw_name(name: &LocalName) -> bool
     ensures { result ≡ is_among name.now raw_names }
 {
     match name.number() {
-        Some(number) => RAW[number as usize],
+        Some(number) => TREATED[number as usize] == IS_RAW,
         None => is_raw_text(name.as_str()),
     }
 }

@@ -1,16 +1,12 @@
-use Rattle.std.proofs.Common.{◌≡◌, true, false, get_or, refl, ap, ◌∙◌}
-use Rattle.std.proofs.lemmas.Bool.{agree_below, agree_below_at}
+use Rattle.std.proofs.Common.{refl}
 use Rattle.dom_nodes.specs.KnownNames.{known_name}
-use Rattle.dom_nodes.specs.Words.{is_among}
 use Rattle.dom_markup.specs.Names.{raw_names}
-use Rattle.dom_markup.specs.declared.names.TheConstants.{RAW}
+use Rattle.dom_markup.proofs.html.TreatedNames.{TreatsAs, treated_as}
 use Rattle.dom_markup.proofs.names.is_raw_name.Goals as goal
 
-table_is : agree_below (λ n. get_or RAW n false) (λ n. is_among (known_name n) raw_names) 247 ≡ true
+table_is : TreatsAs 2 raw_names
 unfolding known_name raw_names
 table_is = refl
 
 pub returns-in-Some : goal.returns-in-Some
-returns-in-Some c =
-    agree_below_at (λ n. get_or RAW n false) (λ n. is_among (known_name n) raw_names) 247 c.in-Some.number table_is c.in-Some.ensures.0
-    ∙ ap (λ bytes. is_among bytes raw_names) c.in-Some.ensures.1
+returns-in-Some c = treated_as 2 raw_names c.in-Some.number _ table_is c.in-Some.ensures.0 c.in-Some.ensures.1
