@@ -1,8 +1,16 @@
 -- A text whose front is written, and whose rest is cut at a character that is written by a name.
 use Rattle.std.proofs.Common.{◌≡◌, ℕ, List, ◌++◌, Option, sym, ◌∙◌, ap, subst, append_assoc}
 use Rattle.std.specs.Io.KnownBytes.{Appends}
+use Rattle.std.specs.Str.{IsUtf8}
 use Rattle.dom_markup.specs.Writing.{AppendsBeginning}
 use Rattle.dom_markup.proofs.html.WritingLemmas.{written-then, beginning-then, beginning-more, fault-inside}
+
+-- what was put of a text that is written so, where the rest of it is left
+pub record HasPut (escaped : List ℕ → List ℕ) (old new : Option (List ℕ)) (text rest : List ℕ) : Type 0 where
+  pub front : List ℕ
+  pub whole : front ++ escaped rest ≡ escaped text
+  pub written : Appends old new front
+  pub utf8 : IsUtf8 rest
 
 module _ (front before name after rest all : List ℕ) (whole : front ++ rest ≡ all) (cut : rest ≡ before ++ (name ++ after)) where
   -- a fault in what stands before the character

@@ -1,18 +1,17 @@
 use Rattle.std.proofs.Common.{rules}
 use Rattle.std.proofs.lemmas.Result.{err_from_is_err_and}
-use Rattle.dom_nodes.specs.Escaping.{escaped_value}
 use Rattle.dom_markup.proofs.html.CutLemmas.{fault_before, fault_name, cut_whole, cut_written}
 use Rattle.dom_markup.proofs.escaping.Escaper.put_named.Goals as goal
 
 pub returns-in_err-put_spaced : goal.returns-in_err-put_spaced
 returns-in_err-put_spaced g c =
     let p = err_from_is_err_and c.from_residual.result c.from_residual.ensures.1 in
-    rw p.1 (fault_before _ _ c.in-Some.named.name.now (escaped_value c.in-Some.named.after.now) _ _ c.loop-named.invariant.whole c.in-Some.ensures.whole _ _ _ c.loop-named.invariant.written c.in_err-put_spaced.ensures)
+    rw p.1 (fault_before _ _ c.in-Some.named.name.now (g.C.Cut.escaped c.in-Some.named.after.now) _ _ c.loop-named.invariant.whole c.in-Some.ensures.whole _ _ _ c.loop-named.invariant.written c.in_err-put_spaced.ensures)
 
 pub returns-in_err-put : goal.returns-in_err-put
 returns-in_err-put g c =
     let p = err_from_is_err_and c.from_residual-in_err-put.result c.from_residual-in_err-put.ensures.1 in
-    rw p.1 (fault_name _ _ _ (escaped_value c.in-Some.named.after.now) _ _ c.loop-named.invariant.whole c.in-Some.ensures.whole _ _ _ _ c.loop-named.invariant.written c.in_ok-put_spaced.ensures c.in_err-put.ensures)
+    rw p.1 (fault_name _ _ _ (g.C.Cut.escaped c.in-Some.named.after.now) _ _ c.loop-named.invariant.whole c.in-Some.ensures.whole _ _ _ _ c.loop-named.invariant.written c.in_ok-put_spaced.ensures c.in_err-put.ensures)
 
 pub loop-named-preserved : goal.loop-named-preserved
 loop-named-preserved g c = record {
