@@ -1,17 +1,10 @@
 //! Documents, and reading them from explicit markup.
 
-ghost use Rattle.std.specs.Prelude.{◌≡◌, codes, find, map, string_bytes};
-ghost use Rattle.std.specs.Prelude.{IfErr, IfOk, IfSome};
-ghost use Rattle.std.specs.Option.{option_copied};
-ghost use Rattle.dom_links.specs.Forest.{children_of};
+ghost use Rattle.std.specs.Prelude.{◌≡◌, IfErr, IfOk, map, string_bytes};
 ghost use Rattle.dom_links.specs.Growth.{lone};
-ghost use Rattle.dom_links.specs.ListMoves.{element_at};
-ghost use Rattle.dom_links.specs.Texts.{text_of};
 ghost use Rattle.dom_trees.specs.Edits.{Edits, normalizing};
-ghost use Rattle.dom_trees.specs.Views.{base_uri, page_part};
 ghost use Rattle.dom_markup.specs.Documents.{IsDocumentOf, IsFaultOf, IsHtml, IsNodeAt};
 ghost use Rattle.dom_markup.specs.Documents.{NotesNothing, SuitsText, ReadsSpelled};
-ghost use Rattle.dom_markup.specs.Html.{html_of, inner_html_of};
 ghost use Rattle.dom_markup.specs.Plain.{IsPlain};
 ghost use Rattle.dom_markup.specs.ReadingBack.{LacksIdentifiers};
 ghost use Rattle.dom_markup.specs.Refusals.{IsFaultAt, Refused};
@@ -68,10 +61,7 @@ impl Document {
         ensures empty { IfOk result (λ document. document.tree ≡ lone NodeData.Document) }
         ensures notes { IfOk result NotesNothing }
     {
-        match Tree::new(alloc, NodeData::Document) {
-            Ok(tree) => Ok(whole(alloc, tree)),
-            Err(_) => Err(OutOfMemory),
-        }
+        lone(alloc, NodeData::Document)
     }
 
     /// The document that the text spells, with its nodes numbered in order of start.
@@ -150,6 +140,26 @@ impl Document {
         })
     }
 
+    /// Joins each row of texts below the root, as `Tree::normalize_of`. Refused as `Memory`.
+    pub fn normalize(&mut self) -> Result<(), EditFault>
+        ensures tree { Edits result self.old.tree self.new.tree (normalizing 0) }
+        ensures errors { self.new.errors ≡ self.old.errors }
+        ensures quirks { self.new.quirks_mode ≡ self.old.quirks_mode }
+    {
+        self.tree.normalize_of(&NodeId::root())
+    }
+}
+
+/// What stands in a document.
+impl Document {
+    ghost use Rattle.std.specs.Option.{option_copied};
+    ghost use Rattle.std.specs.Prelude.{codes, find, IfSome};
+    ghost use Rattle.dom_links.specs.Forest.{children_of};
+    ghost use Rattle.dom_links.specs.ListMoves.{element_at};
+    ghost use Rattle.dom_links.specs.Texts.{text_of};
+    ghost use Rattle.dom_trees.specs.Views.{base_uri, page_part};
+    ghost use Rattle.dom_markup.specs.Html.{html_of, inner_html_of};
+
     /// The node that all others stand below.
     pub fn root(&self) -> NodeRef<'_>
         ensures number { result.id ≡ 0 }
@@ -221,14 +231,16 @@ impl Document {
     {
         self.root().text()
     }
+}
 
-    /// Joins each row of texts below the root, as `Tree::normalize_of`. Refused as `Memory`.
-    pub fn normalize(&mut self) -> Result<(), EditFault>
-        ensures tree { Edits result self.old.tree self.new.tree (normalizing 0) }
-        ensures errors { self.new.errors ≡ self.old.errors }
-        ensures quirks { self.new.quirks_mode ≡ self.old.quirks_mode }
-    {
-        self.tree.normalize_of(&NodeId::root())
+/// A document of one node, with nothing to note; `Err` where memory was refused.
+fn lone(alloc: Global, content: NodeData) -> Result<Document, OutOfMemory>
+    ensures node { IfOk result (λ document. document.tree ≡ lone content) }
+    ensures notes { IfOk result NotesNothing }
+{
+    match Tree::new(alloc, content) {
+        Ok(tree) => Ok(whole(alloc, tree)),
+        Err(_) => Err(OutOfMemory),
     }
 }
 

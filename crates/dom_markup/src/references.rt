@@ -70,36 +70,28 @@ struct Reference {
     len: usize,
 }
 
+/// The reference by a name of a character, of so many bytes with its semicolon.
+fn named(character: char, len: usize) -> Reference
+    ensures { result ≡ record { character = character; len = len } }
+{
+    Reference { character, len }
+}
+
 /// The reference that begins at an `&`, in front of this text.
 fn reference_at(after: &str) -> Option<Reference>
     ensures { result ≡ reference after.now }
 {
     let bytes = after.as_bytes();
     if bytes.starts_with(b"amp;") {
-        Some(Reference {
-            character: '&',
-            len: 4,
-        })
+        Some(named('&', 4))
     } else if bytes.starts_with(b"lt;") {
-        Some(Reference {
-            character: '<',
-            len: 3,
-        })
+        Some(named('<', 3))
     } else if bytes.starts_with(b"gt;") {
-        Some(Reference {
-            character: '>',
-            len: 3,
-        })
+        Some(named('>', 3))
     } else if bytes.starts_with(b"quot;") {
-        Some(Reference {
-            character: '"',
-            len: 5,
-        })
+        Some(named('"', 5))
     } else if bytes.starts_with(b"nbsp;") {
-        Some(Reference {
-            character: '\u{a0}',
-            len: 5,
-        })
+        Some(named('\u{a0}', 5))
     } else if bytes.starts_with(b"#x") || bytes.starts_with(b"#X") {
         numeral(&bytes[2..], 16, 2)
     } else if bytes.starts_with(b"#") {

@@ -14,7 +14,7 @@ ghost use Rattle.dom_markup.specs.Markup.{Spells};
 ghost use Rattle.dom_markup.specs.ValueTrees.{ValueTrees};
 
 use crate::document::snippet::Snippet;
-use crate::document::{Document, whole};
+use crate::document::{Document, lone, whole};
 use crate::laws::faults::kinds_of_faults;
 use dom_nodes::fault::{EditFault, MarkupFault, MarkupFaultKind, OutOfMemory};
 use dom_nodes::node_data::NodeData;
@@ -24,18 +24,6 @@ use dom_trees::tree::Tree;
 use std::alloc::Global;
 
 impl Document {
-    /// A fragment with nothing in it, for a parser that fills it: a fragment node alone. `Err`
-    /// where memory was refused.
-    pub fn fragment_sink(alloc: Global) -> Result<Document, OutOfMemory>
-        ensures empty { IfOk result (λ document. document.tree ≡ lone NodeData.Fragment) }
-        ensures notes { IfOk result NotesNothing }
-    {
-        match Tree::new(alloc, NodeData::Fragment) {
-            Ok(tree) => Ok(whole(alloc, tree)),
-            Err(_) => Err(OutOfMemory),
-        }
-    }
-
     /// The fragment that the text spells: a fragment node, below it an element `html`, and below
     /// that what `parse` would read, without doctypes, numbered in order of start. Refused as
     /// `parse` refuses the text, or by a limit that was met once all was read.
@@ -56,6 +44,15 @@ impl Document {
                 at: source.len(),
             }),
         }
+    }
+
+    /// A fragment with nothing in it, for a parser that fills it: a fragment node alone. `Err`
+    /// where memory was refused.
+    pub fn fragment_sink(alloc: Global) -> Result<Document, OutOfMemory>
+        ensures empty { IfOk result (λ document. document.tree ≡ lone NodeData.Fragment) }
+        ensures notes { IfOk result NotesNothing }
+    {
+        lone(alloc, NodeData::Fragment)
     }
 }
 
