@@ -3,8 +3,8 @@
 ghost use Rattle.std.specs.Prelude.{◌≡◌, IfOk, IfSome};
 ghost use Rattle.dom_markup.specs.Html.{html_of, inner_html_of};
 ghost use Rattle.dom_markup.specs.Plain.{IsPlain};
-ghost use Rattle.dom_markup.specs.ReadingBack.{SpellsDocument, SpellsPlainRoot};
-ghost use Rattle.dom_markup.specs.Writing.{Writes, IsText};
+ghost use Rattle.dom_markup.specs.ReadingBack.{SpellsDocument};
+ghost use Rattle.dom_markup.specs.Writing.{IsText, Writes};
 
 use crate::laws::plain::plain_documents_are_spelled;
 use crate::serializing::stack::{put_children, put_node};
@@ -28,6 +28,7 @@ pub enum TraversalScope {
 /// The markup of a node.
 pub trait NodeMarkup {
     ghost use Rattle.dom_links.specs.Forest.{Forest};
+    ghost use Rattle.dom_markup.specs.ReadingBack.{SpellsPlainRoot};
     ghost use Rattle.std.specs.Prelude.{ℕ};
 
     // The forest of the node's tree.

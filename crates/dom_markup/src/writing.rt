@@ -19,9 +19,9 @@ pub enum WriteFault {
 }
 
 impl From<OutOfMemory> for WriteFault {
-    ghost use Rattle.dom_markup.specs.declared.writing.WriteFault.TheVariants.{Memory};
+    ghost use Rattle.dom_markup.specs.declared.writing.WriteFault.{WriteFault};
 
-    ghost from_gives = { λ _ fault. fault ≡ Memory };
+    ghost from_gives = { λ _ fault. fault ≡ WriteFault.Memory };
 
     fn from(_refused: OutOfMemory) -> WriteFault {
         WriteFault::Memory

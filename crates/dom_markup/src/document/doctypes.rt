@@ -1,12 +1,12 @@
 //! Doctypes.
 
 ghost use Rattle.std.specs.Prelude.{◌++◌, codes, IfNone, IfSome};
-ghost use Rattle.dom_markup.specs.Taking.{Takes, TakesTwo};
+ghost use Rattle.dom_markup.specs.ByteClasses.{AfterPublic, EndsDoctype, IsWord};
 ghost use Rattle.dom_markup.specs.Bytes.{is_name_byte};
 ghost use Rattle.dom_markup.specs.Markup.{Begins, BeginsNoDoctype, BeginsNoWord};
 ghost use Rattle.dom_markup.specs.Markup.{BeginsQuoted, BeginsWord, Fails};
-ghost use Rattle.dom_markup.specs.ByteClasses.{AfterPublic, EndsDoctype, IsWord};
 ghost use Rattle.dom_markup.specs.Names.{markup};
+ghost use Rattle.dom_markup.specs.Taking.{Takes, TakesTwo};
 ghost use Rattle.dom_markup.specs.Token.{doctype_item};
 
 use crate::document::scan::{ByteClass, close_at, split_front, split_letter, strip};

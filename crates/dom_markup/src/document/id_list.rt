@@ -1,7 +1,6 @@
 //! The numbers of the nodes at the top of what was read.
 
 ghost use Rattle.std.specs.Prelude.{◌≡◌, ◌∷◌, ◌++◌, [], IfOk, OnOk};
-ghost use Rattle.dom_markup.specs.IdLists.{numbers};
 
 use dom_nodes::fault::OutOfMemory;
 use dom_nodes::node_id::NodeId;
@@ -15,14 +14,6 @@ pub(super) struct IdList {
     alloc: Global,
 }
 
-/// Where the numbers lie.
-#[derive(Drop)]
-enum Form {
-    Nothing,
-    One([NodeId; 1]),
-    Many(Vec<NodeId>),
-}
-
 impl Model for IdList {
     ghost use Rattle.std.specs.Prelude.{List, ℕ};
     ghost use Rattle.dom_markup.specs.IdLists.{numbers};
@@ -30,6 +21,14 @@ impl Model for IdList {
     ghost Value = { List ℕ };
 
     ghost view = { λ top_ids. numbers top_ids.form };
+}
+
+/// Where the numbers lie.
+#[derive(Drop)]
+enum Form {
+    Nothing,
+    One([NodeId; 1]),
+    Many(Vec<NodeId>),
 }
 
 impl IdList {

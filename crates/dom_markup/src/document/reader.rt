@@ -2,13 +2,9 @@
 
 ghost use Rattle.std.specs.Prelude.{◌≡◌, ◌≢◌, ◌<◌, ◌+◌, ◌++◌, [], None, codes};
 ghost use Rattle.std.specs.Prelude.{IfErr, IfOk, length};
-ghost use Rattle.dom_links.specs.Growth.{with_child, with_template};
 ghost use Rattle.dom_trees.specs.NewNodes.{element_with};
-ghost use Rattle.dom_markup.specs.Frames.{children_place};
-ghost use Rattle.dom_markup.specs.Front.{BeginsLetter};
 ghost use Rattle.dom_markup.specs.Bytes.{folded};
 ghost use Rattle.dom_markup.specs.Limits.{IsLimit, IsPlainData, limit_kind};
-ghost use Rattle.dom_markup.specs.Markup.{Item};
 ghost use Rattle.dom_markup.specs.Names.{markup};
 ghost use Rattle.dom_markup.specs.Reader.{TakesStarted, doctype_data};
 ghost use Rattle.dom_markup.specs.Token.{contents_in, doctype_item, mode_of};
@@ -136,6 +132,10 @@ pub struct Reader<'a> {
 }
 
 impl<'a> Reader<'a> {
+    ghost use Rattle.dom_links.specs.Growth.{with_child, with_template};
+    ghost use Rattle.dom_markup.specs.Frames.{children_place};
+    ghost use Rattle.dom_markup.specs.Front.{BeginsLetter};
+    ghost use Rattle.dom_markup.specs.Markup.{Item};
     ghost use Rattle.dom_markup.specs.Reader.{AfterItems, EndsReading, Grows, IsReading};
     ghost use Rattle.dom_markup.specs.Reader.{ReadsFront, ReadsItem, parent_number, with_started};
 

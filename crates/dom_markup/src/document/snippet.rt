@@ -2,15 +2,10 @@
 
 ghost use Rattle.std.specs.Prelude.{◌≡◌, ◌≤◌, ◌∷◌, [], IfErr, IfOk, length};
 ghost use Rattle.dom_nodes.specs.Kinds.{is_doctype};
-ghost use Rattle.dom_links.specs.Copies.{FragmentCause};
-ghost use Rattle.dom_links.specs.Forest.{Forest};
 ghost use Rattle.dom_trees.specs.Edits.{Edits};
 ghost use Rattle.dom_trees.specs.NewNodes.{html_root_element};
 ghost use Rattle.dom_trees.specs.Views.{node_is};
-ghost use Rattle.dom_markup.specs.Documents.{IsSpelled};
 ghost use Rattle.dom_markup.specs.Fragments.{fragment_read, top_nodes};
-ghost use Rattle.dom_markup.specs.Refusals.{IsFaultAt, Refused};
-ghost use Rattle.dom_markup.specs.Setters.{putting, replacing};
 
 use crate::document::Document;
 use crate::document::id_list::IdList;
@@ -43,6 +38,11 @@ impl Model for Snippet {
 }
 
 impl Snippet {
+    ghost use Rattle.dom_links.specs.Copies.{FragmentCause};
+    ghost use Rattle.dom_markup.specs.Documents.{IsSpelled};
+    ghost use Rattle.dom_markup.specs.Refusals.{IsFaultAt, Refused};
+    ghost use Rattle.dom_markup.specs.Setters.{putting, replacing};
+
     /// Reads the text as `Document::parse` does, and refuses it so.
     pub fn read(alloc: Global, text: &str) -> Result<Snippet, MarkupFault>
         ensures ok { IfOk result (λ snippet. IsSpelled text.now snippet) }

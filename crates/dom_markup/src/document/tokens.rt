@@ -1,7 +1,6 @@
 //! Markup as a row of tags, texts, comments and doctypes.
 
 ghost use Rattle.std.specs.Prelude.{◌≡◌, ◌++◌, ◌≢◌, [], List, ℕ, codes, length, MatchResult};
-ghost use Rattle.std.specs.Iterator.{at_most};
 ghost use Rattle.dom_markup.specs.Names.{markup};
 ghost use Rattle.dom_markup.specs.Refusals.{StartCause};
 ghost use Rattle.dom_markup.specs.Token.{kind_of_text, mode_of};
@@ -145,6 +144,7 @@ impl<'a> Tokens<'a> {
 }
 
 impl<'a> Iterator for Tokens<'a> {
+    ghost use Rattle.std.specs.Iterator.{at_most};
     ghost use Rattle.dom_markup.specs.Tokens.{next_token};
 
     type Item = Result<Token<'a>, MarkupFault>;

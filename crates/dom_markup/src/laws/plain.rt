@@ -5,13 +5,13 @@ ghost use Rattle.std.specs.Str.{IsUtf8};
 ghost use Rattle.dom_links.specs.Forest.{Forest, children_of};
 ghost use Rattle.dom_links.specs.Sound.{IsForest};
 ghost use Rattle.dom_links.specs.Trees.{trees};
-ghost use Rattle.dom_markup.specs.Html.{html_of, inner_html_of};
-ghost use Rattle.dom_markup.specs.Markup.{Spells};
-ghost use Rattle.dom_markup.specs.Numbered.{document_of};
-ghost use Rattle.dom_markup.specs.Plain.{HaveNoIdentifiers, IsPlain, Represents};
 ghost use Rattle.dom_markup.specs.ReadingBack.{LacksIdentifiers, SpellsDocument, SpellsItsTrees};
 ghost use Rattle.dom_markup.specs.ReadingBack.{NodesAreWrittenAsTrees, DocumentIsWrittenAsTrees};
 ghost use Rattle.dom_markup.specs.ReadingBack.{AreSameByTrees};
+ghost use Rattle.dom_markup.specs.Plain.{HaveNoIdentifiers, IsPlain, Represents};
+ghost use Rattle.dom_markup.specs.Html.{html_of, inner_html_of};
+ghost use Rattle.dom_markup.specs.Markup.{Spells};
+ghost use Rattle.dom_markup.specs.Numbered.{document_of};
 ghost use Rattle.dom_markup.specs.ValueTrees.{ValueTrees};
 ghost use Rattle.dom_trees.specs.SameTree.{SameTree};
 
