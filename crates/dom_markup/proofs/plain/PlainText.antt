@@ -20,6 +20,8 @@ use Rattle.dom_markup.specs.Markup.{Item, IsTagName, BeginsAttribute, EndsTag, h
 use Rattle.dom_markup.specs.Markup.Item.{characters, comment, doctype}
 use Rattle.dom_markup.specs.Markup.Item.{end_tag as the_end}
 use Rattle.dom_markup.specs.Plain.{start_text, text_of_trees, HoldsNoClose, IsPlainName, ArePlain, begins_with_text, IsPlainIn, IsPlainTrees}
+use Rattle.dom_markup.proofs.grammar.Doctypes.{doctype_made}
+use Rattle.dom_markup.proofs.grammar.Reading.{name_no_space}
 use Rattle.dom_markup.proofs.html.InertLemmas.{no_less, no_quote}
 use Rattle.dom_markup.proofs.html.ReadBack.{text_reads_back, value_reads_back}
 
@@ -98,23 +100,12 @@ comment_begins contents rest none = (
 -- ---- doctypes
 
 doctype_begins : (name rest : List ℕ) → IsPlainName name → Begins markup (codes "<!DOCTYPE " ++ (name ++ (codes ">" ++ rest))) (doctype name [] []) rest
-doctype_begins name rest plain = record {
-  word = codes "DOCTYPE";
-  space = codes " ";
-  written = name;
-  more = 62 ∷ rest;
-  close = 62 ∷ rest;
-  is = refl;
-  is_word = refl;
-  is_space = refl;
-  some_space = λ e. cc;
-  is_name = plain.1;
-  some_name = plain.0;
-  whole_name = refl;
-  folds = sym plain.2;
-  identifiers = inl (refl, refl, refl);
-  closes = ([], refl, inl refl);
-}
+doctype_begins name rest plain =
+    let closed = 62 ∷ rest in
+    let begins = doctype_made (codes "DOCTYPE " ++ (name ++ closed)) (codes "DOCTYPE") (codes " " ++ (name ++ closed)) (codes " ") (name ++ closed) name closed [] [] rest
+    (record { is = refl; passes = refl; fails = refl }) (record { is = refl; passes = refl; fails = name_no_space name closed plain.0 plain.1 }) (record { is = refl; passes = plain.1; fails = refl })
+    refl (λ e. cc) plain.0 (closed, inl (refl, refl, refl), ([], refl, inl refl)) in
+    subst (λ (read : List ℕ). BeginsDoctype (codes "<!DOCTYPE " ++ (name ++ closed)) read [] [] rest) plain.2 begins
 
 -- ---- tags
 
