@@ -1,5 +1,6 @@
 pub mod AttributeLemmas
 pub mod ComparisonLemmas
+pub mod Counting
 pub mod CssLemmas
 pub mod DeepLemmas
 pub mod FaultLemmas

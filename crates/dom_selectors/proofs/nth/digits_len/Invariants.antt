@@ -1,13 +1,10 @@
-use Rattle.std.proofs.Common.{◌≡◌, ◌+◌, ◌-◌, ◌≤◌, length, drop}
+use Rattle.std.proofs.Common.{◌-◌, length}
 use Rattle.std.specs.Char.{is_ascii_digit}
-use Rattle.std.specs.List.{prefix_len}
+use Rattle.dom_selectors.proofs.Counting.{Counts}
 use Rattle.dom_selectors.proofs.nth.digits_len.Given as goal
 
 abbrev pub invariant-loop-n : goal.invariant-loop-n
-invariant-loop-n l = record {
-  within : l.n ≤ length l.text;
-  counted : l.n + prefix_len is_ascii_digit (drop l.n l.text) ≡ prefix_len is_ascii_digit l.text;
-}
+invariant-loop-n l = Counts is_ascii_digit l.text l.n
 
 abbrev pub decreases-loop-n : goal.decreases-loop-n
 decreases-loop-n l = length l.text - l.n
