@@ -1,5 +1,8 @@
 //! Why a text is no selector.
 
+ghost use Rattle.std.specs.Prelude.{◌≡◌};
+ghost use Rattle.dom_selectors.specs.declared.fault.SelectorFault.TheVariants.{Memory};
+
 use dom_nodes::fault::OutOfMemory;
 use std::alloc::{AllocError, AllocFailed};
 
@@ -27,9 +30,6 @@ pub enum SelectorFault {
 }
 
 impl From<AllocError> for SelectorFault {
-    ghost use Rattle.std.specs.Prelude.{◌≡◌};
-    ghost use Rattle.dom_selectors.specs.declared.fault.SelectorFault.TheVariants.{Memory};
-
     ghost from_gives = { λ _ fault. fault ≡ Memory };
 
     fn from(_refused: AllocError) -> SelectorFault {
@@ -38,9 +38,6 @@ impl From<AllocError> for SelectorFault {
 }
 
 impl<T: Drop> From<AllocFailed<T>> for SelectorFault {
-    ghost use Rattle.std.specs.Prelude.{◌≡◌};
-    ghost use Rattle.dom_selectors.specs.declared.fault.SelectorFault.TheVariants.{Memory};
-
     ghost from_gives = { λ _ fault. fault ≡ Memory };
 
     fn from(_refused: AllocFailed<T>) -> SelectorFault {
@@ -49,9 +46,6 @@ impl<T: Drop> From<AllocFailed<T>> for SelectorFault {
 }
 
 impl From<OutOfMemory> for SelectorFault {
-    ghost use Rattle.std.specs.Prelude.{◌≡◌};
-    ghost use Rattle.dom_selectors.specs.declared.fault.SelectorFault.TheVariants.{Memory};
-
     ghost from_gives = { λ _ fault. fault ≡ Memory };
 
     fn from(_refused: OutOfMemory) -> SelectorFault {
