@@ -6,19 +6,21 @@ use Rattle.dom_selectors.specs.declared.pseudo_class.NonTSPseudoClass.TheVariant
 
 -- its name behind a colon, and `(` where it asks for a text
 abbrev pub pseudo_name : NonTSPseudoClass → List ℕ
-pseudo_name AnyLink = codes ":any-link"
-pseudo_name Link = codes ":link"
-pseudo_name Visited = codes ":visited"
-pseudo_name Active = codes ":active"
-pseudo_name Focus = codes ":focus"
-pseudo_name Hover = codes ":hover"
-pseudo_name Enabled = codes ":enabled"
-pseudo_name Disabled = codes ":disabled"
-pseudo_name Checked = codes ":checked"
-pseudo_name Indeterminate = codes ":indeterminate"
-pseudo_name OnlyText = codes ":only-text"
-pseudo_name (HasText text) = codes ":has-text("
-pseudo_name (Contains text) = codes ":contains("
+pseudo_name pseudo = elim pseudo [
+  | AnyLink ↦ codes ":any-link"
+  | Link ↦ codes ":link"
+  | Visited ↦ codes ":visited"
+  | Active ↦ codes ":active"
+  | Focus ↦ codes ":focus"
+  | Hover ↦ codes ":hover"
+  | Enabled ↦ codes ":enabled"
+  | Disabled ↦ codes ":disabled"
+  | Checked ↦ codes ":checked"
+  | Indeterminate ↦ codes ":indeterminate"
+  | OnlyText ↦ codes ":only-text"
+  | HasText text ↦ codes ":has-text("
+  | Contains text ↦ codes ":contains("
+]
 
 -- then the text as a string, and `)`
 abbrev pub pseudo_rest : NonTSPseudoClass → List ℕ

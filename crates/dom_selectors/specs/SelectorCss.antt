@@ -36,12 +36,7 @@ abbrev pub name_css : List ℕ → List ℕ
 name_css text = encode_utf8_all (name_chars (chars text))
 
 abbrev pub operator_css : AttrOperator → List ℕ
-operator_css Equals = codes "="
-operator_css Includes = codes "~="
-operator_css DashMatch = codes "|="
-operator_css Prefix = codes "^="
-operator_css Suffix = codes "$="
-operator_css Substring = codes "*="
+operator_css operator = elim operator [ Equals ↦ codes "=" | Includes ↦ codes "~=" | DashMatch ↦ codes "|=" | Prefix ↦ codes "^=" | Suffix ↦ codes "$=" | Substring ↦ codes "*=" ]
 
 abbrev pub case_css : CaseSensitivity → List ℕ
 case_css CaseSensitive = codes ""
