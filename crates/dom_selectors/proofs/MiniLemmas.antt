@@ -135,6 +135,11 @@ front_once a a' b b' c c' d d' text r s h k =
     record { lead_is = lead.0; name_is = name.0; id_is = id.0; classes_is = marks.0; rest_is = marks.1 }
 
 -- the parts that can be read, maybe none
+-- one part behind the other
+pub spelled_front : {lead : Option Combinator} {name id : Option (List ℕ)} {classes : List (List ℕ)} {text rest : List ℕ} (after_lead after_name after_id : List ℕ) → Maybe SpellsLead lead text after_lead →
+    Maybe SpellsWord name after_lead after_name → Maybe SpellsId id after_name after_id → SpellsClasses classes after_id rest → SpellsFront lead name id classes text rest
+spelled_front after_lead after_name after_id leads names ids marks = record { after_lead = after_lead; leads = leads; after_name = after_name; names = names; after_id = after_id; ids = ids; marks = marks }
+
 pub record SpellsParts (v : Mini) (text rest : List ℕ) : Type 0 where
   pub after_front : List ℕ
   pub front : SpellsFront v.lead v.name v.id v.classes text after_front
