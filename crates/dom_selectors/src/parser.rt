@@ -12,7 +12,7 @@ ghost use Rattle.dom_selectors.specs.Grammar.{SpellsLead, SpellsList, SpellsList
 ghost use Rattle.dom_selectors.specs.Grammar.{SpellsPseudo, SpellsSelector, SpellsStep, SpellsType};
 ghost use Rattle.dom_selectors.specs.Grammar.{begins_comma, begins_compound, begins_item};
 ghost use Rattle.dom_selectors.specs.Grammar.{begins_open};
-ghost use Rattle.dom_selectors.specs.Grammar.{begins_step, combinator_of, inner_context};
+ghost use Rattle.dom_selectors.specs.Grammar.{begins_step, inner_context};
 ghost use Rattle.dom_selectors.specs.Grammar.{is_combinator};
 ghost use Rattle.dom_selectors.specs.Grammar.{is_star, stands_behind, within};
 ghost use Rattle.dom_selectors.specs.Nth.{SpellsNth};
@@ -31,12 +31,15 @@ use crate::pseudos::{bare_item, is_relative, pseudo_of, quantified, text_part};
 use crate::strings::take_string;
 use crate::syntax::{
     Bare, Combinator, Compound, Item, Nested, ParseContext, Part, Position, Pseudo, Quantifier,
-    Selector, Step, TextTest,
+    Selector, Step, TextTest, combinator_of,
 };
 use dom_nodes::fault::OutOfMemory;
 use dom_nodes::indexes::Nth;
 use dom_nodes::text::Text;
 use std::alloc::{AllocError, Global};
+
+/// What is read at the front of a text, and what follows it.
+type Taken<'a, T> = Result<(T, &'a [char]), SelectorFault>;
 
 fn begins_item(text: &[char]) -> bool
     ensures { result ≡ begins_item text.now }
@@ -86,11 +89,7 @@ fn take_closing(text: &[char]) -> Result<&[char], SelectorFault>
 }
 
 /// The part of a pseudo-class without parentheses, and what follows it.
-fn take_plain(
-    context: ParseContext,
-    bare: Bare,
-    text: &[char],
-) -> Result<(Item, &[char]), SelectorFault>
+fn take_plain(context: ParseContext, bare: Bare, text: &[char]) -> Taken<'_, Item>
     ensures { TakesBehind context result read_item (SpellsPlain bare) text.now }
 {
     if begins_open(text) {
@@ -100,7 +99,7 @@ fn take_plain(
 }
 
 /// The `an+b` in parentheses, and what follows it.
-fn take_enclosed_nth(context: ParseContext, text: &[char]) -> Result<(Nth, &[char]), SelectorFault>
+fn take_enclosed_nth(context: ParseContext, text: &[char]) -> Taken<'_, Nth>
     ensures { TakesBehind context result same (SpellsEnclosed context.depth SpellsNth) text.now }
 {
     let inside = take_opening(context, text)?;
@@ -110,11 +109,7 @@ fn take_enclosed_nth(context: ParseContext, text: &[char]) -> Result<(Nth, &[cha
 }
 
 /// The string in parentheses, and what follows it.
-fn take_enclosed_string(
-    alloc: Global,
-    context: ParseContext,
-    text: &[char],
-) -> Result<(Text, &[char]), SelectorFault>
+fn take_enclosed_string(alloc: Global, context: ParseContext, text: &[char]) -> Taken<'_, Text>
     ensures { TakesBehind context result same (SpellsEnclosed context.depth SpellsString) text.now }
 {
     let inside = take_opening(context, text)?;
@@ -142,7 +137,7 @@ fn take_enclosed(
     context: ParseContext,
     relative: bool,
     text: &[char],
-) -> Result<(Vec<Selector>, &[char]), SelectorFault>
+) -> Taken<'_, Vec<Selector>>
     ensures { TakesBehind context result read_selectors
         (within context SpellsInside relative) text.now }
 {
@@ -159,7 +154,7 @@ fn take_listed(
     context: ParseContext,
     quantifier: Quantifier,
     text: &[char],
-) -> Result<(Item, &[char]), SelectorFault>
+) -> Taken<'_, Item>
     ensures { TakesBehind context result read_item
         (within context SpellsListed quantifier) text.now }
 {
@@ -173,12 +168,7 @@ fn take_listed(
 
 /// What belongs to the name of a pseudo-class, and what follows it.
 #[cycle(lists)]
-fn take_form(
-    alloc: Global,
-    context: ParseContext,
-    pseudo: Pseudo,
-    text: &[char],
-) -> Result<(Item, &[char]), SelectorFault>
+fn take_form(alloc: Global, context: ParseContext, pseudo: Pseudo, text: &[char]) -> Taken<'_, Item>
     ensures { TakesBehind context result read_item (within context SpellsForm pseudo) text.now }
 {
     match pseudo {
@@ -197,11 +187,7 @@ fn take_form(
 
 /// The pseudo-class behind its colon, and what follows it.
 #[cycle(lists)]
-fn take_pseudo(
-    alloc: Global,
-    context: ParseContext,
-    text: &[char],
-) -> Result<(Item, &[char]), SelectorFault>
+fn take_pseudo(alloc: Global, context: ParseContext, text: &[char]) -> Taken<'_, Item>
     ensures { TakesBehind context result read_item (within context SpellsPseudo) text.now }
 {
     let (name, after) = take_name(alloc, text)?;
@@ -213,11 +199,7 @@ fn take_pseudo(
 
 /// The part or list at the front, and what follows it.
 #[cycle(lists)]
-fn take_item(
-    alloc: Global,
-    context: ParseContext,
-    text: &[char],
-) -> Result<(Item, &[char]), SelectorFault>
+fn take_item(alloc: Global, context: ParseContext, text: &[char]) -> Taken<'_, Item>
     ensures { TakesIn context result read_item (within context SpellsItem) text.now }
 {
     let Some((sign, more)) = text.split_first() else {
@@ -242,7 +224,7 @@ fn take_item(
 }
 
 /// The type at the front if there is one, and what follows it.
-fn take_type(alloc: Global, text: &[char]) -> Result<(Vec<Part>, &[char]), SelectorFault>
+fn take_type(alloc: Global, text: &[char]) -> Taken<'_, Vec<Part>>
     ensures { Takes result (λ v. v.items) SpellsType no_other text.now }
 {
     let mut parts = Vec::new(alloc);
@@ -283,11 +265,7 @@ fn push_item(parts: &mut Vec<Part>, nested: &mut Vec<Nested>, item: Item) -> Res
 
 /// The compound at the front, and what follows it.
 #[cycle(lists)]
-fn take_compound(
-    alloc: Global,
-    context: ParseContext,
-    text: &[char],
-) -> Result<(Compound, &[char]), SelectorFault>
+fn take_compound(alloc: Global, context: ParseContext, text: &[char]) -> Taken<'_, Compound>
     ensures { TakesIn context result read_compound (within context SpellsCompound) text.now }
 {
     if !begins_compound(text) {
@@ -303,18 +281,6 @@ fn take_compound(
         rest = more;
     }
     Ok((Compound { parts, nested }, rest))
-}
-
-/// The combinator of a sign.
-pub(crate) fn combinator_of(c: char) -> Option<Combinator>
-    ensures { result ≡ combinator_of c }
-{
-    match c {
-        '>' => Some(Combinator::Child),
-        '+' => Some(Combinator::Adjacent),
-        '~' => Some(Combinator::Sibling),
-        _ => None,
-    }
 }
 
 /// The combinator at the front, behind whitespace, and what follows it.
@@ -354,11 +320,7 @@ fn begins_step(text: &[char]) -> bool
 
 /// The combinator and compound at the front, and what follows them.
 #[cycle(lists)]
-fn take_step(
-    alloc: Global,
-    context: ParseContext,
-    text: &[char],
-) -> Result<(Step, &[char]), SelectorFault>
+fn take_step(alloc: Global, context: ParseContext, text: &[char]) -> Taken<'_, Step>
     ensures { TakesIn context result read_step (within context SpellsStep) text.now }
 {
     if !begins_step(text) {
@@ -395,11 +357,7 @@ fn take_lead(relative: bool, text: &[char]) -> (Combinator, &[char])
 
 /// The selector at the front, and what follows it.
 #[cycle(lists)]
-fn take_selector(
-    alloc: Global,
-    context: ParseContext,
-    text: &[char],
-) -> Result<(Selector, &[char]), SelectorFault>
+fn take_selector(alloc: Global, context: ParseContext, text: &[char]) -> Taken<'_, Selector>
     ensures { TakesIn context result read_selector (within context SpellsSelector) text.now }
 {
     let (lead, begin) = take_lead(context.is_relative, text);
@@ -429,11 +387,7 @@ fn begins_comma(text: &[char]) -> bool
 
 /// The comma and selector at the front, and what follows them.
 #[cycle(lists)]
-fn take_later(
-    alloc: Global,
-    context: ParseContext,
-    text: &[char],
-) -> Result<(Selector, &[char]), SelectorFault>
+fn take_later(alloc: Global, context: ParseContext, text: &[char]) -> Taken<'_, Selector>
     ensures { TakesIn context result read_selector (within context SpellsLater) text.now }
 {
     let Some(rest) = after_char(after_white(text), ',') else {
@@ -444,11 +398,7 @@ fn take_later(
 
 /// The list at the front, and what follows it.
 #[cycle(lists)]
-fn take_list(
-    alloc: Global,
-    context: ParseContext,
-    text: &[char],
-) -> Result<(Vec<Selector>, &[char]), SelectorFault>
+fn take_list(alloc: Global, context: ParseContext, text: &[char]) -> Taken<'_, Vec<Selector>>
     ensures { TakesIn context result read_selectors (within context SpellsList) text.now }
 {
     let (first, after) = take_selector(alloc, context, text)?;

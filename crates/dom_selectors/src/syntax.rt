@@ -1,5 +1,8 @@
 //! What a selector's text stands for.
 
+ghost use Rattle.std.specs.Prelude.{◌≡◌};
+ghost use Rattle.dom_selectors.specs.Grammar.{combinator_of};
+
 use crate::selector_name::SelectorName;
 use dom_nodes::case_sensitivity::CaseSensitivity;
 use dom_nodes::indexes::{IndexKind, Nth};
@@ -48,6 +51,18 @@ pub enum Combinator {
     Adjacent,
     /// `~`: it is a sibling before.
     Sibling,
+}
+
+/// The combinator of a sign.
+pub(crate) fn combinator_of(c: char) -> Option<Combinator>
+    ensures { result ≡ combinator_of c }
+{
+    match c {
+        '>' => Some(Combinator::Child),
+        '+' => Some(Combinator::Adjacent),
+        '~' => Some(Combinator::Sibling),
+        _ => None,
+    }
 }
 
 /// The indexes that a node may have among its siblings.

@@ -9,8 +9,7 @@ ghost use Rattle.dom_selectors.specs.MiniGrammar.{SpellsLead, SpellsMarked, Spel
 ghost use Rattle.dom_selectors.specs.Spelling.{Strips, TakesSlice, TakesSome};
 
 use crate::attributes::operator_of;
-use crate::parser::combinator_of;
-use crate::syntax::{AttrOperator, Combinator};
+use crate::syntax::{AttrOperator, Combinator, combinator_of};
 
 /// What a kind of a mini selector is made of.
 #[derive(Clone, Copy)]
