@@ -1,5 +1,7 @@
 -- A fault of a part is a fault of the whole.
-use Rattle.std.proofs.Common.{◌≡◌, Result, Err, MatchResult}
+use Rattle.std.proofs.Common.{◌≡◌, Result, MatchResult}
+use Rattle.std.specs.Result.{IsErrAnd}
+use Rattle.std.proofs.lemmas.Result.{err_from_is_err_and}
 use Rattle.dom_selectors.specs.declared.fault.SelectorFault.{SelectorFault}
 use Rattle.dom_selectors.specs.declared.fault.SelectorFault.TheVariants.{Syntax, UnknownPseudoClass, Number, NestedHas, TooDeep, Memory}
 use Rattle.dom_selectors.specs.Spelling.{Refuses, no_other}
@@ -21,5 +23,5 @@ pub refuses_without_cause : (e : SelectorFault) (cause : SelectorFault → Type 
 refuses_without_cause e cause P Q h t = refuses_more e no_other cause P Q (λ f n. absurd n) h t
 
 -- the exit of a `?` that passes a fault on
-pub passed_on : {T : Type 0} (r : Result T SelectorFault) (e : SelectorFault) (P : T → Type 0) (F : SelectorFault → Type 0) → (y : SelectorFault) × (r ≡ Err y) × (y ≡ e) → F e → MatchResult r P F
-passed_on r e P F err t = rw err.1 (rw err.2 t)
+pub passes_on : {T : Type 0} (r : Result T SelectorFault) (P : T → Type 0) (F : SelectorFault → Type 0) {e : SelectorFault} → IsErrAnd r (λ y. y ≡ e) → F e → MatchResult r P F
+passes_on r P F given t = let err = err_from_is_err_and r given in rw err.1 (rw err.2 t)

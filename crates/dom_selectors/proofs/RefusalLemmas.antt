@@ -12,16 +12,18 @@ use Rattle.dom_selectors.specs.Strings.{SpellsString}
 use Rattle.dom_selectors.specs.declared.syntax.Combinator.{Combinator}
 use Rattle.dom_nodes.specs.Ascii.{right_parenthesis}
 use Rattle.dom_selectors.specs.declared.fault.SelectorFault.{SelectorFault}
-use Rattle.dom_selectors.specs.Spelling.{Refuses, Many, Run, SpellsNone}
+use Rattle.dom_selectors.specs.Spelling.{Refuses, Many, Run, SpellsNone, no_other}
 use Rattle.dom_selectors.specs.Characters.{after_white, begins}
 use Rattle.dom_selectors.specs.Names.{SpellsName, starts_name}
 use Rattle.dom_selectors.specs.Syntax.{CompoundSelector, SelectorList, Steps, NestedList, NestedLists, nested, no_lists}
 use Rattle.dom_selectors.specs.ListsAsTrees.{Item, simple, two_parts, listed, parts_among, lists_among, lists_of}
 use Rattle.dom_selectors.specs.Pseudos.{is_relative, pseudo_of}
 use Rattle.dom_selectors.specs.Attributes.{SpellsAttribute}
-use Rattle.dom_selectors.specs.Grammar.{StandsFor, SpellsListed, Opens, SpellsEnclosed, SpellsLead, SpellsWithin, inner_context, stands_for, whole, SpellsForm, SpellsPseudo, SpellsItem, begins_item, is_star, SpellsType, begins_compound, SpellsCompound, SpellsCombinator, SpellsStep, begins_step, SpellsSelector, begins_comma, SpellsLater, SpellsList, SpellsInner}
+use Rattle.dom_selectors.specs.Grammar.{StandsFor, SpellsListed, Closes, Opens, SpellsEnclosed, SpellsLead, SpellsWithin, inner_context, stands_behind, stands_for, whole, SpellsForm, SpellsPseudo, SpellsItem, begins_item, is_star, SpellsType, begins_compound, SpellsCompound, SpellsCombinator, SpellsStep, begins_step, SpellsSelector, begins_comma, SpellsLater, SpellsList, SpellsInner}
 use Rattle.dom_selectors.specs.ValuesAsTrees.{PushesItem}
 use Rattle.dom_selectors.proofs.Runs.{IsOnce, run_none}
+use Rattle.dom_selectors.proofs.DeepLemmas.{refused_within, within_compound, within_list, within_selector}
+use Rattle.dom_selectors.proofs.FaultLemmas.{refuses_wider, refuses_without_cause}
 use Rattle.dom_selectors.proofs.NameLemmas.{name_once}
 use Rattle.dom_selectors.proofs.SelectorLemmas.{opens_once, lead_once, list_once, inner_once, type_once, combinator_once, item_once, item_goes_on, compound_once, step_once, step_goes_on, selector_once, later_once, later_goes_on}
 
@@ -80,6 +82,15 @@ module _ (depth : ℕ) {A : Type 0} (S : A → List ℕ → List ℕ → Type 0)
   enclosed_no_closing once inside after v opens given none w rest h =
       let moved = subst (λ t. S w t h.after) (opens_once depth text h.inside inside h.opens opens) h.value in
       none rest (ap after_white (once v w inside after h.after given moved).1 ∙ h.closes)
+
+-- and a fault in what opens or closes them is a fault there
+module _ (context : ParseContext) {A : Type 0} (S : A → List ℕ → List ℕ → Type 0) (text : List ℕ) (e : SelectorFault) where
+  pub opening_refused : Refuses (stands_behind context text) e ((inside : List ℕ) → Opens context.depth text inside → ⊥) → Refuses (stands_behind context text) e (SpellsNone (SpellsEnclosed context.depth S) text)
+  opening_refused h = refuses_wider e (stands_behind context text) _ _ (enclosed_no_opening context.depth S text) h
+
+  pub closing_refused : IsOnce S → (inside after : List ℕ) (v : A) → Opens context.depth text inside → S v inside after → Refuses no_other e ((rest : List ℕ) → Closes after rest → ⊥) →
+      Refuses (stands_behind context text) e (SpellsNone (SpellsEnclosed context.depth S) text)
+  closing_refused once inside after v opens given h = refuses_without_cause e (stands_behind context text) _ _ (enclosed_no_closing context.depth S text once inside after v opens given) h
 
 module _ (context : ParseContext) where
   pub pseudo_no_name : (text : List ℕ) → SpellsNone SpellsName text → SpellsNone (SpellsPseudo context (SpellsInner context)) text
@@ -143,6 +154,22 @@ module _ (context : ParseContext) where
       let same = selector_once context (SpellsInner context) (inner_once context) one k.one text after k.after h k.first in
       run_none (SpellsLater context (SpellsInner context)) (later_once context (SpellsInner context) (inner_once context)) begins_comma (later_goes_on context (SpellsInner context) (inner_once context)) more after mid many on none k.more rest
       (subst (λ t. Run (SpellsLater context (SpellsInner context)) begins_comma k.more t rest) (sym same.1) k.run)
+
+  -- a fault in what the text goes on with is a fault in the text
+  pub compound_refused : (e : SelectorFault) (text after mid : List ℕ) (front : List Part) (items : List Item) → SpellsType front text after → Many (SpellsItem context (SpellsInner context)) items after mid →
+      begins_item mid ≡ true → Refuses (stands_for context mid) e (SpellsNone (SpellsItem context (SpellsInner context)) mid) → Refuses (stands_for context text) e (SpellsNone (SpellsCompound context (SpellsInner context)) text)
+  compound_refused e text after mid front items first many on =
+      refused_within context e mid text _ _ (within_compound context text after mid front items first many) (compound_no_item text after mid front items first many on)
+
+  pub selector_refused : (e : SelectorFault) (text begin after mid : List ℕ) (lead : Combinator) (first : CompoundSelector) (steps : List (Combinator × CompoundSelector)) → SpellsLead context.is_relative lead text begin →
+      SpellsCompound context (SpellsInner context) first begin after → Many (SpellsStep context (SpellsInner context)) steps after mid →
+      begins_step mid ≡ true → Refuses (stands_for context mid) e (SpellsNone (SpellsStep context (SpellsInner context)) mid) → Refuses (stands_for context text) e (SpellsNone (SpellsSelector context (SpellsInner context)) text)
+  selector_refused e text begin after mid lead first steps led h many on =
+      refused_within context e mid text _ _ (within_selector context text begin after mid lead first steps led h many) (selector_no_step text begin after mid lead first steps led h many on)
+
+  pub list_refused : (e : SelectorFault) (text after mid : List ℕ) (one : Combinator × CompoundSelector × Steps) (more : List (Combinator × CompoundSelector × Steps)) → SpellsSelector context (SpellsInner context) one text after → Many (SpellsLater context (SpellsInner context)) more after mid →
+      begins_comma mid ≡ true → Refuses (stands_for context mid) e (SpellsNone (SpellsLater context (SpellsInner context)) mid) → Refuses (stands_for context text) e (SpellsNone (SpellsList context (SpellsInner context)) text)
+  list_refused e text after mid one more first many on = refused_within context e mid text _ _ (within_list context text after mid one more first many) (list_no_later text after mid one more first many on)
 
 pub listed_no_list : (context : ParseContext) (quantifier : Quantifier) (relative : Bool) (text : List ℕ) → relative ≡ is_relative quantifier → SpellsNone (SpellsEnclosed context.depth (SpellsInner context relative)) text →
     SpellsNone (SpellsListed context (SpellsInner context) quantifier) text

@@ -1,13 +1,12 @@
 use Rattle.std.proofs.Common.{sym, ◌∙◌, ap}
-use Rattle.std.proofs.lemmas.Result.{err_from_is_err_and}
 use Rattle.dom_selectors.specs.Attributes.{flag_of}
 use Rattle.dom_selectors.specs.Spelling.{no_other}
-use Rattle.dom_selectors.proofs.FaultLemmas.{passed_on, refuses_wider}
+use Rattle.dom_selectors.proofs.FaultLemmas.{passes_on, refuses_wider}
 use Rattle.dom_selectors.proofs.AttributeLemmas.{flag_no_name, flag_no_flag, flag_no_close}
 use Rattle.dom_selectors.proofs.attributes.take_flag.Goals as goal
 
 pub returns-in_err-name : goal.returns-in_err-name
-returns-in_err-name c = passed_on c.from_residual.result _ _ _ (err_from_is_err_and c.from_residual.result c.from_residual.ensures.1)
+returns-in_err-name c = passes_on c.from_residual.result _ _ c.from_residual.ensures.1
     (refuses_wider _ no_other _ _ (flag_no_name c.args.text.now) c.in_err-name.ensures)
 
 pub returns-in_default : goal.returns-in_default

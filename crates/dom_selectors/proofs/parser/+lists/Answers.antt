@@ -1,6 +1,6 @@
 use Rattle.std.proofs.Common.{◌≡◌, ◌∷◌, sym, refl, ap, ◌∙◌, subst, map, ◌++◌, [], append-nil}
 use Rattle.std.proofs.lemmas.List.{map-append}
-use Rattle.std.proofs.lemmas.Result.{err_from_is_err_and, MatchResult-weaker}
+use Rattle.std.proofs.lemmas.Result.{MatchResult-weaker}
 use Rattle.dom_selectors.specs.Spelling.{SpellsNone, Many, Takes}
 use Rattle.dom_selectors.specs.Characters.{after_white}
 use Rattle.dom_selectors.specs.Pseudos.{pseudo_of}
@@ -8,8 +8,8 @@ use Rattle.dom_selectors.specs.Grammar.{SpellsForm, SpellsList, inner_context, s
 use Rattle.dom_selectors.specs.ListsAsTrees.{lists_of, parts_among, selector_list}
 use Rattle.dom_selectors.specs.Syntax.{compound}
 use Rattle.dom_selectors.specs.ValuesAsTrees.{read_item, read_list, read_nested, read_step, read_selector}
-use Rattle.dom_selectors.proofs.FaultLemmas.{passed_on, refuses_more, refuses_wider, refuses_without_cause}
-use Rattle.dom_selectors.proofs.DeepLemmas.{IsWithin, behind_within, colon_stands, deep_inside, refused_within, stands_within, within, within_compound, within_later, within_lead, within_list, within_selector, within_step}
+use Rattle.dom_selectors.proofs.FaultLemmas.{passes_on, refuses_more, refuses_wider, refuses_without_cause}
+use Rattle.dom_selectors.proofs.DeepLemmas.{IsWithin, behind_within, colon_stands, deep_inside, refused_within, stands_within, within, within_later, within_lead, within_step}
 use Rattle.dom_selectors.proofs.KeepLemmas.{name_keeps}
 use Rattle.dom_selectors.proofs.Layers.{read_compound_is, read_step_is}
 use Rattle.dom_selectors.proofs.SelectorLemmas.{inner_once}
@@ -20,24 +20,21 @@ use Rattle.dom_selectors.proofs.parser.+lists.Goals as goal
 
 pub take_compound-returns-in_err-item : goal.take_compound-returns-in_err-item
 take_compound-returns-in_err-item t c =
-    let read = c.loop-alloc.invariant in
-    passed_on c.from_residual-in_err-item.result _ _ _ (err_from_is_err_and c.from_residual-in_err-item.result c.from_residual-in_err-item.ensures.1)
-    (refused_within c.args.context _ c.loop-alloc.rest.now c.args.text.now _ _ (within_compound c.args.context c.args.text.now read.1 c.loop-alloc.rest.now read.0 read.2 read.3 read.6)
-    (none.compound_no_item c.args.context c.args.text.now read.1 c.loop-alloc.rest.now read.0 read.2 read.3 read.6 (sym c.begins_item.ensures ∙ c.loop-alloc-test.true)) c.in_err-item.ensures)
+    passes_on c.from_residual-in_err-item.result _ _ c.from_residual-in_err-item.ensures.1 (none.compound_refused c.args.context _ c.args.text.now c.loop-alloc.invariant.1 c.loop-alloc.rest.now c.loop-alloc.invariant.0 c.loop-alloc.invariant.2 c.loop-alloc.invariant.3 c.loop-alloc.invariant.6 (sym c.begins_item.ensures ∙ c.loop-alloc-test.true) c.in_err-item.ensures)
 
 pub take_item-returns-in_err-name : goal.take_item-returns-in_err-name
 take_item-returns-in_err-name t c =
-    passed_on c.from_residual.result _ _ _ (err_from_is_err_and c.from_residual.result c.from_residual.ensures.1)
+    passes_on c.from_residual.result _ _ c.from_residual.ensures.1
     (refuses_without_cause _ (stands_for c.args.context c.args.text.now) _ _ (none.item_no_identifier c.args.context c.in-Some.sign.now c.args.text.now c.in-Some.more.now c.in-Some.ensures.cases.0 c.if-sign-eq35.true) c.in_err-name.ensures)
 
 pub take_item-returns-in_err-name-2 : goal.take_item-returns-in_err-name-2
 take_item-returns-in_err-name-2 t c =
-    passed_on c.from_residual-in_err-name-2.result _ _ _ (err_from_is_err_and c.from_residual-in_err-name-2.result c.from_residual-in_err-name-2.ensures.1)
+    passes_on c.from_residual-in_err-name-2.result _ _ c.from_residual-in_err-name-2.ensures.1
     (refuses_without_cause _ (stands_for c.args.context c.args.text.now) _ _ (none.item_no_class c.args.context c.in-Some.sign.now c.args.text.now c.in-Some.more.now c.in-Some.ensures.cases.0 c.if-sign-eq46.true) c.in_err-name-2.ensures)
 
 pub take_item-returns-in_err-attribute : goal.take_item-returns-in_err-attribute
 take_item-returns-in_err-attribute t c =
-    passed_on c.from_residual-in_err-attribute.result _ _ _ (err_from_is_err_and c.from_residual-in_err-attribute.result c.from_residual-in_err-attribute.ensures.1)
+    passes_on c.from_residual-in_err-attribute.result _ _ c.from_residual-in_err-attribute.ensures.1
     (refuses_without_cause _ (stands_for c.args.context c.args.text.now) _ _ (none.item_no_attribute c.args.context c.in-Some.sign.now c.args.text.now c.in-Some.more.now c.in-Some.ensures.cases.0 c.if-sign-eq91.true) c.in_err-attribute.ensures)
 
 pub take_item-returns : goal.take_item-returns
@@ -58,19 +55,15 @@ take_later-returns t c =
 
 pub take_list-returns-in_err-first : goal.take_list-returns-in_err-first
 take_list-returns-in_err-first t c =
-    passed_on c.from_residual.result _ _ _ (err_from_is_err_and c.from_residual.result c.from_residual.ensures.1)
+    passes_on c.from_residual.result _ _ c.from_residual.ensures.1
     (refuses_wider _ (stands_for c.args.context c.args.text.now) _ _ (none.list_no_first c.args.context c.args.text.now) c.in_err-first.ensures)
 
 pub take_list-returns-in_err-selector : goal.take_list-returns-in_err-selector
 take_list-returns-in_err-selector t c =
-    let read = c.loop-alloc.invariant in
-    passed_on c.from_residual-in_err-selector.result _ _ _ (err_from_is_err_and c.from_residual-in_err-selector.result c.from_residual-in_err-selector.ensures.1)
-    (refused_within c.args.context _ c.loop-alloc.rest.now c.args.text.now _ _ (within_list c.args.context c.args.text.now read.1 c.loop-alloc.rest.now read.0 read.2 read.3 read.5)
-    (none.list_no_later c.args.context c.args.text.now read.1 c.loop-alloc.rest.now read.0 read.2 read.3 read.5 (sym c.begins_comma.ensures ∙ c.loop-alloc-test.true)) c.in_err-selector.ensures)
+    passes_on c.from_residual-in_err-selector.result _ _ c.from_residual-in_err-selector.ensures.1 (none.list_refused c.args.context _ c.args.text.now c.loop-alloc.invariant.1 c.loop-alloc.rest.now c.loop-alloc.invariant.0 c.loop-alloc.invariant.2 c.loop-alloc.invariant.3 c.loop-alloc.invariant.5 (sym c.begins_comma.ensures ∙ c.loop-alloc-test.true) c.in_err-selector.ensures)
 
 pub take_compound-loop-alloc-smaller : goal.take_compound-loop-alloc-smaller
-take_compound-loop-alloc-smaller t c =
-    item_shortens c.args.context _ _ _ c.in_ok-item.ensures
+take_compound-loop-alloc-smaller t c = item_shortens c.args.context _ _ _ c.in_ok-item.ensures
 
 pub take_compound-loop-alloc-preserved : goal.take_compound-loop-alloc-preserved
 take_compound-loop-alloc-preserved t c =
@@ -80,8 +73,7 @@ take_compound-loop-alloc-preserved t c =
     (read.0, read.1, read.2 ++ item ∷ [], read.3, pushed.0, pushed.1, many_last (SpellsItem c.args.context (SpellsInner c.args.context)) read.2 item read.1 c.loop-alloc.rest.now c.in_ok-item.more.now read.6 c.in_ok-item.ensures, read.7)
 
 pub take_list-loop-alloc-smaller : goal.take_list-loop-alloc-smaller
-take_list-loop-alloc-smaller t c =
-    later_shortens c.args.context _ _ _ c.in_ok-selector.ensures
+take_list-loop-alloc-smaller t c = later_shortens c.args.context _ _ _ c.in_ok-selector.ensures
 
 pub take_list-loop-alloc-preserved : goal.take_list-loop-alloc-preserved
 take_list-loop-alloc-preserved t c =
@@ -96,8 +88,7 @@ take_list-loop-alloc-preserved t c =
     )
 
 pub take_selector-loop-alloc-smaller : goal.take_selector-loop-alloc-smaller
-take_selector-loop-alloc-smaller t c =
-    step_shortens c.args.context _ _ _ c.in_ok-step.ensures
+take_selector-loop-alloc-smaller t c = step_shortens c.args.context _ _ _ c.in_ok-step.ensures
 
 pub take_selector-loop-alloc-preserved : goal.take_selector-loop-alloc-preserved
 take_selector-loop-alloc-preserved t c =
@@ -111,26 +102,23 @@ take_selector-returns-in_err-first t c =
     let lead = c.take_lead-lead.result.0 in
     let begin = c.take_lead-lead.result.1.now in
     let led = c.take_lead-lead.ensures in
-    passed_on c.from_residual.result _ _ _ (err_from_is_err_and c.from_residual.result c.from_residual.ensures.1)
+    passes_on c.from_residual.result _ _ c.from_residual.ensures.1
     (refused_within c.args.context _ begin text _ _ (within_lead c.args.context.is_relative text begin lead led) (none.selector_no_first c.args.context text begin lead led) c.in_err-first.ensures)
 
 pub take_selector-returns-in_err-step : goal.take_selector-returns-in_err-step
 take_selector-returns-in_err-step t c =
-    let read = c.loop-alloc.invariant in
-    passed_on c.from_residual-in_err-step.result _ _ _ (err_from_is_err_and c.from_residual-in_err-step.result c.from_residual-in_err-step.ensures.1)
-    (refused_within c.args.context _ c.loop-alloc.rest.now c.args.text.now _ _ (within_selector c.args.context c.args.text.now read.0 read.1 c.loop-alloc.rest.now _ _ _ read.2 read.3 read.4)
-    (none.selector_no_step c.args.context c.args.text.now read.0 read.1 c.loop-alloc.rest.now _ _ _ read.2 read.3 read.4 (sym c.begins_step.ensures ∙ c.loop-alloc-test.true)) c.in_err-step.ensures)
+    passes_on c.from_residual-in_err-step.result _ _ c.from_residual-in_err-step.ensures.1 (none.selector_refused c.args.context _ c.args.text.now c.loop-alloc.invariant.0 c.loop-alloc.invariant.1 c.loop-alloc.rest.now _ _ _ c.loop-alloc.invariant.2 c.loop-alloc.invariant.3 c.loop-alloc.invariant.4 (sym c.begins_step.ensures ∙ c.loop-alloc-test.true) c.in_err-step.ensures)
 
 pub take_step-returns-in_err-compound : goal.take_step-returns-in_err-compound
 take_step-returns-in_err-compound t c =
-    passed_on c.from_residual.result _ _ _ (err_from_is_err_and c.from_residual.result c.from_residual.ensures.1)
+    passes_on c.from_residual.result _ _ c.from_residual.ensures.1
     (let sign = subst (λ u. SpellsCombinator c.in-Some.combinator u c.in-Some.mid.now) c.after_white.ensures c.in-Some.ensures in
     refused_within c.args.context _ c.in-Some.mid.now c.args.text.now _ _ (within_step c.args.text.now c.in-Some.mid.now c.in-Some.combinator sign)
     (none.step_no_compound c.args.context c.args.text.now c.in-Some.mid.now c.in-Some.combinator sign) c.in_err-compound.ensures)
 
 pub take_pseudo-returns-in_err-name : goal.take_pseudo-returns-in_err-name
 take_pseudo-returns-in_err-name t c =
-    passed_on c.from_residual.result _ _ _ (err_from_is_err_and c.from_residual.result c.from_residual.ensures.1)
+    passes_on c.from_residual.result _ _ c.from_residual.ensures.1
     (refuses_without_cause _ (stands_behind c.args.context c.args.text.now) _ _ (none.pseudo_no_name c.args.context c.args.text.now) c.in_err-name.ensures)
 
 pub take_pseudo-returns-in_default : goal.take_pseudo-returns-in_default
@@ -149,15 +137,14 @@ take_pseudo-returns t c =
 
 pub take_enclosed-returns-in_err-inside : goal.take_enclosed-returns-in_err-inside
 take_enclosed-returns-in_err-inside t c =
-    passed_on c.from_residual.result _ _ _ (err_from_is_err_and c.from_residual.result c.from_residual.ensures.1)
-    (refuses_wider _ (stands_behind c.args.context c.args.text.now) _ _ (none.enclosed_no_opening c.args.context.depth (SpellsInner c.args.context c.args.relative) c.args.text.now) c.in_err-inside.ensures)
+    passes_on c.from_residual.result _ _ c.from_residual.ensures.1 (none.opening_refused c.args.context (SpellsInner c.args.context c.args.relative) c.args.text.now _ c.in_err-inside.ensures)
 
 pub take_enclosed-returns-in_err-list : goal.take_enclosed-returns-in_err-list
 take_enclosed-returns-in_err-list t c =
     let context = c.args.context in
     let inside = c.in_ok-inside.inside.now in
     let opens = c.in_ok-inside.ensures in
-    passed_on c.from_residual-in_err-list.result _ _ _ (err_from_is_err_and c.from_residual-in_err-list.result c.from_residual-in_err-list.ensures.1)
+    passes_on c.from_residual-in_err-list.result _ _ c.from_residual-in_err-list.ensures.1
     (refuses_more _ (stands_for (inner_context context c.args.relative) inside) (stands_behind context c.args.text.now) _ _ (deep_inside context c.args.relative c.args.text.now inside opens)
     (λ no_list. none.enclosed_no_value context.depth (SpellsInner context c.args.relative) c.args.text.now inside opens (λ v rest h. no_list v rest (none.list_from_inner context c.args.relative opens.deep v inside rest h))) (none.same_room _ c.inner_context.result (inner_context context c.args.relative) inside c.inner_context.ensures c.in_err-list.ensures))
 
@@ -170,8 +157,8 @@ take_enclosed-returns-in_err-rest t c =
     let list = read_list c.in_ok-list.list.items in
     let opens = c.in_ok-inside.ensures in
     let given = none.inner_from_list context relative opens.deep list inside after (subst (λ q. SpellsList q (SpellsInner q) list inside after) c.inner_context.ensures c.in_ok-list.ensures) in
-    passed_on c.from_residual-in_err-rest.result _ _ _ (err_from_is_err_and c.from_residual-in_err-rest.result c.from_residual-in_err-rest.ensures.1)
-    (refuses_without_cause _ (stands_behind context c.args.text.now) _ _ (none.enclosed_no_closing context.depth (SpellsInner context relative) c.args.text.now (inner_once context relative) inside after list opens given) c.in_err-rest.ensures)
+    passes_on c.from_residual-in_err-rest.result _ _ c.from_residual-in_err-rest.ensures.1
+    (none.closing_refused context (SpellsInner context relative) c.args.text.now _ (inner_once context relative) inside after list opens given c.in_err-rest.ensures)
 
 pub take_enclosed-returns : goal.take_enclosed-returns
 take_enclosed-returns t c =
@@ -184,12 +171,12 @@ take_enclosed-returns t c =
 
 pub take_form-returns-in_err-nth-in-Nth : goal.take_form-returns-in_err-nth-in-Nth
 take_form-returns-in_err-nth-in-Nth t c =
-    passed_on c.from_residual.result _ _ _ (err_from_is_err_and c.from_residual.result c.from_residual.ensures.1)
+    passes_on c.from_residual.result _ _ c.from_residual.ensures.1
     (refuses_wider _ (stands_behind c.args.context c.args.text.now) _ _ (none.form_no_nth c.args.context c.args.pseudo c.in-Nth.kind c.args.text.now c.in-Nth.is) c.in_err-nth-in-Nth.ensures)
 
 pub take_form-returns-in_err-string-in-Text : goal.take_form-returns-in_err-string-in-Text
 take_form-returns-in_err-string-in-Text t c =
-    passed_on c.from_residual-in_err-string-in-Text.result _ _ _ (err_from_is_err_and c.from_residual-in_err-string-in-Text.result c.from_residual-in_err-string-in-Text.ensures.1)
+    passes_on c.from_residual-in_err-string-in-Text.result _ _ c.from_residual-in_err-string-in-Text.ensures.1
     (refuses_wider _ (stands_behind c.args.context c.args.text.now) _ _ (none.form_no_string c.args.context c.args.pseudo c.in-Text.test c.args.text.now c.in-Text.is) c.in_err-string-in-Text.ensures)
 
 pub take_form-returns-in-Listed : goal.take_form-returns-in-Listed
@@ -199,7 +186,7 @@ take_form-returns-in-Listed t c =
 pub take_listed-returns-in_err-list : goal.take_listed-returns-in_err-list
 take_listed-returns-in_err-list t c =
     let context = c.args.context in
-    passed_on c.from_residual.result _ _ _ (err_from_is_err_and c.from_residual.result c.from_residual.ensures.1)
+    passes_on c.from_residual.result _ _ c.from_residual.ensures.1
     (refuses_wider _ (stands_behind context c.args.text.now) _ _
     (none.listed_no_list context c.args.quantifier c.is_relative-relative.result c.args.text.now c.is_relative-relative.ensures) c.in_err-list.ensures)
 
