@@ -1,5 +1,5 @@
 -- What is left after a step of a loop over lists, selectors or steps, and what their parts weigh.
-use Rattle.std.proofs.Common.{◌≡◌, ℕ, ◌+◌, ◌<◌, suc, List, [], ◌∷◌, ◌++◌, map, length, drop, get_or, sym, ap, ◌∙◌, add-one, append_assoc, drop-cons, Bool, false, Vec, Global}
+use Rattle.std.proofs.Common.{◌≡◌, ℕ, ◌+◌, ◌<◌, ◌≤◌, suc, List, [], ◌∷◌, ◌++◌, map, length, drop, get_or, sym, ap, ◌∙◌, add-one, append_assoc, drop-cons, Bool, false, Vec, Global, arith}
 use Rattle.dom_selectors.specs.declared.syntax.Compound.{Compound}
 use Rattle.dom_selectors.specs.declared.syntax.Nested.{Nested, Is, Not, Has}
 use Rattle.dom_selectors.specs.declared.syntax.Selector.{Selector, out-Selector}
@@ -14,16 +14,37 @@ use Rattle.dom_selectors.proofs.Weights.{compound_weight, lists_weight, list_wei
 pub drop_map : {A B : Type 0} → (f : A → B) (xs : List A) (i : ℕ) (x : A) → i < length xs → x ≡ get_or xs i x → map f (drop i xs) ≡ f x ∷ map f (drop (i + 1) xs)
 drop_map f xs i x low is = ap (map f) (drop-cons xs i x low) ∙ (ap (λ y. f y ∷ map f (drop (suc i) xs)) (sym is) ∙ ap (λ j. f x ∷ map f (drop j xs)) (sym (add-one i)))
 
--- a copy more, and an item less to copy
-pub copied_more : {A B : Type 0} → (f : A → B) (xs made new : List A) (i : ℕ) (x copy : A) → i < length xs → x ≡ get_or xs i x → f copy ≡ f x → map f new ≡ map f made ++ f copy ∷ [] →
-    map f made ++ map f (drop i xs) ≡ map f xs → map f new ++ map f (drop (i + 1) xs) ≡ map f xs
-copied_more f xs made new i x copy low is same pushed so_far =
-    ap (λ ys. ys ++ map f (drop (i + 1) xs)) (pushed ∙ ap (λ y. map f made ++ y ∷ []) same)
-    ∙ (append_assoc (map f made) (f x ∷ []) (map f (drop (i + 1) xs)) ∙ (ap (λ ys. map f made ++ ys) (sym (drop_map f xs i x low is)) ∙ so_far))
+-- What a loop over a list has made so far, and what is left: both together are all of it, and what is left weighs no more
+abbrev pub Going : {A B : Type 0} → (List A → List B) → (List A → ℕ) → List A → ℕ → List B → List B → Type 0
+Going rest weight xs i made all = record {
+  same : made ++ rest (drop i xs) ≡ all;
+  light : weight (drop i xs) ≤ weight xs;
+}
 
--- a piece more is written, and a piece less is left to write
-pub written_more : (written new piece left rest all : List ℕ) → new ≡ written ++ piece → left ≡ piece ++ rest → written ++ left ≡ all → new ++ rest ≡ all
-written_more written new piece left rest all added cut so_far = ap (λ t. t ++ rest) added ∙ (append_assoc written piece rest ∙ (ap (λ t. written ++ t) (sym cut) ∙ so_far))
+-- a piece more is made, and an item less is left
+pub going_more : {A B : Type 0} → (rest later : List A → List B) (weight : List A → ℕ) (xs : List A) (i : ℕ) (piece made new all : List B) → rest (drop i xs) ≡ piece ++ later (drop (i + 1) xs) →
+    weight (drop (i + 1) xs) ≤ weight (drop i xs) → new ≡ made ++ piece → Going rest weight xs i made all → Going later weight xs (i + 1) new all
+going_more rest later weight xs i piece made new all cut weighs added so_far = record {
+  same =
+      ap (λ t. t ++ later (drop (i + 1) xs)) added ∙ (append_assoc made piece (later (drop (i + 1) xs)) ∙ (ap (λ t. made ++ t) (sym cut) ∙ so_far.same));
+  light = omega (arith, weighs, so_far.light);
+}
+
+module _ {A B : Type 0} (f : A → B) (weigh : List B → ℕ) (grows : (y : B) (ys : List B) → weigh ys ≤ weigh (y ∷ ys)) where
+  lighter : (xs : List A) (i : ℕ) (x : A) → i < length xs → x ≡ get_or xs i x → weigh (map f (drop (i + 1) xs)) ≤ weigh (map f (drop i xs))
+  lighter xs i x low is = let less = grows (f x) (map f (drop (i + 1) xs)) in omega (arith, ap weigh (drop_map f xs i x low is), less)
+
+  -- a copy more, and an item less to copy
+  pub copied_more : (xs made new : List A) (i : ℕ) (x copy : A) → i < length xs → x ≡ get_or xs i x → f copy ≡ f x → map f new ≡ map f made ++ f copy ∷ [] →
+      Going (map f) (λ ys. weigh (map f ys)) xs i (map f made) (map f xs) → Going (map f) (λ ys. weigh (map f ys)) xs (i + 1) (map f new) (map f xs)
+  copied_more xs made new i x copy low is same pushed so_far =
+      going_more (map f) (map f) (λ ys. weigh (map f ys)) xs i (f x ∷ []) (map f made) (map f new) (map f xs) (drop_map f xs i x low is) (lighter xs i x low is) (pushed ∙ ap (λ y. map f made ++ y ∷ []) same) so_far
+
+  -- a piece more is written, and an item less is left to write
+  pub written_more : (css : List B → List ℕ) (piece : B → List ℕ) → ((y : B) (ys : List B) → css (y ∷ ys) ≡ piece y ++ css ys) → (xs : List A) (i : ℕ) (x : A) (written new all : List ℕ) → i < length xs → x ≡ get_or xs i x →
+      new ≡ written ++ piece (f x) → Going (λ ys. css (map f ys)) (λ ys. weigh (map f ys)) xs i written all → Going (λ ys. css (map f ys)) (λ ys. weigh (map f ys)) xs (i + 1) new all
+  written_more css piece cuts xs i x written new all low is added so_far =
+      going_more (λ ys. css (map f ys)) (λ ys. css (map f ys)) (λ ys. weigh (map f ys)) xs i (piece (f x)) written new all (ap css (drop_map f xs i x low is) ∙ cuts (f x) (map f (drop (i + 1) xs))) (lighter xs i x low is) added so_far
 
 -- the next selector is written behind its comma
 pub selectors_css_left : (is_first is_relative : Bool) (selectors : List Selector) (i : ℕ) (s : Selector) → i < length selectors → s ≡ get_or selectors i s →

@@ -1,5 +1,5 @@
 use Rattle.std.proofs.Common.{map, ap, refl, ◌∙◌, arith}
-use Rattle.dom_selectors.specs.ListsAsTrees.{lists_of, steps_of}
+use Rattle.dom_selectors.specs.ListsAsTrees.{lists_of, selector_list, steps_of}
 use Rattle.dom_selectors.specs.ValuesAsTrees.{read_list, read_nested, read_selector, read_step}
 use Rattle.dom_selectors.proofs.Layers.{same_compound, same_has, same_is, same_not, same_step}
 use Rattle.dom_selectors.proofs.Weights.{lists_weight, selectors_weight, steps_weight}
@@ -24,36 +24,21 @@ copy_list-copy_selectors-requires-in-Has t c = omega (arith, has_weighs c.args.l
 pub copy_lists-copy_list-requires : goal.copy_lists-copy_list-requires
 copy_lists-copy_list-requires t c = omega (arith, lists_left c.args.lists.now c.loop-list.list-index c.list-item.result c.loop-list-test.true c.list-item.is, c.loop-list.invariant.light, c.decreases)
 
-pub copy_lists-loop-list-preserved : goal.copy_lists-loop-list-preserved
-copy_lists-loop-list-preserved t c = record {
-  same =
-      copied_more read_nested c.args.lists.now c.loop-list.made.items c.push_list.new.lists.items c.loop-list.list-index c.list-item.result c.in_ok-copy.copy c.loop-list-test.true c.list-item.is
-      c.in_ok-copy.ensures c.in_ok-push_list.ensures c.loop-list.invariant.same;
-  light = omega (arith, lists_left c.args.lists.now c.loop-list.list-index c.list-item.result c.loop-list-test.true c.list-item.is, c.loop-list.invariant.light);
-}
-
 pub copy_selectors-copy_selector-requires : goal.copy_selectors-copy_selector-requires
 copy_selectors-copy_selector-requires t c =
     omega (arith, selectors_left c.args.selectors.now c.loop-selector.selector-index c.selector-item.result c.loop-selector-test.true c.selector-item.is, c.loop-selector.invariant.light, c.decreases)
 
-pub copy_selectors-loop-selector-preserved : goal.copy_selectors-loop-selector-preserved
-copy_selectors-loop-selector-preserved t c = record {
-  same =
-      copied_more read_selector c.args.selectors.now c.loop-selector.made.items c.push_selector.new.selectors.items c.loop-selector.selector-index c.selector-item.result c.in_ok-copy.copy
-      c.loop-selector-test.true c.selector-item.is c.in_ok-copy.ensures c.in_ok-push_selector.ensures c.loop-selector.invariant.same;
-  light = omega (arith, selectors_left c.args.selectors.now c.loop-selector.selector-index c.selector-item.result c.loop-selector-test.true c.selector-item.is, c.loop-selector.invariant.light);
-}
-
 pub copy_steps-copy_step-requires : goal.copy_steps-copy_step-requires
 copy_steps-copy_step-requires t c = omega (arith, steps_left c.args.steps.now c.loop-step.step-index c.step-item.result c.loop-step-test.true c.step-item.is, c.loop-step.invariant.light, c.decreases)
 
+pub copy_lists-loop-list-preserved : goal.copy_lists-loop-list-preserved
+copy_lists-loop-list-preserved t c = copied_more read_nested (λ ys. lists_weight (lists_of ys)) (λ y ys. omega arith) _ _ _ _ _ _ c.loop-list-test.true c.list-item.is c.in_ok-copy.ensures c.in_ok-push_list.ensures c.loop-list.invariant
+
+pub copy_selectors-loop-selector-preserved : goal.copy_selectors-loop-selector-preserved
+copy_selectors-loop-selector-preserved t c = copied_more read_selector (λ ys. selectors_weight (selector_list ys)) (λ y ys. omega arith) _ _ _ _ _ _ c.loop-selector-test.true c.selector-item.is c.in_ok-copy.ensures c.in_ok-push_selector.ensures c.loop-selector.invariant
+
 pub copy_steps-loop-step-preserved : goal.copy_steps-loop-step-preserved
-copy_steps-loop-step-preserved t c = record {
-  same =
-      copied_more read_step c.args.steps.now c.loop-step.made.items c.push_step.new.steps.items c.loop-step.step-index c.step-item.result c.in_ok-copy.copy c.loop-step-test.true c.step-item.is
-      c.in_ok-copy.ensures c.in_ok-push_step.ensures c.loop-step.invariant.same;
-  light = omega (arith, steps_left c.args.steps.now c.loop-step.step-index c.step-item.result c.loop-step-test.true c.step-item.is, c.loop-step.invariant.light);
-}
+copy_steps-loop-step-preserved t c = copied_more read_step (λ ys. steps_weight (steps_of ys)) (λ y ys. omega arith) _ _ _ _ _ _ c.loop-step-test.true c.step-item.is c.in_ok-copy.ensures c.in_ok-push_step.ensures c.loop-step.invariant
 
 pub copy_selector-copy_compound-requires : goal.copy_selector-copy_compound-requires
 copy_selector-copy_compound-requires t c = omega (arith, first_weighs c.args.selector.now, c.decreases)
