@@ -1,14 +1,16 @@
 //! Nodes of one tree that are changed together.
 
 ghost use Rattle.std.specs.Prelude.{◌≡◌};
-ghost use Rattle.dom_nodes.specs.declared.node_data.changing.Change.TheVariants.{AddClass};
-ghost use Rattle.dom_nodes.specs.declared.node_data.changing.Change.TheVariants.{RemoveAllAttrs};
-ghost use Rattle.dom_nodes.specs.declared.node_data.changing.Change.TheVariants.{RemoveAttr};
-ghost use Rattle.dom_nodes.specs.declared.node_data.changing.Change.TheVariants.{RemoveAttrs};
-ghost use Rattle.dom_nodes.specs.declared.node_data.changing.Change.TheVariants.{RemoveClass};
-ghost use Rattle.dom_nodes.specs.declared.node_data.changing.Change.TheVariants.{Rename};
-ghost use Rattle.dom_nodes.specs.declared.node_data.changing.Change.TheVariants.{RetainAttrs};
-ghost use Rattle.dom_nodes.specs.declared.node_data.changing.Change.TheVariants.{SetAttr};
+ghost use Rattle.dom_nodes.specs.declared.node_data.changing.Change.TheVariants.{
+  AddClass,
+  RemoveAllAttrs,
+  RemoveAttr,
+  RemoveAttrs,
+  RemoveClass,
+  Rename,
+  RetainAttrs,
+  SetAttr,
+};
 ghost use Rattle.dom_edits.specs.Edits.{edit_at};
 ghost use Rattle.dom_edits.specs.Loans.{EditsSelected};
 
