@@ -17,7 +17,7 @@ mod state;
 mod tags;
 mod text;
 
-ghost use Rattle.std.specs.Prelude.{◌≡◌, [], string_bytes};
+ghost use Rattle.std.specs.Prelude.{◌≡◌, ◌++◌, [], OnOk, string_bytes};
 
 use crate::parse_error::ErrorAt;
 use crate::token::{Doctype, Tag, Token, TokenKind};
@@ -72,6 +72,23 @@ const REPLACEMENT: char = '\u{fffd}';
 /// Tab, line feed, form feed and space; a carriage return is never seen.
 fn is_space(c: char) -> bool {
     matches!(c, '\t' | '\n' | '\u{c}' | ' ')
+}
+
+/// What of a text is left to be read. Errors where memory is refused.
+type Rest<'a> = Result<&'a str, AllocError>;
+
+/// Puts a text behind another one.
+fn append(text: &mut String, more: &str) -> Result<(), AllocError>
+    ensures { OnOk result (string_bytes text.new ≡ string_bytes text.old ++ more.now) }
+{
+    text.push_str(more)?;
+    Ok(())
+}
+
+/// Puts a character behind a text; no token ends at it.
+fn push(text: &mut String, c: char) -> Progress {
+    text.push(c)?;
+    Ok(None)
 }
 
 impl Tokenizer {

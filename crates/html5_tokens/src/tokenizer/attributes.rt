@@ -3,7 +3,7 @@
 ghost use Rattle.std.specs.Prelude.{◌≡◌, [], string_bytes};
 
 use super::state::{AttrState, Quote, TagState};
-use super::{Progress, REPLACEMENT, State, Tokenizer, is_space};
+use super::{Progress, State, Tokenizer, is_space, push};
 use crate::parse_error::ParseError;
 use std::alloc::AllocError;
 
@@ -33,20 +33,19 @@ impl Tokenizer {
                 self.attr_letter(c)
             }
             _ if is_space(c) => Ok(None),
-            _ => {
-                self.begin_attr()?;
-                self.attr_name(c)
-            }
+            _ => self.begin_attr_name(c),
         }
+    }
+
+    /// Begins an attribute with the first character of its name.
+    fn begin_attr_name(&mut self, c: char) -> Progress {
+        self.begin_attr()?;
+        self.attr_name(c)
     }
 
     fn attr_name(&mut self, c: char) -> Progress {
         match c {
             '/' | '>' | '=' => self.attr_name_ends(c),
-            '\0' => {
-                self.error(ParseError::UnexpectedNullCharacter)?;
-                self.attr_letter(REPLACEMENT)
-            }
             '"' | '\'' | '<' => {
                 self.error(ParseError::UnexpectedCharacterInAttributeName)?;
                 self.attr_letter(c)
@@ -82,10 +81,7 @@ impl Tokenizer {
             '>' => self.emit_tag(),
             '=' => self.attr_then(AttrState::BeforeValue),
             _ if is_space(c) => Ok(None),
-            _ => {
-                self.begin_attr()?;
-                self.attr_name(c)
-            }
+            _ => self.begin_attr_name(c),
         }
     }
 
@@ -142,19 +138,14 @@ impl Tokenizer {
     }
 
     fn attr_letter(&mut self, c: char) -> Progress {
-        self.tag.attr_name.push(c)?;
-        Ok(None)
+        let shown = self.shown(c)?;
+        push(&mut self.tag.attr_name, shown)
     }
 
     /// A character of a value; a null is replaced.
     fn value_letter(&mut self, c: char) -> Progress {
-        if c == '\0' {
-            self.error(ParseError::UnexpectedNullCharacter)?;
-            self.tag.attr_value.push(REPLACEMENT)?;
-        } else {
-            self.tag.attr_value.push(c)?;
-        }
-        Ok(None)
+        let shown = self.shown(c)?;
+        push(&mut self.tag.attr_value, shown)
     }
 
     fn begin_attr(&mut self) -> Result<(), AllocError> {

@@ -1,7 +1,7 @@
 //! Comments.
 
 use super::state::CommentState;
-use super::{Progress, REPLACEMENT, State, Tokenizer};
+use super::{Progress, State, Tokenizer, push};
 use crate::parse_error::ParseError;
 use crate::token::TokenKind;
 
@@ -86,13 +86,8 @@ impl Tokenizer {
 
     /// A character of a comment; a null is replaced.
     fn comment_letter(&mut self, c: char) -> Progress {
-        if c == '\0' {
-            self.error(ParseError::UnexpectedNullCharacter)?;
-            self.comment.push(REPLACEMENT)?;
-        } else {
-            self.comment.push(c)?;
-        }
-        Ok(None)
+        let shown = self.shown(c)?;
+        push(&mut self.comment, shown)
     }
 
     fn comment_then(&mut self, state: CommentState) -> Progress {

@@ -1,7 +1,7 @@
 //! What stands behind `<!`: a comment, a doctype or a CDATA section.
 
 use super::state::{CdataState, CommentState, DoctypeState, Seen};
-use super::{Progress, State, Tokenizer};
+use super::{Progress, State, Tokenizer, push};
 use crate::parse_error::ParseError;
 use crate::token::Doctype;
 
@@ -42,8 +42,8 @@ impl Tokenizer {
             }
             Some(Seen::Cdata(7)) => self.cdata_begins(c),
             Some(more) => {
-                self.comment.push(c)?;
-                self.then(State::Declaration(more))
+                self.state = State::Declaration(more);
+                push(&mut self.comment, c)
             }
             None => {
                 self.error(ParseError::IncorrectlyOpenedComment)?;
@@ -59,7 +59,7 @@ impl Tokenizer {
             return self.then(State::Cdata(CdataState::Section));
         }
         self.error(ParseError::CdataInHtmlContent)?;
-        self.comment.push(c)?;
-        self.then(State::Comment(CommentState::Bogus))
+        self.state = State::Comment(CommentState::Bogus);
+        push(&mut self.comment, c)
     }
 }

@@ -1,42 +1,44 @@
 //! Doctypes.
 
 use super::state::{DoctypeState, Id, Quote};
-use super::{Progress, REPLACEMENT, State, Tokenizer, is_space};
+use super::{Progress, State, Tokenizer, append, is_space, push};
 use crate::parse_error::ParseError;
 use crate::token::TokenKind;
 use std::alloc::AllocError;
 use std::mem;
 
+/// The errors that an identifier of a doctype may have.
+#[derive(Clone, Copy, Drop)]
+struct IdErrors {
+    /// The doctype ends before the identifier.
+    missing: ParseError,
+    /// No quote stands before the identifier.
+    missing_quote: ParseError,
+    /// The identifier stands right behind the word.
+    missing_whitespace: ParseError,
+    /// The doctype ends in the identifier.
+    abrupt: ParseError,
+}
+
+const PUBLIC_ERRORS: IdErrors = IdErrors {
+    missing: ParseError::MissingDoctypePublicIdentifier,
+    missing_quote: ParseError::MissingQuoteBeforeDoctypePublicIdentifier,
+    missing_whitespace: ParseError::MissingWhitespaceAfterDoctypePublicKeyword,
+    abrupt: ParseError::AbruptDoctypePublicIdentifier,
+};
+
+const SYSTEM_ERRORS: IdErrors = IdErrors {
+    missing: ParseError::MissingDoctypeSystemIdentifier,
+    missing_quote: ParseError::MissingQuoteBeforeDoctypeSystemIdentifier,
+    missing_whitespace: ParseError::MissingWhitespaceAfterDoctypeSystemKeyword,
+    abrupt: ParseError::AbruptDoctypeSystemIdentifier,
+};
+
 impl Id {
-    /// The error of a doctype that ends before the identifier.
-    fn missing(self) -> ParseError {
+    fn errors(self) -> IdErrors {
         match self {
-            Id::Public => ParseError::MissingDoctypePublicIdentifier,
-            Id::System => ParseError::MissingDoctypeSystemIdentifier,
-        }
-    }
-
-    /// The error of an identifier without a quote before it.
-    fn missing_quote(self) -> ParseError {
-        match self {
-            Id::Public => ParseError::MissingQuoteBeforeDoctypePublicIdentifier,
-            Id::System => ParseError::MissingQuoteBeforeDoctypeSystemIdentifier,
-        }
-    }
-
-    /// The error of an identifier right behind the word.
-    fn missing_whitespace(self) -> ParseError {
-        match self {
-            Id::Public => ParseError::MissingWhitespaceAfterDoctypePublicKeyword,
-            Id::System => ParseError::MissingWhitespaceAfterDoctypeSystemKeyword,
-        }
-    }
-
-    /// The error of a doctype that ends in the identifier.
-    fn abrupt(self) -> ParseError {
-        match self {
-            Id::Public => ParseError::AbruptDoctypePublicIdentifier,
-            Id::System => ParseError::AbruptDoctypeSystemIdentifier,
+            Id::Public => PUBLIC_ERRORS,
+            Id::System => SYSTEM_ERRORS,
         }
     }
 }
@@ -89,20 +91,17 @@ impl Tokenizer {
     fn doctype_name(&mut self, c: char) -> Progress {
         match c {
             '>' => self.emit_doctype(),
-            '\0' => {
-                self.error(ParseError::UnexpectedNullCharacter)?;
-                self.doctype_letter(REPLACEMENT)
-            }
             _ if is_space(c) => self.doctype_then(DoctypeState::AfterName),
             _ => self.doctype_letter(c.to_ascii_lowercase()),
         }
     }
 
     fn doctype_letter(&mut self, c: char) -> Progress {
-        if let Some(name) = &mut self.doctype.name {
-            name.push(c)?;
+        let shown = self.shown(c)?;
+        match &mut self.doctype.name {
+            Some(name) => push(name, shown),
+            None => Ok(None),
         }
-        Ok(None)
     }
 
     fn after_doctype_name(&mut self, c: char) -> Progress {
@@ -135,7 +134,7 @@ impl Tokenizer {
     fn after_keyword(&mut self, id: Id, c: char) -> Progress {
         match c {
             '"' | '\'' => {
-                self.error(id.missing_whitespace())?;
+                self.error(id.errors().missing_whitespace)?;
                 self.before_id(id, c)
             }
             _ if is_space(c) => self.doctype_then(DoctypeState::BeforeId(id)),
@@ -148,11 +147,11 @@ impl Tokenizer {
             '"' => self.begin_id(id, Quote::Double),
             '\'' => self.begin_id(id, Quote::Single),
             '>' => {
-                self.error(id.missing())?;
+                self.error(id.errors().missing)?;
                 self.emit_quirks_doctype()
             }
             _ if is_space(c) => Ok(None),
-            _ => self.bogus_from(id.missing_quote(), c),
+            _ => self.bogus_from(id.errors().missing_quote, c),
         }
     }
 
@@ -171,14 +170,13 @@ impl Tokenizer {
         }
         match c {
             '>' => {
-                self.error(id.abrupt())?;
+                self.error(id.errors().abrupt)?;
                 self.emit_quirks_doctype()
             }
-            '\0' => {
-                self.error(ParseError::UnexpectedNullCharacter)?;
-                self.id_letter(id, REPLACEMENT)
+            _ => {
+                let shown = self.shown(c)?;
+                self.id_letter(id, shown)
             }
-            _ => self.id_letter(id, c),
         }
     }
 
@@ -187,10 +185,10 @@ impl Tokenizer {
             Id::Public => &mut self.doctype.public_id,
             Id::System => &mut self.doctype.system_id,
         };
-        if let Some(text) = text {
-            text.push(c)?;
+        match text {
+            Some(text) => push(text, c),
+            None => Ok(None),
         }
-        Ok(None)
     }
 
     /// Puts a run of characters behind what was read of an identifier.
@@ -199,10 +197,10 @@ impl Tokenizer {
             Id::Public => &mut self.doctype.public_id,
             Id::System => &mut self.doctype.system_id,
         };
-        if let Some(text) = text {
-            text.push_str(run)?;
+        match text {
+            Some(text) => append(text, run),
+            None => Ok(()),
         }
-        Ok(())
     }
 
     fn after_public_id(&mut self, c: char) -> Progress {
@@ -223,7 +221,7 @@ impl Tokenizer {
             '"' => self.begin_id(Id::System, Quote::Double),
             '\'' => self.begin_id(Id::System, Quote::Single),
             _ if is_space(c) => Ok(None),
-            _ => self.bogus_from(Id::System.missing_quote(), c),
+            _ => self.bogus_from(SYSTEM_ERRORS.missing_quote, c),
         }
     }
 

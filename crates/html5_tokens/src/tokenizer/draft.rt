@@ -68,11 +68,12 @@ impl TagDraft {
         if self.attr_name.is_empty() {
             return Ok(());
         }
-        self.attrs
-            .add_copy(alloc, self.attr_name.as_str(), self.attr_value.as_str())?;
+        let added = self
+            .attrs
+            .add_copy(alloc, self.attr_name.as_str(), self.attr_value.as_str());
         self.attr_name.clear();
         self.attr_value.clear();
-        Ok(())
+        added
     }
 
     /// Adds an attribute that was read whole.

@@ -1,6 +1,7 @@
 //! The end of the page.
 
-ghost use Rattle.std.specs.Prelude.{[]};
+ghost use Rattle.std.specs.Prelude.{◌≡◌, []};
+ghost use Rattle.html5_tokens.specs.declared.tokenizer.state.State.TheVariants.{Data};
 
 use super::state::{
     CdataState, CommentState, DoctypeState, EndTagState, Raw, ScriptState, TagState,
@@ -28,28 +29,39 @@ impl Tokenizer {
     {
         self.end_reference()?;
         match self.state {
-            State::Data | State::Rcdata | State::Rawtext | State::Script | State::Plaintext => {}
-            State::Cdata(state) => self.end_cdata(state)?,
-            State::Tag(TagState::Open) => {
-                self.error(ParseError::EofBeforeTagName)?;
-                self.put_text("<")?;
-            }
-            State::Tag(TagState::EndOpen) => {
-                self.error(ParseError::EofBeforeTagName)?;
-                self.put_text("</")?;
-            }
-            State::Tag(_) | State::Attribute(_) => self.error(ParseError::EofInTag)?,
-            State::EndTag(raw, state) => self.end_raw(raw, state)?,
-            State::ScriptData(ScriptState::EscapeStart | ScriptState::EscapeStartDash) => {}
-            State::ScriptData(_) => self.error(ParseError::EofInScriptHtmlCommentLikeText)?,
             State::Declaration(_) => {
                 self.error(ParseError::IncorrectlyOpenedComment)?;
-                return self.emit_comment();
+                self.emit_comment()
             }
-            State::Comment(state) => return self.end_comment(state),
-            State::Doctype(state) => return self.end_doctype(state),
+            State::Comment(state) => self.end_comment(state),
+            State::Doctype(state) => self.end_doctype(state),
+            _ => {
+                self.end_text()?;
+                Ok(None)
+            }
         }
-        Ok(None)
+    }
+
+    /// What was read of a mark is text, and a tag is dropped.
+    fn end_text(&mut self) -> Result<(), AllocError>
+        ensures { self.old.state ≡ Data → self.new ≡ self.old }
+    {
+        match self.state {
+            State::Cdata(state) => self.end_cdata(state),
+            State::Tag(TagState::Open) => self.end_tag_begun("<"),
+            State::Tag(TagState::EndOpen) => self.end_tag_begun("</"),
+            State::Tag(_) | State::Attribute(_) => self.error(ParseError::EofInTag),
+            State::EndTag(raw, state) => self.end_raw(raw, state),
+            State::ScriptData(ScriptState::EscapeStart | ScriptState::EscapeStartDash) => Ok(()),
+            State::ScriptData(_) => self.error(ParseError::EofInScriptHtmlCommentLikeText),
+            _ => Ok(()),
+        }
+    }
+
+    /// What was read of a tag without a name is text.
+    fn end_tag_begun(&mut self, written: &str) -> Result<(), AllocError> {
+        self.error(ParseError::EofBeforeTagName)?;
+        self.put_text(written)
     }
 
     fn end_cdata(&mut self, state: CdataState) -> Result<(), AllocError> {
@@ -63,14 +75,7 @@ impl Tokenizer {
 
     /// What was read of an end tag is text.
     fn end_raw(&mut self, raw: Raw, state: EndTagState) -> Result<(), AllocError> {
-        match state {
-            EndTagState::LessThan => self.text.push_str("<")?,
-            EndTagState::Open => self.text.push_str("</")?,
-            EndTagState::Name => {
-                self.text.push_str("</")?;
-                self.text.push_str(self.tag.name.as_str())?;
-            }
-        }
+        self.put_end_tag(state)?;
         match raw {
             Raw::Escaped => self.error(ParseError::EofInScriptHtmlCommentLikeText),
             Raw::Rcdata | Raw::Rawtext | Raw::Script => Ok(()),

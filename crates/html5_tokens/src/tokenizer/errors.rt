@@ -49,10 +49,10 @@ impl Tokenizer {
         ensures { self.old.errors ≡ None → self.new ≡ self.old }
     {
         let offset = self.offset;
-        if let Some(errors) = &mut self.errors {
-            errors.push(ErrorAt { offset, error })?;
+        match &mut self.errors {
+            Some(errors) => note(errors, offset, error),
+            None => Ok(()),
         }
-        Ok(())
     }
 
     /// Notes the characters of a stretch that may not stand in a page.
@@ -65,9 +65,15 @@ impl Tokenizer {
         for (at, c) in stretch.char_indices() {
             if let Some(error) = input_error(c) {
                 let offset = self.offset.saturating_add(at);
-                errors.push(ErrorAt { offset, error })?;
+                note(errors, offset, error)?;
             }
         }
         Ok(())
     }
+}
+
+/// Adds an error that was found at an offset.
+fn note(errors: &mut Vec<ErrorAt>, offset: usize, error: ParseError) -> Result<(), AllocError> {
+    errors.push(ErrorAt { offset, error })?;
+    Ok(())
 }

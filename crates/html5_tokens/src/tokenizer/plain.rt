@@ -8,7 +8,7 @@ ghost use Rattle.html5_tokens.specs.Tags.{IsPlainName, written_before};
 
 use super::runs::{Run, attr_name_len, run_len, tag_name_len, value_len};
 use super::state::{AttrState, Quote, TagState};
-use super::{State, Tokenizer};
+use super::{State, Tokenizer, append};
 use crate::token::{TagKind, TokenKind};
 use std::alloc::AllocError;
 
@@ -199,12 +199,17 @@ impl Tokenizer {
         let Some((meant, rest)) = plain_reference(text) else {
             return Ok(text);
         };
-        if self.is_in_value() {
-            self.tag.attr_value.push_str(meant)?;
-        } else {
-            self.text.push_str(meant)?;
-        }
+        self.put_meant(meant)?;
         Ok(rest)
+    }
+
+    /// Puts what a reference stands for into the value or the text.
+    fn put_meant(&mut self, meant: &str) -> Result<(), AllocError> {
+        if self.is_in_value() {
+            append(&mut self.tag.attr_value, meant)
+        } else {
+            append(&mut self.text, meant)
+        }
     }
 
     /// Reads what is plain of a tag from its name on.

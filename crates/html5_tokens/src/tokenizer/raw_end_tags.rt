@@ -1,8 +1,9 @@
 //! Raw text ends at an end tag of the last start tag's name: what may be one.
 
 use super::state::{AttrState, EndTagState, Raw, ScriptState, TagState};
-use super::{Progress, State, Tokenizer, is_space};
+use super::{Progress, State, Tokenizer, append, is_space};
 use crate::token::TagKind;
+use std::alloc::AllocError;
 
 impl Tokenizer {
     pub(super) fn in_end_tag(&mut self, raw: Raw, state: EndTagState, c: char) -> Progress {
@@ -39,7 +40,7 @@ impl Tokenizer {
             self.state = State::EndTag(raw, EndTagState::Name);
             self.name_letter(c)
         } else {
-            self.put_text("</")?;
+            self.put_end_tag(EndTagState::Open)?;
             self.back_to(raw, c)
         }
     }
@@ -62,8 +63,19 @@ impl Tokenizer {
                 _ => {}
             }
         }
-        self.text.push_str("</")?;
-        self.text.push_str(self.tag.name.as_str())?;
+        self.put_end_tag(EndTagState::Name)?;
         self.back_to(raw, c)
+    }
+
+    /// What was read of an end tag is text.
+    pub(super) fn put_end_tag(&mut self, state: EndTagState) -> Result<(), AllocError> {
+        match state {
+            EndTagState::LessThan => self.put_text("<"),
+            EndTagState::Open => self.put_text("</"),
+            EndTagState::Name => {
+                self.put_text("</")?;
+                append(&mut self.text, self.tag.name.as_str())
+            }
+        }
     }
 }

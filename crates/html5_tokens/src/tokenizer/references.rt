@@ -7,7 +7,8 @@ ghost use Rattle.html5_tokens.specs.Numbers.{character_of};
 use super::errors::is_noncharacter;
 use super::named::Match;
 use super::state::AttrState;
-use super::{Progress, REPLACEMENT, State, Tokenizer};
+use super::{Progress, REPLACEMENT, State, Tokenizer, append, push};
+use crate::named_references::Value;
 use crate::parse_error::ParseError;
 use std::alloc::AllocError;
 
@@ -74,6 +75,16 @@ fn number_error(number: u32) -> Option<ParseError> {
     }
 }
 
+/// Puts what a name stands for, and what stands behind it, in place of a text.
+fn put_value(text: &mut String, value: Value, behind: &str) -> Result<(), AllocError> {
+    text.clear();
+    text.push(value.first)?;
+    if let Some(second) = value.second {
+        text.push(second)?;
+    }
+    append(text, behind)
+}
+
 impl Tokenizer {
     ghost use Rattle.html5_tokens.specs.NamedReferences.{read_of};
     ghost use Rattle.html5_tokens.specs.Reading.{IsInName, IsNameRead, IsReadBehind};
@@ -86,11 +97,10 @@ impl Tokenizer {
     }
 
     pub(super) fn begin_reference(&mut self) -> Progress {
+        self.reference = Reference::Begun;
         self.written.clear();
         self.behind.clear();
-        self.written.push('&')?;
-        self.reference = Reference::Begun;
-        Ok(None)
+        push(&mut self.written, '&')
     }
 
     pub(super) fn is_in_value(&self) -> bool {
@@ -162,11 +172,10 @@ impl Tokenizer {
     fn put_written(&mut self) -> Result<(), AllocError> {
         self.reference = Reference::None;
         if self.is_in_value() {
-            self.tag.attr_value.push_str(self.written.as_str())?;
+            append(&mut self.tag.attr_value, self.written.as_str())
         } else {
-            self.text.push_str(self.written.as_str())?;
+            append(&mut self.text, self.written.as_str())
         }
-        Ok(())
     }
 
     fn no_digits(&mut self) -> Result<bool, AllocError> {
@@ -263,12 +272,7 @@ impl Tokenizer {
             }
             self.error(ParseError::MissingSemicolonAfterCharacterReference)?;
         }
-        self.written.clear();
-        self.written.push(value.first)?;
-        if let Some(second) = value.second {
-            self.written.push(second)?;
-        }
-        self.written.push_str(self.behind.as_str())?;
+        put_value(&mut self.written, value, self.behind.as_str())?;
         self.put_written()
     }
 

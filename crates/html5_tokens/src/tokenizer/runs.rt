@@ -9,7 +9,7 @@ use super::state::{
     AttrState, CdataState, CommentState, DoctypeState, DoubleState, Id, Quote, ScriptState,
     TagState,
 };
-use super::{Progress, State, Step, Tokenizer};
+use super::{Progress, Rest, State, Step, Tokenizer, append};
 use crate::token::{Token, TokenKind};
 use std::alloc::AllocError;
 use std::simd::prelude::*;
@@ -293,11 +293,7 @@ impl Tokenizer {
     }
 
     /// Reads a text up to the end of a token, without looking for a run at its front.
-    fn read_mark<'a>(
-        &mut self,
-        text: &'a str,
-        kind: &mut Option<TokenKind>,
-    ) -> Result<&'a str, AllocError>
+    fn read_mark<'a>(&mut self, text: &'a str, kind: &mut Option<TokenKind>) -> Rest<'a>
         ensures { ReadsPlainTag self.old self.new text.now kind.new result }
     {
         let mut made = None;
@@ -311,11 +307,7 @@ impl Tokenizer {
 
     /// Reads the first stretch of a text, and returns what follows it.
     #[inline(never)]
-    fn read_first<'a>(
-        &mut self,
-        text: &'a str,
-        kind: &mut Option<TokenKind>,
-    ) -> Result<&'a str, AllocError> {
+    fn read_first<'a>(&mut self, text: &'a str, kind: &mut Option<TokenKind>) -> Rest<'a> {
         let Some(stretch) = text.split_inclusive(MARKS).next() else {
             return Ok(text);
         };
@@ -354,11 +346,7 @@ impl Tokenizer {
     }
 
     /// Reads a text up to the end of a token, if one ends in it.
-    fn read_to_token<'a>(
-        &mut self,
-        text: &'a str,
-        kind: &mut Option<TokenKind>,
-    ) -> Result<&'a str, AllocError> {
+    fn read_to_token<'a>(&mut self, text: &'a str, kind: &mut Option<TokenKind>) -> Rest<'a> {
         let mut made = None;
         let mut rest = text;
         for _ in 0..text.len() {
@@ -376,11 +364,7 @@ impl Tokenizer {
     }
 
     /// Reads what is plain at the front of a text, or else a character.
-    fn read_front<'a>(
-        &mut self,
-        text: &'a str,
-        kind: &mut Option<TokenKind>,
-    ) -> Result<&'a str, AllocError>
+    fn read_front<'a>(&mut self, text: &'a str, kind: &mut Option<TokenKind>) -> Rest<'a>
         ensures { ReadsPlainTag self.old self.new text.now kind.new result }
     {
         let rest = self.read_plain(text, kind)?;
@@ -395,11 +379,7 @@ impl Tokenizer {
 
     /// Reads a character.
     #[inline(never)]
-    fn read_char<'a>(
-        &mut self,
-        text: &'a str,
-        kind: &mut Option<TokenKind>,
-    ) -> Result<&'a str, AllocError> {
+    fn read_char<'a>(&mut self, text: &'a str, kind: &mut Option<TokenKind>) -> Rest<'a> {
         let Some((c, after)) = split_char(text) else {
             return Ok(text);
         };
@@ -433,14 +413,13 @@ impl Tokenizer {
         ensures { run ≡ Run.Text → OnOk result (AddsText self.old self.new front.now) }
     {
         match run {
-            Run::Text | Run::Raw | Run::Plaintext | Run::Escaped => self.text.push_str(front)?,
-            Run::Cdata => self.text.push_str(front)?,
-            Run::DoctypeId(id, _) => self.push_id(id, front)?,
-            Run::Comment | Run::BogusComment => self.comment.push_str(front)?,
-            Run::TagName => self.tag.name.push_str(front)?,
-            Run::AttrName => self.tag.attr_name.push_str(front)?,
-            Run::AttrValue(_) | Run::UnquotedValue => self.tag.attr_value.push_str(front)?,
+            Run::Text | Run::Raw | Run::Plaintext | Run::Escaped => append(&mut self.text, front),
+            Run::Cdata => append(&mut self.text, front),
+            Run::DoctypeId(id, _) => self.push_id(id, front),
+            Run::Comment | Run::BogusComment => append(&mut self.comment, front),
+            Run::TagName => append(&mut self.tag.name, front),
+            Run::AttrName => append(&mut self.tag.attr_name, front),
+            Run::AttrValue(_) | Run::UnquotedValue => append(&mut self.tag.attr_value, front),
         }
-        Ok(())
     }
 }

@@ -1,8 +1,7 @@
 //! Script data behind `<!--`.
 
 use super::state::{DoubleState, EndTagState, Raw, ScriptState};
-use super::{Progress, REPLACEMENT, State, Tokenizer, is_space};
-use crate::parse_error::ParseError;
+use super::{Progress, State, Tokenizer, is_space, push};
 
 impl Tokenizer {
     pub(super) fn in_script(&mut self, state: ScriptState, c: char) -> Progress {
@@ -31,13 +30,10 @@ impl Tokenizer {
             ('-', _) => State::ScriptData(ScriptState::EscapedDashDash),
             ('<', _) => return self.then(State::EndTag(Raw::Escaped, EndTagState::LessThan)),
             ('>', ScriptState::EscapedDashDash) => State::Script,
-            ('\0', _) => {
-                self.error(ParseError::UnexpectedNullCharacter)?;
-                return self.text_then(REPLACEMENT, State::ScriptData(ScriptState::Escaped));
-            }
             _ => State::ScriptData(ScriptState::Escaped),
         };
-        self.text_then(c, next)
+        let shown = self.shown(c)?;
+        self.text_then(shown, next)
     }
 
     fn double_start(&mut self, c: char) -> Progress {
@@ -63,9 +59,8 @@ impl Tokenizer {
     }
 
     fn double_letter(&mut self, c: char) -> Progress {
-        self.letters.push(c.to_ascii_lowercase())?;
-        self.text.push(c)?;
-        Ok(None)
+        push(&mut self.letters, c.to_ascii_lowercase())?;
+        push(&mut self.text, c)
     }
 
     fn double_less_than(&mut self, c: char) -> Progress {
@@ -98,11 +93,10 @@ impl Tokenizer {
             ('-', _) => self.double_then(c, DoubleState::DashDash),
             ('<', _) => self.double_then(c, DoubleState::LessThan),
             ('>', DoubleState::DashDash) => self.text_then(c, State::Script),
-            ('\0', _) => {
-                self.error(ParseError::UnexpectedNullCharacter)?;
-                self.double_then(REPLACEMENT, DoubleState::Escaped)
+            _ => {
+                let shown = self.shown(c)?;
+                self.double_then(shown, DoubleState::Escaped)
             }
-            _ => self.double_then(c, DoubleState::Escaped),
         }
     }
 }

@@ -3,7 +3,7 @@
 ghost use Rattle.std.specs.Prelude.{◌≡◌, IfOk};
 
 use super::state::{AttrState, CommentState, Seen, TagState};
-use super::{Progress, REPLACEMENT, State, Tokenizer, is_space};
+use super::{Progress, State, Tokenizer, is_space, push};
 use crate::parse_error::ParseError;
 use crate::token::{TagKind, TokenKind};
 use std::alloc::AllocError;
@@ -73,18 +73,16 @@ impl Tokenizer {
         match c {
             '/' => self.then(State::Tag(TagState::SelfClosing)),
             '>' => self.emit_tag(),
-            '\0' => {
-                self.error(ParseError::UnexpectedNullCharacter)?;
-                self.name_letter(REPLACEMENT)
-            }
             _ if is_space(c) => self.then(State::Attribute(AttrState::BeforeName)),
-            _ => self.name_letter(c),
+            _ => {
+                let shown = self.shown(c)?;
+                self.name_letter(shown)
+            }
         }
     }
 
     pub(super) fn name_letter(&mut self, c: char) -> Progress {
-        self.tag.name.push(c)?;
-        Ok(None)
+        push(&mut self.tag.name, c)
     }
 
     fn self_closing(&mut self, c: char) -> Progress {
@@ -136,12 +134,18 @@ impl Tokenizer {
     fn note_start(&mut self) -> Result<(), AllocError>
         ensures { self.new ≡ record self.old { last_start = self.new.last_start } }
     {
-        if let Some(tag) = &self.ended
-            && tag.kind == TagKind::Start
-        {
-            self.last_start.clear();
-            self.last_start.push_str(tag.name.as_str())?;
+        match &self.ended {
+            Some(tag) if tag.kind == TagKind::Start => {
+                put(&mut self.last_start, tag.name.as_str())
+            }
+            _ => Ok(()),
         }
-        Ok(())
     }
+}
+
+/// Puts a text in place of another one.
+fn put(text: &mut String, other: &str) -> Result<(), AllocError> {
+    text.clear();
+    text.push_str(other)?;
+    Ok(())
 }

@@ -1,33 +1,35 @@
 //! Characters outside tags: the data, RCDATA, RAWTEXT, script data, PLAINTEXT and CDATA states.
 
 use super::state::{CdataState, EndTagState, Raw, TagState};
-use super::{Progress, REPLACEMENT, State, Tokenizer};
+use super::{Progress, REPLACEMENT, State, Tokenizer, append, push};
 use crate::parse_error::ParseError;
 use std::alloc::AllocError;
 
 impl Tokenizer {
     /// Puts a text behind the characters that stand before the next token.
     pub(super) fn put_text(&mut self, text: &str) -> Result<(), AllocError> {
-        self.text.push_str(text)?;
-        Ok(())
+        append(&mut self.text, text)
     }
 
     /// Goes on in a state, with a character that is text.
     pub(super) fn text_then(&mut self, c: char, state: State) -> Progress {
         self.state = state;
-        self.text.push(c)?;
-        Ok(None)
+        push(&mut self.text, c)
     }
 
     /// A character that is text; a null is replaced.
     pub(super) fn text_letter(&mut self, c: char) -> Progress {
-        if c == '\0' {
-            self.error(ParseError::UnexpectedNullCharacter)?;
-            self.text.push(REPLACEMENT)?;
-        } else {
-            self.text.push(c)?;
+        let shown = self.shown(c)?;
+        push(&mut self.text, shown)
+    }
+
+    /// What stands in place of a character: a null is an error, and is replaced.
+    pub(super) fn shown(&mut self, c: char) -> Result<char, AllocError> {
+        if c != '\0' {
+            return Ok(c);
         }
-        Ok(None)
+        self.error(ParseError::UnexpectedNullCharacter)?;
+        Ok(REPLACEMENT)
     }
 
     pub(super) fn in_data(&mut self, c: char) -> Progress {
