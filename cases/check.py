@@ -9,10 +9,10 @@ A case is a line of a file cases/*.jsonl: `markup` is standard input and `script
 arguments in its place; `markup_hex` and `script_hex` give bytes that are no text), `output` and `error` are what must
 stand on standard output and standard error, and `status` is the exit status, 0 if not given. A text may be given as a
 list of pieces, each a text and how often it stands there, with {n} in it for the number of each; an argument may be given
-with how often it stands there. A case of cases/calls is one of the program `calls`, whose arguments are calls of the library;
-one of cases/bulk is one of `bulk`, and one of cases/hq or cases/pages (html5lib's tests of tree construction) is one of `hq`.
+with how often it stands there. A case of cases/calls is one of the program `calls`, whose arguments are calls of the library,
+and one of cases/hq or cases/pages (html5lib's tests of tree construction) is one of `hq`.
 
-`limits space` does each call that takes memory with ever more of it, in an address space of LIMITED bytes; refusals.py refuses
+`calls 'limits space'` does each call that takes memory with ever more of it, in an address space of LIMITED bytes; refusals.py refuses
 each request for memory in turn, hostile.py has texts and nodes read that are changed in every place, and depth.py deep and wide
 trees. What the line `sanitize` leaves of random forests is compared with cases/clean.py, and what paths find with cases/paths.py.
 Which public functions are called at all is counted by cases/coverage.py.
@@ -159,22 +159,18 @@ def calls():
     return run_cases("cases of calls", "calls", (ROOT / "cases" / "calls").glob("*.jsonl"))
 
 
-def bulk():
-    """Runs the program `bulk` on its cases, and returns how many passed and failed."""
-    return run_cases("cases of times", "bulk", (ROOT / "cases" / "bulk").glob("*.jsonl"))
-
-
 def pages():
     """Runs the program `hq` on its cases and on those of html5lib, and returns how many passed and failed."""
     return run_cases("cases of pages", "hq", [*(ROOT / "cases").glob("hq/*.jsonl"), *(ROOT / "cases").glob("pages/*.jsonl")])
 
 
 def limited():
-    """Runs the program `limits` in a small address space, and returns how many calls were refused memory as they must
+    """Runs the calls that take memory in a small address space, and returns how many calls were refused memory as they must
     be and then done, and how many weren't."""
     limit = lambda: resource.setrlimit(resource.RLIMIT_AS, (LIMITED, LIMITED))
     try:
-        ran = subprocess.run([built("limits"), "space"], capture_output=True, text=True, timeout=SECONDS, preexec_fn=limit)
+        words = [built("calls"), "limits space"]
+        ran = subprocess.run(words, input="", capture_output=True, text=True, timeout=SECONDS, preexec_fn=limit)
     except (OSError, subprocess.SubprocessError) as stopped:
         print(f"limits space: {stopped}")
         return 0, 1
@@ -306,7 +302,7 @@ def refused_callers():
 def main():
     clock, cases_alone = Clock(), sys.argv[1:] == ["--cases"]
     counts = [] if cases_alone else gate(clock)
-    tables = [table, calls, bulk, pages, limited, cleaned, followed, streams.streams, snippets, wrong_bodies, coverage.coverage]
+    tables = [table, calls, pages, limited, cleaned, followed, streams.streams, snippets, wrong_bodies, coverage.coverage]
     counts += clock.timed("the cases", lambda: [each() for each in tables])
     hard = [("the hostile inputs", hostile.hostile), ("the refusals", refusals.refusals), ("deep and wide trees", depth.depth)]
     counts += [clock.timed(part, each) for part, each in hard]

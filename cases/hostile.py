@@ -1,5 +1,5 @@
 """Hostile inputs. Of each text below, which together use every rule of its grammar, every prefix, every text with one byte
-changed to each of CHANGED, and every text with a byte left out is read by the program `bulk` in one process, and the answer
+changed to each of CHANGED, and every text with a byte left out is read by the program `calls bulk` in one process, and the answer
 is compared with that of the grammar in grammars.py: read, with the same result, or refused. A fault has a name that the
 documents have, and a place inside the text.
 
@@ -63,9 +63,9 @@ def variants(text):
 
 
 def asked(words, lines):
-    """What `bulk` answers to each line on standard input."""
+    """What `calls bulk` answers to each line on standard input."""
     given = "".join(f"{line}\n" for line in lines).encode()
-    ran = subprocess.run([built("bulk"), *words], input=given, capture_output=True, timeout=SECONDS)
+    ran = subprocess.run([built("calls"), "bulk", *words], input=given, capture_output=True, timeout=SECONDS)
     answers = ran.stdout.decode(errors="replace").split("\n")[:-1]
     if ran.returncode or ran.stderr or len(answers) != len(lines):
         print(f"bulk {words}: status {ran.returncode}, {len(answers)} answers to {len(lines)} lines, {ran.stderr[:300]}")

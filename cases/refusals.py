@@ -95,8 +95,8 @@ def rows(counter):
 
 
 def calls(counter):
-    """Has the program `limits` do each call with each request refused; returns how many passed and failed."""
-    status, output, error, report = counts(counter, [built("limits"), "counted"], b"")
+    """Has the program `calls` do each call that takes memory with each request refused; returns how many passed and failed."""
+    status, output, error, report = counts(counter, [built("calls"), "limits counted"], b"")
     lines = output.decode(errors="replace").splitlines()
     wrong = [line for line in lines if not re.fullmatch(r".*: (\d+ refused, then done|done without a request)", line)]
     refusals = sum(int(found) for found in re.findall(r": (\d+) refused, then done", output.decode(errors="replace")))

@@ -1,12 +1,14 @@
 //! Calls of the library, asked at a shell. `calls LINE ..` reads the markup on standard input,
 //! makes the call of each line on the document, in order, and prints what each answers: the rows of
-//! cases/calls.
+//! cases/calls. `calls bulk WORD ..` makes many calls, of what standard input has.
 #![tactic(auto)]
 
 mod asking;
+mod bulk;
 mod cleaning;
 mod css;
 mod indexes;
+mod limits;
 mod many;
 mod minis;
 mod pages;
@@ -140,6 +142,8 @@ fn make(rt: &HostRuntime, group: &str, line: &str) -> Option<()> {
         "chunk" => texts::escape_chunk(rt, line),
         "cell" => texts::escape_cell(rt, line),
         "list" => texts::number_list(rt, line),
+        "raw" => bulk::batch::check_line(rt, line),
+        "limits" => limits::do_all(rt, line),
         _ => None,
     }
 }
@@ -156,14 +160,22 @@ fn call_all(rt: &HostRuntime, lines: &[String]) -> Option<()> {
     Some(())
 }
 
+/// Does what the words say.
+fn run(rt: &HostRuntime, words: &[String]) -> Option<()> {
+    match words {
+        [word, words @ ..] if word.as_str() == "bulk" => bulk::run(rt, words),
+        _ => call_all(rt, words),
+    }
+}
+
 fn main(rt: HostRuntime) -> ExitCode {
     let Ok(all) = env::args(&rt) else {
         return ExitCode::from(64);
     };
-    let Ok(lines) = all.skip(1).collect::<Vec<String>>(rt.alloc()) else {
+    let Ok(words) = all.skip(1).collect::<Vec<String>>(rt.alloc()) else {
         return ExitCode::from(5);
     };
-    match call_all(&rt, lines.as_slice()) {
+    match run(&rt, words.as_slice()) {
         Some(()) => ExitCode::from(0),
         None => ExitCode::from(1),
     }

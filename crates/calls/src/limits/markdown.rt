@@ -1,7 +1,7 @@
 //! Markdown and formatted text.
 
-use crate::calls::{Ending, Page, done_if, refused_if};
-use crate::memory::{Memory, take_memory};
+use crate::limits::calls::{Ending, Page, done_if, refused_if};
+use crate::limits::memory::{Memory, take_memory};
 use dom_query::{
     DocumentMd, FormatOpts, ListContext, ListKind, MDSerializer, NodeMd, OutOfMemory,
     escape_table_cell_inplace, html_escape, push_escaped_chunk,

@@ -1,6 +1,6 @@
 //! Mini selectors and paths.
 
-use crate::calls::{Ending, Page, done_if, refused_if};
+use crate::limits::calls::{Ending, Page, done_if, refused_if};
 use dom_query::{
     MiniFault, MiniSelect, NodeId, NodeRef, OutOfMemory, parse_mini_selector, parse_selector_list,
 };

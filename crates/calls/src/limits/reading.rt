@@ -1,7 +1,7 @@
 //! Calls that make documents, trees, lists and texts of what they read.
 
-use crate::calls::{Ending, MARKUP, Page, SELECTOR, done_if};
-use crate::memory::{Memory, take_memory};
+use crate::limits::calls::{Ending, MARKUP, Page, SELECTOR, done_if};
+use crate::limits::memory::{Memory, take_memory};
 use dom_index::selecting::select_nodes;
 use dom_query::{
     Document, DocumentSelect, EditFault, MarkupFault, MarkupFaultKind, Matcher, MatcherIter,

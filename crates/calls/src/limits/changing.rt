@@ -1,7 +1,7 @@
 //! Calls that change one tree. Where a request is refused, the tree is as it was, its length too.
 
-use crate::calls::{Ending, Page, done_if, refused_if};
-use crate::memory::{Memory, take_memory};
+use crate::limits::calls::{Ending, Page, done_if, refused_if};
+use crate::limits::memory::{Memory, take_memory};
 use dom_links::gap::Gap;
 use dom_query::{
     Allow, Attrs, Document, EditFault, ElementFlags, LocalName, NodeData, NodeId, NodeOrText,

@@ -1,8 +1,8 @@
 //! The calls, and how each ended.
 
-use crate::editing::Edit;
-use crate::memory::{Memory, take_memory};
-use crate::{changing, editing, markdown, mini, selectors};
+use crate::limits::editing::Edit;
+use crate::limits::memory::{Memory, take_memory};
+use crate::limits::{changing, editing, markdown, mini, selectors};
 use dom_query::{Document, Matcher};
 use std::alloc::Global;
 

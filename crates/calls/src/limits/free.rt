@@ -1,8 +1,8 @@
 //! Calls that take no memory.
 
-use crate::calls::{Ending, MARKUP, Page, done_if};
-use crate::memory::{Memory, take_memory};
-use crate::selectors::count_of;
+use crate::limits::calls::{Ending, MARKUP, Page, done_if};
+use crate::limits::memory::{Memory, take_memory};
+use crate::limits::selectors::count_of;
 use dom_query::{
     DescendantMatches, Document, Matches, MiniSelect, MiniSelector, NodeEdit, NodeId, NodeRef,
     NodeSelect, Selection, Text, Tree, TreeSink,

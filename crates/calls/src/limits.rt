@@ -1,9 +1,8 @@
 //! Calls that memory is refused to. What was handed in is then as before, and the refusal is
-//! reported as one. `limits` does each call with ample memory. `limits space` takes what memory
-//! there is, leaves so many bytes and does the call, with more bytes each time, until it was
+//! reported as one. The line `limits` does each call with ample memory. `limits space` takes what
+//! memory there is, leaves so many bytes and does the call, with more bytes each time, until it was
 //! refused and was done. `limits counted` has the counter of cases/refuse.c refuse each request of
 //! a call in turn, alone and with all behind it.
-#![tactic(auto)]
 
 mod calls;
 mod changing;
@@ -15,14 +14,12 @@ mod mini;
 mod reading;
 mod selectors;
 
-use calls::{CALLS, Call, Ending, Page, tried};
-use changing::CHANGES;
-use free::FREE;
-use memory::{Memory, was_refused};
-use reading::{READS, Read};
+use crate::limits::calls::{CALLS, Call, Ending, Page, tried};
+use crate::limits::changing::CHANGES;
+use crate::limits::free::FREE;
+use crate::limits::memory::{Memory, was_refused};
+use crate::limits::reading::{READS, Read};
 use std::alloc::Global;
-use std::env;
-use std::process::ExitCode;
 
 /// How many more bytes are left each time.
 const STEP: usize = 16;
@@ -171,26 +168,19 @@ fn limit_all(rt: &HostRuntime, page: &Page) -> bool {
     is_shown
 }
 
-/// Does what the words say. Returns whether each line was printed; None where they say nothing.
-fn run(rt: &HostRuntime, words: &[String]) -> Option<bool> {
+/// Does each call in the way that the line says. Returns whether each was printed; None where it
+/// says nothing.
+fn run(rt: &HostRuntime, line: &str) -> Option<bool> {
     let page = Page::new(rt.alloc())?;
-    match words {
-        [] => Some(try_all(rt, &page)),
-        [word] if word.as_str() == "space" => Some(limit_all(rt, &page)),
-        [word] if word.as_str() == "counted" => Some(count_all(rt, &page)),
+    match line {
+        "" => Some(try_all(rt, &page)),
+        "space" => Some(limit_all(rt, &page)),
+        "counted" => Some(count_all(rt, &page)),
         _ => None,
     }
 }
 
-fn main(rt: HostRuntime) -> ExitCode {
-    let Ok(all) = env::args(&rt) else {
-        return ExitCode::from(64);
-    };
-    let Ok(words) = all.skip(1).collect::<Vec<String>>(rt.alloc()) else {
-        return ExitCode::from(5);
-    };
-    match run(&rt, words.as_slice()) {
-        Some(true) => ExitCode::from(0),
-        _ => ExitCode::from(1),
-    }
+/// Does each call in the way that the line says, and prints how each ended.
+pub fn do_all(rt: &HostRuntime, line: &str) -> Option<()> {
+    run(rt, line)?.then_some(())
 }

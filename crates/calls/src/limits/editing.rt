@@ -1,7 +1,7 @@
 //! Calls that edit each node of a selection.
 
-use crate::calls::{Ending, done_if, refused_if};
-use crate::memory::{Memory, take_memory};
+use crate::limits::calls::{Ending, done_if, refused_if};
+use crate::limits::memory::{Memory, take_memory};
 use dom_query::{Document, EditFault, NodeId, NodeMarkup, SelectionFault, SelectionMut};
 use std::alloc::Global;
 

@@ -1,5 +1,6 @@
 //! Many inputs in one process: `bulk batch KIND` reads them in hexadecimal, one a line on standard
-//! input, and prints one answer a line. `bulk raw` reads nodes with their links in that way.
+//! input, and prints one answer a line. `bulk raw` reads nodes with their links in that way, and
+//! the line `raw` those of its words.
 
 use dom_query::{
     Attrs, Document, Element, Link, LocalName, Matcher, NodeData, NodeId, QualName, Text, Tree,
@@ -191,11 +192,16 @@ fn show_refused(
     println!(rt; "{fault:?} {is_kept}").ok()
 }
 
-/// Answers for the nodes of each line, which stand apart by `;`.
+/// Answers for the nodes of a line, which stand apart by `;`.
+pub fn check_line(rt: &HostRuntime, line: &str) -> Option<()> {
+    check(rt, nodes_of(rt.alloc(), line)?)
+}
+
+/// Answers for the nodes of each line.
 pub fn check_all(rt: &HostRuntime) -> Option<()> {
     let text = input(rt)?;
     for line in text.as_str().lines() {
-        check(rt, nodes_of(rt.alloc(), line)?)?;
+        check_line(rt, line)?;
     }
     Some(())
 }

@@ -1,7 +1,7 @@
 //! Selectors: reading, copying, writing, asking.
 
-use crate::calls::{Ending, Page, SELECTOR, done_if, refused_if};
-use crate::memory::{Memory, take_memory};
+use crate::limits::calls::{Ending, Page, SELECTOR, done_if, refused_if};
+use crate::limits::memory::{Memory, take_memory};
 use dom_query::{
     DocumentSelect, Matcher, MatcherIter, Matches, NodeId, NodeRef, NodeSelect, OutOfMemory,
     SelectorCaches, SelectorFault, ToCss, Tree,
