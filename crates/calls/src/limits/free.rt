@@ -4,8 +4,8 @@ use crate::limits::calls::{Ending, MARKUP, Page, done_if};
 use crate::limits::memory::{Memory, take_memory};
 use crate::limits::selectors::count_of;
 use dom_query::{
-    DescendantMatches, Document, Matches, MiniSelect, MiniSelector, NodeEdit, NodeId, NodeRef,
-    NodeSelect, Selection, Text, Tree, TreeSink,
+    DescendantMatches, Document, Matches, MiniSelect, MiniSelector, NodeEdit, NodeId, NodeMut,
+    NodeRef, NodeSelect, Selection, Text, Tree, TreeSink,
 };
 use named_calls::words::{cut, named, node_of};
 use named_calls::{node_calls, tree_calls};
@@ -77,6 +77,11 @@ const NAMES: [(&str, Names); 5] = [
 
 fn without_names(tree: &mut Tree, id: &NodeId, call: Names) -> Option<bool> {
     let mut node = tree.node_mut(id)?;
+    take_names(&mut node, call);
+    Some(true)
+}
+
+fn take_names(node: &mut NodeMut<'_>, call: Names) {
     match call {
         Names::Strip => node.strip_elements(&["p", "b"]),
         Names::RemoveAttr => node.remove_attr("class"),
@@ -84,7 +89,6 @@ fn without_names(tree: &mut Tree, id: &NodeId, call: Names) -> Option<bool> {
         Names::RetainAttrs => node.retain_attrs(&["id"]),
         Names::RemoveAll => node.remove_all_attrs(),
     }
-    Some(true)
 }
 
 /// A call that changes the document.
