@@ -6,6 +6,8 @@ use Rattle.dom_nodes.specs.declared.fault.EditFault.{EditFault}
 use Rattle.dom_nodes.specs.declared.name.Attr.{Attr}
 use Rattle.dom_nodes.specs.declared.name.NameParts.{NameParts}
 use Rattle.dom_nodes.specs.declared.node_data.changing.Change.{Change}
+-- the changes of a node's own data
+pub use Rattle.dom_nodes.specs.declared.node_data.changing.Change.TheVariants.{AddClass, RemoveAllAttrs, RemoveAttr, RemoveAttrs, RemoveClass, Rename, RetainAttrs, SetAttr}
 -- an edit, and the edits that make a node
 pub use Rattle.dom_links.specs.ArenaEdits.{TreeEdit, making, appending}
 use Rattle.dom_links.specs.Contents.{with_content}

@@ -4,16 +4,9 @@
 
 ghost use Rattle.std.specs.Prelude.{◌≡◌};
 ghost use Rattle.std.specs.Fn.{FnOnceReturnsAtMut};
-ghost use Rattle.dom_nodes.specs.declared.node_data.changing.Change.TheVariants.{AddClass};
-ghost use Rattle.dom_nodes.specs.declared.node_data.changing.Change.TheVariants.{RemoveAllAttrs};
-ghost use Rattle.dom_nodes.specs.declared.node_data.changing.Change.TheVariants.{RemoveAttr};
-ghost use Rattle.dom_nodes.specs.declared.node_data.changing.Change.TheVariants.{RemoveAttrs};
-ghost use Rattle.dom_nodes.specs.declared.node_data.changing.Change.TheVariants.{RemoveClass};
-ghost use Rattle.dom_nodes.specs.declared.node_data.changing.Change.TheVariants.{Rename};
-ghost use Rattle.dom_nodes.specs.declared.node_data.changing.Change.TheVariants.{RetainAttrs};
-ghost use Rattle.dom_nodes.specs.declared.node_data.changing.Change.TheVariants.{SetAttr};
 ghost use Rattle.dom_links.specs.Contents.{IsUpdatedAt};
-ghost use Rattle.dom_trees.specs.Edits.{changing};
+ghost use Rattle.dom_trees.specs.Edits.{AddClass, RemoveAllAttrs, RemoveAttr, RemoveAttrs};
+ghost use Rattle.dom_trees.specs.Edits.{RemoveClass, Rename, RetainAttrs, SetAttr, changing};
 ghost use Rattle.dom_trees.specs.Lending.{ChangesAt, EditsAt, IsSameLoan};
 
 use crate::node_mut::NodeMut;

@@ -9,20 +9,20 @@ use crate::node_mut::NodeMut;
 use dom_nodes::fault::EditFault;
 
 impl<'a> NodeMut<'a> {
-    /// Puts one text in the place of an element's children, or of a text's contents; any other node
-    /// stays.
-    pub fn set_text(&mut self, text: &str) -> Result<(), EditFault>
-        ensures { EditsAt result self.old self.new (setting_text self.old.id text.now) }
-    {
-        self.tree.set_text_of(&self.id, text)
-    }
-
     /// Joins each row of texts below the node: the first that is not empty holds them all, and the
     /// others are cut out and hold nothing.
     pub fn normalize(&mut self) -> Result<(), EditFault>
         ensures { EditsAt result self.old self.new (normalizing self.old.id) }
     {
         self.tree.normalize_of(&self.id)
+    }
+
+    /// Puts one text in the place of an element's children, or of a text's contents; any other node
+    /// stays.
+    pub fn set_text(&mut self, text: &str) -> Result<(), EditFault>
+        ensures { EditsAt result self.old self.new (setting_text self.old.id text.now) }
+    {
+        self.tree.set_text_of(&self.id, text)
     }
 
     /// Replaces each element below the node whose local name is one of the names by its children.
