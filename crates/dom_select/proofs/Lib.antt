@@ -15,6 +15,7 @@ pub mod PathLemmas
 pub mod SearchLemmas
 pub mod FilterLemmas
 pub mod ReachLemmas
+pub mod PositionLemmas
 pub mod RowLemmas
 pub mod SelectionLemmas
 pub mod SeveralLemmas

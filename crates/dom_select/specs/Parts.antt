@@ -1,9 +1,10 @@
 -- When a part of a compound holds of a node.
-use Rattle.std.specs.Prelude.{◌≡◌, [], ◌∷◌, slice_get, ℕ, Bool, true, false, ◌&&◌, List, Option, None, Some, codes}
+use Rattle.std.specs.Prelude.{◌≡◌, ◌↔◌, ◌<◌, [], ◌∷◌, slice_get, ℕ, Bool, true, false, ◌&&◌, List, Option, None, Some, codes}
 use Rattle.std.specs.List.{list_any}
 use Rattle.std.specs.Option.{option_map_or}
 use Rattle.std.specs.Str.{bytes_eq, str_to_ascii_lowercase}
 use Rattle.dom_nodes.specs.Changes.{is_link}
+use Rattle.dom_nodes.specs.declared.indexes.Nth.{Nth}
 use Rattle.dom_nodes.specs.declared.name.Attr.{Attr}
 use Rattle.dom_nodes.specs.declared.name.Namespace.{Namespace}
 use Rattle.dom_nodes.specs.declared.name.Namespace.TheVariants.{Html}
@@ -94,3 +95,7 @@ EachHolds (part ∷ parts) forest n = PartHolds part forest n × EachHolds parts
 -- where one text at a node or below it contains the other, the texts there contain it joined
 abbrev pub ContainsWhatItHas : Type 0
 ContainsWhatItHas = (forest : Forest) (text : List ℕ) (n : ℕ) → PartHolds (HasText text) forest n → PartHolds (Contains text) forest n
+
+-- of the indexes, which are above 0, this is the one that `an+b` stands for; it stands for none where this is 0
+abbrev pub AsksFor : Nth → ℕ → Type 0
+AsksFor nth index = (i : ℕ) → 0 < i → IsNth nth i ↔ (i ≡ index)
