@@ -9,7 +9,7 @@ ghost use Rattle.dom_selectors.specs.MiniSyntax.{texts_of};
 ghost use Rattle.dom_select.specs.Traversals.{DecidesPassing, FindsByNames, FindsChild};
 ghost use Rattle.dom_trees.specs.Views.{child_named, has_local_name};
 
-use crate::mini_selector::search::follow_names;
+use crate::mini_selector::search::{follow, path_of};
 use dom_links::iters::{find_node, first_child_id, next_sibling_id};
 use dom_links::laws::lines_of_a_forest;
 use dom_nodes::fault::OutOfMemory;
@@ -113,6 +113,7 @@ impl Traversal {
         ensures { IfOk result
             (λ found. IsFoundByNames (texts_of path.now) (forest_of nodes.now) id found.items) }
     {
-        follow_names(alloc, nodes, id, path)
+        let path = path_of(alloc, path)?;
+        follow(alloc, nodes, id, &path)
     }
 }

@@ -8,7 +8,8 @@ ghost use Rattle.dom_selectors.specs.MiniSyntax.{texts_of};
 ghost use Rattle.dom_select.specs.MiniNodes.{mini_holds};
 
 use crate::matcher::MatchNode;
-use crate::mini_selector::search::{follow, follow_names};
+use crate::mini_selector::search::follow;
+use crate::traversal::Traversal;
 use dom_nodes::fault::OutOfMemory;
 use dom_nodes::node_id::NodeId;
 use dom_selectors::mini_selector::fault::MiniFault;
@@ -65,7 +66,8 @@ impl<'a> MiniSelect<'a> for NodeRef<'a> {
             (λ found. AreRefsByNames (texts_of path.now) self.now.tree self.now.id found.items) }
     {
         let tree = self.tree;
-        let ids = follow_names(tree.allocator(), tree.nodes(), self.id, path)?;
+        let nodes = tree.nodes();
+        let ids = Traversal::find_descendant_elements(tree.allocator(), nodes, self.id, path)?;
         refs(tree, &ids)
     }
 

@@ -6,7 +6,7 @@ ghost use Rattle.dom_links.specs.Forest.{children_of, forest_of, siblings};
 ghost use Rattle.dom_links.specs.Lists.{after, first};
 ghost use Rattle.dom_links.specs.Sound.{IsSoundArena};
 ghost use Rattle.dom_selectors.specs.MiniSyntax.{named, texts_of};
-ghost use Rattle.dom_select.specs.MiniPaths.{IsFound, IsFoundByNames};
+ghost use Rattle.dom_select.specs.MiniPaths.{IsFound};
 ghost use Rattle.dom_select.specs.PathFlags.{IsVisit, IsVisited, IsWaiting, flag_below};
 ghost use Rattle.dom_select.specs.PathFlags.{flag_beside, flags_before, flags_below};
 ghost use Rattle.dom_select.specs.PathFlags.{flags_beside, is_any, is_led, last_flags};
@@ -250,23 +250,11 @@ fn follow_path(
     Ok(search.found)
 }
 
-/// What names, each of a descendant of the one before, reach from a node.
-pub(crate) fn follow_names(
-    alloc: Global,
-    nodes: &[TreeNode],
-    start: NodeId,
-    names: &[&str],
-) -> Result<Vec<NodeId>, OutOfMemory>
-    requires { IsSoundArena nodes.now }
-    ensures { IfOk result
-        (λ found. IsFoundByNames (texts_of names.now) (forest_of nodes.now) start found.items) }
-{
-    let path = path_of(alloc, names)?;
-    follow(alloc, nodes, start, &path)
-}
-
 /// The path of names alone.
-fn path_of<'a>(alloc: Global, names: &[&'a str]) -> Result<Vec<MiniSelector<'a>>, OutOfMemory>
+pub(crate) fn path_of<'a>(
+    alloc: Global,
+    names: &[&'a str],
+) -> Result<Vec<MiniSelector<'a>>, OutOfMemory>
     ensures { IfOk result (λ path. path.items ≡ map named (texts_of names.now)) }
 {
     let mut path = Vec::with_capacity(alloc, names.len())?;
