@@ -4,7 +4,7 @@ use Rattle.std.specs.Borrow.{Bor}
 use Rattle.std.specs.Option.{option_map_or}
 use Rattle.std.specs.Prelude.{◌==◌, IsTrue, not}
 use Rattle.dom_nodes.specs.declared.node_data.NodeData.{NodeData}
-use Rattle.dom_nodes.specs.declared.node_data.NodeData.TheVariants.{Comment, Doctype, Document, Element as AnElement, Fragment, ProcessingInstruction, Text}
+use Rattle.dom_nodes.specs.declared.node_data.NodeData.TheVariants.{Element as AnElement}
 use Rattle.dom_nodes.specs.Kinds.{is_element}
 use Rattle.dom_links.specs.Forest.{Forest}
 use Rattle.dom_links.specs.ListMoves.{element_at}
@@ -49,12 +49,7 @@ type_is_element name forest n held = at (slice_get forest.content n) held.1.0
     at : (found : Option NodeData) → option_map_or (node_passes (Part.«Type» name)) found false ≡ true → option_map_or is_element found false ≡ true
     at None h = h
     at (Some (AnElement element)) h = refl
-    at (Some Document) h = h
-    at (Some Fragment) h = h
-    at (Some (Doctype name public_id system_id)) h = h
-    at (Some (Text contents)) h = h
-    at (Some (Comment contents)) h = h
-    at (Some (ProcessingInstruction target contents)) h = h
+    at (Some _) h = h
 
 -- so where a selector means what bears the name, that is all there is to ask
 pub wanted_by_type : (name : List ℕ) (list : SelectorList) (forest : Forest) (n : ℕ) (b : Bool) → MeansType name list → MatchBool b (PartsHold (Part.«Type» name ∷ []) forest n) (PartsHold (Part.«Type» name ∷ []) forest n → ⊥) → MatchBool b (IsMatch list forest n) (IsMatch list forest n → ⊥)

@@ -5,7 +5,7 @@ use Rattle.dom_links.specs.Lists.{first}
 use Rattle.dom_select.specs.Descents.{AreWaiting, IsDescent, IsPassed, flags_after, still_found, waiting}
 use Rattle.dom_select.specs.MiniPaths.{IsFound}
 use Rattle.dom_select.specs.PathFlags.{data_at, is_led, one_if}
-use Rattle.dom_select.proofs.DescentLemmas.{begun, ended, fewer, from_start, known_split, step_of, visited}
+use Rattle.dom_select.proofs.DescentLemmas.{begun, behind, ended, fewer, from_start, known_split, step_of, visited}
 use Rattle.dom_select.proofs.PathLemmas.{found_none, found_right}
 use Rattle.dom_select.proofs.SearchLemmas.{data_is}
 use Rattle.dom_select.proofs.mini_selector.descent.follow_down.Goals as goal
@@ -41,6 +41,12 @@ count_passed-requires-clause-few c =
     let at = subst (λ o. AreWaiting forest (length c.args.path.now) (pending ++ waiting o c.loop-next.passed)) c.in-Some-next.is c.loop-next.invariant.search.known in
     (known_split forest c.args.path.now pending c.in-Some-next.id c.loop-next.passed at).2
 
+-- what waits behind the node
+waits : (c : goal.After-predict_next-next) →
+    c.go_on.new.pending.items ++ waiting c.predict_next-next.result c.go_on.new.passed ≡ behind (forest_of c.args.nodes.now) c.loop-next.pending.items c.in-Some-next.id c.loop-next.passed c.in_ok-below.below
+waits c = step_of (forest_of c.args.nodes.now) c.loop-next.pending.items c.go_on.new.pending.items c.in-Some-next.id c.loop-next.passed c.in_ok-below.below c.go_on.new.passed _ _ c.in_ok-after.after c.predict_next-next.result
+    c.predict_next-next.ensures c.node_at-node.ensures.next_is c.node_at-node.ensures.first_is c.in_ok-after.ensures.waits
+
 pub loop-next-smaller : goal.loop-next-smaller
 loop-next-smaller c =
     let forest = forest_of c.args.nodes.now in
@@ -49,11 +55,9 @@ loop-next-smaller c =
     let pending = c.loop-next.pending.items in
     let id = c.in-Some-next.id in
     let at = subst (λ o. AreWaiting forest (length c.args.path.now) (pending ++ waiting o c.loop-next.passed)) c.in-Some-next.is c.loop-next.invariant.search.known in
-    let waits = step_of forest pending c.go_on.new.pending.items id c.loop-next.passed c.in_ok-below.below c.go_on.new.passed _ _ c.in_ok-after.after c.predict_next-next.result
-    c.predict_next-next.ensures c.node_at-node.ensures.next_is c.node_at-node.ensures.first_is c.in_ok-after.ensures.waits in
     rw c.in-Some-next.is
     (fewer forest path (c.trees_of_a_forest.ensures forest good) (c.lines_of_a_forest.ensures forest good) c.requires.down pending _ id c.loop-next.passed c.in_ok-below.below
-    (known_split forest path pending id c.loop-next.passed at).1 waits)
+    (known_split forest path pending id c.loop-next.passed at).1 (waits c))
 
 pub loop-next-preserved : goal.loop-next-preserved
 loop-next-preserved c =
@@ -64,15 +68,13 @@ loop-next-preserved c =
     let id = c.in-Some-next.id in
     let node = c.node_at-node.result.now.content in
     let same : node ≡ data_at forest id = sym (data_is forest.content id node c.node_at-node.ensures.content_is) in
-    let waits = step_of forest pending c.go_on.new.pending.items id c.loop-next.passed c.in_ok-below.below c.go_on.new.passed _ _ c.in_ok-after.after c.predict_next-next.result
-    c.predict_next-next.ensures c.node_at-node.ensures.next_is c.node_at-node.ensures.first_is c.in_ok-after.ensures.waits in
     let all = still_found forest path (waiting (first (children_of forest c.args.start)) 0) in
     record {
       search = visited forest path (c.trees_of_a_forest.ensures forest good) (c.lines_of_a_forest.ensures forest good) c.requires.down c.loop-next.found.items c.count_passed.new.found.items all pending _ id c.loop-next.passed c.in_ok-below.below
           (subst (λ o. IsDescent forest path all c.loop-next.found.items (pending ++ waiting o c.loop-next.passed)) c.in-Some-next.is c.loop-next.invariant.search)
           (subst (λ n. IsPassed path n c.loop-next.passed c.in_ok-below.below) same c.in_ok-below.ensures.below)
           (c.in_ok-below.ensures.found ∙ ap (λ n. c.loop-next.found.items ++ one_if (is_led path n false (flags_after path c.loop-next.passed)) id) same)
-          waits;
+          (waits c);
       ended = λ e. c.in_ok-after.ensures.last (sym c.predict_next-next.ensures ∙ e);
     }
 
