@@ -16,6 +16,7 @@ pub mod SearchLemmas
 pub mod FilterLemmas
 pub mod ReachLemmas
 pub mod PositionLemmas
+pub mod RightLemmas
 pub mod RowLemmas
 pub mod SelectionLemmas
 pub mod SeveralLemmas

@@ -1,15 +1,15 @@
 -- Where the relative selectors of `:has` begin, and what they can lead to.
-use Rattle.std.specs.Prelude.{if◌then◌else◌, Bool, true, false, Option, Some, None, ◌≡◌, ◌⊎◌, ℕ, List, [], ◌∷◌, map}
+use Rattle.std.specs.Prelude.{if◌then◌else◌, Bool, true, false, Option, Some, None, ◌≡◌, ◌⊎◌, ◌↔◌, ℕ, List, [], ◌∷◌, map}
 use Rattle.dom_links.specs.Forest.{Forest}
 use Rattle.dom_links.specs.Lists.{stands_in}
 use Rattle.dom_links.specs.Trees.{walk_below}
-use Rattle.dom_links.specs.Walk.{later}
+use Rattle.dom_links.specs.Walk.{later, row_on}
 use Rattle.dom_select.specs.declared.matcher.has.Start.{Start}
 use Rattle.dom_select.specs.declared.matcher.has.Start.TheVariants.{Absolute, Relative}
 use Rattle.dom_selectors.specs.declared.syntax.Combinator.{Combinator}
 use Rattle.dom_selectors.specs.declared.syntax.Combinator.TheVariants.{Descendant, Child, Adjacent, Sibling}
 use Rattle.dom_links.specs.ListMoves.{element_at}
-use Rattle.dom_select.specs.Meaning.{ChainMatches, Holds, IsJoined, RelativeMatches}
+use Rattle.dom_select.specs.Meaning.{ChainMatches, CombinatorHolds, Holds, IsJoined, RelativeMatches}
 use Rattle.dom_selectors.specs.declared.syntax.Compound.{Compound}
 use Rattle.dom_selectors.specs.declared.syntax.Step.{Step}
 use Rattle.dom_selectors.specs.ListsAsTrees.{steps_of}
@@ -60,3 +60,29 @@ CompoundsMatchWithin start first steps forest t = MatchesWithin start (read_comp
 
 abbrev pub CompoundsMatchFrom : Combinator → Compound → List Step → Forest → ℕ → Type 0
 CompoundsMatchFrom lead first steps forest x = RelativeMatches lead (read_compound first) (steps_of (map read_step steps)) forest x
+
+-- A selector of one compound whose lead goes one step: nothing below the nodes that the lead goes to is reached
+abbrev pub IsNear : Combinator → List Step → Type 0
+IsNear k steps = (steps ≡ []) × (k ≡ Descendant → ⊥)
+
+-- where a row of siblings ends: at the first element beside `+`
+abbrev pub ends_right : Forest → Combinator → ℕ → Bool
+ends_right forest Adjacent n = element_at forest n
+ends_right forest _ n = false
+
+-- the nodes of the list as far as the first at which it ends
+abbrev pub row_to : (ℕ → Bool) → List ℕ → List ℕ
+row_to ends [] = []
+row_to ends (n ∷ ns) = n ∷ (if ends n then [] else row_to ends ns)
+
+-- from a node on, the siblings that the combinator goes to
+abbrev pub right_row : Forest → Combinator → Option ℕ → List ℕ
+right_row forest k next = row_to (ends_right forest k) (row_on forest false next)
+
+-- the elements of the list are those that stand to the right of x as the combinator says
+abbrev pub AreRightOf : Forest → Combinator → ℕ → List ℕ → Type 0
+AreRightOf forest k x ns = (w : ℕ) → element_at forest w ≡ true → (stands_in w ns ≡ true) ↔ CombinatorHolds forest k x w
+
+-- the node is an element of which the compound holds
+abbrev pub IsElementThat : CompoundSelector → Forest → ℕ → Type 0
+IsElementThat c forest n = (element_at forest n ≡ true) × Holds c forest n

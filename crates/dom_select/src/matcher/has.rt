@@ -1,15 +1,17 @@
 //! Where a relative selector of `:has` starts, and which nodes it can lead to.
 
 ghost use Rattle.std.specs.Prelude.{◌≡◌, ◌↔◌, ◌∷◌, Some, IsTrue};
+ghost use Rattle.dom_selectors.specs.declared.syntax.Combinator.TheVariants.{Descendant};
 ghost use Rattle.dom_select.specs.Meaning.{IsJoined};
-ghost use Rattle.dom_select.specs.Has.{is_sideways, may_be_subject, search_roots};
+ghost use Rattle.dom_select.specs.Has.{AreRightOf, IsNear, ends_right, is_sideways};
+ghost use Rattle.dom_select.specs.Has.{may_be_subject, right_row, search_roots};
 ghost use Rattle.dom_select.specs.Has.{search_roots_from};
 
 use crate::matcher::chains::{combinator_holds, line_laws, may_be_operand};
 use crate::matcher::parts::element_at;
-use dom_links::iters::next_sibling_id;
+use dom_links::iters::{first_child_id, next_sibling_id};
 use dom_nodes::node_id::NodeId;
-use dom_selectors::syntax::Combinator;
+use dom_selectors::syntax::{Combinator, Step};
 use dom_trees::tree::Tree;
 
 /// What a first node is asked besides its compound: nothing, or to stand to the right of a node as
@@ -71,4 +73,47 @@ pub(crate) fn next_search_root(tree: &Tree, lead: Combinator, at: NodeId) -> Opt
         return next_sibling_id(tree.nodes(), &at);
     }
     None
+}
+
+/// Whether the selector leads no farther than to children or siblings: it has no steps.
+pub(crate) fn is_near(lead: Combinator, steps: &[Step]) -> bool
+    ensures { IsTrue result → IsNear lead steps.now }
+{
+    match lead {
+        Combinator::Descendant => false,
+        Combinator::Child | Combinator::Adjacent | Combinator::Sibling => steps.is_empty(),
+    }
+}
+
+/// The first of the children, or of the later siblings, that a lead goes to.
+pub(crate) fn first_right(tree: &Tree, lead: Combinator, id: NodeId) -> Option<NodeId>
+    requires { lead ≡ Descendant → ⊥ }
+    ensures { AreRightOf tree.now lead id (right_row tree.now lead result) }
+{
+    line_laws(tree);
+    if is_sideways(lead) {
+        return next_sibling_id(tree.nodes(), &id);
+    }
+    first_child_id(tree.nodes(), &id)
+}
+
+/// The next one.
+pub(crate) fn next_right(tree: &Tree, lead: Combinator, at: NodeId) -> Option<NodeId>
+    ensures { right_row tree.now lead (Some at) ≡ at ∷ right_row tree.now lead result }
+{
+    line_laws(tree);
+    if ends_right(tree, lead, at) {
+        return None;
+    }
+    next_sibling_id(tree.nodes(), &at)
+}
+
+/// Whether the lead goes no farther than to this node.
+fn ends_right(tree: &Tree, lead: Combinator, at: NodeId) -> bool
+    ensures { result ≡ ends_right tree.now lead at }
+{
+    match lead {
+        Combinator::Adjacent => element_at(tree, &at),
+        Combinator::Descendant | Combinator::Child | Combinator::Sibling => false,
+    }
 }

@@ -4,6 +4,7 @@
 //! left of a farther one stands on the left of that one too.
 
 ghost use Rattle.std.specs.Prelude.{◌≡◌, ◌↔◌, ◌∷◌, ◌<◌, [], IfOk, IfSome, IsTrue, Some, map};
+ghost use Rattle.dom_selectors.specs.declared.syntax.Combinator.TheVariants.{Descendant};
 ghost use Rattle.dom_selectors.specs.ListsAsTrees.{lists_of};
 ghost use Rattle.dom_selectors.specs.Spelling.{Decides};
 ghost use Rattle.dom_selectors.specs.ValuesAsTrees.{read_compound, read_list, read_nested};
@@ -11,7 +12,7 @@ ghost use Rattle.dom_select.specs.Chains.{BeginsChain, EndsChain, FollowsCandida
 ghost use Rattle.dom_select.specs.Chains.{IsCandidate, IsOrPrecedes, binding_level};
 ghost use Rattle.dom_select.specs.Ends.{ImpliesType, IsSubjectType, SubjectIsAmong};
 ghost use Rattle.dom_select.specs.Has.{CompoundsMatch, CompoundsMatchFrom, CompoundsMatchWithin};
-ghost use Rattle.dom_select.specs.Has.{may_be_subject};
+ghost use Rattle.dom_select.specs.Has.{IsElementThat, may_be_subject};
 ghost use Rattle.dom_select.specs.Leftward.{ends_at};
 ghost use Rattle.dom_select.specs.Meaning.{HasHolds, HasType, Holds, IsTypeAlone, ListHolds};
 ghost use Rattle.dom_select.specs.Meaning.{ListsHold, Means, MeansType};
@@ -19,8 +20,11 @@ ghost use Rattle.dom_select.specs.Stops.{IfAnswered};
 
 use crate::matcher::caches::SelectorCaches;
 use crate::matcher::chains::{binding_level, ends_at, left_of, line_laws, may_be_operand};
-use crate::matcher::has::{Start, first_search_root, is_joined, may_be_subject, next_search_root};
-use crate::matcher::parts::{is_named_node, parts_hold};
+use crate::matcher::has::{
+    Start, first_right, first_search_root, is_joined, is_near, may_be_subject, next_right,
+    next_search_root,
+};
+use crate::matcher::parts::{element_at, is_named_node, parts_hold};
 use crate::matcher::stops::{Never, Stop, answered};
 use dom_nodes::node_id::NodeId;
 use dom_selectors::selector_name::SelectorName;
@@ -247,6 +251,9 @@ fn relative_matches<S: Stop>(
     ensures is { IfAnswered result (CompoundsMatchFrom lead first.now steps.now caches.old id) }
     ensures kept { caches.new ≡ caches.old }
 {
+    if is_near(lead, steps) {
+        return holds_beside::<S>(lead, first, caches, id);
+    }
     let tree = caches.tree();
     line_laws(tree);
     let start = Start::Relative(lead, id);
@@ -258,6 +265,46 @@ fn relative_matches<S: Stop>(
         top = next_search_root(tree, lead, at);
     }
     Ok(false)
+}
+
+/// The same of one compound, where the lead goes to children or siblings: no others are looked at.
+#[cycle(matching)]
+fn holds_beside<S: Stop>(
+    lead: Combinator,
+    first: &Compound,
+    caches: &mut SelectorCaches<'_>,
+    id: NodeId,
+) -> Result<bool, S>
+    requires { lead ≡ Descendant → ⊥ }
+    ensures is { IfAnswered result (CompoundsMatchFrom lead first.now [] caches.old id) }
+    ensures kept { caches.new ≡ caches.old }
+{
+    let tree = caches.tree();
+    let mut next = first_right(tree, lead, id);
+    while let Some(at) = next {
+        S::count_test(caches)?;
+        if holds_of_element::<S>(first, caches, at)? {
+            return Ok(true);
+        }
+        next = next_right(tree, lead, at);
+    }
+    Ok(false)
+}
+
+/// Whether the node is an element of which the compound holds.
+#[cycle(matching)]
+fn holds_of_element<S: Stop>(
+    compound: &Compound,
+    caches: &mut SelectorCaches<'_>,
+    id: NodeId,
+) -> Result<bool, S>
+    ensures is { IfAnswered result (IsElementThat (read_compound compound.now) caches.old id) }
+    ensures kept { caches.new ≡ caches.old }
+{
+    if !element_at(caches.tree(), &id) {
+        return Ok(false);
+    }
+    holds::<S>(compound, caches, id)
 }
 
 /// Whether the compounds lead from the start to this node or to one below it.

@@ -1,15 +1,17 @@
-use Rattle.std.proofs.Common.{◌≡◌, false, true≢false, refl, ◌<◌, ◌≤◌, ◌+◌, ℕ, inr, length, ap, map, sym, ◌∙◌, arith}
+use Rattle.std.proofs.Common.{◌≡◌, ◌↔◌, ◌∷◌, IsTrue, Some, false, true≢false, refl, ◌<◌, ◌≤◌, ◌+◌, ℕ, inr, length, ap, map, sym, ◌∙◌, subst, arith}
 use Rattle.std.proofs.lemmas.Result.{IfOk-weaker}
 use Rattle.dom_links.specs.Lists.{stands_in}
 use Rattle.dom_selectors.specs.ListsAsTrees.{steps_of}
 use Rattle.dom_selectors.specs.ValuesAsTrees.{read_compound, read_step}
 use Rattle.dom_selectors.proofs.Weights.{compound_weight, steps_weight}
 use Rattle.dom_select.specs.Chains.{BeginsChain, binding_level}
-use Rattle.dom_select.specs.Has.{Begins, search_roots_from}
+use Rattle.dom_select.specs.Has.{Begins, CompoundsMatchFrom, right_row, search_roots_from}
 use Rattle.std.proofs.lemmas.Bool.Decides.{when_true}
+use Rattle.dom_select.proofs.ChildRowLemmas.{shorter}
 use Rattle.dom_select.proofs.EndLemmas.{not_reached}
 use Rattle.dom_select.proofs.ReachLemmas.{IsMeant, left_ends, left_farther, left_nowhere, line_some, to_line}
 use Rattle.dom_select.proofs.HasLemmas.{ends_if, led_to, list_lighter, means_here, means_later, reached_from, stands_first, steps_here, steps_later}
+use Rattle.dom_select.proofs.RightLemmas.{leads_beside, row_ends, row_here, row_later}
 use Rattle.dom_select.proofs.StepLemmas.{read_front_and_last, weight_front_and_last}
 use Rattle.dom_select.proofs.FollowLemmas.{ends_here, ends_match, followed_all, followed_nearest, followed_so_far, following_at, following_none, following_more, following_not, is_nil, line_back, next_precedes, chain_alone, chain_end, some_where, weight_cut}
 use Rattle.dom_select.proofs.matcher.matches.+matching.Goals as goal
@@ -204,3 +206,52 @@ means-loop-selector-preserved g t c =
     let less = list_lighter c.args.selectors.now c.loop-selector.selector-index c.selector-item.result (omega (arith, c.loop-selector-test.true)) c.selector-item.is in
     let light = c.loop-selector.invariant.light in
     record { kept = c.chain_matches.ensures.kept ∙ c.loop-selector.invariant.kept; same = (λ h. c.loop-selector.invariant.same.0 (same.0 h), λ h. same.1 (c.loop-selector.invariant.same.1 h)); light = omega arith }
+
+pub relative_matches-holds_beside-requires : goal.relative_matches-holds_beside-requires
+relative_matches-holds_beside-requires g t c κs within =
+    let low : 2 + compound_weight (read_compound c.args.first.now) < t = omega (arith, c.decreases) in
+    (low, (within, (c.is_near.ensures c.if-is_near.true).1))
+
+pub relative_matches-returns-then-is_near-clause-is : goal.relative_matches-returns-then-is_near-clause-is
+relative_matches-returns-then-is_near-clause-is g t c =
+    let none = (c.is_near.ensures c.if-is_near.true).0 in
+    IfOk-weaker c.holds_beside.result _ _ (λ b h. subst (λ steps. IsTrue b ↔ CompoundsMatchFrom c.args.lead c.args.first.now steps c.args.caches.now c.args.id) (sym none) h) c.holds_beside.ensures.is
+
+pub holds_beside-loop-next-init : goal.holds_beside-loop-next-init
+holds_beside-loop-next-init g t c = record {
+  kept = refl;
+  same = leads_beside (read_compound c.args.first.now) c.args.caches.now c.args.lead c.args.id _ (rw c.tree-tree.ensures at c.first_right-next.ensures);
+}
+
+pub holds_beside-returns-then-branch-clause-is : goal.holds_beside-returns-then-branch-clause-is
+holds_beside-returns-then-branch-clause-is g t c =
+    let first = read_compound c.args.first.now in
+    let forest = c.args.caches.now in
+    let here = (rw (c.count_test.ensures ∙ c.loop-next.invariant.kept) at c.in_ok-holds_of_element.ensures.is).0 c.if-branch.true in
+    (λ e. c.loop-next.invariant.same.0 (row_here first forest (right_row forest c.args.lead c.loop-next.next) _ c.in-Some.at (ap (right_row forest c.args.lead) c.in-Some.is) here), λ h. refl)
+
+pub holds_beside-loop-next-smaller : goal.holds_beside-loop-next-smaller
+holds_beside-loop-next-smaller g t c =
+    let forest = c.args.caches.now in
+    shorter _ _ c.in-Some.at (ap (right_row forest c.args.lead) c.in-Some.is ∙ subst (λ f. right_row f c.args.lead (Some c.in-Some.at) ≡ c.in-Some.at ∷ right_row f c.args.lead c.next_right-next.result) c.tree-tree.ensures c.next_right-next.ensures)
+
+pub holds_beside-loop-next-preserved : goal.holds_beside-loop-next-preserved
+holds_beside-loop-next-preserved g t c =
+    let first = read_compound c.args.first.now in
+    let forest = c.args.caches.now in
+    let fact = rw (c.count_test.ensures ∙ c.loop-next.invariant.kept) at c.in_ok-holds_of_element.ensures.is in
+    let on = ap (right_row forest c.args.lead) c.in-Some.is ∙ subst (λ f. right_row f c.args.lead (Some c.in-Some.at) ≡ c.in-Some.at ∷ right_row f c.args.lead c.next_right-next.result) c.tree-tree.ensures c.next_right-next.ensures in
+    let later = row_later first forest (right_row forest c.args.lead c.loop-next.next) _ c.in-Some.at on (λ h. true≢false (sym (fact.1 h) ∙ c.if-branch.false)) in
+    record {
+      kept = c.holds_of_element.ensures.kept ∙ (c.count_test.ensures ∙ c.loop-next.invariant.kept);
+      same = (λ h. c.loop-next.invariant.same.0 (later.0 h), λ h. later.1 (c.loop-next.invariant.same.1 h));
+    }
+
+pub holds_beside-returns-clause-is : goal.holds_beside-returns-clause-is
+holds_beside-returns-clause-is g t c =
+    (λ e. absurd (true≢false (sym e)), λ r. absurd (row_ends (read_compound c.args.first.now) c.args.caches.now c.args.lead _ c.in_default.is (c.loop-next.invariant.same.1 r)))
+
+pub holds_of_element-returns-clause-is : goal.holds_of_element-returns-clause-is
+holds_of_element-returns-clause-is g t c =
+    let el = sym (rw c.tree.ensures at c.element_at.ensures) ∙ c.if-not-element_at.false in
+    IfOk-weaker c.holds.result _ _ (λ b h. (λ e. (el, h.0 e), λ p. h.1 p.1)) c.holds.ensures.is

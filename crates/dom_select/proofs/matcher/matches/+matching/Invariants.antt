@@ -4,13 +4,15 @@ use Rattle.dom_links.specs.Trees.{walk_below}
 use Rattle.dom_select.specs.declared.matcher.has.Start.TheVariants.{Relative}
 use Rattle.dom_selectors.specs.ListsAsTrees.{lists_of, steps_of}
 use Rattle.dom_select.specs.Leftward.{line, ends_at}
-use Rattle.dom_select.specs.Meaning.{HasHolds, ListsHold, Means}
+use Rattle.dom_select.specs.Meaning.{HasHolds, ListsHold, Means, RelativeMatches}
 use Rattle.dom_selectors.specs.ValuesAsTrees.{read_compound, read_list, read_nested, read_step}
 use Rattle.dom_selectors.proofs.Weights.{compound_weight, lists_weight, list_weight, selectors_weight, steps_weight}
 use Rattle.dom_select.proofs.ReachLemmas.{IsMeant, SomeOnLine}
 use Rattle.dom_select.specs.Chains.{BeginsChain, binding_level}
-use Rattle.dom_select.specs.Has.{SelectorMatches, MatchesWithin, search_roots, search_roots_from}
+use Rattle.dom_select.specs.Has.{SelectorMatches, MatchesWithin, right_row, search_roots, search_roots_from}
 use Rattle.dom_select.proofs.FollowLemmas.{Following}
+use Rattle.dom_select.proofs.RightLemmas.{SomeOfRow}
+use Rattle.dom_selectors.specs.Syntax.{no_steps}
 use Rattle.dom_select.proofs.matcher.matches.+matching.Given as goal
 
 abbrev pub decreases-holds : goal.decreases-holds
@@ -125,3 +127,19 @@ invariant-matches_within-loop-y g l = record {
       SelectorMatches l.start (read_compound l.first) (steps_of (map read_step l.steps)) l.fn.caches y → stands_in y l.y-iterator.left ≡ true;
   among : (y : ℕ) → stands_in y l.y-iterator.left ≡ true → stands_in y (walk_below l.fn.caches l.fn.top) ≡ true;
 }
+
+abbrev pub decreases-holds_beside : goal.decreases-holds_beside
+decreases-holds_beside g l = 2 + compound_weight (read_compound l.first.now)
+
+abbrev pub decreases-holds_of_element : goal.decreases-holds_of_element
+decreases-holds_of_element g l = 1 + compound_weight (read_compound l.compound.now)
+
+-- the nodes that are left decide
+abbrev pub invariant-holds_beside-loop-next : goal.invariant-holds_beside-loop-next
+invariant-holds_beside-loop-next g l = record {
+  kept : l.caches ≡ l.fn.caches;
+  same : SomeOfRow (read_compound l.first) l.fn.caches (right_row l.fn.caches l.fn.lead l.next) ↔ RelativeMatches l.fn.lead (read_compound l.first) no_steps l.fn.caches l.fn.id;
+}
+
+abbrev pub decreases-holds_beside-loop-next : goal.decreases-holds_beside-loop-next
+decreases-holds_beside-loop-next g l = length (right_row l.fn.caches l.fn.lead l.next)
