@@ -49,8 +49,8 @@ abbrev pub elements_on : Forest → Bool → Option ℕ → ℕ
 elements_on forest rev next = count_by (element_at forest) (row_on forest rev next)
 
 -- whether so many are left tells whether the node has the index
-abbrev pub LeftTells : Forest → Bool → ℕ → ℕ → Option ℕ → ℕ → Type 0
-LeftTells forest rev n index next left = (elements_on forest rev next == left) ≡ (1 + count_by (element_at forest) (later forest rev n) == index)
+abbrev pub LeftDecides : Forest → Bool → ℕ → ℕ → Option ℕ → ℕ → Type 0
+LeftDecides forest rev n index next left = (elements_on forest rev next == left) ≡ (1 + count_by (element_at forest) (later forest rev n) == index)
 
 module _ (forest : Forest) (rev : Bool) (lines : AreLines forest) where
   beside_same : (n : ℕ) (next : Option ℕ) → next ≡ after (in_order rev (siblings forest n)) n → elements_on forest rev next ≡ count_by (element_at forest) (later forest rev n)
@@ -63,28 +63,28 @@ module _ (forest : Forest) (rev : Bool) (lines : AreLines forest) where
   elements_from n here next b is link el =
       ap (elements_on forest rev) is ∙ one_more (element_at forest) n (later forest rev n) b el ∙ ap (λ k. cond b 1 0 + k) (sym (beside_same n next link))
 
-  pub tells_first : (n index : ℕ) (next : Option ℕ) → (index ≡ 0 → ⊥) → next ≡ after (in_order rev (siblings forest n)) n → LeftTells forest rev n index next (index - 1)
-  tells_first n index next some link =
+  pub decides_first : (n index : ℕ) (next : Option ℕ) → (index ≡ 0 → ⊥) → next ≡ after (in_order rev (siblings forest n)) n → LeftDecides forest rev n index next (index - 1)
+  decides_first n index next some link =
       let same = beside_same n next link in
       tests_same (elements_on forest rev next) (index - 1) (1 + count_by (element_at forest) (later forest rev n)) index (λ e. omega arith) (λ e. omega arith)
 
-  module _ (n index at left : ℕ) (here next : Option ℕ) (tells : LeftTells forest rev n index here left) (is : here ≡ Some at) (link : next ≡ after (in_order rev (siblings forest at)) at) where
-    pub tells_more : element_at forest at ≡ true → (left ≡ 0 → ⊥) → LeftTells forest rev n index next (left - 1)
-    tells_more el some =
+  module _ (n index at left : ℕ) (here next : Option ℕ) (tells : LeftDecides forest rev n index here left) (is : here ≡ Some at) (link : next ≡ after (in_order rev (siblings forest at)) at) where
+    pub decides_more : element_at forest at ≡ true → (left ≡ 0 → ⊥) → LeftDecides forest rev n index next (left - 1)
+    decides_more el some =
         let one = elements_from at here next true is link el in
         tests_same (elements_on forest rev next) (left - 1) (elements_on forest rev here) left (λ e. omega arith) (λ e. omega arith) ∙ tells
 
-    pub tells_same : element_at forest at ≡ false → LeftTells forest rev n index next left
-    tells_same el =
+    pub decides_same : element_at forest at ≡ false → LeftDecides forest rev n index next left
+    decides_same el =
         let none = elements_from at here next false is link el in
         tests_same (elements_on forest rev next) left (elements_on forest rev here) left (λ e. omega arith) (λ e. omega arith) ∙ tells
 
-  pub tells_too_many : (n index at left : ℕ) (here : Option ℕ) → LeftTells forest rev n index here left → here ≡ Some at → element_at forest at ≡ true → left ≡ 0 → false ≡ (1 + count_by (element_at forest) (later forest rev n) == index)
-  tells_too_many n index at left here tells is el none =
+  pub decides_too_many : (n index at left : ℕ) (here : Option ℕ) → LeftDecides forest rev n index here left → here ≡ Some at → element_at forest at ≡ true → left ≡ 0 → false ≡ (1 + count_by (element_at forest) (later forest rev n) == index)
+  decides_too_many n index at left here tells is el none =
       let one = elements_from at here (after (in_order rev (siblings forest at)) at) true is refl el in
       test_fails (elements_on forest rev here) left (λ e. omega arith) ∙ tells
 
-  pub tells_last : (n index left : ℕ) (here : Option ℕ) → LeftTells forest rev n index here left → here ≡ None → (left == 0) ≡ (1 + count_by (element_at forest) (later forest rev n) == index)
-  tells_last n index left here tells is =
+  pub decides_last : (n index left : ℕ) (here : Option ℕ) → LeftDecides forest rev n index here left → here ≡ None → (left == 0) ≡ (1 + count_by (element_at forest) (later forest rev n) == index)
+  decides_last n index left here tells is =
       let none : elements_on forest rev here ≡ 0 = ap (elements_on forest rev) is in
       tests_same left 0 (elements_on forest rev here) left (λ e. omega arith) (λ e. omega arith) ∙ tells

@@ -1,14 +1,12 @@
 //! Whether a node has an index among its siblings.
 
-ghost use Rattle.std.specs.Prelude.{◌≡◌, ◌==◌, ◌+◌, IfSome, count_by};
+ghost use Rattle.std.specs.Prelude.{◌≡◌, ◌==◌, IfSome};
 ghost use Rattle.dom_selectors.specs.Spelling.{Decides};
 ghost use Rattle.dom_links.specs.Indexes.{IsNth, index_at};
-ghost use Rattle.dom_links.specs.ListMoves.{element_at};
 ghost use Rattle.dom_links.specs.Lists.{after};
 ghost use Rattle.dom_links.specs.Forest.{siblings};
 ghost use Rattle.dom_links.specs.Trees.{in_order};
-ghost use Rattle.dom_links.specs.Walk.{later};
-ghost use Rattle.dom_select.specs.Parts.{AsksFor};
+ghost use Rattle.dom_select.specs.Parts.{AsksFor, element_index};
 
 use crate::matcher::caches::SelectorCaches;
 use crate::matcher::chains::line_laws;
@@ -35,8 +33,8 @@ pub(crate) fn has_position(position: Position, caches: &mut SelectorCaches<'_>, 
     is_nth(position.nth, index)
 }
 
-/// The same, where a few siblings tell it: one index is asked for, which is near the end, and all
-/// elements count.
+/// The same, where a look at a few siblings decides it: one index is asked for, which is near the
+/// end, and all elements count.
 fn has_near_position(position: Position, tree: &Tree, id: NodeId) -> Option<bool>
     ensures { IfSome result (λ answer. Decides answer
         (IsNth position.nth (index_at position.kind tree.now id))) }
@@ -68,7 +66,7 @@ fn sole_index(nth: Nth) -> Option<u32>
 /// Whether the node has this index among the elements, from the first sibling or from the last. No
 /// more elements are passed than that.
 fn has_index(tree: &Tree, id: NodeId, from_first: bool, index: u32) -> bool
-    ensures { result ≡ (1 + count_by (element_at tree.now) (later tree.now from_first id) == index) }
+    ensures { result ≡ (element_index tree.now from_first id == index) }
 {
     line_laws(tree);
     if index == 0 {
@@ -88,7 +86,7 @@ fn has_index(tree: &Tree, id: NodeId, from_first: bool, index: u32) -> bool
     left == 0
 }
 
-/// Who stands beside the node, before it or after it.
+/// The sibling before the node, or the one after it.
 #[inline(always)]
 fn beside(tree: &Tree, before: bool, id: NodeId) -> Option<NodeId>
     ensures { result ≡ after (in_order before (siblings tree.now id)) id }

@@ -1,11 +1,11 @@
 use Rattle.std.proofs.Common.{length}
 use Rattle.dom_links.specs.Walk.{row_on}
-use Rattle.dom_select.proofs.PositionLemmas.{LeftTells}
+use Rattle.dom_select.proofs.PositionLemmas.{LeftDecides}
 use Rattle.dom_select.proofs.matcher.positions.has_index.Given as goal
 
--- how many elements are left tells it
+-- how many elements are left decides
 abbrev pub invariant-loop-next : goal.invariant-loop-next
-invariant-loop-next l = LeftTells l.tree l.from_first l.fn.id l.index l.next l.left
+invariant-loop-next l = LeftDecides l.tree l.from_first l.fn.id l.index l.next l.left
 
 abbrev pub decreases-loop-next : goal.decreases-loop-next
 decreases-loop-next l = length (row_on l.tree l.from_first l.next)
