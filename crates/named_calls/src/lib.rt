@@ -1,5 +1,5 @@
-//! Calls that edit a tree, each named by a line of words, for the programs that are asked them:
-//! `calls` prints what they answer, and `limits` refuses memory to them.
+//! Calls that edit a tree, each named by a line of words, for the program that is asked them:
+//! `calls` prints what they answer, and refuses memory to them.
 #![tactic(auto)]
 
 pub mod node_calls;
