@@ -6,7 +6,8 @@ use Rattle.dom_trees.specs.declared.node_ref.NodeRef.{NodeRef}
 use Rattle.dom_selectors.specs.Grammar.{StandsFor}
 use Rattle.dom_selectors.specs.Syntax.{SelectorList}
 use Rattle.dom_selectors.proofs.SelectorLemmas.{stands_once}
-use Rattle.dom_selection.specs.Selecting.{ByText, NotByText, Selects, SelectsIn, SelectsNothing, SelectsNothingIn}
+use Rattle.dom_select.specs.ByText.{ByText, NotByText}
+use Rattle.dom_selection.specs.Selecting.{Selects, SelectsIn, SelectsNothing, SelectsNothingIn}
 
 pub asked_text : (text : List ℕ) (Does : SelectorList → Type 0) (answer : Bool) (list : SelectorList) → StandsFor (chars text) list → MatchBool answer (Does list) (Does list → ⊥)
     → MatchBool answer (ByText text Does) (NotByText text Does)

@@ -1,5 +1,5 @@
 -- What selectors select below nodes, and which nodes they mean.
-use Rattle.std.specs.Prelude.{ℕ, ◌≡◌, ◌≢◌, ◌⊎◌, Bool, MatchBool, List, [], ◌∷◌, ◌++◌, Option, MatchOption, chars}
+use Rattle.std.specs.Prelude.{ℕ, ◌≡◌, ◌≢◌, ◌⊎◌, List, [], ◌∷◌, ◌++◌, Option, MatchOption, chars}
 use Rattle.std.specs.Borrow.{Bor}
 use Rattle.dom_links.specs.Forest.{Forest}
 use Rattle.dom_links.specs.Lists.{without}
@@ -7,6 +7,7 @@ use Rattle.dom_trees.specs.declared.node_ref.NodeRef.{NodeRef}
 use Rattle.dom_trees.specs.Views.{refs_to}
 use Rattle.dom_selectors.specs.Grammar.{StandsFor}
 use Rattle.dom_selectors.specs.Syntax.{SelectorList}
+use Rattle.dom_select.specs.ByText.{ByText}
 use Rattle.dom_select.specs.Descendants.{IsMatch, Matches, ToCome}
 use Rattle.dom_select.specs.Meaning.{Means}
 use Rattle.dom_select.specs.Selected.{FiltersTo, Selected, walks_below}
@@ -55,18 +56,6 @@ SelectsIn selector forest found = (tree : Bor Forest) × (tree.now ≡ forest) �
 -- the first of those
 abbrev pub SelectsFirstIn : SelectorList → Forest → List NodeRef → Type 0
 SelectsFirstIn selector forest found = (tree : Bor Forest) × (tree.now ≡ forest) × SelectsFirst selector (refs_to tree (0 ∷ [])) found
-
--- the selector that the text stands for does so
-abbrev pub ByText : List ℕ → (SelectorList → Type 0) → Type 0
-ByText text Does = (selector : SelectorList) × StandsFor (chars text) selector × Does selector
-
--- whatever selector the text stands for doesn't
-abbrev pub NotByText : List ℕ → (SelectorList → Type 0) → Type 0
-NotByText text Does = (selector : SelectorList) → StandsFor (chars text) selector → Does selector → ⊥
-
--- the answer states whether the selector that the text stands for does so
-abbrev pub DecidesByText : List ℕ → (SelectorList → Type 0) → Bool → Type 0
-DecidesByText text Does answer = MatchBool answer (ByText text Does) (NotByText text Does)
 
 -- the selector that the text stands for gives this
 abbrev pub GivesByText : {A : Type 0} → List ℕ → (SelectorList → A → Type 0) → A → Type 0

@@ -5,7 +5,8 @@ ghost use Rattle.std.specs.Prelude.{IfErr, IfOk};
 ghost use Rattle.dom_selectors.specs.Grammar.{Refused};
 ghost use Rattle.dom_selectors.specs.declared.fault.SelectorFault.TheVariants.{Memory};
 ghost use Rattle.dom_selectors.specs.Spelling.{Decides};
-ghost use Rattle.dom_selection.specs.Selecting.{ByText, Keeps, MeansSome, DecidesByText, TriesText};
+ghost use Rattle.dom_select.specs.ByText.{ByText, DecidesByText};
+ghost use Rattle.dom_selection.specs.Selecting.{Keeps, MeansSome, TriesText};
 ghost use Rattle.dom_selection.specs.Selecting.{IsSelectorOf};
 
 use crate::selection::{Selection, push_if};
@@ -87,10 +88,7 @@ impl<'a> Selection<'a> {
             return Ok(Selection::new(self.allocator()));
         }
         let matcher = Matcher::new(self.allocator(), selectors)?;
-        match self.filter_matcher(&matcher) {
-            Ok(kept) => Ok(kept),
-            Err(_) => Err(SelectorFault::Memory),
-        }
+        Ok(self.filter_matcher(&matcher)?)
     }
 
     /// The same as `filter`, but None where the text is outside the grammar.

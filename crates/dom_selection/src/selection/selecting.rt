@@ -2,7 +2,8 @@
 
 ghost use Rattle.std.specs.Prelude.{◌≡◌, ◌≢◌, [], Ok, Some, chars, IfErr, IfOk, MatchOption};
 ghost use Rattle.dom_selectors.specs.Grammar.{Refused};
-ghost use Rattle.dom_selection.specs.Selecting.{Adds, ByText, Selects, SelectsFirst, GivesByText};
+ghost use Rattle.dom_select.specs.ByText.{ByText};
+ghost use Rattle.dom_selection.specs.Selecting.{Adds, Selects, SelectsFirst, GivesByText};
 ghost use Rattle.dom_selection.specs.Selecting.{WillSelect, TriesText, SelectsSome};
 ghost use Rattle.dom_select.specs.MatcherIters.{matches_of};
 
@@ -52,10 +53,7 @@ impl<'a> Selection<'a> {
         ensures refused { IfErr result (Refused (chars selectors.now)) }
     {
         let matcher = Matcher::new(self.allocator(), selectors)?;
-        match self.select_matcher(&matcher) {
-            Ok(found) => Ok(found),
-            Err(_) => Err(SelectorFault::Memory),
-        }
+        Ok(self.select_matcher(&matcher)?)
     }
 
     /// As `select`.
@@ -101,10 +99,7 @@ impl<'a> Selection<'a> {
         ensures refused { IfErr result (Refused (chars selectors.now)) }
     {
         let matcher = Matcher::new(self.allocator(), selectors)?;
-        match self.select_single_matcher(&matcher) {
-            Ok(first) => Ok(first),
-            Err(_) => Err(SelectorFault::Memory),
-        }
+        Ok(self.select_single_matcher(&matcher)?)
     }
 
     /// The nodes, and then what the matcher's selectors select below the root that doesn't stand
@@ -133,10 +128,7 @@ impl<'a> Selection<'a> {
             return Ok(Selection::new(alloc));
         }
         let matcher = Matcher::new(alloc, selectors)?;
-        match self.add_matcher(&matcher) {
-            Ok(all) => Ok(all),
-            Err(_) => Err(SelectorFault::Memory),
-        }
+        Ok(self.add_matcher(&matcher)?)
     }
 
     /// The same as `add`, but None where the text is outside the grammar.
