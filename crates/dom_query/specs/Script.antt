@@ -31,21 +31,10 @@ query_word Filter = codes "filter"
 query_word Add = codes "add"
 
 abbrev pub navigation_word : Navigation → List ℕ
-navigation_word Parent = codes "parent"
-navigation_word Children = codes "children"
-navigation_word Ancestors = codes "ancestors"
-navigation_word Next = codes "next"
-navigation_word Prev = codes "prev"
-navigation_word First = codes "first"
-navigation_word Last = codes "last"
+navigation_word navigation = elim navigation [ Parent ↦ codes "parent" | Children ↦ codes "children" | Ancestors ↦ codes "ancestors" | Next ↦ codes "next" | Prev ↦ codes "prev" | First ↦ codes "first" | Last ↦ codes "last" ]
 
 abbrev pub rendering_word : Rendering → List ℕ
-rendering_word Count = codes "count"
-rendering_word Text = codes "text"
-rendering_word Formatted = codes "formatted"
-rendering_word Html = codes "html"
-rendering_word InnerHtml = codes "inner-html"
-rendering_word Document = codes "document"
+rendering_word rendering = elim rendering [ Count ↦ codes "count" | Text ↦ codes "text" | Formatted ↦ codes "formatted" | Html ↦ codes "html" | InnerHtml ↦ codes "inner-html" | Document ↦ codes "document" ]
 
 -- the line asks for this query; for none
 abbrev pub IsQuery : List ℕ → QueryKind → SelectorList → Type 0
