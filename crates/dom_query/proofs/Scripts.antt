@@ -42,28 +42,19 @@ data Reading : Type 0 where
   setting : Reading
   putting : List ℕ → Place → Reading
 
+-- what the word of one of these asks for, or the other reading where it is none of theirs
+abbrev among : {A : Type 0} → (A → List ℕ) → (A → Reading) → List A → List ℕ → Reading → Reading
+among word_of asks [] word other = other
+among word_of asks (known ∷ more) word other = if bytes_eq word (word_of known) then asks known else among word_of asks more word other
+
 -- the table of words
 abbrev reading : List ℕ → Reading
 reading word =
     if bytes_eq word [] then alone Nothing
-    else if bytes_eq word (codes "select") then kind Select
-    else if bytes_eq word (codes "find") then kind Find
-    else if bytes_eq word (codes "filter") then kind Filter
-    else if bytes_eq word (codes "add") then kind Add
-    else if bytes_eq word (codes "parent") then alone (Navigate Parent)
-    else if bytes_eq word (codes "children") then alone (Navigate Children)
-    else if bytes_eq word (codes "ancestors") then alone (Navigate Ancestors)
-    else if bytes_eq word (codes "next") then alone (Navigate Next)
-    else if bytes_eq word (codes "prev") then alone (Navigate Prev)
-    else if bytes_eq word (codes "first") then alone (Navigate First)
-    else if bytes_eq word (codes "last") then alone (Navigate Last)
-    else if bytes_eq word (codes "count") then alone (Render Count)
-    else if bytes_eq word (codes "text") then alone (Render Text)
-    else if bytes_eq word (codes "formatted") then alone (Render Formatted)
-    else if bytes_eq word (codes "html") then alone (Render Html)
-    else if bytes_eq word (codes "inner-html") then alone (Render InnerHtml)
-    else if bytes_eq word (codes "document") then alone (Render Document)
-    else if bytes_eq word (codes "attr") then taking (codes "attr") Attr
+    else among query_word kind (Select ∷ Find ∷ Filter ∷ Add ∷ []) word
+    (among navigation_word (λ navigation. alone (Navigate navigation)) (Parent ∷ Children ∷ Ancestors ∷ Next ∷ Prev ∷ First ∷ Last ∷ []) word
+    (among rendering_word (λ rendering. alone (Render rendering)) (Count ∷ Text ∷ Formatted ∷ Html ∷ InnerHtml ∷ Document ∷ []) word
+    (if bytes_eq word (codes "attr") then taking (codes "attr") Attr
     else if bytes_eq word (codes "set-attr") then setting
     else if bytes_eq word (codes "remove-attr") then taking (codes "remove-attr") (λ name. Edit (RemoveAttr name))
     else if bytes_eq word (codes "rename") then taking (codes "rename") (λ name. Edit (Rename name))
@@ -81,7 +72,7 @@ reading word =
     else if bytes_eq word (codes "unwrap") then alone (Edit Unwrap)
     else if bytes_eq word (codes "normalize") then alone (Edit Normalize)
     else if bytes_eq word (codes "sanitize") then taking (codes "sanitize") Sanitize
-    else nothing
+    else nothing)))
 
 -- a selector stands behind the word, and the command is made of it
 record IsQueryRead (line : List ℕ) (how : QueryKind) (command : Command) : Type 0 where
