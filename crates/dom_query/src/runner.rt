@@ -5,6 +5,7 @@ ghost use Rattle.dom_query.specs.Faults.{IsMarkup, MarkupRefused};
 ghost use Rattle.dom_query.specs.Out.Ending.{done};
 ghost use Rattle.dom_query.specs.Runs.{Began, CommandCause, CommandsCause, Did, DidAll};
 ghost use Rattle.dom_query.specs.Runs.{DidAllBegin, DidBegin, Ended, RunCause, fault_at};
+ghost use Rattle.dom_query.specs.declared.runner.RunFault.TheVariants.{Memory};
 
 mod cleaning;
 mod editing;
@@ -47,26 +48,6 @@ pub enum RunFault {
     Write,
 }
 
-impl From<OutOfMemory> for RunFault {
-    ghost use Rattle.dom_query.specs.declared.runner.RunFault.TheVariants.{Memory};
-
-    ghost from_gives = { λ _ fault. fault ≡ Memory };
-
-    fn from(_refused: OutOfMemory) -> RunFault {
-        RunFault::Memory
-    }
-}
-
-impl From<AllocError> for RunFault {
-    ghost use Rattle.dom_query.specs.declared.runner.RunFault.TheVariants.{Memory};
-
-    ghost from_gives = { λ _ fault. fault ≡ Memory };
-
-    fn from(_refused: AllocError) -> RunFault {
-        RunFault::Memory
-    }
-}
-
 impl From<WriteFault> for RunFault {
     ghost use Rattle.dom_query.specs.Faults.{limit_of};
 
@@ -91,6 +72,22 @@ impl From<ScriptFault> for RunFault {
             ScriptFault::TooManyNodes => RunFault::TooManyNodes,
             ScriptFault::Memory => RunFault::Memory,
         }
+    }
+}
+
+impl From<OutOfMemory> for RunFault {
+    ghost from_gives = { λ _ fault. fault ≡ Memory };
+
+    fn from(_refused: OutOfMemory) -> RunFault {
+        RunFault::Memory
+    }
+}
+
+impl From<AllocError> for RunFault {
+    ghost from_gives = { λ _ fault. fault ≡ Memory };
+
+    fn from(_refused: AllocError) -> RunFault {
+        RunFault::Memory
     }
 }
 

@@ -4,6 +4,7 @@ ghost use Rattle.std.specs.Prelude.{◌≡◌, ◌∷◌, ◌++◌, [], IfErr, I
 ghost use Rattle.dom_query.specs.Faults.{LineRefused, ScriptRefused};
 ghost use Rattle.dom_query.specs.Script.{IsBad, IsCommand, IsNoQuery, IsQuery, IsScript};
 ghost use Rattle.dom_query.specs.Words.{Finds};
+ghost use Rattle.dom_query.specs.declared.script.ScriptFault.TheVariants.{Memory};
 
 mod arguments;
 pub mod edit_line;
@@ -99,8 +100,6 @@ pub enum ScriptFault {
 }
 
 impl From<OutOfMemory> for ScriptFault {
-    ghost use Rattle.dom_query.specs.declared.script.ScriptFault.TheVariants.{Memory};
-
     ghost from_gives = { λ _ fault. fault ≡ Memory };
 
     fn from(_refused: OutOfMemory) -> ScriptFault {
