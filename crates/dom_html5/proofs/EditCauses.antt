@@ -3,7 +3,7 @@ use Rattle.std.proofs.Common.{ℕ, ◌≡◌, ◌<◌, Bool, true, false, List, 
 use Rattle.std.specs.Prelude.{IfErr, not}
 use Rattle.dom_nodes.specs.Kinds.{contents_named, is_top}
 use Rattle.dom_nodes.specs.declared.fault.EditFault.{EditFault}
-use Rattle.dom_nodes.specs.declared.fault.EditFault.TheVariants.{UnknownNode, NoChildrenHere, RootOrFragment, Cycle, TooManyNodes, Memory, BadContents, Markup}
+use Rattle.dom_nodes.specs.declared.fault.EditFault.TheVariants.{UnknownNode, NoChildrenHere, RootOrFragment, Cycle, TooManyNodes, Memory, BadContents}
 use Rattle.dom_nodes.specs.declared.node_data.NodeData.{NodeData}
 use Rattle.dom_links.specs.Forest.{Forest, children_of}
 use Rattle.dom_links.specs.Growth.{DataCause, NodeCause, NoRoom}
@@ -41,14 +41,11 @@ list_refused f gap x moved NoChildrenHere known may lacks = lacks_children f gap
 list_refused f gap x moved RootOrFragment known may (inl lacks) = lacks_siblings f gap may.open_here lacks
 list_refused f gap x moved RootOrFragment known may (inr some) = no_both _ some.2 (may.may some.0 some.1).moves
 list_refused f gap x moved Cycle known may some = circle some.2
+list_refused f gap x moved _ known may none = none
   where
     circle : AtOrBelow f some.0 (target gap) → ⊥
     circle (inl e) = (may.may some.0 some.1).apart e
     circle (inr way) = (may.may some.0 some.1).free way
-list_refused f gap x moved TooManyNodes known may none = none
-list_refused f gap x moved Memory known may none = none
-list_refused f gap x moved BadContents known may none = none
-list_refused f gap x moved (Markup m) known may none = none
 
 pub move_refused : (f : Forest) (gap : Gap) (x : ℕ) (fault : EditFault) → MayMove gap (Node x) f → MoveCause gap (Node x) f fault → ⊥
 move_refused f gap x fault may cause = list_refused f gap x (x ∷ []) fault may.known may.list cause
@@ -58,13 +55,7 @@ reparent_refused f x p fault may cause = list_refused f (EndOf p) x (children_of
 
 pub removal_refused : (f : Forest) (x : ℕ) (fault : EditFault) → IsElement f x → KnownCause x f fault → ⊥
 removal_refused f x UnknownNode element far = (let known = element_known f x element in absurd (omega (arith, known, far)))
-removal_refused f x NoChildrenHere element none = none
-removal_refused f x RootOrFragment element none = none
-removal_refused f x Cycle element none = none
-removal_refused f x TooManyNodes element none = none
-removal_refused f x Memory element none = none
-removal_refused f x BadContents element none = none
-removal_refused f x (Markup m) element none = none
+removal_refused f x _ element none = none
 
 -- what fails, fails by a limit
 pub limits_alone : {A : Type 0} (r : Result A EditFault) (Cause : EditFault → Type 0) → ((fault : EditFault) → Cause fault → IsLimit fault) → IfErr r Cause → IfErr r IsLimit
@@ -75,53 +66,32 @@ pub text_limit : (f : Forest) (gap : Gap) (fault : EditFault) → IsOpenGap gap 
 text_limit f gap UnknownNode opens far = (let known = opens.0 in absurd (omega (arith, known, far)))
 text_limit f gap NoChildrenHere opens lacks = absurd (lacks_children f gap opens.1 lacks)
 text_limit f gap RootOrFragment opens lacks = absurd (lacks_siblings f gap opens.1 lacks)
-text_limit f gap Cycle opens none = none
 text_limit f gap TooManyNodes opens far = tt
 text_limit f gap Memory opens h = tt
-text_limit f gap BadContents opens none = none
-text_limit f gap (Markup m) opens none = none
+text_limit f gap _ opens none = none
 
 pub attrs_limit : (f : Forest) (x : ℕ) (fault : EditFault) → IsElement f x → AttrsCause x f fault → IsLimit fault
 attrs_limit f x UnknownNode element far = (let known = element_known f x element in absurd (omega (arith, known, far)))
-attrs_limit f x NoChildrenHere element none = none
-attrs_limit f x RootOrFragment element none = none
-attrs_limit f x Cycle element none = none
-attrs_limit f x TooManyNodes element h = tt
 attrs_limit f x Memory element h = tt
-attrs_limit f x BadContents element none = none
-attrs_limit f x (Markup m) element none = none
+attrs_limit f x _ element none = absurd none
 
 room_limit : (count : ℕ) (fault : EditFault) → NoRoom count fault → IsLimit fault
-room_limit count UnknownNode none = none
-room_limit count NoChildrenHere none = none
-room_limit count RootOrFragment none = none
-room_limit count Cycle none = none
 room_limit count TooManyNodes h = tt
 room_limit count Memory h = tt
-room_limit count BadContents none = none
-room_limit count (Markup m) none = none
+room_limit count _ none = none
 
 pub element_limit : (template : Bool) (count : ℕ) (fault : EditFault) → ElementCause template count fault → IsLimit fault
 element_limit false count fault cause = room_limit count fault cause
-element_limit true count UnknownNode none = none
-element_limit true count NoChildrenHere none = none
-element_limit true count RootOrFragment none = none
-element_limit true count Cycle none = none
 element_limit true count TooManyNodes h = tt
 element_limit true count Memory h = tt
-element_limit true count BadContents none = none
-element_limit true count (Markup m) none = none
+element_limit true count _ none = none
 
 -- a node that holds no contents
 pub node_limit : (f : Forest) (content : NodeData) (fault : EditFault) → contents_named content ≡ None → NodeCause f content fault → IsLimit fault
-node_limit f content UnknownNode plain none = none
-node_limit f content NoChildrenHere plain none = none
-node_limit f content RootOrFragment plain none = none
-node_limit f content Cycle plain none = none
 node_limit f content TooManyNodes plain h = tt
 node_limit f content Memory plain h = tt
 node_limit f content BadContents plain some = (let named = some.1 in cc)
-node_limit f content (Markup m) plain none = none
+node_limit f content _ plain none = none
 
 pub top_limit : (f : Forest) (content : NodeData) (fault : EditFault) → IsRooted f → contents_named content ≡ None → is_top content ≡ false → DataCause f 0 content fault → IsLimit fault
 top_limit f content UnknownNode rooted plain low far = (let known = holder_known f 0 (root_opens f rooted) in absurd (omega (arith, known, far)))
@@ -131,4 +101,4 @@ top_limit f content Cycle rooted plain low some = (let named = some.1 in cc)
 top_limit f content TooManyNodes rooted plain low h = tt
 top_limit f content Memory rooted plain low h = tt
 top_limit f content BadContents rooted plain low some = (let named = some.1 in cc)
-top_limit f content (Markup m) rooted plain low none = none
+top_limit f content _ rooted plain low none = none

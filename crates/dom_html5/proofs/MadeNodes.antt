@@ -10,7 +10,7 @@ use Rattle.dom_nodes.specs.Changes.{with_attrs}
 use Rattle.dom_nodes.specs.declared.name.Attr.{Attr}
 use Rattle.dom_nodes.specs.declared.node_data.Element.{Element as Parts}
 use Rattle.dom_nodes.specs.declared.node_data.NodeData.{NodeData}
-use Rattle.dom_nodes.specs.declared.node_data.NodeData.TheVariants.{Document, Fragment, Doctype, Text, Comment, Element, ProcessingInstruction}
+use Rattle.dom_nodes.specs.declared.node_data.NodeData.TheVariants.{Document, Fragment, Text, Element}
 use Rattle.dom_links.specs.Lists.{stands_in}
 use Rattle.dom_links.specs.Forest.{Forest, children_of, parent}
 use Rattle.dom_links.specs.Growth.{IsFree, with_lone_template, with_node}
@@ -37,7 +37,7 @@ use Rattle.dom_trees.specs.declared.tree.growing.ElementFlags.{ElementFlags}
 use Rattle.std.specs.Prelude.{MatchResult}
 use Rattle.dom_html5.specs.declared.fault.PageFault.{PageFault}
 use Rattle.dom_html5.specs.Elements.{limit_of}
-use Rattle.dom_html5.specs.Elements.{IsCopy, IsElement, IsMade, IsNew, IsRooted}
+use Rattle.dom_html5.specs.Elements.{IsCopy, IsElement, IsMade, IsNew, IsPlainNode, IsRooted, IsTemplateNode}
 
 -- ---- what is kept
 
@@ -197,14 +197,8 @@ new_allowed f g id gap good new opens =
 
 -- an element is no other node
 element_is : (o : Option NodeData) → option_map_or is_element o false ≡ true → (e : Parts) × (o ≡ Some (Element e))
-element_is None a = cc
-element_is (Some Document) a = cc
-element_is (Some Fragment) a = cc
 element_is (Some (Element e)) a = (e, refl)
-element_is (Some (Doctype c d e)) a = cc
-element_is (Some (Text c)) a = cc
-element_is (Some (Comment c)) a = cc
-element_is (Some (ProcessingInstruction c d)) a = cc
+element_is _ a = cc
 
 pub element_no_top : (o : Option NodeData) → option_map_or is_element o false ≡ true → option_map_or is_top o false ≡ false
 element_no_top o a = ap (λ (p : Option NodeData). option_map_or is_top p false) (element_is o a).1
@@ -238,14 +232,10 @@ pub not_root : (f : Forest) (x : ℕ) → IsRooted f → IsElement f x → (x �
 not_root f x rooted element e = (let low = element_no_top (slice_get f.content 0) (subst (λ (n : ℕ). IsElement f n) e element) in cc)
 
 top_allows : (o : Option NodeData) → option_map_or is_top o false ≡ true → option_map_or children_allowed o false ≡ true
-top_allows None a = cc
 top_allows (Some Document) a = refl
 top_allows (Some Fragment) a = refl
 top_allows (Some (Element e)) a = refl
-top_allows (Some (Doctype c d e)) a = cc
-top_allows (Some (Text c)) a = cc
-top_allows (Some (Comment c)) a = cc
-top_allows (Some (ProcessingInstruction c d)) a = cc
+top_allows _ a = cc
 
 -- an element may be moved
 pub element_moves : (f : Forest) (x : ℕ) → IsRooted f → IsElement f x → stays f x ≡ false
@@ -349,24 +339,23 @@ contents_opens f x c good held = fragment_allows (slice_get f.content c) (good.c
 -- an element of a tag
 flagged : (f : Forest) (name : NameParts) (attrs : List Attr) (template mathml : Bool) →
     IsMade f (with_new_element name attrs (record { template = template; mathml_annotation_xml_integration_point = mathml }) f) (length f.content)
-flagged f name attrs true mathml = record {
+flagged f name attrs template mathml = record {
   node = record {
-    content = flagged_element name attrs (record { template = true; mathml_annotation_xml_integration_point = mathml }) f;
+    content = flagged_element name attrs (record { template = template; mathml_annotation_xml_integration_point = mathml }) f;
     number = refl;
     movable = refl;
-    made = inr (refl, refl);
+    made = made template;
   };
   element = refl;
 }
-flagged f name attrs false mathml = record {
-  node = record {
-    content = flagged_element name attrs (record { template = false; mathml_annotation_xml_integration_point = mathml }) f;
-    number = refl;
-    movable = refl;
-    made = inl (refl, refl);
-  };
-  element = refl;
-}
+  where
+    flags : Bool → ElementFlags
+    flags holds = record { template = holds; mathml_annotation_xml_integration_point = mathml }
+
+    made : (holds : Bool) → IsPlainNode (flagged_element name attrs (flags holds) f) f (with_new_element name attrs (flags holds) f)
+        ⊎ IsTemplateNode (flagged_element name attrs (flags holds) f) f (with_new_element name attrs (flags holds) f)
+    made true = inr (refl, refl)
+    made false = inl (refl, refl)
 
 pub element_call : (r : Result ℕ PageFault) (call : Result ℕ EditFault) (f g : Forest) (name : NameParts) (attrs : List Attr) (flags : ElementFlags) →
     MatchResult r (λ n. call ≡ Ok n) (λ fault. call ≡ Err (limit_of fault)) → Makes call f g (making_element name attrs flags) → IfOk r (IsMade f g)

@@ -1,5 +1,5 @@
 -- What stands in a page.
-use Rattle.std.proofs.Common.{ℕ, ◌≡◌, ◌⊎◌, inl, inr, true, false, Bool, List, [], ◌∷◌, Option, None, Some, refl, sym, ap, ◌∙◌, cond}
+use Rattle.std.proofs.Common.{ℕ, ◌≡◌, ◌⊎◌, inl, inr, true, false, Bool, List, [], ◌∷◌, Option, Some, refl, sym, ap, ◌∙◌, cond}
 use Rattle.std.specs.Prelude.{◌==◌, ◌&&◌, codes, filter, find, length, not, slice_get}
 use Rattle.std.specs.Option.{option_and_then, option_map, option_map_or}
 use Rattle.std.specs.Str.{bytes_eq}
@@ -10,7 +10,7 @@ use Rattle.dom_nodes.specs.Kinds.{is_comment, is_doctype, is_element}
 use Rattle.dom_nodes.specs.Names.{same_namespace}
 use Rattle.dom_nodes.specs.declared.name.Namespace.TheVariants.{Html}
 use Rattle.dom_nodes.specs.declared.node_data.NodeData.{NodeData}
-use Rattle.dom_nodes.specs.declared.node_data.NodeData.TheVariants.{Comment, Doctype, Document, Element as AnElement, Fragment, ProcessingInstruction, Text}
+use Rattle.dom_nodes.specs.declared.node_data.NodeData.TheVariants.{Comment, Element as AnElement}
 use Rattle.dom_links.specs.Forest.{Forest, children_of}
 use Rattle.dom_links.specs.ListMoves.{element_at}
 use Rattle.dom_trees.specs.Views.{child_named, has_local_name, node_is, page_part}
@@ -41,54 +41,24 @@ abbrev local_in : Option NodeData → List ℕ → Bool
 local_in node name = option_map_or (λ local. bytes_eq local name) (option_and_then name_in node) false
 
 local_of_html : (node : Option NodeData) (name : List ℕ) → html_in node name ≡ true → local_in node name ≡ true
-local_of_html None name h = h
 local_of_html (Some (AnElement element)) name h = (both _ _ h).1
-local_of_html (Some Document) name h = h
-local_of_html (Some Fragment) name h = h
-local_of_html (Some (Doctype _ _ _)) name h = h
-local_of_html (Some (Text _)) name h = h
-local_of_html (Some (Comment _)) name h = h
-local_of_html (Some (ProcessingInstruction _ _)) name h = h
+local_of_html _ name h = h
 
 one_local : (node : Option NodeData) (name other : List ℕ) → bytes_eq name other ≡ false → local_in node name ≡ true → local_in node other ≡ false
-one_local None name other differ h = refl
 one_local (Some (AnElement element)) name other differ h = ap (λ local. bytes_eq local other) ((bytes_eq-Decides element.name.local name).0 h) ∙ differ
-one_local (Some Document) name other differ h = refl
-one_local (Some Fragment) name other differ h = refl
-one_local (Some (Doctype _ _ _)) name other differ h = refl
-one_local (Some (Text _)) name other differ h = refl
-one_local (Some (Comment _)) name other differ h = refl
-one_local (Some (ProcessingInstruction _ _)) name other differ h = refl
+one_local _ name other differ h = refl
 
 element_in : (node : Option NodeData) (name : List ℕ) → local_in node name ≡ true → option_map_or is_element node false ≡ true
-element_in None name h = h
 element_in (Some (AnElement element)) name h = refl
-element_in (Some Document) name h = h
-element_in (Some Fragment) name h = h
-element_in (Some (Doctype _ _ _)) name h = h
-element_in (Some (Text _)) name h = h
-element_in (Some (Comment _)) name h = h
-element_in (Some (ProcessingInstruction _ _)) name h = h
+element_in _ name h = h
 
 no_comment_in : (node : Option NodeData) → option_map_or is_element node false ≡ true → not (option_map_or is_comment node false) ≡ true
-no_comment_in None h = refl
-no_comment_in (Some (AnElement element)) h = refl
-no_comment_in (Some Document) h = refl
-no_comment_in (Some Fragment) h = refl
-no_comment_in (Some (Doctype _ _ _)) h = refl
-no_comment_in (Some (Text _)) h = refl
 no_comment_in (Some (Comment _)) h = h
-no_comment_in (Some (ProcessingInstruction _ _)) h = refl
+no_comment_in _ h = refl
 
 doctype_in : (node : Option NodeData) → option_map_or is_doctype node false ≡ true → option_map_or is_element node false ≡ false
-doctype_in None h = refl
 doctype_in (Some (AnElement element)) h = sym h
-doctype_in (Some Document) h = refl
-doctype_in (Some Fragment) h = refl
-doctype_in (Some (Doctype _ _ _)) h = refl
-doctype_in (Some (Text _)) h = refl
-doctype_in (Some (Comment _)) h = refl
-doctype_in (Some (ProcessingInstruction _ _)) h = refl
+doctype_in _ h = refl
 
 named : (forest : Forest) (n : ℕ) (name : List ℕ) → is_html forest n name ≡ true → has_local_name forest n name ≡ true
 named forest n name h = local_of_html (slice_get forest.content n) name h

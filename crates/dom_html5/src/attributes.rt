@@ -63,13 +63,22 @@ fn prefix_of(alloc: Global, prefix: &str) -> Result<Option<RareText>, PageFault>
     Ok(Some(prefix))
 }
 
+fn qualified(
+    alloc: Global,
+    prefix: &str,
+    local: &str,
+    ns: Namespace,
+) -> Result<QualName, PageFault> {
+    let prefix = prefix_of(alloc, prefix)?;
+    let local = LocalName::new(alloc, local)?;
+    Ok(QualName::new(alloc, NameParts { prefix, ns, local })?)
+}
+
 fn attr_name(alloc: Global, ns: Ns, name: &str) -> Result<QualName, PageFault> {
     if ns != Ns::Html
         && let Some((prefix, local, ns)) = foreign_parts(name)
     {
-        let prefix = prefix_of(alloc, prefix)?;
-        let local = LocalName::new(alloc, local)?;
-        return Ok(QualName::new(alloc, NameParts { prefix, ns, local })?);
+        return qualified(alloc, prefix, local, ns);
     }
     let adjusted = match ns {
         Ns::Html => name,
@@ -79,14 +88,19 @@ fn attr_name(alloc: Global, ns: Ns, name: &str) -> Result<QualName, PageFault> {
     Ok(QualName::plain(LocalName::new(alloc, adjusted)?))
 }
 
+/// An attribute of a tag's element.
+fn attr_of(alloc: Global, ns: Ns, given: &TagAttr) -> Result<Attr, PageFault> {
+    let name = attr_name(alloc, ns, given.name.as_str())?;
+    let value = Text::new(alloc, given.value.as_str())?;
+    Ok(Attr { name, value })
+}
+
 /// The attributes of a tag's element.
 pub fn attrs_of(alloc: Global, ns: Ns, given: &[TagAttr]) -> Result<Attrs, PageFault> {
     let mut attrs = Attrs::new(alloc);
     attrs.reserve(given.len());
     for attr in given {
-        let name = attr_name(alloc, ns, attr.name.as_str())?;
-        let value = Text::new(alloc, attr.value.as_str())?;
-        attrs.push(Attr { name, value })?;
+        attrs.push(attr_of(alloc, ns, attr)?)?;
     }
     Ok(attrs)
 }

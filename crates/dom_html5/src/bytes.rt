@@ -84,14 +84,9 @@ impl PageParser {
     pub fn feed_bytes(&mut self, piece: &[u8]) -> Result<(), PageFault>
         ensures { ReadsPage self.old → ReadsPage self.new }
     {
-        if let Some(fault) = self.fault {
-            return Err(fault);
-        }
+        self.fault_before()?;
         let read = self.read_bytes(piece);
-        if let Err(fault) = read {
-            self.fault = Some(fault);
-        }
-        read
+        self.noted(read)
     }
 
     fn read_bytes(&mut self, piece: &[u8]) -> Result<(), PageFault>

@@ -2,6 +2,7 @@
 
 use crate::builder::{Mode, Next, Step, TreeBuilder};
 use crate::fault::PageFault;
+use crate::modes::Token;
 use crate::name::Name;
 use crate::stack::Ns;
 use std::mem;
@@ -67,15 +68,18 @@ impl TreeBuilder {
             return self.stretch(text);
         }
         for stretch in text.split_inclusive('\0') {
-            match stretch.strip_suffix('\0') {
-                Some(front) => {
-                    self.stretch(front)?;
-                    self.run(Run::Nulls, "\0")?;
-                }
-                None => self.stretch(stretch)?,
-            }
+            self.stretch_to_null(stretch)?;
         }
         Ok(())
+    }
+
+    /// Reads characters of which none but the last may be null.
+    fn stretch_to_null(&mut self, text: &str) -> Result<(), PageFault> {
+        let Some(front) = text.strip_suffix('\0') else {
+            return self.stretch(text);
+        };
+        self.stretch(front)?;
+        self.run(Run::Nulls, "\0")
     }
 
     fn text_run(&mut self, text: &str) -> Result<(), PageFault> {
@@ -131,35 +135,32 @@ impl TreeBuilder {
     /// Reads words and the white space between them one by one.
     fn words(&mut self, text: &str) -> Result<(), PageFault> {
         for piece in text.split_inclusive(SPACES) {
-            let word = piece.trim_end_matches(SPACES);
-            if !word.is_empty() {
-                self.run(Run::Letters, word)?;
-            }
-            if let Some(space) = piece.get(word.len()..)
-                && !space.is_empty()
-            {
-                self.run(Run::Spaces, space)?;
-            }
+            self.word(piece)?;
         }
         Ok(())
     }
 
-    /// Reads a run of characters. If it is reprocessed more often than any stack of open elements
-    /// asks for, the rules for "in body" take it.
-    fn run(&mut self, kind: Run, text: &str) -> Result<(), PageFault> {
-        for _ in 0..self.turns() {
-            let next = if self.is_in_foreign() {
-                self.foreign_run(kind, text)?
-            } else {
-                self.mode_run(kind, text)?
-            };
-            if next == Next::Done {
-                return Ok(());
-            }
+    /// Reads a word and the white space behind it.
+    fn word(&mut self, piece: &str) -> Result<(), PageFault> {
+        let word = piece.trim_end_matches(SPACES);
+        if !word.is_empty() {
+            self.run(Run::Letters, word)?;
         }
-        self.mode = Mode::InBody;
-        self.body_run(kind, text)?;
-        Ok(())
+        self.spaces_run(piece.get(word.len()..).unwrap_or(""))
+    }
+
+    /// Reads a run of characters.
+    fn run(&mut self, kind: Run, text: &str) -> Result<(), PageFault> {
+        self.process(Token::Run(kind, text))
+    }
+
+    /// Reads a run by the rules that now hold.
+    pub fn run_step(&mut self, kind: Run, text: &str) -> Step {
+        if self.is_in_foreign() {
+            self.foreign_run(kind, text)
+        } else {
+            self.mode_run(kind, text)
+        }
     }
 
     fn is_in_foreign(&self) -> bool {
@@ -281,6 +282,11 @@ impl TreeBuilder {
             self.original = self.mode;
             return self.again_in(Mode::InTableText);
         }
+        self.fostered_run(kind, text)
+    }
+
+    /// Characters by the rules for "in body", with foster parenting.
+    fn fostered_run(&mut self, kind: Run, text: &str) -> Step {
         self.placing.foster = true;
         let step = self.body_run(kind, text);
         self.placing.foster = false;
@@ -303,16 +309,18 @@ impl TreeBuilder {
         }
         self.mode = self.original;
         let text = mem::replace(&mut self.table_text, String::new(self.alloc));
-        if text.as_str().is_empty() {
+        self.put_table_text(text.as_str())
+    }
+
+    /// Puts table characters into the table if they are white space, and else before it.
+    fn put_table_text(&mut self, text: &str) -> Result<(), PageFault> {
+        if text.is_empty() {
             return Ok(());
         }
         if !self.table_text_has_letters {
-            return self.put_text(text.as_str());
+            return self.put_text(text);
         }
-        self.placing.foster = true;
-        let step = self.body_run(Run::Letters, text.as_str());
-        self.placing.foster = false;
-        step?;
+        self.fostered_run(Run::Letters, text)?;
         Ok(())
     }
 }

@@ -6,17 +6,28 @@ ghost use Rattle.dom_html5.specs.Elements.{IsLimit, limit_of};
 use dom_nodes::fault::{EditFault, OutOfMemory};
 use dom_nodes::node_id::NodeId;
 use std::alloc::{AllocError, AllocFailed};
+use std::error::Error;
+use std::fmt;
 
 /// Why a page isn't read. Every text stands for a document, so limits alone are left.
-#[derive(Clone, Copy, PartialEq, Eq, Debug, Drop, thiserror::Error)]
+#[derive(Clone, Copy, PartialEq, Eq, Debug, Drop)]
 pub enum PageFault {
     /// Memory was refused.
-    #[error("out of memory")]
     Memory,
     /// A number past the last one would be given.
-    #[error("too many nodes")]
     TooManyNodes,
 }
+
+impl fmt::Display for PageFault {
+    fn fmt<W: fmt::Write>(&self, f: &mut fmt::Formatter<W>) -> fmt::Result {
+        match self {
+            PageFault::Memory => f.write_str("out of memory"),
+            PageFault::TooManyNodes => f.write_str("too many nodes"),
+        }
+    }
+}
+
+impl Error for PageFault {}
 
 impl From<AllocError> for PageFault {
     fn from(_refused: AllocError) -> PageFault {

@@ -78,11 +78,7 @@ impl TreeBuilder {
             Some(open) => open.ns,
             None => Ns::Html,
         };
-        self.insert_in(ns, name, tag)?;
-        if tag.self_closing {
-            self.tree.pop();
-        }
-        Ok(Next::Done)
+        self.insert_foreign(ns, name, tag)
     }
 
     fn pop_foreign(&mut self) {

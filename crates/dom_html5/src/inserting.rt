@@ -2,7 +2,7 @@
 
 ghost use Rattle.std.specs.Prelude.{◌<◌, length};
 
-use crate::builder::TreeBuilder;
+use crate::builder::{Mode, Next, Step, TreeBuilder};
 use crate::fault::PageFault;
 use crate::name::Name;
 use crate::stack::Ns;
@@ -42,11 +42,46 @@ impl TreeBuilder {
         Ok(Tag::new(self.alloc, TagKind::Start, written)?)
     }
 
+    /// Inserts an element, and is done with the tag.
+    pub fn insert_done(&mut self, name: Name, tag: &Tag) -> Step {
+        self.insert(name, tag)?;
+        Ok(Next::Done)
+    }
+
+    /// Inserts an element whose contents are read in that mode.
+    pub fn insert_then(&mut self, name: Name, tag: &Tag, mode: Mode) -> Step {
+        self.insert(name, tag)?;
+        self.done_in(mode)
+    }
+
+    /// Inserts an element that no tag wrote, and reads the token again in that mode.
+    pub fn imply(&mut self, name: Name, written: &str, mode: Mode) -> Step
+        requires { 0 < length written.now }
+    {
+        self.insert_implied(name, written)?;
+        self.again_in(mode)
+    }
+
     /// Inserts an element that holds nothing.
-    pub fn insert_void(&mut self, name: Name, tag: &Tag) -> Result<(), PageFault> {
+    pub fn insert_void(&mut self, name: Name, tag: &Tag) -> Step {
         self.insert(name, tag)?;
         self.tree.pop();
-        Ok(())
+        Ok(Next::Done)
+    }
+
+    /// Inserts a foreign element, which holds nothing if its tag says so.
+    pub fn insert_foreign(&mut self, ns: Ns, name: Name, tag: &Tag) -> Step {
+        self.insert_in(ns, name, tag)?;
+        if tag.self_closing {
+            self.tree.pop();
+        }
+        Ok(Next::Done)
+    }
+
+    /// Inserts an element behind the active formatting elements, which are opened again.
+    pub fn insert_inline(&mut self, name: Name, tag: &Tag) -> Result<(), PageFault> {
+        self.reconstruct()?;
+        self.insert(name, tag)
     }
 
     /// Reconstructs the active formatting elements: opens those again that aren't open.

@@ -2,13 +2,13 @@
 
 ghost use Rattle.std.specs.Prelude.{◌⊎◌, codes, find};
 ghost use Rattle.dom_html5.specs.Calm.{IsCalmForest, SpellsCalmPage};
+ghost use Rattle.dom_html5.specs.Shape.{IsFound, IsPage};
 ghost use Rattle.dom_links.specs.Forest.{Forest, children_of};
 ghost use Rattle.dom_links.specs.ListMoves.{element_at};
 ghost use Rattle.dom_links.specs.Sound.{IsForest};
 ghost use Rattle.dom_markup.specs.Html.{html_of};
 ghost use Rattle.dom_markup.specs.Plain.{IsPlain};
 ghost use Rattle.dom_trees.specs.Views.{page_part};
-ghost use Rattle.dom_html5.specs.Shape.{IsFound, IsPage};
 
 use dom_markup::laws::one_reading;
 use dom_markup::laws::plain::{

@@ -11,6 +11,7 @@ mod tables;
 mod template;
 
 use crate::builder::{Mode, Next, Step, TreeBuilder};
+use crate::chars::Run;
 use crate::fault::PageFault;
 use crate::name::Name;
 use dom_markup::document::QuirksMode;
@@ -18,27 +19,61 @@ use dom_nodes::name::LocalName;
 use html5_tokens::token::{Doctype, Tag, TagKind};
 use html5_tokens::tokenizer::State;
 
+/// What the rules of an insertion mode read.
+#[derive(Clone, Copy, Drop)]
+pub enum Token<'a> {
+    Tag(Name, &'a Tag),
+    Run(Run, &'a str),
+}
+
 impl TreeBuilder {
-    /// Reads a tag. If it is reprocessed more often than any stack of open elements asks for, the
-    /// rules for "in body" take it.
+    /// Reads a tag.
     pub fn tag(&mut self, tag: &Tag) -> Result<(), PageFault> {
         self.skip_line_feed = false;
-        let local = LocalName::new(self.alloc, tag.name.as_str())?;
-        let name = Name::of(&local);
+        let name = self.name_of(tag)?;
         self.flush_table_text()?;
+        self.process(Token::Tag(name, tag))
+    }
+
+    fn name_of(&self, tag: &Tag) -> Result<Name, PageFault> {
+        let local = LocalName::new(self.alloc, tag.name.as_str())?;
+        Ok(Name::of(&local))
+    }
+
+    /// Reads a token. If it is reprocessed more often than any stack of open elements asks for, the
+    /// rules for "in body" take it.
+    pub fn process(&mut self, token: Token<'_>) -> Result<(), PageFault> {
         for _ in 0..self.turns() {
-            let next = if self.is_tag_foreign(tag.kind, name) {
-                self.foreign_tag(name, tag)?
-            } else {
-                self.html_tag(name, tag)?
-            };
-            if next == Next::Done {
+            if self.step(token)? == Next::Done {
                 return Ok(());
             }
         }
         self.mode = Mode::InBody;
-        self.body_tag(name, tag)?;
+        self.body_step(token)?;
         Ok(())
+    }
+
+    /// Reads a token by the rules that now hold.
+    fn step(&mut self, token: Token<'_>) -> Step {
+        match token {
+            Token::Tag(name, tag) => self.tag_step(name, tag),
+            Token::Run(kind, text) => self.run_step(kind, text),
+        }
+    }
+
+    fn body_step(&mut self, token: Token<'_>) -> Step {
+        match token {
+            Token::Tag(name, tag) => self.body_tag(name, tag),
+            Token::Run(kind, text) => self.body_run(kind, text),
+        }
+    }
+
+    fn tag_step(&mut self, name: Name, tag: &Tag) -> Step {
+        if self.is_tag_foreign(tag.kind, name) {
+            self.foreign_tag(name, tag)
+        } else {
+            self.html_tag(name, tag)
+        }
     }
 
     pub fn html_tag(&mut self, name: Name, tag: &Tag) -> Step {
@@ -116,9 +151,8 @@ impl TreeBuilder {
         let name = text_of(&doctype.name);
         let public_id = text_of(&doctype.public_id);
         let system_id = text_of(&doctype.system_id);
-        self.tree.put_doctype([name, public_id, system_id])?;
         self.mode = Mode::BeforeHtml;
-        Ok(())
+        self.tree.put_doctype([name, public_id, system_id])
     }
 
     /// Reads the end of the text.

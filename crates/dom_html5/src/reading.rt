@@ -18,7 +18,7 @@ use crate::shape::make_page;
 use crate::stack::Ns;
 use dom_markup::document::Document;
 use dom_nodes::name::LocalName;
-use html5_tokens::parse_error::ErrorAt;
+use html5_tokens::parse_error::{ErrorAt, ParseError};
 use html5_tokens::token::TokenKind;
 use html5_tokens::tokenizer::{State, Tokenizer};
 use std::alloc::Global;
@@ -62,7 +62,7 @@ pub struct PageParser {
     builder: TreeBuilder,
     tokens: Tokenizer,
     pub(crate) waiting: Waiting,
-    pub(crate) fault: Option<PageFault>,
+    fault: Option<PageFault>,
     is_fragment: bool,
 }
 
@@ -212,10 +212,23 @@ impl PageParser {
     pub fn feed(&mut self, piece: &str) -> Result<(), PageFault>
         ensures { ReadsPage self.old → ReadsPage self.new }
     {
-        if let Some(fault) = self.fault {
-            return Err(fault);
-        }
+        self.fault_before()?;
         let read = self.read_text(piece);
+        self.noted(read)
+    }
+
+    /// The fault that reading ended with before.
+    pub(crate) fn fault_before(&self) -> Result<(), PageFault> {
+        match self.fault {
+            Some(fault) => Err(fault),
+            None => Ok(()),
+        }
+    }
+
+    /// What reading came to; a fault ends it.
+    pub(crate) fn noted(&mut self, read: Result<(), PageFault>) -> Result<(), PageFault>
+        ensures { ReadsPage self.old → ReadsPage self.new }
+    {
         if let Err(fault) = read {
             self.fault = Some(fault);
         }
@@ -239,9 +252,7 @@ impl PageParser {
     pub fn finish(mut self) -> Result<Document, PageFault>
         ensures { ReadsPage self → IfOk result (λ document. IsPage document.tree) }
     {
-        if let Some(fault) = self.fault {
-            return Err(fault);
-        }
+        self.fault_before()?;
         self.read_waiting()?;
         self.read_end()?;
         if self.is_fragment {
@@ -254,13 +265,20 @@ impl PageParser {
     fn read_end(&mut self) -> Result<(), PageFault>
         ensures { ReadsPage self.old → ReadsPage self.new }
     {
-        if let Some(kind) = self.tokens.end_kind()? {
-            self.token(kind)?;
-        }
-        let text = self.tokens.take_text();
-        self.builder.characters(text.as_str())?;
+        self.read_last_token()?;
+        self.builder.characters(self.tokens.text())?;
         self.builder.end()?;
         self.builder.note_errors(&self.tokens.take_errors())
+    }
+
+    /// Reads the token that the end of the text ends.
+    fn read_last_token(&mut self) -> Result<(), PageFault>
+        ensures { ReadsPage self.old → ReadsPage self.new }
+    {
+        match self.tokens.end_kind()? {
+            Some(kind) => self.token(kind),
+            None => Ok(()),
+        }
     }
 
     pub(crate) fn read(&mut self, piece: &str) -> Result<(), PageFault>
@@ -294,15 +312,7 @@ impl PageParser {
     {
         self.builder.characters(self.tokens.text())?;
         self.tokens.clear_text();
-        match kind {
-            TokenKind::Tag => {
-                if let Some(tag) = self.tokens.tag() {
-                    self.builder.tag(tag)?;
-                }
-            }
-            TokenKind::Comment => self.builder.comment(self.tokens.comment())?,
-            TokenKind::Doctype => self.builder.doctype(self.tokens.doctype())?,
-        }
+        self.build(kind)?;
         if let Some(state) = self.builder.switch.take() {
             self.tokens.switch_to(state);
         }
@@ -310,6 +320,26 @@ impl PageParser {
             .set_in_foreign(self.builder.is_current_foreign());
         Ok(())
     }
+
+    /// Puts what the token stands for into the tree.
+    fn build(&mut self, kind: TokenKind) -> Result<(), PageFault>
+        ensures { ReadsPage self.old → ReadsPage self.new }
+    {
+        match kind {
+            TokenKind::Tag => match self.tokens.tag() {
+                Some(tag) => self.builder.tag(tag),
+                None => Ok(()),
+            },
+            TokenKind::Comment => self.builder.comment(self.tokens.comment()),
+            TokenKind::Doctype => self.builder.doctype(self.tokens.doctype()),
+        }
+    }
+}
+
+/// The name of a context element, whatever the case.
+fn name_of(alloc: Global, written: &str) -> Result<Name, PageFault> {
+    let local = LocalName::folded(alloc, written)?;
+    Ok(Name::of(&local))
 }
 
 impl TreeBuilder {
@@ -324,22 +354,25 @@ impl TreeBuilder {
     /// Notes parse errors in the document.
     fn note_errors(&mut self, errors: &[ErrorAt]) -> Result<(), PageFault> {
         for ErrorAt { offset, error } in errors {
-            let note = format!(in self.alloc; "{offset}: {error}")?;
-            self.tree.note_error(note.as_str())?;
+            self.note_error(*offset, *error)?;
         }
         Ok(())
     }
 
+    fn note_error(&mut self, offset: usize, error: ParseError) -> Result<(), PageFault> {
+        let note = format!(in self.alloc; "{offset}: {error}")?;
+        self.tree.note_error(note.as_str())
+    }
+
     /// Opens the element `html` of a fragment, and sets what its context element asks for.
     fn begin_fragment(&mut self, context: Context<'_>) -> Result<(), PageFault> {
-        let tag = self.bare_tag("html")?;
-        self.tree.insert_html(&tag)?;
+        self.insert_implied_html()?;
         let (ns, written) = match context {
             Context::Html(name) => (Ns::Html, name),
             Context::Svg(name) => (Ns::Svg, name),
             Context::MathMl(name) => (Ns::MathMl, name),
         };
-        let name = Name::of(&LocalName::folded(self.alloc, written)?);
+        let name = name_of(self.alloc, written)?;
         self.tree.set_context(ns, name);
         if ns == Ns::Html && name == Name::Template {
             self.push_template_mode(Mode::InTemplate)?;

@@ -10,7 +10,7 @@ use dom_nodes::name::LocalName;
 use dom_nodes::words::is_one_of;
 
 /// The kind of an element, by its name.
-#[derive(Clone, Copy, PartialEq, Eq, Debug, Drop)]
+#[derive(Clone, Copy, Drop)]
 pub enum Kind {
     /// The document itself; no name is of this kind.
     Document,

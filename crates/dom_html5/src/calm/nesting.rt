@@ -9,7 +9,7 @@ use crate::calm::texts::{begins_line, has_close, is_whitespace, lacks_greater_th
 use dom_nodes::node_data::{NodeData, TreeNode};
 
 /// What a node stands in: the kind of its parent, and which elements are open.
-#[derive(Clone, Copy, PartialEq, Eq, Debug, Drop)]
+#[derive(Clone, Copy, Drop)]
 pub struct Scope {
     pub parent: Kind,
     pub in_paragraph: bool,

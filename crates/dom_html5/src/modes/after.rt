@@ -31,10 +31,7 @@ impl TreeBuilder {
             return match name {
                 Name::Html => self.add_html_attrs(tag),
                 Name::Frameset => self.insert_done(name, tag),
-                Name::Frame => {
-                    self.insert_void(name, tag)?;
-                    Ok(Next::Done)
-                }
+                Name::Frame => self.insert_void(name, tag),
                 Name::Noframes => self.head_element(name, tag),
                 _ => Ok(Next::Done),
             };
@@ -49,27 +46,17 @@ impl TreeBuilder {
     }
 
     pub fn after_frameset_tag(&mut self, name: Name, tag: &Tag) -> Step {
-        if is_start(tag) {
-            return match name {
-                Name::Html => self.add_html_attrs(tag),
-                Name::Noframes => self.head_element(name, tag),
-                _ => Ok(Next::Done),
-            };
+        if !is_start(tag) && name == Name::Html {
+            return self.done_in(Mode::AfterAfterFrameset);
         }
-        if name == Name::Html {
-            self.mode = Mode::AfterAfterFrameset;
-        }
-        Ok(Next::Done)
+        self.after_after_frameset_tag(name, tag)
     }
 
     pub fn after_after_frameset_tag(&mut self, name: Name, tag: &Tag) -> Step {
-        if is_start(tag) {
-            return match name {
-                Name::Html => self.add_html_attrs(tag),
-                Name::Noframes => self.head_element(name, tag),
-                _ => Ok(Next::Done),
-            };
+        match name {
+            Name::Html if is_start(tag) => self.add_html_attrs(tag),
+            Name::Noframes if is_start(tag) => self.head_element(name, tag),
+            _ => Ok(Next::Done),
         }
-        Ok(Next::Done)
     }
 }

@@ -49,10 +49,7 @@ impl TreeBuilder {
             Group::Void => self.start_void(name, tag),
             Group::Image => self.start_void(Name::Img, tag),
             Group::Input => self.start_input(tag),
-            Group::Param => {
-                self.insert_void(name, tag)?;
-                Ok(Next::Done)
-            }
+            Group::Param => self.insert_void(name, tag),
             Group::Hr => self.start_hr(tag),
             Group::Select => self.start_select(tag),
             Group::Option => self.start_option(name, tag),
@@ -78,12 +75,7 @@ impl TreeBuilder {
                 self.frameset_ok = false;
                 self.insert_text_element(name, tag, State::Rcdata)
             }
-            Group::Xmp => {
-                self.tree.close_p_in_button_scope();
-                self.reconstruct()?;
-                self.frameset_ok = false;
-                self.insert_text_element(name, tag, State::Rawtext)
-            }
+            Group::Xmp => self.start_xmp(tag),
             Group::Iframe => {
                 self.frameset_ok = false;
                 self.insert_text_element(name, tag, State::Rawtext)
@@ -92,15 +84,19 @@ impl TreeBuilder {
             Group::Noscript if self.scripting => {
                 self.insert_text_element(name, tag, State::Rawtext)
             }
-            _ => {
-                self.reconstruct()?;
-                self.insert_done(name, tag)
-            }
+            _ => self.start_ordinary(name, tag),
         }
     }
 
-    pub fn insert_done(&mut self, name: Name, tag: &Tag) -> Step {
-        self.insert(name, tag)?;
+    fn start_xmp(&mut self, tag: &Tag) -> Step {
+        self.tree.close_p_in_button_scope();
+        self.reconstruct()?;
+        self.frameset_ok = false;
+        self.insert_text_element(Name::Xmp, tag, State::Rawtext)
+    }
+
+    fn start_ordinary(&mut self, name: Name, tag: &Tag) -> Step {
+        self.insert_inline(name, tag)?;
         Ok(Next::Done)
     }
 
@@ -122,8 +118,7 @@ impl TreeBuilder {
         {
             self.tree.cut_out(1);
             self.tree.truncate(1);
-            self.insert(Name::Frameset, tag)?;
-            return self.done_in(Mode::InFrameset);
+            return self.insert_then(Name::Frameset, tag, Mode::InFrameset);
         }
         Ok(Next::Done)
     }
@@ -188,9 +183,8 @@ impl TreeBuilder {
             self.tree.generate_implied_end_tags(None);
             self.tree.pop_to(Name::Button);
         }
-        self.reconstruct()?;
         self.frameset_ok = false;
-        self.insert_done(Name::Button, tag)
+        self.start_ordinary(Name::Button, tag)
     }
 
     fn start_a(&mut self, tag: &Tag) -> Step {
@@ -212,17 +206,15 @@ impl TreeBuilder {
     }
 
     fn start_formatting(&mut self, name: Name, tag: &Tag) -> Step {
-        self.reconstruct()?;
-        self.insert(name, tag)?;
+        self.insert_inline(name, tag)?;
         self.tree.push_formatting()?;
         Ok(Next::Done)
     }
 
     fn start_object(&mut self, name: Name, tag: &Tag) -> Step {
-        self.reconstruct()?;
-        self.insert(name, tag)?;
-        self.tree.push_marker()?;
         self.frameset_ok = false;
+        self.insert_inline(name, tag)?;
+        self.tree.push_marker()?;
         Ok(Next::Done)
     }
 
@@ -230,55 +222,47 @@ impl TreeBuilder {
         if !self.quirks {
             self.tree.close_p_in_button_scope();
         }
-        self.insert(Name::Table, tag)?;
         self.frameset_ok = false;
-        self.done_in(Mode::InTable)
+        self.insert_then(Name::Table, tag, Mode::InTable)
     }
 
     pub fn start_void(&mut self, name: Name, tag: &Tag) -> Step {
-        self.reconstruct()?;
-        self.insert_void(name, tag)?;
         self.frameset_ok = false;
-        Ok(Next::Done)
+        self.reconstruct()?;
+        self.insert_void(name, tag)
     }
 
     fn start_input(&mut self, tag: &Tag) -> Step {
-        self.reconstruct()?;
-        self.insert_void(Name::Input, tag)?;
         if !is_hidden(tag) {
             self.frameset_ok = false;
         }
-        Ok(Next::Done)
+        self.reconstruct()?;
+        self.insert_void(Name::Input, tag)
     }
 
     fn start_hr(&mut self, tag: &Tag) -> Step {
         self.tree.close_p_in_button_scope();
-        self.insert_void(Name::Hr, tag)?;
         self.frameset_ok = false;
-        Ok(Next::Done)
+        self.insert_void(Name::Hr, tag)
     }
 
     fn start_select(&mut self, tag: &Tag) -> Step {
-        self.reconstruct()?;
-        self.insert(Name::Select, tag)?;
+        let mode = match self.mode {
+            Mode::InTable | Mode::InCaption | Mode::InTableBody | Mode::InRow | Mode::InCell => {
+                Mode::InSelectInTable
+            }
+            _ => Mode::InSelect,
+        };
         self.frameset_ok = false;
-        let in_table = matches!(
-            self.mode,
-            Mode::InTable | Mode::InCaption | Mode::InTableBody | Mode::InRow | Mode::InCell
-        );
-        self.done_in(if in_table {
-            Mode::InSelectInTable
-        } else {
-            Mode::InSelect
-        })
+        self.reconstruct()?;
+        self.insert_then(Name::Select, tag, mode)
     }
 
     fn start_option(&mut self, name: Name, tag: &Tag) -> Step {
         if self.tree.open().current_is(Name::Option) {
             self.tree.pop();
         }
-        self.reconstruct()?;
-        self.insert_done(name, tag)
+        self.start_ordinary(name, tag)
     }
 
     fn start_ruby(&mut self, name: Name, tag: &Tag, except: Option<Name>) -> Step {
@@ -290,11 +274,7 @@ impl TreeBuilder {
 
     fn start_foreign(&mut self, ns: Ns, name: Name, tag: &Tag) -> Step {
         self.reconstruct()?;
-        self.insert_in(ns, name, tag)?;
-        if tag.self_closing {
-            self.tree.pop();
-        }
-        Ok(Next::Done)
+        self.insert_foreign(ns, name, tag)
     }
 }
 

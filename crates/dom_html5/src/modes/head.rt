@@ -17,9 +17,14 @@ impl TreeBuilder {
     }
 
     pub fn imply_html(&mut self) -> Step {
-        let tag = self.bare_tag("html")?;
-        self.tree.insert_html(&tag)?;
+        self.insert_implied_html()?;
         self.again_in(Mode::BeforeHead)
+    }
+
+    /// Puts an element `html` that no tag wrote at the top, and opens it.
+    pub fn insert_implied_html(&mut self) -> Result<(), PageFault> {
+        let tag = self.bare_tag("html")?;
+        self.tree.insert_html(&tag)
     }
 
     pub fn before_html_tag(&mut self, name: Name, tag: &Tag) -> Step {
@@ -46,11 +51,7 @@ impl TreeBuilder {
         if is_start(tag) {
             return match name {
                 Name::Html => self.add_html_attrs(tag),
-                Name::Head => {
-                    self.insert(name, tag)?;
-                    self.tree.set_head();
-                    self.done_in(Mode::InHead)
-                }
+                Name::Head => self.start_head(tag),
                 _ => self.imply_head(),
             };
         }
@@ -58,6 +59,12 @@ impl TreeBuilder {
             Name::Head | Name::Body | Name::Html | Name::Br => self.imply_head(),
             _ => Ok(Next::Done),
         }
+    }
+
+    fn start_head(&mut self, tag: &Tag) -> Step {
+        self.insert(Name::Head, tag)?;
+        self.tree.set_head();
+        self.done_in(Mode::InHead)
     }
 
     /// A start tag `html` inside the document.
@@ -86,18 +93,17 @@ impl TreeBuilder {
                 self.insert_text_element(name, tag, State::Rawtext)
             }
             Name::Script => self.insert_text_element(name, tag, State::Script),
-            Name::Template => {
-                self.insert(name, tag)?;
-                self.tree.push_marker()?;
-                self.frameset_ok = false;
-                self.push_template_mode(Mode::InTemplate)?;
-                self.done_in(Mode::InTemplate)
-            }
-            _ => {
-                self.insert_void(name, tag)?;
-                Ok(Next::Done)
-            }
+            Name::Template => self.start_template(tag),
+            _ => self.insert_void(name, tag),
         }
+    }
+
+    fn start_template(&mut self, tag: &Tag) -> Step {
+        self.insert(Name::Template, tag)?;
+        self.tree.push_marker()?;
+        self.frameset_ok = false;
+        self.push_template_mode(Mode::InTemplate)?;
+        self.done_in(Mode::InTemplate)
     }
 
     pub fn push_template_mode(&mut self, mode: Mode) -> Result<(), PageFault> {
@@ -121,8 +127,7 @@ impl TreeBuilder {
             return match name {
                 Name::Html => self.add_html_attrs(tag),
                 Name::Noscript if !self.scripting => {
-                    self.insert(name, tag)?;
-                    self.done_in(Mode::InHeadNoscript)
+                    self.insert_then(name, tag, Mode::InHeadNoscript)
                 }
                 Name::Noscript => self.head_element(name, tag),
                 _ if is_metadata(name) => self.head_element(name, tag),
@@ -166,8 +171,7 @@ impl TreeBuilder {
     }
 
     pub fn imply_body(&mut self) -> Step {
-        self.insert_implied(Name::Body, "body")?;
-        self.again_in(Mode::InBody)
+        self.imply(Name::Body, "body", Mode::InBody)
     }
 
     pub fn after_head_tag(&mut self, name: Name, tag: &Tag) -> Step {
@@ -175,14 +179,10 @@ impl TreeBuilder {
             return match name {
                 Name::Html => self.add_html_attrs(tag),
                 Name::Body => {
-                    self.insert(name, tag)?;
                     self.frameset_ok = false;
-                    self.done_in(Mode::InBody)
+                    self.insert_then(name, tag, Mode::InBody)
                 }
-                Name::Frameset => {
-                    self.insert(name, tag)?;
-                    self.done_in(Mode::InFrameset)
-                }
+                Name::Frameset => self.insert_then(name, tag, Mode::InFrameset),
                 _ if is_metadata(name) => self.in_head_again(name, tag),
                 Name::Head => Ok(Next::Done),
                 _ => self.imply_body(),

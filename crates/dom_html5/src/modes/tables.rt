@@ -79,10 +79,7 @@ impl TreeBuilder {
                 next_if(ended)
             }
             Name::Style | Name::Script | Name::Template => self.head_element(name, tag),
-            Name::Input if is_hidden(tag) => {
-                self.insert_void(name, tag)?;
-                Ok(Next::Done)
-            }
+            Name::Input if is_hidden(tag) => self.insert_void(name, tag),
             Name::Form => self.start_table_form(tag),
             _ if is_table_part(name) => self.start_table_part(name, tag),
             _ => self.fostered(name, tag),
@@ -94,25 +91,12 @@ impl TreeBuilder {
         match name {
             Name::Caption => {
                 self.tree.push_marker()?;
-                self.insert(name, tag)?;
-                self.done_in(Mode::InCaption)
+                self.insert_then(name, tag, Mode::InCaption)
             }
-            Name::Colgroup => {
-                self.insert(name, tag)?;
-                self.done_in(Mode::InColumnGroup)
-            }
-            Name::Col => {
-                self.insert_implied(Name::Colgroup, "colgroup")?;
-                self.again_in(Mode::InColumnGroup)
-            }
-            Name::Td | Name::Th | Name::Tr => {
-                self.insert_implied(Name::Tbody, "tbody")?;
-                self.again_in(Mode::InTableBody)
-            }
-            _ => {
-                self.insert(name, tag)?;
-                self.done_in(Mode::InTableBody)
-            }
+            Name::Colgroup => self.insert_then(name, tag, Mode::InColumnGroup),
+            Name::Col => self.imply(Name::Colgroup, "colgroup", Mode::InColumnGroup),
+            Name::Td | Name::Th | Name::Tr => self.imply(Name::Tbody, "tbody", Mode::InTableBody),
+            _ => self.insert_then(name, tag, Mode::InTableBody),
         }
     }
 
@@ -173,10 +157,7 @@ impl TreeBuilder {
         if is_start(tag) {
             return match name {
                 Name::Html => self.add_html_attrs(tag),
-                Name::Col => {
-                    self.insert_void(name, tag)?;
-                    Ok(Next::Done)
-                }
+                Name::Col => self.insert_void(name, tag),
                 Name::Template => self.head_element(name, tag),
                 _ => Ok(self.leave_column_group()),
             };
@@ -234,13 +215,11 @@ impl TreeBuilder {
         match name {
             Name::Tr => {
                 self.tree.clear_to_table_body();
-                self.insert(name, tag)?;
-                self.done_in(Mode::InRow)
+                self.insert_then(name, tag, Mode::InRow)
             }
             Name::Th | Name::Td => {
                 self.tree.clear_to_table_body();
-                self.insert_implied(Name::Tr, "tr")?;
-                self.again_in(Mode::InRow)
+                self.imply(Name::Tr, "tr", Mode::InRow)
             }
             _ if is_table_part(name) => Ok(self.leave_section()),
             _ => self.table_tag(name, tag),
@@ -281,15 +260,19 @@ impl TreeBuilder {
 
     fn row_start(&mut self, name: Name, tag: &Tag) -> Step {
         if is_cell(name) {
-            self.tree.clear_to_row();
-            self.insert(name, tag)?;
-            self.tree.push_marker()?;
-            return self.done_in(Mode::InCell);
+            return self.start_cell(name, tag);
         }
         if is_table_part(name) {
             return Ok(self.leave_row());
         }
         self.table_tag(name, tag)
+    }
+
+    fn start_cell(&mut self, name: Name, tag: &Tag) -> Step {
+        self.tree.clear_to_row();
+        self.insert(name, tag)?;
+        self.tree.push_marker()?;
+        self.done_in(Mode::InCell)
     }
 
     /// Ends the cell that is open.
