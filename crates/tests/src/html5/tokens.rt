@@ -68,19 +68,12 @@ fn is_last(tokens: &mut Tokenizer, kind: &str, text: &str) -> bool {
 }
 
 #[test]
-fn reads_stretches(rt: HostRuntime) -> Result<(), Fail> {
-    let mut tokens = Tokenizer::new(rt.alloc());
+fn reads_stretches_and_tokens(rt: HostRuntime) -> Result<(), Fail> {
+    let mut by_stretch = Tokenizer::new(rt.alloc());
+    let mut by_token = Tokenizer::new(rt.alloc());
     for (stretch, kind, text) in &STRETCHES {
-        assert!(rt; ends_in(&mut tokens, stretch, kind, text));
-    }
-    Ok(())
-}
-
-#[test]
-fn reads_tokens(rt: HostRuntime) -> Result<(), Fail> {
-    let mut tokens = Tokenizer::new(rt.alloc());
-    for (stretch, kind, text) in &STRETCHES {
-        assert!(rt; has_token(&mut tokens, stretch, kind, text));
+        assert!(rt; ends_in(&mut by_stretch, stretch, kind, text));
+        assert!(rt; has_token(&mut by_token, stretch, kind, text));
     }
     Ok(())
 }

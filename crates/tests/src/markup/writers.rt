@@ -1,10 +1,10 @@
 //! Writers that fail.
 
+use crate::failing::Failing;
 use dom_markup::document::Document;
 use dom_markup::serializing::{NodeMarkup, SerializableNodeRef, TraversalScope, WriteFault};
 use dom_nodes::node_id::NodeId;
 use dom_trees::node_ref::NodeRef;
-use std::io::{self, ErrorKind, Write};
 use std::process::Abort;
 use std::test::Fail;
 
@@ -20,62 +20,38 @@ const PARAGRAPH: &str =
 /// What is written of what is below it.
 const BELOW: &str = "1 &lt; 2 &amp; \"3\"&nbsp;é\u{a9}&gt;<a href=\"#x\"><!-- 1 < 2 --></a><br>";
 
-/// Takes at most so many bytes in a call, and fails after so many calls.
-#[derive(Drop)]
-struct Frail {
-    taken: Vec<u8>,
-    most: usize,
-    calls: usize,
-}
-
-impl Write for Frail {
-    fn write(&mut self, buf: &[u8]) -> io::Result<usize> {
-        if self.calls == 0 {
-            return Err(io::Error::from(ErrorKind::Other));
-        }
-        self.calls -= 1;
-        let count = buf.len().min(self.most);
-        self.taken.extend_from_slice(&buf[..count])?;
-        Ok(count)
-    }
-
-    fn flush(&mut self) -> io::Result<()> {
-        Ok(())
-    }
-}
-
 /// What a writer that takes a byte a call, and fails after so many calls, got in this scope.
 fn written_by(
     node: &NodeRef,
     scope: TraversalScope,
     calls: usize,
     most: usize,
-) -> (Frail, Result<(), WriteFault>) {
-    let mut frail = Frail {
-        taken: Vec::new(node.tree.allocator()),
+) -> (Failing, Result<(), WriteFault>) {
+    let mut failing = Failing {
+        left: calls,
         most,
-        calls,
+        taken: Vec::new(node.tree.allocator()),
     };
-    let result = node.write_html(scope, &mut frail);
-    (frail, result)
+    let result = node.write_html(scope, &mut failing);
+    (failing, result)
 }
 
 /// Whether a writer that takes a byte a call, and fails after so many calls, got these.
 fn is_stopped(node: &NodeRef<'_>, scope: TraversalScope, calls: usize, taken: &[u8]) -> bool {
-    let (frail, result) = written_by(node, scope, calls, 1);
-    result == Err(WriteFault::Write) && frail.taken.as_slice() == taken
+    let (failing, result) = written_by(node, scope, calls, 1);
+    result == Err(WriteFault::Write) && failing.taken.as_slice() == taken
 }
 
 /// Whether a writer that doesn't fail got all.
 fn is_whole(node: &NodeRef<'_>, scope: TraversalScope, whole: &[u8]) -> bool {
-    let (frail, result) = written_by(node, scope, whole.len(), 3);
-    result == Ok(()) && frail.taken.as_slice() == whole
+    let (failing, result) = written_by(node, scope, whole.len(), 3);
+    result == Ok(()) && failing.taken.as_slice() == whole
 }
 
 /// Whether a writer which takes no bytes is called once.
 fn is_called_once(node: &NodeRef<'_>, scope: TraversalScope) -> bool {
     let (full, result) = written_by(node, scope, 1, 0);
-    result == Err(WriteFault::Write) && full.calls == 0
+    result == Err(WriteFault::Write) && full.left == 0
 }
 
 /// Shows what writers get that fail at each byte of the whole text, and one that doesn't fail.
@@ -108,12 +84,12 @@ fn is_serialized(node: &SerializableNodeRef<'_>, scope: TraversalScope, whole: &
 
 /// Whether a writer which fails stops the writing.
 fn is_failing(node: &SerializableNodeRef<'_>, scope: TraversalScope) -> bool {
-    let mut frail = Frail {
-        taken: Vec::new(node.0.tree.allocator()),
+    let mut failing = Failing {
+        left: 5,
         most: 2,
-        calls: 5,
+        taken: Vec::new(node.0.tree.allocator()),
     };
-    node.serialize(scope, &mut frail) == Err(WriteFault::Write)
+    node.serialize(scope, &mut failing) == Err(WriteFault::Write)
 }
 
 #[test]

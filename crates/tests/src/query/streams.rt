@@ -1,35 +1,11 @@
 //! Readers and writers that fail.
 
+use crate::failing::Failing;
 use dom_query::{RunFault, drive, run};
 use std::alloc::{AllocError, Global};
-use std::io;
-use std::io::{ErrorKind, Read, Write};
+use std::io::{self, ErrorKind, Read};
 use std::process::Abort;
 use std::test::Fail;
-
-/// A writer that takes so many writes, at most so many bytes in each, and then fails.
-#[derive(Drop)]
-struct Failing {
-    left: usize,
-    most: usize,
-    taken: Vec<u8>,
-}
-
-impl Write for Failing {
-    fn write(&mut self, buf: &[u8]) -> io::Result<usize> {
-        if self.left == 0 {
-            return Err(io::Error::from(ErrorKind::BrokenPipe));
-        }
-        self.left -= 1;
-        let count = buf.len().min(self.most);
-        self.taken.extend_from_slice(&buf[..count])?;
-        Ok(count)
-    }
-
-    fn flush(&mut self) -> io::Result<()> {
-        Ok(())
-    }
-}
 
 /// A reader that fails in that way.
 #[derive(Drop)]
