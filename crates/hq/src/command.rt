@@ -32,6 +32,16 @@ fn flag<'a>(alloc: Global, name: &'a str, help: &'a str) -> Arg<'a> {
         .help(help)
 }
 
+/// Adds an option that is there or not.
+fn with_flag<'a>(
+    alloc: Global,
+    command: Command<'a>,
+    name: &'a str,
+    help: &'a str,
+) -> Result<Command<'a>, AllocError> {
+    command.arg(flag(alloc, name, help))
+}
+
 /// An option with a value.
 fn valued<'a>(alloc: Global, name: &'a str, value: &'a str, help: &'a str) -> Arg<'a> {
     Arg::new(alloc, name)
@@ -58,24 +68,22 @@ fn with_files<'a>(alloc: Global, command: Command<'a>) -> Result<Command<'a>, Al
 
 /// What is shown of a match as HTML.
 fn with_html<'a>(alloc: Global, command: Command<'a>) -> Result<Command<'a>, AllocError> {
-    let html = flag(alloc, "html", "Print each match as HTML (the default)");
-    let command = command.arg(html)?;
-    let inner = flag(alloc, "inner", "Print the HTML below each match");
-    let command = command.arg(inner)?;
-    let tree = flag(
+    let command = with_flag(
         alloc,
-        "tree",
-        "Print the whole tree, in the form of html5lib's tests",
-    );
-    command.arg(tree)
+        command,
+        "html",
+        "Print each match as HTML (the default)",
+    )?;
+    let command = with_flag(alloc, command, "inner", "Print the HTML below each match")?;
+    let help = "Print the whole tree, in the form of html5lib's tests";
+    with_flag(alloc, command, "tree", help)
 }
 
 /// What else is shown of a match.
 fn with_texts<'a>(alloc: Global, command: Command<'a>) -> Result<Command<'a>, AllocError> {
-    let text = flag(alloc, "text", "Print the text of each match");
-    let command = command.arg(text)?;
-    let md = flag(alloc, "md", "Print what is below each match as Markdown");
-    let command = command.arg(md)?;
+    let command = with_flag(alloc, command, "text", "Print the text of each match")?;
+    let help = "Print what is below each match as Markdown";
+    let command = with_flag(alloc, command, "md", help)?;
     let attr = valued(
         alloc,
         "attr",
@@ -83,8 +91,7 @@ fn with_texts<'a>(alloc: Global, command: Command<'a>) -> Result<Command<'a>, Al
         "Print this attribute of each match that has it",
     );
     let command = command.arg(attr)?;
-    let count = flag(alloc, "count", "Print how many matches there are");
-    command.arg(count)
+    with_flag(alloc, command, "count", "Print how many matches there are")
 }
 
 /// One of these is shown.

@@ -16,7 +16,8 @@ struct Pending {
 pub fn print_tree<W: Write>(document: &Document, top: NodeId, out: &mut W) -> Result<(), Fault> {
     let alloc = document.tree.allocator();
     let mut pending = Vec::new(alloc);
-    push_children(document, top, 0, &mut pending)?;
+    let top = Pending { id: top, depth: 0 };
+    push_children(document, top, &mut pending)?;
     for _ in 0..document.tree.len() {
         let Some(Pending { id, depth }) = pending.pop() else {
             break;
@@ -24,20 +25,17 @@ pub fn print_tree<W: Write>(document: &Document, top: NodeId, out: &mut W) -> Re
         if let Some(node) = document.tree.tree_node(&id) {
             print_node(alloc, &node.content, depth, out)?;
         }
-        push_below(document, id, depth.saturating_add(1), &mut pending)?;
+        let depth = depth.saturating_add(1);
+        push_below(document, Pending { id, depth }, &mut pending)?;
     }
     Ok(())
 }
 
-/// Adds what is below a node: a template's contents come before its children.
-fn push_below(
-    document: &Document,
-    id: NodeId,
-    depth: usize,
-    pending: &mut Vec<Pending>,
-) -> Result<(), Fault> {
-    push_children(document, id, depth, pending)?;
-    if let Some(node) = document.tree.tree_node(&id)
+/// Adds what is below a node, at that depth: a template's contents come before its children.
+fn push_below(document: &Document, of: Pending, pending: &mut Vec<Pending>) -> Result<(), Fault> {
+    let depth = of.depth;
+    push_children(document, of, pending)?;
+    if let Some(node) = document.tree.tree_node(&of.id)
         && let Some(id) = node.content.template_contents()
     {
         pending.push(Pending { id, depth })?;
@@ -45,14 +43,14 @@ fn push_below(
     Ok(())
 }
 
-/// Adds the children of a node, the first one last.
+/// Adds the children of a node, at that depth, the first one last.
 fn push_children(
     document: &Document,
-    id: NodeId,
-    depth: usize,
+    of: Pending,
     pending: &mut Vec<Pending>,
 ) -> Result<(), Fault> {
-    for id in document.tree.child_ids_of_it(&id, true) {
+    let depth = of.depth;
+    for id in document.tree.child_ids_of_it(&of.id, true) {
         pending.push(Pending { id, depth })?;
     }
     Ok(())
