@@ -1,6 +1,7 @@
 //! What is written in CSS.
 
 use crate::printing::show;
+use crate::selecting::matcher_of;
 use dom_query::{
     CssLocalName, CssString, InnerSelector, Matcher, MiniSelector, NonTSPseudoClass, OutOfMemory,
     PseudoElement, ToCss,
@@ -25,9 +26,8 @@ fn show_copy<C: ToCss + Drop>(rt: &HostRuntime, what: &str, copy: Result<C, OutO
 
 /// What is written of a copy of each selector of a list: `SELECTOR`.
 pub fn write_selectors(rt: &HostRuntime, line: &str) {
-    match Matcher::new(rt.alloc(), line) {
-        Ok(matcher) => write_copy(rt, &matcher),
-        Err(fault) => show(rt, "Matcher::new", fault),
+    if let Some(matcher) = matcher_of(rt, line) {
+        write_copy(rt, &matcher);
     }
 }
 
@@ -47,9 +47,8 @@ fn write_each(rt: &HostRuntime, selectors: &[InnerSelector]) {
 /// What is printed for a programmer of a list, and whether a copy of its first selector is the same
 /// as its first and as its last: `SELECTOR`.
 pub fn print_selector(rt: &HostRuntime, line: &str) {
-    match Matcher::new(rt.alloc(), line) {
-        Ok(matcher) => print_matcher(rt, &matcher),
-        Err(fault) => show(rt, "Matcher::new", fault),
+    if let Some(matcher) = matcher_of(rt, line) {
+        print_matcher(rt, &matcher);
     }
 }
 

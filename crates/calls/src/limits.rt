@@ -34,6 +34,15 @@ enum Limited<'a> {
     Read(Read),
 }
 
+/// How the calls of all lists are done.
+#[derive(Clone, Copy, Drop)]
+enum Way {
+    /// With ample memory.
+    Ample,
+    /// With requests that the counter refuses.
+    Counted,
+}
+
 /// Does the call with so much memory.
 fn ending_of(alloc: Global, page: &Page, limited: Limited<'_>, memory: Memory) -> Option<Ending> {
     match limited {
@@ -105,24 +114,6 @@ fn count_free(rt: &HostRuntime, page: &Page, name: &str) -> bool {
     show(rt, name, ending)
 }
 
-/// Prints how each call ended whose requests the counter refused in turn.
-fn count_all(rt: &HostRuntime, page: &Page) -> bool {
-    let mut is_shown = true;
-    for (name, call) in &CALLS {
-        is_shown &= count(rt, page, name, Limited::Call(*call));
-    }
-    for line in &CHANGES {
-        is_shown &= count(rt, page, line, Limited::Change(line));
-    }
-    for (name, read) in &READS {
-        is_shown &= count(rt, page, name, Limited::Read(*read));
-    }
-    for name in &FREE {
-        is_shown &= count_free(rt, page, name);
-    }
-    is_shown
-}
-
 /// Prints that a call was done with ample memory.
 fn show_done(rt: &HostRuntime, name: &str, ending: Option<Ending>) -> bool {
     let is_done = ending == Some(Ending::Done);
@@ -135,21 +126,42 @@ fn try_one(rt: &HostRuntime, page: &Page, name: &str, limited: Limited<'_>) -> b
     show_done(rt, name, ending)
 }
 
-/// Prints how each call ended with ample memory.
-fn try_all(rt: &HostRuntime, page: &Page) -> bool {
+/// Prints how a call that makes no request ended with ample memory.
+fn try_free(rt: &HostRuntime, page: &Page, name: &str) -> bool {
+    let ending = free::tries(rt.alloc(), page, name, Memory::Ample);
+    show_done(rt, name, ending)
+}
+
+/// Prints how a call ended that was done in that way.
+fn do_one(rt: &HostRuntime, page: &Page, name: &str, limited: Limited<'_>, way: Way) -> bool {
+    match way {
+        Way::Ample => try_one(rt, page, name, limited),
+        Way::Counted => count(rt, page, name, limited),
+    }
+}
+
+/// Prints how a call that makes no request ended, done in that way.
+fn do_free(rt: &HostRuntime, page: &Page, name: &str, way: Way) -> bool {
+    match way {
+        Way::Ample => try_free(rt, page, name),
+        Way::Counted => count_free(rt, page, name),
+    }
+}
+
+/// Prints how each call ended that was done in that way.
+fn do_each(rt: &HostRuntime, page: &Page, way: Way) -> bool {
     let mut is_shown = true;
     for (name, call) in &CALLS {
-        is_shown &= try_one(rt, page, name, Limited::Call(*call));
+        is_shown &= do_one(rt, page, name, Limited::Call(*call), way);
     }
     for line in &CHANGES {
-        is_shown &= try_one(rt, page, line, Limited::Change(line));
+        is_shown &= do_one(rt, page, line, Limited::Change(line), way);
     }
     for (name, read) in &READS {
-        is_shown &= try_one(rt, page, name, Limited::Read(*read));
+        is_shown &= do_one(rt, page, name, Limited::Read(*read), way);
     }
     for name in &FREE {
-        let ending = free::tries(rt.alloc(), page, name, Memory::Ample);
-        is_shown &= show_done(rt, name, ending);
+        is_shown &= do_free(rt, page, name, way);
     }
     is_shown
 }
@@ -173,9 +185,9 @@ fn limit_all(rt: &HostRuntime, page: &Page) -> bool {
 fn run(rt: &HostRuntime, line: &str) -> Option<bool> {
     let page = Page::new(rt.alloc())?;
     match line {
-        "" => Some(try_all(rt, &page)),
+        "" => Some(do_each(rt, &page, Way::Ample)),
         "space" => Some(limit_all(rt, &page)),
-        "counted" => Some(count_all(rt, &page)),
+        "counted" => Some(do_each(rt, &page, Way::Counted)),
         _ => None,
     }
 }

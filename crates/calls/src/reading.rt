@@ -81,25 +81,24 @@ fn read_texts(rt: &HostRuntime, node: &NodeRef<'_>) {
     show(rt, "normalized_char_count", node.normalized_char_count());
 }
 
-/// The nodes around a node: `N`.
+/// The nodes around a node, and the elements: `N`.
 pub fn look_around(rt: &HostRuntime, tree: &Tree, line: &str) -> Option<()> {
     let node = tree.get_unchecked(&node_of(line)?);
-    show_node(rt, "parent", &node.parent());
-    show_node(rt, "first_child", &node.first_child());
-    show_node(rt, "last_child", &node.last_child());
-    show_node(rt, "next_sibling", &node.next_sibling());
-    show_node(rt, "prev_sibling", &node.prev_sibling());
-    show_node(rt, "last_sibling", &node.last_sibling());
-    look_for_elements(rt, &node);
+    for (name, found) in &[
+        ("parent", node.parent()),
+        ("first_child", node.first_child()),
+        ("last_child", node.last_child()),
+        ("next_sibling", node.next_sibling()),
+        ("prev_sibling", node.prev_sibling()),
+        ("last_sibling", node.last_sibling()),
+        ("parent_element", node.parent_element()),
+        ("next_element_sibling", node.next_element_sibling()),
+        ("next_sibling_element", node.next_sibling_element()),
+        ("prev_element_sibling", node.prev_element_sibling()),
+        ("prev_sibling_element", node.prev_sibling_element()),
+        ("first_element_child", node.first_element_child()),
+    ] {
+        show_node(rt, name, found);
+    }
     Some(())
-}
-
-/// The elements around it.
-fn look_for_elements(rt: &HostRuntime, node: &NodeRef<'_>) {
-    show_node(rt, "parent_element", &node.parent_element());
-    show_node(rt, "next_element_sibling", &node.next_element_sibling());
-    show_node(rt, "next_sibling_element", &node.next_sibling_element());
-    show_node(rt, "prev_element_sibling", &node.prev_element_sibling());
-    show_node(rt, "prev_sibling_element", &node.prev_sibling_element());
-    show_node(rt, "first_element_child", &node.first_element_child());
 }

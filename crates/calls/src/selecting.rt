@@ -10,11 +10,21 @@ use dom_select::matcher::descendants::select_below;
 use dom_select::matcher::several::select_below_all;
 use named_calls::words::{cut, node_of, nodes_of};
 
+/// The matcher of a text; where it is no selector, why is printed.
+pub fn matcher_of(rt: &HostRuntime, text: &str) -> Option<Matcher> {
+    match Matcher::new(rt.alloc(), text) {
+        Ok(matcher) => Some(matcher),
+        Err(fault) => {
+            show(rt, "Matcher::new", fault);
+            None
+        }
+    }
+}
+
 /// What a selector selects below the root, by each call: `SELECTOR`; or why it is none.
 pub fn select(rt: &HostRuntime, document: &Document, line: &str) {
-    match Matcher::new(rt.alloc(), line) {
-        Ok(matcher) => select_by_each(rt, &document.tree, &matcher),
-        Err(fault) => show(rt, "Matcher::new", fault),
+    if let Some(matcher) = matcher_of(rt, line) {
+        select_by_each(rt, &document.tree, &matcher);
     }
 }
 
@@ -65,18 +75,16 @@ fn list_below(rt: &HostRuntime, tree: &Tree, roots: &[NodeId], matcher: &Matcher
 pub fn select_below_several(rt: &HostRuntime, tree: &Tree, line: &str) -> Option<()> {
     let (numbers, text) = cut(line);
     let roots = nodes_of(rt.alloc(), numbers)?;
-    match Matcher::new(rt.alloc(), text) {
-        Ok(matcher) => list_below(rt, tree, &roots, &matcher),
-        Err(fault) => show(rt, "Matcher::new", fault),
+    if let Some(matcher) = matcher_of(rt, text) {
+        list_below(rt, tree, &roots, &matcher);
     }
     Some(())
 }
 
 /// How many nodes tables select below the root, and how many tests that takes: `SELECTOR`.
 pub fn count_tests(rt: &HostRuntime, tree: &Tree, line: &str) {
-    match Matcher::new(rt.alloc(), line) {
-        Ok(matcher) => show_tests(rt, tree, &matcher),
-        Err(fault) => show(rt, "Matcher::new", fault),
+    if let Some(matcher) = matcher_of(rt, line) {
+        show_tests(rt, tree, &matcher);
     }
 }
 
@@ -104,9 +112,8 @@ pub fn ask(rt: &HostRuntime, tree: &Tree, line: &str) -> Option<()> {
     let (word, text) = cut(line);
     let node = NodeRef::new(node_of(word)?, tree);
     show_read(rt, "is", node.is(text));
-    match Matcher::new(rt.alloc(), text) {
-        Ok(matcher) => ask_by_matcher(rt, &node, &matcher),
-        Err(fault) => show(rt, "Matcher::new", fault),
+    if let Some(matcher) = matcher_of(rt, text) {
+        ask_by_matcher(rt, &node, &matcher);
     }
     Some(())
 }

@@ -4,6 +4,7 @@ use crate::printing::{
     begin, end, show, show_flags, show_ids_read, show_next, show_nodes, show_read, show_some,
     show_some_read,
 };
+use crate::selecting::matcher_of;
 use dom_query::{
     Document, DocumentSelect, Matcher, MatcherIter, OutOfMemory, Selection, SelectionMd,
     SelectorFault,
@@ -34,9 +35,8 @@ pub fn select(rt: &HostRuntime, document: &Document, line: &str) {
     show_found(rt, "nip", document.nip(line));
     show_found(rt, "select_single", document.select_single(line));
     show_tried(rt, "try_select", document.try_select(line));
-    match Matcher::new(rt.alloc(), line) {
-        Ok(matcher) => select_by_matcher(rt, document, &matcher),
-        Err(fault) => show(rt, "Matcher::new", fault),
+    if let Some(matcher) = matcher_of(rt, line) {
+        select_by_matcher(rt, document, &matcher);
     }
 }
 
@@ -159,9 +159,8 @@ fn choose_from(rt: &HostRuntime, all: &Selection<'_>, text: &str) {
     show_tried(rt, "try_select", all.try_select(text));
     show_tried(rt, "try_filter", all.try_filter(text));
     show_tried(rt, "try_add", all.try_add(text));
-    match Matcher::new(rt.alloc(), text) {
-        Ok(matcher) => choose_by_matcher(rt, all, &matcher),
-        Err(fault) => show(rt, "Matcher::new", fault),
+    if let Some(matcher) = matcher_of(rt, text) {
+        choose_by_matcher(rt, all, &matcher);
     }
 }
 

@@ -90,10 +90,7 @@ pub const CALLS: [(&str, Call); 28] = [
     ("SelectionMut::append_html", Call::Edit(Edit::AppendHtml)),
     ("append_selection", Call::Edit(Edit::AppendSelection)),
     ("prepend_selection", Call::Edit(Edit::PrependSelection)),
-    (
-        "replace_with_selection",
-        Call::Edit(Edit::ReplaceWithSelection),
-    ),
+    ("replace_with_selection", Call::Edit(Edit::ReplaceWith)),
     ("Tree::from_nodes", Call::Nodes),
 ];
 

@@ -19,7 +19,7 @@ pub enum Edit {
     AppendHtml,
     AppendSelection,
     PrependSelection,
-    ReplaceWithSelection,
+    ReplaceWith,
 }
 
 /// The numbers of the first paragraphs.
@@ -44,7 +44,7 @@ fn edited(document: &mut Document, nodes: Vec<NodeId>, edit: Edit) -> Result<(),
         Edit::AppendHtml => selection.append_html("<u class=long>one<b>two</b></u>"),
         Edit::AppendSelection => selection.append_selection(&given),
         Edit::PrependSelection => selection.prepend_selection(&given),
-        Edit::ReplaceWithSelection => selection.replace_with_selection(&given),
+        Edit::ReplaceWith => selection.replace_with_selection(&given),
     }
 }
 
