@@ -2,8 +2,10 @@
 use Rattle.std.proofs.Common.{◌≡◌, ℕ, ◌+◌, ◌-◌, ◌<◌, ◌≤◌, Bool, true, false, List, [], ◌∷◌, ◌++◌, length, take, drop, get_or, refl, sym, ◌∙◌, ap, subst, arith, append_assoc, append-nil, take_all, inl, inr, ◌⊎◌, Option, Some, None, length-drop}
 use Rattle.std.specs.Prelude.{◌==◌, ◌&&◌, ◌||◌}
 use Rattle.std.specs.List.{slice_range}
+use Rattle.std.specs.Str.{IsCharBoundary, IsUtf8}
 use Rattle.std.proofs.lemmas.Bool.{cases_Bool, eqb-true}
 use Rattle.std.proofs.lemmas.List.{at_drop_more, at_drop_all, take_more, take-append-drop}
+use Rattle.std.proofs.lemmas.Str.{IsCharBoundary-after_ascii}
 use Rattle.dom_nodes.specs.Ascii.{asterisk, backslash, backtick, dot, equals_sign, exclamation_mark, greater_than, hyphen, left_bracket, less_than, number_sign, plus_sign, right_bracket, right_parenthesis, tilde, underscore, vertical_bar}
 use Rattle.dom_md.specs.Chunks.{begins_block, escaped, is_list_marker, is_mark, is_marked, is_stop, is_underline, line_mark, with_marks, with_marks_at}
 use Rattle.dom_md.specs.Marks.{Cuts, IsFirstMark}
@@ -86,6 +88,9 @@ plain_more text at within plain unmarked =
 
 pub plain_all : (text : List ℕ) (at : ℕ) → length text ≤ at → IsPlainTo text at → with_marks text ≡ text
 plain_all text at past plain = plain ∙ (ap (λ t. take at text ++ t) (at_drop_all with_marks text at past) ∙ (append-nil (take at text) ∙ take_all at text past))
+
+pub after_mark : (text : List ℕ) (at : ℕ) → IsUtf8 text → IsFirstMark text at → IsCharBoundary text (at + 1)
+after_mark text at utf8 found = IsCharBoundary-after_ascii text at utf8 found.within found.ascii
 
 pub cut_parts : (text before mark after : List ℕ) (at : ℕ) → IsFirstMark text at → before ≡ slice_range text 0 at → mark ≡ slice_range text at (at + 1) → after ≡ drop (at + 1) text → Cuts text before mark after
 cut_parts text before mark after at found p q r =

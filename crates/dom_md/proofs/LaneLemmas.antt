@@ -1,11 +1,11 @@
 -- What the operations on vectors of 16 bytes hold at each lane.
-use Rattle.std.proofs.Common.{◌≡◌, ℕ, zero, suc, ◌+◌, ◌%◌, ◌^◌, ◌<◌, ◌≤◌, Bool, true, false, not, cond, List, [], ◌∷◌, length, get_or, map, replicate, refl, sym, ap, ◌∙◌, arith, inl, inr, w8, bit_or}
+use Rattle.std.proofs.Common.{◌≡◌, ℕ, zero, suc, ◌+◌, ◌-◌, ◌%◌, ◌^◌, ◌<◌, ◌≤◌, Bool, true, false, not, cond, List, [], ◌∷◌, length, get_or, map, replicate, refl, sym, subst, ap, ◌∙◌, arith, inl, inr, w8, bit_or}
 use Rattle.std.specs.Prelude.{◌||◌, ◌==◌, if◌then◌else◌}
 use Rattle.std.specs.List.{prefix_len}
 use Rattle.std.specs.Simd.Lanes.{zip2, sel_l, mask_l, top}
 use lib.Count.{count_trailing_zeros}
 use Rattle.std.proofs.lemmas.Bool.{cases_Bool}
-use Rattle.std.proofs.lemmas.Simd.{bitmask_splat, first_set_mask_l, length-zip2, get_or-zip2, get_or-replicate, length-replicate, length-sel_l, get_or-sel_l}
+use Rattle.std.proofs.lemmas.Simd.{bitmask_splat, first_set_mask_l, length-zip2, get_or-zip2, get_or-replicate, length-replicate, length-sel_l, get_or-sel_l, tops_compared}
 use Rattle.dom_nodes.specs.Ascii.{space}
 use Rattle.dom_md.specs.Lanes.{HasLanes, Marks}
 
@@ -29,7 +29,7 @@ HasLanes-select t a x ys zs p q r =
     }
 
 -- the same of two splats
-pub Marks-select : (t : ℕ → ℕ → Bool) (a : List ℕ) (x : ℕ) → length a ≡ 16 → Marks (sel_l (zip2 t a (replicate 16 x)) (replicate 16 255) (replicate 16 0)) (λ k. t (get_or a k 0) x)
+Marks-select : (t : ℕ → ℕ → Bool) (a : List ℕ) (x : ℕ) → length a ≡ 16 → Marks (sel_l (zip2 t a (replicate 16 x)) (replicate 16 255) (replicate 16 0)) (λ k. t (get_or a k 0) x)
 Marks-select t a x p =
     let s = HasLanes-select t a x (replicate 16 255) (replicate 16 0) p (length-replicate {A = ℕ} 16 255) (length-replicate {A = ℕ} 16 0) in
     record {
@@ -38,6 +38,11 @@ Marks-select t a x p =
           ∙ (ap (λ n. cond (t (get_or a k 0) x) n (get_or (replicate 16 0) k 0)) (get_or-replicate 16 k 255 0 l)
           ∙ ap (λ n. cond (t (get_or a k 0) x) 255 n) (get_or-replicate 16 k 0 0 l));
     }
+
+-- what a comparison of a vector with a splat marks
+pub marks_compared : (t : ℕ → ℕ → Bool) (a : List ℕ) (x : ℕ) → length a ≡ 16
+    → Marks (sel_l (map (top 7) (zip2 (λ a b. cond (t a b) 255 0) a (replicate 16 x))) (replicate 16 255) (replicate 16 0)) (λ k. t (get_or a k 0) x)
+marks_compared t a x p = subst (λ ms. Marks (sel_l ms (replicate 16 255) (replicate 16 0)) (λ k. t (get_or a k 0) x)) (sym (tops_compared w8 t a (replicate 16 x))) (Marks-select t a x p)
 
 or_marks : (p q : Bool) → bit_or (if p then 255 else 0) (if q then 255 else 0) ≡ (if p || q then 255 else 0)
 or_marks true true = refl
@@ -111,3 +116,7 @@ tested_lane text at k here next v h n m l =
     m.each k l
     ∙ (ap (λ x. if x == space then get_or next k 0 else x) (h.each k l)
     ∙ ap (λ x. if get_or text (at + k) 0 == space then x else get_or text (at + k) 0) (n.each k l ∙ ap (λ i. get_or text i 0) place))
+
+-- a run that was found in the 16 bytes after a place ends within the text
+pub run_within : (n at r : ℕ) → 16 < n - at → r ≤ 16 → at + r ≤ n
+run_within n at r room short = omega (arith, room, short)

@@ -1,9 +1,11 @@
+pub mod AddingLemmas
 pub mod AddressLemmas
 pub mod BlockLemmas
 pub mod CellLemmas
 pub mod ChunkLemmas
 pub mod FenceLemmas
 pub mod LaneLemmas
+pub mod NumberLemmas
 pub mod ReadLemmas
 pub mod SolidLemmas
 pub mod SpacedLemmas

@@ -63,14 +63,15 @@ ends_in_space (b ∷ d ∷ text) h =
     }
 
 -- after the space was taken off
-pub taken_off : (old new : List ℕ) → EndsInSpace old → new ≡ take (length old - 1) old → drop_spaces new ≡ drop_spaces old
-taken_off old new ends is = ap drop_spaces is ∙ (sym (drop_spaces-space (take (length old - 1) old)) ∙ ap drop_spaces (sym ends.is))
+pub taken_off : (old new : List ℕ) (n : ℕ) → ends_with (codes " ") old ≡ true → n ≡ length old → new ≡ take (n - 1) old → drop_spaces new ≡ drop_spaces old
+taken_off old new n space_last size is =
+    let ends = ends_in_space old space_last in
+    ap drop_spaces (is ∙ ap (λ k. take (k - 1) old) size) ∙ (sym (drop_spaces-space (take (length old - 1) old)) ∙ ap drop_spaces (sym ends.is))
 
-pub taken_shorter : (old new : List ℕ) → EndsInSpace old → new ≡ take (length old - 1) old → length new < length old
-taken_shorter old new ends is =
-    let all = ap length ends.is in
-    let some = ends.some in
-    rw is (omega (arith, length-take-le (length old - 1) old))
+pub taken_shorter : (old new : List ℕ) (n : ℕ) → ends_with (codes " ") old ≡ true → n ≡ length old → new ≡ take (n - 1) old → length new < length old
+taken_shorter old new n space_last size is =
+    let some = (ends_in_space old space_last).some in
+    rw is (omega (arith, some, size, length-take-le (n - 1) old))
   where
     length-take-le : (n : ℕ) (t : List ℕ) → length (take n t) ≤ n
     length-take-le zero t = omega arith

@@ -3,10 +3,11 @@ use Rattle.std.proofs.Common.{◌≡◌, ℕ, zero, suc, ◌+◌, ◌-◌, ◌<�
 use Rattle.std.specs.Prelude.{◌==◌, ◌&&◌, ◌||◌, not, filter}
 use Rattle.std.specs.Char.{is_ascii_whitespace}
 use Rattle.std.specs.List.{slice_range}
-use Rattle.std.specs.Str.{IsTrimAsciiStart}
+use Rattle.std.specs.Str.{IsCharBoundary, IsTrimAsciiStart, IsUtf8}
 use Rattle.std.proofs.lemmas.Bool.{agree_below, agree_below_at, cases_Bool, eqb-true}
 use Rattle.std.proofs.lemmas.Bool.Decides.{nat_tests}
 use Rattle.std.proofs.lemmas.List.{at_drop_more, at_drop_all, take_more}
+use Rattle.std.proofs.lemmas.Str.{IsCharBoundary-after_ascii}
 use Rattle.dom_nodes.specs.Ascii.{backslash, exclamation_mark, space}
 use Rattle.dom_nodes.specs.Classes.{words_joined}
 use Rattle.dom_nodes.specs.Words.{has_bytes, pieces_of, with_byte, words_of}
@@ -254,6 +255,9 @@ same_all escape text at past same = same ∙ (ap (λ t. take at text ++ t) (at_d
 -- a byte but whitespace, where marks stay as they are
 pub same_dark : (text : List ℕ) (at : ℕ) → at < length text → IsAsWrittenTo false text at → is_ascii_whitespace (get_or text at 0) ≡ false → IsAsWrittenTo false text (at + 1)
 same_dark text at within same dark = same_more false text at within same (rw dark refl)
+
+pub after_change : (escape : Bool) (text : List ℕ) (at : ℕ) → IsUtf8 text → IsFirstChange escape text at → IsCharBoundary text (at + 1)
+after_change escape text at utf8 found = IsCharBoundary-after_ascii text at utf8 found.within found.ascii
 
 pub cut_change : (escape : Bool) (text before changed after : List ℕ) (at : ℕ) → IsFirstChange escape text at → before ≡ slice_range text 0 at → changed ≡ slice_range text at (at + 1) → after ≡ drop (at + 1) text → CutsChange escape text before changed after
 cut_change escape text before changed after at found p q r =

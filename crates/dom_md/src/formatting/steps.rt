@@ -25,13 +25,10 @@ use std::simd::prelude::*;
 pub(super) fn open_element(text: &mut String, name: &LocalName) -> Result<(), AllocError>
     ensures { OnOk result (string_bytes text.new ≡ with_open (string_bytes text.old) name.now) }
 {
-    if !is_block(name) {
-        return Ok(());
+    if is_block(name) && !is_parted(text.as_str()) {
+        text.push_str("\n")?;
     }
-    if is_parted(text.as_str()) {
-        return Ok(());
-    }
-    text.push_str("\n")
+    Ok(())
 }
 
 /// An element closes.

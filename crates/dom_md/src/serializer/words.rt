@@ -4,12 +4,12 @@ ghost use Rattle.std.specs.Prelude.{◌≡◌, ◌||◌, ◌+◌, ◌<◌, ◌�
 ghost use Rattle.std.specs.Prelude.{drop, false, length, slice_index_or, string_bytes, true};
 ghost use Rattle.std.specs.Str.{bytes_eq};
 ghost use Rattle.dom_nodes.specs.Words.{words_of};
+ghost use Rattle.dom_md.specs.Adding.{Adds, EachFrom, KeepsFront};
 ghost use Rattle.dom_md.specs.Lanes.{Marks};
+ghost use Rattle.dom_md.specs.Resolved.{ReadsIn};
 ghost use Rattle.dom_md.specs.Words.{spaced};
 ghost use Rattle.dom_md.specs.Written.{IsFirstChange, begins_word, change_of, CutsFirstChange};
 ghost use Rattle.dom_md.specs.Written.{is_changed, is_special, written};
-ghost use Rattle.dom_md.specs.Adding.{Adds, EachFrom, KeepsFront};
-ghost use Rattle.dom_md.specs.Resolved.{ReadsIn};
 
 use crate::chunks::{is_marked, push_escaped_chunk};
 use crate::context::FormatOpts;

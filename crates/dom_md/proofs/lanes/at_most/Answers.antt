@@ -1,13 +1,6 @@
-use Rattle.std.proofs.Common.{leb, get_or, replicate, subst, sym, w8}
-use Rattle.std.specs.Simd.Lanes.{sel_l}
-use Rattle.std.proofs.lemmas.Simd.{tops_compared}
-use Rattle.dom_md.specs.Lanes.{Marks}
-use Rattle.dom_md.proofs.LaneLemmas.{Marks-select}
+use Rattle.std.proofs.Common.{leb}
+use Rattle.dom_md.proofs.LaneLemmas.{marks_compared}
 use Rattle.dom_md.proofs.lanes.at_most.Goals as goal
 
 pub returns : goal.returns
-returns c =
-    let v = c.args.v in
-    let b = c.args.byte in
-    subst (λ ms. Marks (sel_l ms (replicate 16 255) (replicate 16 0)) (λ k. leb (get_or v k 0) b))
-    (sym (tops_compared w8 leb v (replicate 16 b))) (Marks-select leb v b c.fits-v.0)
+returns c = marks_compared leb c.args.v c.args.byte c.fits-v.0

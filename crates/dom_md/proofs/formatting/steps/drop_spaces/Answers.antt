@@ -1,4 +1,4 @@
-use Rattle.std.proofs.Common.{◌≡◌, ◌∙◌, sym, ap, string_bytes, arith, length, take, get_or, ◌-◌}
+use Rattle.std.proofs.Common.{◌≡◌, ◌∙◌, sym, ap, string_bytes, arith, length, get_or, ◌-◌}
 use Rattle.std.specs.Prelude.{codes}
 use Rattle.dom_nodes.specs.Ascii.{space}
 use Rattle.dom_md.specs.Formatted.{ends_with}
@@ -24,18 +24,14 @@ truncate-requires c = λ within.
 pub loop-text-preserved : goal.loop-text-preserved
 loop-text-preserved c =
     let old = string_bytes c.loop-text.text in
-    let ends = ends_in_space old (ap (ends_with (codes " ")) (sym c.as_str.ensures.value) ∙ (sym c.ends_with.ensures ∙ c.loop-text-test.true)) in
-    let size = ap length c.as_str-in-loop-text.ensures.value in
-    let is : string_bytes c.truncate.new.self ≡ take (length old - 1) old = c.truncate.ensures.bytes ∙ ap (λ n. take (n - 1) old) size in
-    taken_off old _ ends is ∙ c.loop-text.invariant
+    let last = ap (ends_with (codes " ")) (sym c.as_str.ensures.value) ∙ (sym c.ends_with.ensures ∙ c.loop-text-test.true) in
+    taken_off old _ (length c.as_str-in-loop-text.result.now) last (ap length c.as_str-in-loop-text.ensures.value) c.truncate.ensures.bytes ∙ c.loop-text.invariant
 
 pub loop-text-smaller : goal.loop-text-smaller
 loop-text-smaller c =
     let old = string_bytes c.loop-text.text in
-    let ends = ends_in_space old (ap (ends_with (codes " ")) (sym c.as_str.ensures.value) ∙ (sym c.ends_with.ensures ∙ c.loop-text-test.true)) in
-    let size = ap length c.as_str-in-loop-text.ensures.value in
-    let is : string_bytes c.truncate.new.self ≡ take (length old - 1) old = c.truncate.ensures.bytes ∙ ap (λ n. take (n - 1) old) size in
-    taken_shorter old _ ends is
+    let last = ap (ends_with (codes " ")) (sym c.as_str.ensures.value) ∙ (sym c.ends_with.ensures ∙ c.loop-text-test.true) in
+    taken_shorter old _ (length c.as_str-in-loop-text.result.now) last (ap length c.as_str-in-loop-text.ensures.value) c.truncate.ensures.bytes
 
 pub returns : goal.returns
 returns c =
