@@ -39,19 +39,15 @@ impl<'a> Writer<'a> {
     }
 
     /// Writes a child of a list, and pushes the later ones.
-    pub(super) fn next_item(
-        &mut self,
-        id: NodeId,
-        context: ListContext,
-    ) -> Result<(), OutOfMemory> {
+    pub(super) fn next_item(&mut self, id: NodeId, list: ListContext) -> Result<(), OutOfMemory> {
         let node = NodeRef::new(id, self.tree);
         let is_item = tag(&node) == Tag::Item;
-        let context = if is_item {
-            renumbered(context, &node)
+        let list = if is_item {
+            renumbered(list, &node)
         } else {
-            context
+            list
         };
-        let mut after = context;
+        let mut after = list;
         if is_item {
             after.advance_ol_number();
         }
@@ -64,10 +60,10 @@ impl<'a> Writer<'a> {
         if !is_item {
             return self.open_node(id, FormatOpts::new().include_node());
         }
-        if let Some(mark) = context.mark() {
+        if let Some(mark) = list.mark() {
             return self.write_item(id, after, mark);
         }
-        let prefix = context.prefix(self.tree.allocator())?;
+        let prefix = list.prefix(self.tree.allocator())?;
         self.write_item(id, after, prefix.as_str())
     }
 
