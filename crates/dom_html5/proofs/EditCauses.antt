@@ -41,11 +41,11 @@ list_refused f gap x moved NoChildrenHere known may lacks = lacks_children f gap
 list_refused f gap x moved RootOrFragment known may (inl lacks) = lacks_siblings f gap may.open_here lacks
 list_refused f gap x moved RootOrFragment known may (inr some) = no_both _ some.2 (may.may some.0 some.1).moves
 list_refused f gap x moved Cycle known may some = circle some.2
-list_refused f gap x moved _ known may none = none
   where
     circle : AtOrBelow f some.0 (target gap) → ⊥
     circle (inl e) = (may.may some.0 some.1).apart e
     circle (inr way) = (may.may some.0 some.1).free way
+list_refused f gap x moved _ known may none = none
 
 pub move_refused : (f : Forest) (gap : Gap) (x : ℕ) (fault : EditFault) → MayMove gap (Node x) f → MoveCause gap (Node x) f fault → ⊥
 move_refused f gap x fault may cause = list_refused f gap x (x ∷ []) fault may.known may.list cause
