@@ -78,6 +78,19 @@ fn reads_stretches_and_tokens(rt: HostRuntime) -> Result<(), Fail> {
     Ok(())
 }
 
+/// Whether that text stands before the next token, and is gone once it is taken.
+fn is_taken(tokens: &mut Tokenizer, text: &str) -> bool {
+    let taken = tokens.take_text();
+    taken.as_str() == text && tokens.text().is_empty()
+}
+
+#[test]
+fn takes_the_text_before_a_token(rt: HostRuntime) -> Result<(), Fail> {
+    let mut tokens = Tokenizer::new(rt.alloc());
+    assert!(rt; ends_none(&mut tokens, "tea") && is_taken(&mut tokens, "tea"));
+    Ok(())
+}
+
 #[test]
 fn reads_the_token_at_the_end(rt: HostRuntime) -> Result<(), Fail> {
     let mut tokens = Tokenizer::new(rt.alloc());
