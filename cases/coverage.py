@@ -2,9 +2,9 @@
 
 A public function is a `pub fn` of a library, or a method of a public trait there. It is reached where a test or a program (ROOTS)
 names it, or a function that is reached does. `x.name(..)` may be the method of any type that has one of that name;
-`Type::name` is that of the type or trait, and `name` a function. So this finds that a call of that name is made, and says
-nothing of its answer: the tests and the rows of cases/ compare these. Laws (laws.rt, laws/) are left out, as are the methods
-of the traits of std (`fmt`, `from`, `next`)."""
+`Type::name` is that of the type or trait, `T::name` of a type parameter that of any, and `name` a function. So this finds
+that a call of that name is made, and says nothing of its answer: the tests and the rows of cases/ compare these. Laws
+(laws.rt, laws/) are left out, as are the methods of the traits of std (`fmt`, `from`, `next`)."""
 import pathlib
 import re
 import sys
@@ -88,6 +88,8 @@ def names_in(owners, body):
 def fits(whose, function):
     """Whether the function of that name is meant."""
     owners, _, is_method, _, _ = function
+    if len(whose) == 1 and whose.isupper():
+        return bool(owners)
     return is_method if whose == "." else whose in owners if whose else not owners
 
 

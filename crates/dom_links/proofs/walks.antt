@@ -9,3 +9,4 @@ pub mod RowWalks
 pub mod SiblingWalks
 pub mod IndexLemmas
 pub mod KnownLemmas
+pub mod EdgeLemmas

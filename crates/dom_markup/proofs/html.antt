@@ -3,7 +3,7 @@ pub mod WritingLemmas
 pub mod CutLemmas
 pub mod EscapeLemmas
 pub mod TreatedNames
-pub mod PendingLemmas
+pub mod EdgeTextLemmas
 pub mod InertLemmas
 pub mod JoinedHtml
 pub mod ReadBack

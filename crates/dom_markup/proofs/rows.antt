@@ -4,7 +4,6 @@ pub mod Frames
 pub mod AttrLemmas
 pub mod NoteLemmas
 pub mod Steps
-pub mod RowLemmas
 pub mod Filling
 pub mod BareRows
 pub mod RowsForest

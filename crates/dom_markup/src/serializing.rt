@@ -7,7 +7,7 @@ ghost use Rattle.dom_markup.specs.ReadingBack.{SpellsDocument};
 ghost use Rattle.dom_markup.specs.Writing.{IsText, Writes};
 
 use crate::laws::plain::plain_documents_are_spelled;
-use crate::serializing::stack::{put_children, put_node};
+use crate::serializing::edges::{put_children, put_node};
 pub use crate::writing::WriteFault;
 use crate::writing::{ToText, ToWriter};
 use dom_nodes::fault::OutOfMemory;
@@ -15,7 +15,7 @@ use dom_trees::node_ref::NodeRef;
 use dom_trees::tree::Tree;
 use std::io::Write;
 
-mod stack;
+mod edges;
 mod tags;
 
 /// Whether a node is written with its own tags, or only what is below it.

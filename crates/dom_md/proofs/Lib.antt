@@ -3,13 +3,13 @@ pub mod AddressLemmas
 pub mod BlockLemmas
 pub mod CellLemmas
 pub mod ChunkLemmas
+pub mod EdgeEventLemmas
 pub mod FenceLemmas
 pub mod LaneLemmas
 pub mod NumberLemmas
 pub mod ReadLemmas
 pub mod SolidLemmas
 pub mod SpacedLemmas
-pub mod StackLemmas
 pub mod StepLemmas
 pub mod TagLemmas
 pub mod WrittenLemmas

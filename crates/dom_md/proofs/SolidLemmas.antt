@@ -22,7 +22,7 @@ use Rattle.dom_links.specs.Trees.{Trees, NoTrees, Tree, trees, walk}
 use Rattle.dom_nodes.specs.Words.{is_among}
 use Rattle.dom_md.specs.Formatted.{Event, block_names, cell_names, line_names, events, events_below, folded, formatted_below, joined_texts, node_events}
 use Rattle.dom_md.specs.Formatted.Event.{opens, closes, has_text, keeps_text}
-use Rattle.dom_md.specs.FormatOps.{AreUtf8, IsFolded}
+use Rattle.dom_md.specs.EdgeEvents.{AreUtf8, IsFolded}
 
 pub solid-append : (xs ys : List ℕ) → IsUtf8 xs → solid (xs ++ ys) ≡ solid xs ++ solid ys
 solid-append xs ys utf8 = ap (filter is_solid) (chars-append xs ys utf8) ∙ filter-append is_solid (chars xs) (chars ys)

@@ -3,8 +3,8 @@ pub mod Addresses
 pub mod Cells
 pub mod Chunks
 pub mod Context
+pub mod EdgeEvents
 pub mod Fences
-pub mod FormatOps
 pub mod Formatted
 pub mod Lanes
 pub mod Marks

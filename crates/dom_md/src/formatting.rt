@@ -4,12 +4,12 @@ ghost use Rattle.std.specs.Prelude.{◌≡◌, IfOk, string_bytes};
 ghost use Rattle.dom_md.specs.Formatted.{formatted_below, formatted_node};
 ghost use Rattle.dom_md.specs.Solid.{KeepsWords};
 
-use crate::formatting::stack::{format_children, format_node};
+use crate::formatting::edges::{format_children, format_node};
 use dom_nodes::fault::OutOfMemory;
 use dom_trees::node_ref::NodeRef;
 
+mod edges;
 mod names;
-mod stack;
 mod steps;
 
 /// The formatted text of what is below the node, without whitespace at its end. Without any

@@ -6,7 +6,6 @@ use Rattle.std.proofs.lemmas.List.{take-append-drop, take_more}
 use Rattle.std.proofs.lemmas.Grind.{flat_map-append}
 use Rattle.std.specs.Io.KnownBytes.{Appends}
 use Rattle.dom_markup.specs.Writing.{AppendsBeginning, Writes}
-use Rattle.dom_markup.specs.Pending.{WritesSome}
 
 pub nothing-written : (old : Option (List ℕ)) → Appends old old []
 nothing-written None = tt
@@ -53,11 +52,6 @@ parts-split parts k d within =
     let more : take (k + 1) parts ≡ take k parts ++ get_or parts k d ∷ [] = take_more parts k d within in
     let all : parts ≡ take (k + 1) parts ++ drop (k + 1) parts = sym (take-append-drop (k + 1) parts) in
     ap (flat_map (λ part. part.now)) all ∙ (flat_map-append (λ part. part.now) (take (k + 1) parts) (drop (k + 1) parts) ∙ ap (λ zs. zs ++ flat_map (λ part. part.now) (drop (k + 1) parts)) (ap (flat_map (λ part. part.now)) more ∙ (flat_map-append (λ part. part.now) (take k parts) (get_or parts k d ∷ []) ∙ ap (λ zs. flat_map (λ part. part.now) (take k parts) ++ zs) (append-nil (get_or parts k d).now))))
-
--- a text was written and the rest is left, or after a fault a beginning was written
-pub some-written : {T E : Type 0} (a b : Option (List ℕ)) (r : Result T E) (text rest all : List ℕ) → Writes a b r text → all ≡ text ++ rest → WritesSome a b r all rest
-some-written a b (Ok x) text rest all wrote is = (text, sym is, wrote)
-some-written a b (Err e) text rest all wrote is = subst (AppendsBeginning a b) (sym is) (beginning-more a b text rest wrote)
 
 -- a fault in a piece of the text
 pub fault-inside : (a b c : Option (List ℕ)) (front piece all : List ℕ) → Appends a b front → AppendsBeginning b c piece → front ++ piece ≡ all → AppendsBeginning a c all

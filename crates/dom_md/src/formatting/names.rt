@@ -1,6 +1,7 @@
 //! What the names of elements are to formatted text.
 
-ghost use Rattle.std.specs.Prelude.{◌≡◌};
+ghost use Rattle.std.specs.Prelude.{◌≡◌, codes};
+ghost use Rattle.std.specs.Str.{bytes_eq};
 ghost use Rattle.dom_nodes.specs.Words.{is_among};
 ghost use Rattle.dom_md.specs.Formatted.{block_names, cell_names, line_names};
 
@@ -18,6 +19,20 @@ static KINDS: [u8; 247] = [
     0, 0, 0, 1, 0, 0, 0, 0, 0, 0, 0, 0, 0, 0, 0, 0, 0, 0, 0, 0, 0, 0, 0, 0, 0, 0, 0, 0, 0, 0, 0,
     0, 0, 0, 0, 0, 0, 0, 0, 0, 0, 0, 0, 1, 0, 0, 0, 0, 0, 0, 0, 0, 0, 0, 0, 0, 0, 0, 0, 0, 0,
 ];
+
+/// The number of the name `pre`.
+const PRE: u8 = 49;
+
+/// Whether the element keeps its text as it is.
+#[inline(always)]
+pub(super) fn is_pre(name: &LocalName) -> bool
+    ensures { result ≡ bytes_eq name.now (codes "pre") }
+{
+    match name.number() {
+        Some(number) => number == PRE,
+        None => name.as_str() == "pre",
+    }
+}
 
 /// Whether the element stands in lines of its own, with a blank line behind it.
 pub(super) fn is_block(name: &LocalName) -> bool

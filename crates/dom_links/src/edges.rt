@@ -1,0 +1,284 @@
+//! A traversal that comes to each node twice, before and after what is inside it.
+
+ghost use Rattle.std.specs.Prelude.{◌≡◌, ◌∷◌, ◌++◌, [], IfOk, MatchOption, None, OnOk};
+ghost use Rattle.std.specs.Prelude.{if◌then◌else◌};
+ghost use Rattle.dom_nodes.specs.declared.node_data.NodeData.{NodeData};
+ghost use Rattle.dom_links.specs.Edges.{Descending, Pushes, child_edges, content_edges};
+ghost use Rattle.dom_links.specs.Edges.{edges_ahead, entry_edges, inner_edges, mark_of, node_edges};
+ghost use Rattle.dom_links.specs.Edges.{row_edges};
+ghost use Rattle.dom_links.specs.Forest.{forest_of};
+ghost use Rattle.dom_links.specs.Sound.{IsSoundArena};
+ghost use Rattle.dom_links.specs.Walk.{IsNodeOf};
+ghost use Rattle.dom_links.specs.declared.edges.Edge.TheVariants.{Open};
+ghost use Rattle.dom_links.specs.declared.edges.Entry.TheVariants.{Row};
+
+use crate::iters::{find_node, parent_id};
+use dom_nodes::fault::OutOfMemory;
+use dom_nodes::node_data::{NodeData, TreeNode};
+use dom_nodes::node_id::NodeId;
+use std::alloc::Global;
+use std::marker::{Model, PhantomData};
+
+/// Where a traversal comes to a node: before what is inside it, or after that.
+#[derive(Clone, Copy)]
+pub enum Edge {
+    /// The node begins; `marked` is the mark that its parent gives.
+    Open { id: NodeId, marked: bool },
+    /// The node ends.
+    Close { id: NodeId },
+}
+
+/// What a traversal enters of a node. Where nothing is entered the node has no closing edge.
+#[derive(Clone, Copy)]
+pub enum Entered {
+    Nothing,
+    Children,
+    /// The template contents, then the children.
+    All,
+}
+
+/// Which nodes a traversal enters, and what it knows of their children.
+pub trait Descent {
+    ghost use Rattle.dom_links.specs.Edges.{Descending};
+
+    ghost descending: { Descending };
+
+    /// What is entered of a node.
+    fn inside(content: &NodeData) -> Entered
+        ensures { result ≡ descending.inside content.now };
+
+    /// The mark that a node gives its children.
+    fn mark(content: &NodeData) -> bool
+        ensures { result ≡ descending.mark content.now };
+}
+
+/// What is still to come.
+#[derive(Clone, Copy)]
+enum Entry {
+    /// The edges of a node, and of its later siblings too unless it is `alone`.
+    Row {
+        first: NodeId,
+        marked: bool,
+        alone: bool,
+    },
+    /// The closing edge of a node.
+    End {
+        id: NodeId,
+    },
+}
+
+/// The edges of nodes, in order. Each node is pushed and popped once.
+#[derive(Drop)]
+pub struct NodeEdges<'a, D: Descent> {
+    nodes: &'a [TreeNode],
+    ahead: Vec<Entry>,
+    descent: PhantomData<D>,
+}
+
+impl<'a, D: Descent> Model for NodeEdges<'a, D> {
+    ghost use Rattle.std.specs.Prelude.{List};
+    ghost use Rattle.dom_links.specs.declared.edges.Edge.{Edge};
+    ghost use Rattle.dom_links.specs.Edges.{edges_ahead};
+    ghost use Rattle.dom_links.specs.Forest.{forest_of};
+    ghost use Rattle.dom_links.specs.Sound.{IsSoundArena};
+
+    ghost Value = { List Edge };
+
+    ghost view = { λ it. edges_ahead D.descending (forest_of it.nodes.now) it.ahead.items };
+
+    ghost invariant = { λ it. IsSoundArena it.nodes.now };
+}
+
+impl<'a, D: Descent> NodeEdges<'a, D> {
+    /// The edges of the node; only an opening for an unknown number.
+    pub fn of_node(alloc: Global, nodes: &'a [TreeNode], id: NodeId) -> Result<Self, OutOfMemory>
+        requires { IsSoundArena nodes.now }
+        ensures { IfOk result (λ edges. edges ≡ node_edges D.descending (forest_of nodes.now) id) }
+    {
+        let mut ahead = Vec::new(alloc);
+        push_row::<D>(nodes, Some(id), mark_of::<D>(nodes, id), true, &mut ahead)?;
+        Ok(NodeEdges::new(nodes, ahead))
+    }
+
+    /// The edges of the children of the node.
+    pub fn of_children(
+        alloc: Global,
+        nodes: &'a [TreeNode],
+        id: NodeId,
+    ) -> Result<Self, OutOfMemory>
+        requires { IsSoundArena nodes.now }
+        ensures { IfOk result (λ edges. edges ≡ child_edges D.descending (forest_of nodes.now) id) }
+    {
+        let mut ahead = Vec::new(alloc);
+        let Some(node) = find_node(nodes, id) else {
+            return Ok(NodeEdges::new(nodes, ahead));
+        };
+        let first = node.first_child.get();
+        push_row::<D>(nodes, first, D::mark(&node.content), false, &mut ahead)?;
+        Ok(NodeEdges::new(nodes, ahead))
+    }
+
+    fn new(nodes: &'a [TreeNode], ahead: Vec<Entry>) -> Self
+        requires { IsSoundArena nodes.now }
+        ensures { result ≡ edges_ahead D.descending (forest_of nodes.now) ahead.items }
+    {
+        NodeEdges {
+            nodes,
+            ahead,
+            descent: PhantomData,
+        }
+    }
+
+    /// The next edge.
+    pub fn next(&mut self) -> Result<Option<Edge>, OutOfMemory>
+        ensures { IfOk result (λ edge. MatchOption edge (self.old ≡ []) (λ edge. self.old
+            ≡ edge ∷ self.new)) }
+    {
+        let Some(entry) = self.ahead.pop() else {
+            return Ok(None);
+        };
+        let edge = begin::<D>(self.nodes, entry, &mut self.ahead)?;
+        Ok(Some(edge))
+    }
+}
+
+/// The first edge of an entry; pushes the others.
+fn begin<D: Descent>(
+    nodes: &[TreeNode],
+    entry: Entry,
+    ahead: &mut Vec<Entry>,
+) -> Result<Edge, OutOfMemory>
+    requires { IsSoundArena nodes.now }
+    ensures { IfOk result (λ edge. edge ∷ edges_ahead D.descending (forest_of nodes.now)
+        ahead.new.items ≡ entry_edges D.descending (forest_of nodes.now) entry
+        ++ edges_ahead D.descending (forest_of nodes.now) ahead.old.items) }
+{
+    match entry {
+        Entry::Row {
+            first,
+            marked,
+            alone,
+        } => {
+            push_after::<D>(nodes, first, marked, alone, ahead)?;
+            Ok(Edge::Open { id: first, marked })
+        }
+        Entry::End { id } => Ok(Edge::Close { id }),
+    }
+}
+
+/// The mark of a node.
+fn mark_of<D: Descent>(nodes: &[TreeNode], id: NodeId) -> bool
+    requires { IsSoundArena nodes.now }
+    ensures { result ≡ mark_of D.descending (forest_of nodes.now) id }
+{
+    let Some(parent) = parent_id(nodes, &id) else {
+        return false;
+    };
+    match find_node(nodes, parent) {
+        Some(above) => D::mark(&above.content),
+        None => false,
+    }
+}
+
+/// Pushes what follows the opening of a node.
+fn push_after<D: Descent>(
+    nodes: &[TreeNode],
+    id: NodeId,
+    marked: bool,
+    alone: bool,
+    ahead: &mut Vec<Entry>,
+) -> Result<(), OutOfMemory>
+    requires { IsSoundArena nodes.now }
+    ensures { OnOk result (Open id marked ∷ edges_ahead D.descending (forest_of nodes.now)
+        ahead.new.items ≡ entry_edges D.descending (forest_of nodes.now) (Row id marked alone)
+        ++ edges_ahead D.descending (forest_of nodes.now) ahead.old.items) }
+{
+    let Some(node) = find_node(nodes, id) else {
+        return Ok(());
+    };
+    push_row::<D>(nodes, next_of(node, alone), marked, false, ahead)?;
+    push_inside::<D>(nodes, id, node, ahead)
+}
+
+/// Who follows the node, unless that is `alone`.
+fn next_of(node: &TreeNode, alone: bool) -> Option<NodeId>
+    ensures { result ≡ (if alone then None else node.now.next_sibling) }
+{
+    if alone {
+        return None;
+    }
+    node.next_sibling.get()
+}
+
+/// Pushes what is entered of a node, and its closing edge.
+fn push_inside<D: Descent>(
+    nodes: &[TreeNode],
+    id: NodeId,
+    node: &TreeNode,
+    ahead: &mut Vec<Entry>,
+) -> Result<(), OutOfMemory>
+    requires sound { IsSoundArena nodes.now }
+    requires node { IsNodeOf (forest_of nodes.now) id node.now }
+    ensures { Pushes result D.descending (forest_of nodes.now) ahead.old.items ahead.new.items
+        (content_edges D.descending (forest_of nodes.now) id node.now.content) }
+{
+    match D::inside(&node.content) {
+        Entered::Nothing => Ok(()),
+        Entered::Children => push_children::<D>(nodes, id, node, ahead),
+        Entered::All => {
+            push_children::<D>(nodes, id, node, ahead)?;
+            push_row::<D>(nodes, node.content.template_contents(), false, true, ahead)
+        }
+    }
+}
+
+/// Pushes the children of a node, and its closing edge.
+fn push_children<D: Descent>(
+    nodes: &[TreeNode],
+    id: NodeId,
+    node: &TreeNode,
+    ahead: &mut Vec<Entry>,
+) -> Result<(), OutOfMemory>
+    requires sound { IsSoundArena nodes.now }
+    requires node { IsNodeOf (forest_of nodes.now) id node.now }
+    ensures { Pushes result D.descending (forest_of nodes.now) ahead.old.items ahead.new.items
+        (inner_edges D.descending (forest_of nodes.now) id node.now.content) }
+{
+    push(ahead, Entry::End { id })?;
+    let first = node.first_child.get();
+    push_row::<D>(nodes, first, D::mark(&node.content), false, ahead)
+}
+
+/// Pushes a node, alone or with its later siblings.
+fn push_row<D: Descent>(
+    nodes: &[TreeNode],
+    first: Option<NodeId>,
+    marked: bool,
+    alone: bool,
+    ahead: &mut Vec<Entry>,
+) -> Result<(), OutOfMemory>
+    ensures { Pushes result D.descending (forest_of nodes.now) ahead.old.items ahead.new.items
+        (row_edges D.descending (forest_of nodes.now) marked alone first) }
+{
+    if let Some(first) = first {
+        push(
+            ahead,
+            Entry::Row {
+                first,
+                marked,
+                alone,
+            },
+        )?;
+    }
+    Ok(())
+}
+
+/// Pushes one entry.
+fn push(ahead: &mut Vec<Entry>, entry: Entry) -> Result<(), OutOfMemory>
+    ensures { OnOk result (ahead.new.items ≡ ahead.old.items ++ entry ∷ []) }
+{
+    match ahead.push(entry) {
+        Ok(()) => Ok(()),
+        Err(_) => Err(OutOfMemory),
+    }
+}
