@@ -20,7 +20,8 @@ use Rattle.dom_select.specs.Leftward.{ends_at, left_of, line}
 use Rattle.dom_select.specs.Meaning.{ChainMatches, Holds}
 use Rattle.dom_select.proofs.FollowLemmas.{stands_precedes}
 use Rattle.dom_select.proofs.ReachLemmas.{SomeOnLine, from_line, to_line, line_some, line_none, from_chain, to_chain}
-use Rattle.dom_index.specs.FlagRows.{AreFlags, AreUpward, HasLeft, IsUpward, Propagates, PropagatesFrom, StepsReach, compound_at, is_deep, reached_at}
+use Rattle.dom_index.specs.FlagRows.{AreFlags, AreUpward, HasLeft, IsUpward, Propagates, PropagatesFrom, StepsReach, compound_at, reached_at}
+use Rattle.dom_select.specs.Descents.{is_deep}
 use Rattle.dom_index.specs.NodeSets.{may_be_operand}
 use Rattle.dom_index.proofs.ChainLemmas.{may_itself, may_serve, must_serve, reached_fit, sparing_here, sparing_there, both_true}
 use Rattle.dom_index.proofs.ForwardLemmas.{decided_by}

@@ -35,13 +35,6 @@ IsUpward Child = Unit {0}
 IsUpward Adjacent = ⊥
 IsUpward Sibling = ⊥
 
--- the left operands are all those above
-abbrev pub is_deep : Combinator → Bool
-is_deep Descendant = true
-is_deep Child = false
-is_deep Adjacent = false
-is_deep Sibling = false
-
 abbrev pub AreUpward : List (Combinator × CompoundSelector) → Type 0
 AreUpward steps = (j : ℕ) (s : Combinator × CompoundSelector) → slice_get steps j ≡ Some s → IsUpward s.0
 

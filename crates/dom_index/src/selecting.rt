@@ -173,109 +173,63 @@ fn push_node<'a>(nodes: &mut Vec<NodeRef<'a>>, node: &NodeRef<'a>) -> Result<(),
 /// Whether the test of one candidate may visit all nodes for each of them: by descendant or `~`
 /// combinators in `:has`, or by lists within lists.
 fn needs_index(selectors: &[Selector]) -> bool {
-    for selector in selectors {
-        if is_costly(&selector.first) {
-            return true;
-        }
-        for step in &selector.rest {
-            if is_costly(&step.compound) {
-                return true;
-            }
-        }
-    }
-    false
+    selectors.iter().any(|selector| {
+        is_costly(&selector.first) || selector.rest.iter().any(|step| is_costly(&step.compound))
+    })
 }
 
 fn is_costly(compound: &Compound) -> bool {
-    for list in &compound.nested {
-        match list {
-            Nested::Has(selectors) => {
-                if has_lists(selectors) || relative_is_loose(selectors) {
-                    return true;
-                }
-            }
-            Nested::Is(selectors) | Nested::Not(selectors) => {
-                if has_lists(selectors) {
-                    return true;
-                }
-            }
-        }
-    }
-    false
+    compound.nested.iter().any(|list| match list {
+        Nested::Has(selectors) => has_lists(selectors) || relative_is_loose(selectors),
+        Nested::Is(selectors) | Nested::Not(selectors) => has_lists(selectors),
+    })
 }
 
 /// Whether a relative selector has a descendant or `~` combinator, the first one among them.
 fn relative_is_loose(selectors: &[Selector]) -> bool {
-    for selector in selectors {
-        if is_loose(selector.lead) || has_loose_step(&selector.rest) {
-            return true;
-        }
-    }
-    false
+    selectors.iter().any(|selector| is_loose(selector.lead) || has_loose_step(&selector.rest))
 }
 
 /// Whether a compound of the selectors has lists of its own.
 fn has_lists(selectors: &[Selector]) -> bool {
-    for selector in selectors {
-        if !selector.first.nested.is_empty() {
-            return true;
-        }
-        for step in &selector.rest {
-            if !step.compound.nested.is_empty() {
-                return true;
-            }
-        }
-    }
-    false
+    selectors.iter().any(|selector| {
+        !selector.first.nested.is_empty()
+            || selector
+                .rest
+                .iter()
+                .any(|step| !step.compound.nested.is_empty())
+    })
 }
 
 /// Whether the test of one candidate may visit more than a few nodes: by `:has`, or by descendant
 /// or `~` combinators.
 fn needs_budget(selectors: &[Selector]) -> bool {
-    for selector in selectors {
-        if has_loose_step(&selector.rest) || lists_need_budget(&selector.first) {
-            return true;
-        }
-        for step in &selector.rest {
-            if lists_need_budget(&step.compound) {
-                return true;
-            }
-        }
-    }
-    false
+    selectors.iter().any(|selector| {
+        has_loose_step(&selector.rest)
+            || lists_need_budget(&selector.first)
+            || selector
+                .rest
+                .iter()
+                .any(|step| lists_need_budget(&step.compound))
+    })
 }
 
 fn lists_need_budget(compound: &Compound) -> bool {
-    for list in &compound.nested {
-        match list {
-            Nested::Has(_) => {
-                return true;
-            }
-            Nested::Is(selectors) | Nested::Not(selectors) => {
-                for selector in selectors {
-                    if has_loose_step(&selector.rest) {
-                        return true;
-                    }
-                }
-            }
+    compound.nested.iter().any(|list| match list {
+        Nested::Has(_) => true,
+        Nested::Is(selectors) | Nested::Not(selectors) => {
+            selectors
+                .iter()
+                .any(|selector| has_loose_step(&selector.rest))
         }
-    }
-    false
+    })
 }
 
 fn has_loose_step(steps: &[Step]) -> bool {
-    for step in steps {
-        if is_loose(step.combinator) {
-            return true;
-        }
-    }
-    false
+    steps.iter().any(|step| is_loose(step.combinator))
 }
 
 /// Whether the left operand may be any number of nodes away: a descendant or `~` combinator.
 fn is_loose(combinator: Combinator) -> bool {
-    match combinator {
-        Combinator::Descendant | Combinator::Sibling => true,
-        Combinator::Child | Combinator::Adjacent => false,
-    }
+    matches!(combinator, Combinator::Descendant | Combinator::Sibling)
 }

@@ -8,7 +8,7 @@ ghost use Rattle.dom_links.specs.Trees.{walk_below};
 ghost use Rattle.dom_selectors.specs.Spelling.{Decides};
 ghost use Rattle.dom_selectors.specs.ValuesAsTrees.{read_list};
 ghost use Rattle.dom_select.specs.Selected.{FiltersTo, Selected};
-ghost use Rattle.dom_index.specs.FlagRows.{is_deep, reached_at, top};
+ghost use Rattle.dom_index.specs.FlagRows.{reached_at, top};
 ghost use Rattle.dom_index.specs.NodeTests.{ArePlain};
 ghost use Rattle.dom_index.specs.Tracks.{AreFlagsAt, AreFollowing, ArePrepared, AreTracked};
 ghost use Rattle.dom_index.specs.Tracks.{FlagsBelow, IsFollowing, IsLastRow, IsOnWay, IsReached};
@@ -20,7 +20,8 @@ use crate::preorder::forest_laws;
 use dom_nodes::fault::OutOfMemory;
 use dom_nodes::node_id::NodeId;
 use dom_select::matcher::caches::SelectorCaches;
-use dom_selectors::syntax::{Combinator, Selector};
+use dom_select::matcher::chains::is_deep;
+use dom_selectors::syntax::Selector;
 use dom_trees::tree::Tree;
 
 /// The path to a node from the ancestor that has no parent, and a row of flags for each node of it:
@@ -65,17 +66,6 @@ fn take_row(chain: &Chain<'_>, left: &mut u64) -> Result<(), Halt> {
     }
     *left -= chain.row_tests;
     Ok(())
-}
-
-/// Whether all nodes above are left operands of the combinator.
-#[inline(always)]
-fn is_deep(combinator: Combinator) -> bool
-    ensures { result ≡ is_deep combinator }
-{
-    match combinator {
-        Combinator::Descendant => true,
-        Combinator::Child | Combinator::Adjacent | Combinator::Sibling => false,
-    }
 }
 
 /// Whether the compound of that number is reached at a node with these flags: the first one is

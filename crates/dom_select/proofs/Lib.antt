@@ -3,6 +3,7 @@ pub mod AskLemmas
 pub mod ChildRowLemmas
 pub mod DescentLemmas
 pub mod EndLemmas
+pub mod FilterLemmas
 pub mod FollowLemmas
 pub mod HasLemmas
 pub mod JoinedLemmas
@@ -12,13 +13,14 @@ pub mod MiniMatchLemmas
 pub mod OnwardLemmas
 pub mod PathFlagLemmas
 pub mod PathLemmas
-pub mod SearchLemmas
-pub mod FilterLemmas
-pub mod ReachLemmas
 pub mod PositionLemmas
+pub mod ReachLemmas
 pub mod RightLemmas
 pub mod RowLemmas
+pub mod SearchLemmas
 pub mod SelectionLemmas
 pub mod SeveralLemmas
 pub mod StepLemmas
+pub mod TypeCountLemmas
+pub mod TypeIndexLemmas
 pub mod TypeLemmas

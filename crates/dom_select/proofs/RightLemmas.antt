@@ -1,5 +1,5 @@
 -- The nodes to the right of a node that a combinator goes to in one step.
-use Rattle.std.proofs.Common.{◌≡◌, ◌⊎◌, ◌↔◌, ◌<◌, ◌≤◌, ℕ, List, [], ◌∷◌, length, Bool, true, false, Option, Some, None, inl, inr, refl, sym, ap, ◌∙◌, subst, true≢false}
+use Rattle.std.proofs.Common.{◌≡◌, ◌⊎◌, ◌↔◌, ℕ, List, [], ◌∷◌, length, Bool, true, false, Option, Some, None, inl, inr, refl, sym, ap, ◌∙◌, subst, true≢false}
 use Rattle.std.specs.Prelude.{◌==◌, if◌then◌else◌}
 use Rattle.std.proofs.lemmas.Bool.{cases_Bool, cases_lt, eqb-true, eq-eqb, or_left, or_right, or_cases}
 use Rattle.std.proofs.lemmas.Option.{none-some}
@@ -33,12 +33,12 @@ module _ (forest : Forest) (lines : AreLines forest) (once : StandsOnce forest) 
     | inr past ↦ absurd (none-some m (sym alone ∙ ap (λ ns. neighbour ns n) (sym (lines.unknown_alone n past).1) ∙ e))
   ]
 
-  back_from : (n m : ℕ) → after (siblings forest n) n ≡ Some m → before (siblings forest m) m ≡ Some n
+  pub back_from : (n m : ℕ) → after (siblings forest n) n ≡ Some m → before (siblings forest m) m ≡ Some n
   back_from n m e =
       let same = Beside.same_siblings (beside forest n m once (after-stands (siblings forest n) n m e)) in
       ap (λ ns. before ns m) same ∙ before_after (siblings forest n) n m (siblings_once forest n once) (known n m after refl e) e
 
-  forth_from : (n m : ℕ) → before (siblings forest n) n ≡ Some m → after (siblings forest m) m ≡ Some n
+  pub forth_from : (n m : ℕ) → before (siblings forest n) n ≡ Some m → after (siblings forest m) m ≡ Some n
   forth_from n m e =
       let same = Beside.same_siblings (beside forest n m once (before-stands (siblings forest n) n m e)) in
       ap (λ ns. after ns m) same ∙ after_before (siblings forest n) n m (siblings_once forest n once) (known n m before refl e) e

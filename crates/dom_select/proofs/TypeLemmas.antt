@@ -1,14 +1,13 @@
 -- Selectors that are a type and nothing else.
-use Rattle.std.proofs.Common.{◌≡◌, ◌↔◌, ◌<◌, ◌≤◌, ℕ, Bool, true, false, List, [], ◌∷◌, Option, None, Some, IfSome, length, map, slice_get, get_or, sym, ap, ◌∙◌, refl, subst, inl, inr, MatchBool, true≢false, arith}
+use Rattle.std.proofs.Common.{◌≡◌, ◌↔◌, ◌<◌, ◌≤◌, ℕ, Bool, true, false, List, [], ◌∷◌, Option, None, Some, IfSome, length, map, slice_get, get_or, sym, ap, ◌∙◌, refl, subst, inl, inr, MatchBool, arith}
 use Rattle.std.specs.Borrow.{Bor}
 use Rattle.std.specs.Option.{option_map_or}
-use Rattle.std.specs.Prelude.{◌==◌, IsTrue, not}
+use Rattle.std.specs.Prelude.{◌==◌, ◌||◌, ◌⊎◌, IsTrue}
 use Rattle.dom_nodes.specs.declared.node_data.NodeData.{NodeData}
 use Rattle.dom_nodes.specs.declared.node_data.NodeData.TheVariants.{Element as AnElement}
 use Rattle.dom_nodes.specs.Kinds.{is_element}
 use Rattle.dom_links.specs.Forest.{Forest}
 use Rattle.dom_links.specs.ListMoves.{element_at}
-use Rattle.dom_selectors.specs.declared.syntax.Compound.{Compound}
 use Rattle.dom_selectors.specs.declared.syntax.Part.{Part}
 use Rattle.dom_selectors.specs.declared.syntax.Selector.{Selector, out-Selector}
 use Rattle.dom_selectors.specs.ListsAsTrees.{selector_list, steps_of}
@@ -16,10 +15,11 @@ use Rattle.dom_selectors.specs.Syntax.{SelectorList, alternative, compound, no_l
 use Rattle.dom_selectors.specs.ValuesAsTrees.{read_compound, read_list, read_step}
 use Rattle.dom_selectors.proofs.Layers.{read_selector_is}
 use Rattle.dom_select.specs.Descendants.{IsMatch}
-use Rattle.dom_select.specs.Meaning.{Holds, Means, MeansType, PartsHold}
+use Rattle.dom_select.specs.Meaning.{HasType, Means, MeansType, PartsHold}
 use Rattle.dom_select.specs.Parts.{node_passes}
-use Rattle.dom_select.proofs.EndLemmas.{begins_as}
 use Rattle.dom_select.proofs.FollowLemmas.{is_nil}
+use Rattle.dom_select.proofs.MeaningLemmas.{decided, decides, one_part, parts_known, passes_known}
+use Rattle.std.proofs.lemmas.Bool.Decides.{Decides-or}
 
 -- a selector that is a type alone means what bears the name
 pub means_type : (name : List ℕ) (s : Selector) → read_compound (out-Selector s).first ≡ compound (Part.«Type» name ∷ []) no_lists → (out-Selector s).rest.items ≡ [] → MeansType name (read_list (s ∷ []))
@@ -59,11 +59,19 @@ wanted_by_type name list forest n false means h = λ match. h ((means forest n).
 pub bears_wanted : (name : List ℕ) (list : SelectorList) (forest : Forest) (n : ℕ) → MeansType name list → PartsHold (Part.«Type» name ∷ []) forest n → IsMatch list forest n
 bears_wanted name list forest n means held = (type_is_element name forest n held, (means forest n).1 held)
 
--- a compound that begins with a type holds of nothing that doesn't bear its name
-pub lacks_first : (name : List ℕ) (c : Compound) (parts : List Part) (p : Part) (forest : Forest) (n : ℕ) (b : Bool) → parts ≡ c.parts.items → Some p ≡ slice_get parts 0 → p ≡ Part.«Type» name →
-    MatchBool b (PartsHold (Part.«Type» name ∷ []) forest n) (PartsHold (Part.«Type» name ∷ []) forest n → ⊥) → IsTrue (not b) → Holds (read_compound c) forest n → ⊥
-lacks_first name c parts p forest n b same is named out lacks held = bears b out lacks
-  where
-    bears : (b : Bool) → MatchBool b (PartsHold (Part.«Type» name ∷ []) forest n) (PartsHold (Part.«Type» name ∷ []) forest n → ⊥) → IsTrue (not b) → ⊥
-    bears true bears_it lacks = true≢false (sym lacks)
-    bears false none lacks = none (begins_as name c parts p same is named forest n held)
+type_known : (name : List ℕ) (forest : Forest) (n : ℕ) (node : NodeData) → slice_get forest.content n ≡ Some node → IsTrue (node_passes (Part.«Type» name) node) ↔ HasType name forest n
+type_known name forest n node e =
+    let part = Part.«Type» name in
+    let b = node_passes part node in
+    decided b (HasType name forest n) (parts_known _ forest n node e b (one_part part forest n b (passes_known part forest n node b e refl)))
+
+-- a node that was looked up bears one of two names as a type
+pub either_known : (one other : List ℕ) (forest : Forest) (n : ℕ) (node : NodeData) (b : Bool) → slice_get forest.content n ≡ Some node → b ≡ (node_passes (Part.«Type» one) node || node_passes (Part.«Type» other) node) →
+    MatchBool b (HasType one forest n ⊎ HasType other forest n) (HasType one forest n ⊎ HasType other forest n → ⊥)
+either_known one other forest n node b e is =
+    decides b (HasType one forest n ⊎ HasType other forest n)
+    (subst (λ x. IsTrue x ↔ (HasType one forest n ⊎ HasType other forest n)) (sym is) (Decides-or (node_passes (Part.«Type» one) node) (node_passes (Part.«Type» other) node) (type_known one forest n node e) (type_known other forest n node e)))
+
+pub either_is_element : (one other : List ℕ) (forest : Forest) (n : ℕ) → HasType one forest n ⊎ HasType other forest n → element_at forest n ≡ true
+either_is_element one other forest n (inl held) = type_is_element one forest n held
+either_is_element one other forest n (inr held) = type_is_element other forest n held

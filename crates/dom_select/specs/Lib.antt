@@ -20,3 +20,4 @@ pub mod Selected
 pub mod Stops
 pub mod Texts
 pub mod Traversals
+pub mod TypeCounts

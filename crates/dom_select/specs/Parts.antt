@@ -1,5 +1,5 @@
 -- When a part of a compound holds of a node.
-use Rattle.std.specs.Prelude.{◌≡◌, ◌↔◌, ◌<◌, ◌+◌, [], ◌∷◌, count_by, slice_get, ℕ, Bool, true, false, ◌&&◌, List, Option, None, Some, codes}
+use Rattle.std.specs.Prelude.{◌≡◌, ◌↔◌, ◌<◌, [], ◌∷◌, slice_get, ℕ, Bool, true, false, ◌&&◌, List, Option, None, Some, codes}
 use Rattle.std.specs.List.{list_any}
 use Rattle.std.specs.Option.{option_map_or}
 use Rattle.std.specs.Str.{bytes_eq, str_to_ascii_lowercase}
@@ -14,8 +14,6 @@ use Rattle.dom_nodes.specs.declared.node_data.NodeData.TheVariants.{Element as A
 use Rattle.dom_nodes.specs.Words.{class_words, is_among}
 use Rattle.dom_links.specs.Forest.{Forest}
 use Rattle.dom_links.specs.Indexes.{IsNth, index_at}
-use Rattle.dom_links.specs.ListMoves.{element_at}
-use Rattle.dom_links.specs.Walk.{later}
 use Rattle.dom_trees.specs.Views.{root_element_at}
 use Rattle.dom_selectors.specs.Comparisons.{passes}
 use Rattle.dom_select.specs.Texts.{empty_at, has_text_at, joined_contains_at, only_text_at}
@@ -101,7 +99,3 @@ ContainsWhatItHas = (forest : Forest) (text : List ℕ) (n : ℕ) → PartHolds 
 -- of the indexes, which are above 0, this is the one that `an+b` stands for; it stands for none where this is 0
 abbrev pub AsksFor : Nth → ℕ → Type 0
 AsksFor nth index = (i : ℕ) → 0 < i → IsNth nth i ↔ (i ≡ index)
-
--- the index of a node among the elements that are its siblings, from the first of them or from the last
-abbrev pub element_index : Forest → Bool → ℕ → ℕ
-element_index forest from_first n = 1 + count_by (element_at forest) (later forest from_first n)

@@ -17,7 +17,7 @@ use std::alloc::Global;
 use std::marker::Model;
 
 pub mod caches;
-pub(crate) mod chains;
+pub mod chains;
 pub mod compounds;
 pub mod descendants;
 pub(crate) mod has;
@@ -30,6 +30,8 @@ pub(crate) mod roots;
 pub mod several;
 pub(crate) mod stops;
 pub(crate) mod texts;
+pub(crate) mod type_counts;
+pub(crate) mod type_indexes;
 
 /// What a selector's text stands for. A contract sees it as the list of its selectors.
 #[derive(Drop)]

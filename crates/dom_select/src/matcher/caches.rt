@@ -4,10 +4,14 @@ ghost use Rattle.std.specs.Prelude.{◌≡◌, ◌<◌, ◌≤◌, ℕ, MatchOpt
 ghost use Rattle.dom_links.specs.Indexes.{AreIndexes, index_at, index_known};
 ghost use Rattle.dom_select.specs.KeptIndexes.{IsKept};
 
+use crate::matcher::type_indexes::note_types;
 use dom_links::indexes::{IndexKind, index_at, index_with, note_indexes};
 use dom_nodes::node_id::NodeId;
 use dom_trees::tree::Tree;
 use std::marker::Model;
+
+/// How many siblings an index that isn't kept counts for at least.
+const FEW: u64 = 16;
 
 /// The sibling indexes that selectors asked for in one tree. It borrows the tree, so that no edit
 /// comes between two questions. A contract sees the tree's forest: an index that is kept is right,
@@ -124,12 +128,13 @@ impl<'t> SelectorCaches<'t> {
         matches!(self.waits, Some(0))
     }
 
-    /// Notes how many siblings were counted for an index that isn't kept.
+    /// Notes how many siblings were counted for an index that isn't kept: a few at least, as many
+    /// of another type may have been passed.
     fn note_counted(&mut self, count: u64)
         ensures { self.new ≡ self.old }
     {
         if let Some(more) = self.waits {
-            self.waits = Some(more.saturating_sub(count));
+            self.waits = Some(more.saturating_sub(count.max(FEW)));
         }
     }
 
@@ -171,6 +176,20 @@ fn index_in(tree: &Tree, known: &mut Vec<u32>, hits: &mut u64, id: &NodeId, kind
         *hits = hits.saturating_add(1);
         return index;
     }
+    note_types(tree, id, kind, known);
+    match kept(known, id) {
+        Some(index) => index,
+        None => count_on(tree, known, id, kind),
+    }
+}
+
+/// The same by counting as far as an index that is known. What was counted is noted.
+fn count_on(tree: &Tree, known: &mut [u32], id: &NodeId, kind: IndexKind) -> u64
+    requires { AreIndexes kind tree.now known.old }
+    ensures is { result ≡ index_at kind tree.now id.now }
+    ensures few { result ≤ 4294967295 }
+    ensures known { AreIndexes kind tree.now known.new }
+{
     let nodes = tree.nodes();
     let index = index_with(nodes, id, kind, known);
     note_indexes(nodes, id, kind, index, known);
@@ -190,7 +209,7 @@ fn make_room(known: &mut Vec<u32>, len: usize)
 }
 
 /// The index that is kept for a node.
-fn kept(known: &[u32], id: &NodeId) -> Option<u64>
+pub(crate) fn kept(known: &[u32], id: &NodeId) -> Option<u64>
     ensures { MatchOption result (Unit {0}) (IsKept known.now id.now) }
 {
     match known.get(id.value()) {

@@ -5,6 +5,7 @@ ghost use Rattle.dom_links.specs.Laws.{AreLines};
 ghost use Rattle.dom_select.specs.Leftward.{ends_at, left_of};
 ghost use Rattle.dom_select.specs.Meaning.{MayBeOperand, CombinatorHolds};
 ghost use Rattle.dom_select.specs.Chains.{binding_level};
+ghost use Rattle.dom_select.specs.Descents.{is_deep};
 
 use crate::matcher::parts::element_at;
 use dom_links::iters::{next_sibling_id, parent_id, prev_sibling_id};
@@ -12,6 +13,17 @@ use dom_links::laws::lines_of_a_forest;
 use dom_nodes::node_id::NodeId;
 use dom_selectors::syntax::Combinator;
 use dom_trees::tree::Tree;
+
+/// Whether all nodes below are right operands of the combinator.
+#[inline(always)]
+pub fn is_deep(combinator: Combinator) -> bool
+    ensures { result ≡ is_deep combinator }
+{
+    match combinator {
+        Combinator::Descendant => true,
+        Combinator::Child | Combinator::Adjacent | Combinator::Sibling => false,
+    }
+}
 
 /// Whether the node may stand beside `+` or `~`.
 #[inline(always)]

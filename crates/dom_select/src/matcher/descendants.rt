@@ -13,7 +13,7 @@ ghost use Rattle.dom_selectors.specs.Spelling.{Decides};
 
 use crate::matcher::Matcher;
 use crate::matcher::caches::SelectorCaches;
-use crate::matcher::matches::{has_neither_type, has_type};
+use crate::matcher::matches::{has_either_type, has_type};
 use crate::matcher::parts::element_at;
 use crate::matcher::stops::{Never, Stop, answered};
 use dom_links::iters::DescendantNodes;
@@ -200,12 +200,13 @@ fn is_match_of_types<S: Stop>(
     ensures is { IfAnswered result (IsMatch matcher.now caches.old id) }
     ensures same { caches.new ≡ caches.old }
 {
-    if let Some((one, other)) = names {
-        if has_neither_type(caches.tree(), &id, one, other) {
-            return Ok(false);
-        }
+    let Some((one, other)) = names else {
+        return is_selected_unless::<S>(matcher, caches, id);
+    };
+    if !has_either_type(caches.tree(), &id, one, other) {
+        return Ok(false);
     }
-    is_selected_unless::<S>(matcher, caches, id)
+    matcher.try_match::<S>(caches, id)
 }
 
 /// Whether the node is an element that the selector means.

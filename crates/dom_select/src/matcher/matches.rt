@@ -3,7 +3,7 @@
 //! the nearest node from which they can be followed is taken and never given up: what stands on the
 //! left of a farther one stands on the left of that one too.
 
-ghost use Rattle.std.specs.Prelude.{◌≡◌, ◌↔◌, ◌∷◌, ◌<◌, [], IfOk, IfSome, IsTrue, Some, map};
+ghost use Rattle.std.specs.Prelude.{◌≡◌, ◌↔◌, ◌∷◌, ◌<◌, ◌⊎◌, [], IfOk, IfSome, IsTrue, Some, map};
 ghost use Rattle.dom_selectors.specs.declared.syntax.Combinator.TheVariants.{Descendant};
 ghost use Rattle.dom_selectors.specs.ListsAsTrees.{lists_of};
 ghost use Rattle.dom_selectors.specs.Spelling.{Decides};
@@ -24,7 +24,7 @@ use crate::matcher::has::{
     Start, first_right, first_search_root, is_joined, is_near, may_be_subject, next_right,
     next_search_root,
 };
-use crate::matcher::parts::{element_at, is_named_node, parts_hold};
+use crate::matcher::parts::{element_at, is_named_either, is_named_node, parts_hold};
 use crate::matcher::stops::{Never, Stop, answered};
 use dom_nodes::node_id::NodeId;
 use dom_selectors::selector_name::SelectorName;
@@ -111,38 +111,23 @@ pub(crate) fn has_type(tree: &Tree, id: &NodeId, name: &SelectorName) -> bool
     }
 }
 
-/// Whether the node bears none of the names as a type.
+/// Whether the node bears one of the names as a type.
 #[inline(always)]
-pub(crate) fn has_neither_type(
+pub(crate) fn has_either_type(
     tree: &Tree,
     id: &NodeId,
     one: &SelectorName,
     other: &SelectorName,
 ) -> bool
-    ensures one { IsTrue result → HasType one.now tree.now id.now → ⊥ }
-    ensures other { IsTrue result → HasType other.now tree.now id.now → ⊥ }
+    ensures { Decides result (HasType one.now tree.now id.now ⊎ HasType other.now tree.now id.now) }
 {
-    if has_type(tree, id, one) {
-        return false;
-    }
-    !has_type(tree, id, other)
-}
-
-/// Whether the compound begins with a type whose name the node doesn't bear.
-fn fails_type(compound: &Compound, tree: &Tree, id: &NodeId) -> bool
-    ensures { IsTrue result → Holds (read_compound compound.now) tree.now id.now → ⊥ }
-{
-    let Some(part) = compound.parts.first() else {
-        return false;
-    };
-    match part {
-        Part::Type(name) => !has_type(tree, id, name),
-        _ => false,
+    match tree.tree_node(id) {
+        Some(found) => is_named_either(&found.content, one, other),
+        None => false,
     }
 }
 
-/// Whether the compound holds of the node. Names come first, since most nodes bear another one; of
-/// a type alone nothing else is looked at.
+/// Whether the compound holds of the node. Of a type alone nothing else is looked at.
 #[cycle(matching)]
 fn holds<S: Stop>(
     compound: &Compound,
@@ -152,13 +137,9 @@ fn holds<S: Stop>(
     ensures is { IfAnswered result (Holds (read_compound compound.now) caches.old id) }
     ensures kept { caches.new ≡ caches.old }
 {
-    let tree = caches.tree();
     S::count_test(caches)?;
     if let Some(name) = sole_type_selector(compound) {
-        return Ok(has_type(tree, &id, name));
-    }
-    if fails_type(compound, tree, &id) {
-        return Ok(false);
+        return Ok(has_type(caches.tree(), &id, name));
     }
     if !parts_hold(&compound.parts, caches, &id) {
         return Ok(false);

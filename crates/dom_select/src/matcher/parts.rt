@@ -46,6 +46,20 @@ pub(crate) fn is_named_node(node: &NodeData, name: &SelectorName) -> bool
     }
 }
 
+/// Whether the node is an element that bears one of the names as a type.
+#[inline(always)]
+pub(crate) fn is_named_either(node: &NodeData, one: &SelectorName, other: &SelectorName) -> bool
+    ensures { result ≡ (node_passes (Part.«Type» one.now) node.now
+        || node_passes (Part.«Type» other.now) node.now) }
+{
+    let NodeData::Element(element) = node else {
+        return false;
+    };
+    let ns = element.name.ns();
+    let local = element.name.local();
+    is_named(ns, local, one) || is_named(ns, local, other)
+}
+
 pub(crate) fn element_at(tree: &Tree, id: &NodeId) -> bool
     ensures { result ≡ element_at tree.now id.now }
 {
@@ -77,6 +91,7 @@ fn part_holds(part: &Part, caches: &mut SelectorCaches<'_>, id: &NodeId, node: &
 {
     let tree = caches.tree();
     match part {
+        Part::Type(name) => is_named_node(node, name),
         Part::Position(position) => has_position(*position, caches, id),
         Part::Empty => is_empty(tree, id),
         Part::OnlyText => is_only_text(tree, id),

@@ -2,23 +2,26 @@
 
 ghost use Rattle.std.specs.Prelude.{◌≡◌, ◌==◌, IfSome};
 ghost use Rattle.dom_selectors.specs.Spelling.{Decides};
-ghost use Rattle.dom_links.specs.Indexes.{IsNth, index_at};
+ghost use Rattle.dom_links.specs.Indexes.{IsNth, counts, index_at, is_from_first, same_type};
 ghost use Rattle.dom_links.specs.Lists.{after};
 ghost use Rattle.dom_links.specs.Forest.{siblings};
 ghost use Rattle.dom_links.specs.Trees.{in_order};
-ghost use Rattle.dom_select.specs.Parts.{AsksFor, element_index};
+ghost use Rattle.dom_select.specs.Parts.{AsksFor};
 
 use crate::matcher::caches::SelectorCaches;
 use crate::matcher::chains::line_laws;
 use crate::matcher::parts::element_at;
-use dom_links::indexes::{IndexKind, Nth, is_nth};
+use dom_links::indexes::{IndexKind, Nth, are_of_one_type, is_nth};
 use dom_links::iters::{next_sibling_id, prev_sibling_id};
 use dom_nodes::node_id::NodeId;
 use dom_selectors::syntax::Position;
 use dom_trees::tree::Tree;
 
-/// Up to this index elements are counted anew at each node.
+/// Up to this index siblings are counted anew at each node.
 const NEAR: u32 = 8;
+
+/// So many siblings are looked at for that.
+const LOOKED_AT: u32 = 32;
 
 /// Whether the node has one of the indexes.
 #[inline(never)]
@@ -33,18 +36,14 @@ pub(crate) fn has_position(position: Position, caches: &mut SelectorCaches<'_>, 
     is_nth(position.nth, index)
 }
 
-/// The same, where a look at a few siblings decides it: one index is asked for, which is near the
-/// end, and all elements count.
+/// The same, where one index is asked for, which is near the end, and a look at a few siblings
+/// decides it.
 fn has_near_position(position: Position, tree: &Tree, id: NodeId) -> Option<bool>
     ensures { IfSome result (λ answer. Decides answer
         (IsNth position.nth (index_at position.kind tree.now id))) }
 {
     let index = sole_index(position.nth)?;
-    match position.kind {
-        IndexKind::Child => Some(has_index(tree, id, true, index)),
-        IndexKind::LastChild => Some(has_index(tree, id, false, index)),
-        IndexKind::OfType | IndexKind::LastOfType => None,
-    }
+    has_index(tree, id, position.kind, index)
 }
 
 /// The one index that is asked for, where it is near the end; 0 where none is.
@@ -63,32 +62,66 @@ fn sole_index(nth: Nth) -> Option<u32>
     Some(nth.b.magnitude)
 }
 
-/// Whether the node has this index among the elements, from the first sibling or from the last. No
-/// more elements are passed than that.
-fn has_index(tree: &Tree, id: NodeId, from_first: bool, index: u32) -> bool
-    ensures { result ≡ (element_index tree.now from_first id == index) }
+/// Whether the node has this index, where a few siblings decide it.
+fn has_index(tree: &Tree, id: NodeId, kind: IndexKind, index: u32) -> Option<bool>
+    ensures { IfSome result (λ answer. answer ≡ (index_at kind tree.now id == index)) }
 {
     line_laws(tree);
     if index == 0 {
-        return false;
+        return Some(false);
     }
+    let from_first = is_from_first(kind);
     let mut left = index - 1;
     let mut next = beside(tree, from_first, id);
-    while let Some(at) = next {
-        if element_at(tree, &at) {
+    for _ in 0..LOOKED_AT {
+        let Some(at) = next else {
+            return Some(left == 0);
+        };
+        if counts(tree, kind, id, at) {
             if left == 0 {
-                return false;
+                return Some(false);
             }
             left -= 1;
         }
         next = beside(tree, from_first, at);
     }
-    left == 0
+    None
+}
+
+fn is_from_first(kind: IndexKind) -> bool
+    ensures { result ≡ is_from_first kind }
+{
+    matches!(kind, IndexKind::Child | IndexKind::OfType)
+}
+
+/// Whether a sibling counts for the index of a node.
+#[inline(always)]
+fn counts(tree: &Tree, kind: IndexKind, id: NodeId, sibling: NodeId) -> bool
+    ensures { result ≡ counts kind tree.now id sibling }
+{
+    match kind {
+        IndexKind::Child | IndexKind::LastChild => element_at(tree, &sibling),
+        IndexKind::OfType | IndexKind::LastOfType => same_type(tree, id, sibling),
+    }
+}
+
+/// Whether both are elements of one type.
+#[inline(always)]
+fn same_type(tree: &Tree, one: NodeId, other: NodeId) -> bool
+    ensures { result ≡ same_type tree.now one other }
+{
+    let Some(node) = tree.tree_node(&one) else {
+        return false;
+    };
+    match tree.tree_node(&other) {
+        Some(found) => are_of_one_type(&node.content, &found.content),
+        None => false,
+    }
 }
 
 /// The sibling before the node, or the one after it.
 #[inline(always)]
-fn beside(tree: &Tree, before: bool, id: NodeId) -> Option<NodeId>
+pub(crate) fn beside(tree: &Tree, before: bool, id: NodeId) -> Option<NodeId>
     ensures { result ≡ after (in_order before (siblings tree.now id)) id }
 {
     if before {

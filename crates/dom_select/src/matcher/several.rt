@@ -1,6 +1,6 @@
 //! What a selector means below several nodes, each node once.
 
-ghost use Rattle.std.specs.Prelude.{◌≡◌, ◌-◌, ◌^◌, length, IfOk, IsSome};
+ghost use Rattle.std.specs.Prelude.{◌≡◌, length, IfOk};
 ghost use Rattle.std.specs.Iterator.{YieldsFirst, at_most, item_count};
 ghost use Rattle.dom_links.specs.Laws.{AreTrees};
 ghost use Rattle.dom_select.specs.Descendants.{GivesMatch, SelectsAll, SelectsUnless};
@@ -232,32 +232,15 @@ pub fn select_below_all(
     ensures { IfOk result (λ ids. Selected tree.now roots.now matcher.now ids.items) }
 {
     let mut caches = SelectorCaches::late(tree);
-    match select_all_unless::<Never>(tree, roots, matcher, &mut caches)? {
+    match select_unless::<Never>(tree, roots, matcher, &mut caches)? {
         Ok(matched) => Ok(matched),
         Err(never) => match never {},
     }
 }
 
-/// The same, or None where more than so many tests were needed: of a compound at a node, or of a
-/// node that `:has` or a combinator to the left steps to. 2^64 - 1 is no limit.
-pub fn select_within(
-    tree: &Tree,
-    roots: &[NodeId],
-    matcher: &Matcher,
-    steps: u64,
-) -> Result<Option<Vec<NodeId>>, OutOfMemory>
-    ensures selected { SelectsWithin result tree.now roots.now matcher.now }
-    ensures no_limit { steps ≡ 2 ^ 64 - 1 → IfOk result (λ found. IsSome found) }
-{
-    if steps == u64::MAX {
-        return Ok(Some(select_below_all(tree, roots, matcher)?));
-    }
-    let mut left = steps;
-    select_metered(tree, roots, matcher, &mut left)
-}
-
-/// The same, where `left` is how many tests may be made, and what is left of them when it returns.
-/// None where more were needed.
+/// The same, where `left` is how many tests may be made, of a compound at a node or of a node that
+/// `:has` or a combinator to the left steps to, and what is left of them when it returns. None where
+/// more were needed.
 pub fn select_metered(
     tree: &Tree,
     roots: &[NodeId],
@@ -294,7 +277,7 @@ fn type_tests(tree: &Tree, matcher: &Matcher) -> u64 {
     }
 }
 
-/// The same, if nothing stops a match.
+/// The elements below the roots that the selector means, each once, if nothing stops a match.
 fn select_unless<S: Stop>(
     tree: &Tree,
     roots: &[NodeId],
@@ -304,22 +287,9 @@ fn select_unless<S: Stop>(
     requires { caches.old ≡ tree.now }
     ensures { SelectsUnless result tree.now roots.now matcher.now }
 {
-    match roots {
-        [root] => select_below_unless::<S>(tree, root, matcher, caches),
-        _ => select_all_unless::<S>(tree, roots, matcher, caches),
+    if let [root] = roots {
+        return select_below_unless::<S>(tree, root, matcher, caches);
     }
-}
-
-/// The same, with marks.
-fn select_all_unless<S: Stop>(
-    tree: &Tree,
-    roots: &[NodeId],
-    matcher: &Matcher,
-    caches: &mut SelectorCaches<'_>,
-) -> Result<Result<Vec<NodeId>, S>, OutOfMemory>
-    requires { caches.old ≡ tree.now }
-    ensures { SelectsUnless result tree.now roots.now matcher.now }
-{
     let ids = first_occurrences(tree, Roots::Numbers(roots))?;
     collect_unless::<_, S>(tree, ids, matcher, caches)
 }

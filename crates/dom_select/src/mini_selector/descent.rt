@@ -4,31 +4,21 @@
 ghost use Rattle.std.specs.Prelude.{◌≡◌, ◌<◌, ◌++◌, None, [], false, length, true, IfOk, OnOk};
 ghost use Rattle.dom_links.specs.Forest.{forest_of};
 ghost use Rattle.dom_links.specs.Sound.{IsSoundArena};
-ghost use Rattle.dom_select.specs.Descents.{IsPassed, flags_after, goes_down, is_deep, waiting};
+ghost use Rattle.dom_select.specs.Descents.{IsPassed, flags_after, goes_down, waiting};
 ghost use Rattle.dom_select.specs.MiniPaths.{IsFound};
 ghost use Rattle.dom_select.specs.PathFlags.{is_led, one_if};
 
+use crate::matcher::chains::is_deep;
 use dom_links::iters::{find_node, node_at, predict_next};
 use dom_links::laws::{lines_of_a_forest, trees_of_a_forest};
 use dom_nodes::fault::OutOfMemory;
 use dom_nodes::node_data::{NodeData, TreeNode};
 use dom_nodes::node_id::NodeId;
 use dom_selectors::mini_selector::selector::MiniSelector;
-use dom_selectors::syntax::Combinator;
 use std::alloc::Global;
 
 /// A node that is still to be visited, and how many steps are matched above it.
 type Waiting = (NodeId, usize);
-
-/// Whether all nodes below are right operands of the combinator.
-fn is_deep(combinator: Combinator) -> bool
-    ensures { result ≡ is_deep combinator }
-{
-    match combinator {
-        Combinator::Descendant => true,
-        Combinator::Child | Combinator::Adjacent | Combinator::Sibling => false,
-    }
-}
 
 /// Whether each step is a descendant step.
 pub(crate) fn goes_down(path: &[MiniSelector<'_>]) -> bool

@@ -4,7 +4,7 @@ use dom_index::selecting::select_counted;
 use dom_markup::document::Document;
 use dom_nodes::node_id::NodeId;
 use dom_select::matcher::Matcher;
-use dom_select::matcher::several::select_within;
+use dom_select::matcher::several::select_metered;
 use dom_trees::tree::Tree;
 use std::test::Fail;
 
@@ -17,9 +17,10 @@ fn counted(tree: &Tree, matcher: &Matcher) -> Option<usize> {
     }
 }
 
-/// How many nodes the matcher selects within so many steps.
-fn within(tree: &Tree, matcher: &Matcher, steps: u64) -> Option<usize> {
-    match select_within(tree, &[NodeId::root()], matcher, steps) {
+/// How many nodes the matcher selects within so many tests.
+fn within(tree: &Tree, matcher: &Matcher, tests: u64) -> Option<usize> {
+    let mut left = tests;
+    match select_metered(tree, &[NodeId::root()], matcher, &mut left) {
         Ok(Some(ids)) => Some(ids.len()),
         _ => None,
     }

@@ -4,7 +4,7 @@ use Rattle.std.proofs.Common.{inl, inr}
 use Rattle.std.proofs.lemmas.Option.{slice_get_cases}
 use Rattle.dom_selectors.specs.declared.syntax.Step.{Step}
 use Rattle.dom_selectors.specs.ValuesAsTrees.{read_compound}
-use Rattle.dom_index.specs.FlagRows.{is_deep}
+use Rattle.dom_select.specs.Descents.{is_deep}
 use Rattle.dom_index.specs.Tracks.{first_in, steps_in}
 use Rattle.dom_index.proofs.FlagLemmas.{read_there, step_combinator, step_kept, step_tested, step_unreached}
 use Rattle.dom_index.proofs.streaming.step_flag.Goals as goal

@@ -1,11 +1,7 @@
-use Rattle.std.proofs.Common.{length}
-use Rattle.dom_links.specs.Walk.{row_on}
+use Rattle.dom_links.specs.Indexes.{counts}
 use Rattle.dom_select.proofs.PositionLemmas.{LeftDecides}
 use Rattle.dom_select.proofs.matcher.positions.has_index.Given as goal
 
--- how many elements are left decides
-abbrev pub invariant-loop-next : goal.invariant-loop-next
-invariant-loop-next l = LeftDecides l.tree l.from_first l.fn.id l.index l.next l.left
-
-abbrev pub decreases-loop-next : goal.decreases-loop-next
-decreases-loop-next l = length (row_on l.tree l.from_first l.next)
+-- how many siblings that count are left decides
+abbrev pub invariant-loop : goal.invariant-loop
+invariant-loop l = LeftDecides (counts l.kind l.tree l.fn.id) l.tree l.from_first l.fn.id l.index l.next l.left

@@ -2,7 +2,7 @@ use Rattle.std.proofs.lemmas.Result.{IfOk-weaker}
 use Rattle.dom_select.specs.Descendants.{IsMatch}
 use Rattle.dom_select.proofs.FilterLemmas.{drained, filtered_of_all}
 use Rattle.dom_select.proofs.SeveralLemmas.{selected_all}
-use Rattle.dom_select.proofs.matcher.several.select_all_unless.Goals as goal
+use Rattle.dom_select.proofs.matcher.several.select_unless.Goals as goal
 
 pub returns : goal.returns
 returns g c =
