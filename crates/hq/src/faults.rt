@@ -4,42 +4,51 @@ use dom_query::{
     EditFault, MarkupFaultKind, OutOfMemory, PageFault, SelectionFault, SelectorFault,
 };
 use std::alloc::{AllocError, AllocFailed};
+use std::fmt;
 use std::io::{self, ErrorKind};
 use url::ParseError;
 
 /// What can go wrong.
-#[derive(Debug, Drop, thiserror::Error)]
+#[derive(Drop)]
 pub enum Fault {
-    #[error("out of memory")]
     Memory,
-    #[error("too many nodes")]
     TooManyNodes,
     /// The text at this place of the command line is no selector.
-    #[error("{place}: {fault}")]
     Selector {
         place: &'static str,
         fault: SelectorFault,
     },
-    #[error("--base: {0}")]
+    /// The base is no address.
     Base(ParseError),
     /// A file can't be read.
-    #[error("{0}")]
     File(io::Error),
     /// Explicit markup is refused, at this line and column.
-    #[error("{kind}")]
     Markup {
         kind: MarkupFaultKind,
         line: usize,
         column: usize,
     },
     /// Explicit markup isn't UTF-8, from this line and column on.
-    #[error("not UTF-8")]
     Bytes {
         line: usize,
         column: usize,
     },
-    #[error("write failed: {0}")]
-    Output(#[from] io::Error),
+    Output(io::Error),
+}
+
+impl fmt::Display for Fault {
+    fn fmt<W: fmt::Write>(&self, f: &mut fmt::Formatter<W>) -> fmt::Result {
+        match self {
+            Fault::Memory => f.write_str("out of memory"),
+            Fault::TooManyNodes => f.write_str("too many nodes"),
+            Fault::Selector { place, fault } => write!(f, "{place}: {fault}"),
+            Fault::Base(fault) => write!(f, "--base: {fault}"),
+            Fault::File(fault) => write!(f, "{fault}"),
+            Fault::Markup { kind, .. } => write!(f, "{kind}"),
+            Fault::Bytes { .. } => f.write_str("not UTF-8"),
+            Fault::Output(fault) => write!(f, "write failed: {fault}"),
+        }
+    }
 }
 
 impl Fault {
@@ -57,6 +66,12 @@ impl Fault {
             Fault::Output(fault) => fault.kind() == ErrorKind::BrokenPipe,
             _ => false,
         }
+    }
+}
+
+impl From<io::Error> for Fault {
+    fn from(fault: io::Error) -> Fault {
+        Fault::Output(fault)
     }
 }
 

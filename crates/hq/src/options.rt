@@ -153,8 +153,10 @@ fn base_of(alloc: Global, matches: &ArgMatches<'_>) -> Result<Option<Url>, Fault
 /// The files, or standard input where there is none.
 fn files_of<'a>(alloc: Global, matches: &ArgMatches<'a>) -> Result<Vec<&'a str>, Fault> {
     let mut files = Vec::new(alloc);
-    if matches.get_flag("tree") {
-        push_some(&mut files, matches.get_str("selector"))?;
+    if matches.get_flag("tree")
+        && let Some(name) = matches.get_str("selector")
+    {
+        files.push(name)?;
     }
     if let Some(names) = matches.get_strs("file") {
         for name in names {
@@ -165,11 +167,4 @@ fn files_of<'a>(alloc: Global, matches: &ArgMatches<'a>) -> Result<Vec<&'a str>,
         files.push("-")?;
     }
     Ok(files)
-}
-
-fn push_some<'a>(files: &mut Vec<&'a str>, name: Option<&'a str>) -> Result<(), Fault> {
-    if let Some(name) = name {
-        files.push(name)?;
-    }
-    Ok(())
 }

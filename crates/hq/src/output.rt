@@ -5,7 +5,7 @@ use crate::faults::{Fault, shown};
 use crate::json::{string_json, summary_json};
 use crate::options::{Options, Show};
 use crate::pages::Page;
-use dom_query::{DocumentSelect, Matcher, NodeMarkup, NodeMd, NodeRef};
+use dom_query::{Document, DocumentSelect, Matcher, NodeMarkup, NodeMd, NodeRef, Selection};
 use std::alloc::Global;
 use std::io::Write;
 use url::Url;
@@ -18,11 +18,7 @@ pub fn print_matches<W: Write>(
     out: &mut W,
 ) -> Result<bool, Fault> {
     let document = &page.document;
-    let found = if options.first {
-        document.select_single_matcher(selector)?
-    } else {
-        document.select_matcher(selector)?
-    };
+    let found = found_in(document, selector, options.first)?;
     if let Show::Count = options.show {
         print_count(page.name, found.length(), options, out)?;
         return Ok(found.exists());
@@ -32,6 +28,18 @@ pub fn print_matches<W: Write>(
         print_match(node, options, &base, out)?;
     }
     Ok(found.exists())
+}
+
+/// What a selector matches in a document, or the first match alone.
+fn found_in<'a>(
+    document: &'a Document,
+    selector: &Matcher,
+    first: bool,
+) -> Result<Selection<'a>, Fault> {
+    if first {
+        return Ok(document.select_single_matcher(selector)?);
+    }
+    Ok(document.select_matcher(selector)?)
 }
 
 /// Prints how many matches there are, behind the file's name where there are several.

@@ -1,7 +1,7 @@
 //! A tree in the form of html5lib's tests of tree construction.
 
 use crate::faults::Fault;
-use dom_query::{Attr, Document, Element, NamespaceRef, NodeData, NodeId, QualName};
+use dom_query::{Document, Element, NamespaceRef, NodeData, NodeId, QualName};
 use std::alloc::Global;
 use std::io::Write;
 
@@ -56,15 +56,6 @@ fn push_children(
     Ok(())
 }
 
-/// The pieces of a line, one behind the other.
-#[derive(Clone, Copy, Drop)]
-struct Line<'a> {
-    before: &'a str,
-    name: &'a str,
-    text: &'a str,
-    after: &'a str,
-}
-
 /// Prints what a node is.
 fn print_node<W: Write>(
     alloc: Global,
@@ -73,22 +64,6 @@ fn print_node<W: Write>(
     out: &mut W,
 ) -> Result<(), Fault> {
     match node {
-        NodeData::Document | NodeData::Fragment => print_line(
-            depth,
-            line_of("content", "", ""),
-            out,
-        ),
-        NodeData::Text { contents } => print_line(
-            depth,
-            line_of("\"", contents.as_str(), "\""),
-            out,
-        ),
-        NodeData::Comment { contents } => {
-            print_line(depth, line_of("<!-- ", contents.as_str(), " -->"), out)
-        }
-        NodeData::ProcessingInstruction { target, .. } => {
-            print_line(depth, line_of("<?", target.as_str(), ">"), out)
-        }
         NodeData::Element(element) => print_element(alloc, element, depth, out),
         NodeData::Doctype {
             name,
@@ -96,27 +71,19 @@ fn print_node<W: Write>(
             system_id,
         } => {
             let ids = ids_of(alloc, public_id.as_str(), system_id.as_str())?;
-            print_line(depth, doctype_line(name.as_str(), ids.as_str()), out)
+            print_line(depth, ["<!DOCTYPE ", name.as_str(), ids.as_str(), ">"], out)
         }
+        _ => print_line(depth, pieces_of(node), out),
     }
 }
 
-/// The line of a text between two others.
-fn line_of<'a>(before: &'a str, text: &'a str, after: &'a str) -> Line<'a> {
-    Line {
-        before,
-        name: "",
-        text,
-        after,
-    }
-}
-
-fn doctype_line<'a>(name: &'a str, ids: &'a str) -> Line<'a> {
-    Line {
-        before: "<!DOCTYPE ",
-        name,
-        text: ids,
-        after: ">",
+/// The pieces of the line of a node that is neither an element nor a doctype.
+fn pieces_of(node: &NodeData) -> [&str; 4] {
+    match node {
+        NodeData::Text { contents } => ["\"", contents.as_str(), "\"", ""],
+        NodeData::Comment { contents } => ["<!-- ", contents.as_str(), " -->", ""],
+        NodeData::ProcessingInstruction { target, .. } => ["<?", target.as_str(), ">", ""],
+        _ => ["content", "", "", ""],
     }
 }
 
@@ -135,50 +102,37 @@ fn print_element<W: Write>(
     depth: usize,
     out: &mut W,
 ) -> Result<(), Fault> {
-    print_line(depth, tag_line(&element.name), out)?;
-    let mut rows = Vec::new(alloc);
-    for attr in element.attrs.as_slice() {
-        rows.push(row_of(alloc, attr)?)?;
-    }
-    rows.sort()?;
-    for row in rows.as_slice() {
-        print_line(depth.saturating_add(1), row_line(row), out)?;
+    let name = &element.name;
+    print_line(
+        depth,
+        ["<", prefix_of(name), name.local().as_str(), ">"],
+        out,
+    )?;
+    let depth = depth.saturating_add(1);
+    for (name, value) in attrs_of(alloc, element)?.as_slice() {
+        print_attr(depth, name.as_str(), value, out)?;
     }
     Ok(())
 }
 
-fn tag_line(name: &QualName) -> Line<'_> {
-    Line {
-        before: "<",
-        name: prefix_of(name),
-        text: name.local().as_str(),
-        after: ">",
+fn print_attr<W: Write>(depth: usize, name: &str, value: &str, out: &mut W) -> Result<(), Fault> {
+    print_line(depth, [name, "=\"", value, "\""], out)
+}
+
+/// The whole names and the values of an element's attributes, in the order of the names.
+fn attrs_of(alloc: Global, element: &Element) -> Result<Vec<(String, &str)>, Fault> {
+    let mut attrs = Vec::new(alloc);
+    for attr in element.attrs.as_slice() {
+        attrs.push((name_of(alloc, &attr.name)?, attr.value.as_str()))?;
     }
+    attrs.sort()?;
+    Ok(attrs)
 }
 
-fn row_line<'a>(row: &'a Row<'_>) -> Line<'a> {
-    Line {
-        before: row.name.as_str(),
-        name: "=\"",
-        text: row.value,
-        after: "\"",
-    }
-}
-
-/// An attribute with its whole name.
-#[derive(PartialEq, Eq, PartialOrd, Ord, Drop)]
-struct Row<'a> {
-    name: String,
-    value: &'a str,
-}
-
-fn row_of(alloc: Global, attr: &Attr) -> Result<Row<'_>, Fault> {
-    let mut name = String::from_str(alloc, prefix_of(&attr.name))?;
-    name.push_str(attr.name.local().as_str())?;
-    Ok(Row {
-        name,
-        value: attr.value.as_str(),
-    })
+fn name_of(alloc: Global, name: &QualName) -> Result<String, Fault> {
+    let mut whole = String::from_str(alloc, prefix_of(name))?;
+    whole.push_str(name.local().as_str())?;
+    Ok(whole)
 }
 
 /// What stands before a name that isn't one of HTML.
@@ -193,16 +147,15 @@ fn prefix_of(name: &QualName) -> &str {
     }
 }
 
-/// Prints a line at a depth.
-fn print_line<W: Write>(depth: usize, line: Line<'_>, out: &mut W) -> Result<(), Fault> {
+/// Prints the pieces of a line at a depth, one behind the other.
+fn print_line<W: Write>(depth: usize, pieces: [&str; 4], out: &mut W) -> Result<(), Fault> {
     out.write_all(b"| ")?;
     for _ in 0..depth {
         out.write_all(b"  ")?;
     }
-    out.write_all(line.before.as_bytes())?;
-    out.write_all(line.name.as_bytes())?;
-    out.write_all(line.text.as_bytes())?;
-    out.write_all(line.after.as_bytes())?;
+    for piece in pieces {
+        out.write_all(piece.as_bytes())?;
+    }
     out.write_all(b"\n")?;
     Ok(())
 }
