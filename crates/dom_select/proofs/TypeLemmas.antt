@@ -75,3 +75,8 @@ either_known one other forest n node b e is =
 pub either_is_element : (one other : List ℕ) (forest : Forest) (n : ℕ) → HasType one forest n ⊎ HasType other forest n → element_at forest n ≡ true
 either_is_element one other forest n (inl held) = type_is_element one forest n held
 either_is_element one other forest n (inr held) = type_is_element other forest n held
+
+-- an element is a match where the selector means it
+pub element_means : (list : SelectorList) (forest : Forest) (n : ℕ) (b : Bool) → element_at forest n ≡ true → MatchBool b (Means list forest n) (Means list forest n → ⊥) → MatchBool b (IsMatch list forest n) (IsMatch list forest n → ⊥)
+element_means list forest n true el h = (el, h)
+element_means list forest n false el h = λ match. h match.1

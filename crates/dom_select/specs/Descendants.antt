@@ -1,5 +1,5 @@
 -- Walks that give what a selector means.
-use Rattle.std.specs.Prelude.{ℕ, ◌≡◌, true, List, [], ◌∷◌, ◌++◌, IfOk, IfSome, Option, MatchOption, Result}
+use Rattle.std.specs.Prelude.{ℕ, ◌≡◌, true, List, [], ◌∷◌, ◌++◌, IfOk, Option, MatchOption, Result}
 use Rattle.std.specs.Global.{Vec}
 use Rattle.std.specs.Iterator.{Drains}
 use Rattle.std.specs.Borrow.{Bor}
@@ -36,17 +36,9 @@ WalksAll result view forest roots = IfOk result (λ it. (view it).left ≡ walks
 abbrev pub SelectsAll : {T E : Type 0} → Result T E → (T → Matches) → Forest → List ℕ → SelectorList → Type 0
 SelectsAll result view forest roots selector = IfOk result (λ it. SelectsBelow (view it) forest roots selector)
 
--- What a call that may give up returns: nothing, or what the selector selects below the roots
-abbrev pub SelectsWithin : {E : Type 0} → Result (Option (Vec ℕ)) E → Forest → List ℕ → SelectorList → Type 0
-SelectsWithin result forest roots selector = IfOk result (λ found. IfSome found (λ ids. Selected forest roots selector ids.items))
-
--- What a call that something may stop returns: what the selector selects below the roots, if nothing did
-abbrev pub SelectsUnless : {S E : Type 0} → Result (Result (Vec ℕ) S) E → Forest → List ℕ → SelectorList → Type 0
-SelectsUnless result forest roots selector = IfOk result (λ found. IfOk found (λ ids. Selected forest roots selector ids.items))
-
--- the same of the items of an iterator of which the fact holds
-abbrev pub FiltersUnless : {I S E : Type 0} → Result (Result (Vec ℕ) S) E → (I → Option ℕ → I → Type 0) → I → (ℕ → Type 0) → Type 0
-FiltersUnless result gives items P = IfOk result (λ found. IfOk found (λ matched. (ns : List ℕ) × Drains gives items ns × FiltersTo P ns matched.items))
+-- What a call that filters the items of an iterator returns: those of which the fact holds
+abbrev pub FiltersItems : {I E : Type 0} → Result (Vec ℕ) E → (I → Option ℕ → I → Type 0) → I → (ℕ → Type 0) → Type 0
+FiltersItems result gives items P = IfOk result (λ matched. (ns : List ℕ) × Drains gives items ns × FiltersTo P ns matched.items)
 
 -- the node is the first among those left that is an element which the selector means, and those behind it are left
 pub record IsFirstMatch (before : Matches) (node : NodeRef) (later : Matches) : Type 0 where

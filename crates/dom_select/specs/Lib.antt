@@ -17,7 +17,6 @@ pub mod Parts
 pub mod PathFlags
 pub mod Roots
 pub mod Selected
-pub mod Stops
 pub mod Texts
 pub mod Traversals
 pub mod TypeCounts

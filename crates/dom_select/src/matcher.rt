@@ -2,9 +2,7 @@
 
 use crate::matcher::caches::SelectorCaches;
 use crate::matcher::matches::{is_meant, means, sole_type, subject_types};
-use crate::matcher::stops::{Never, Stop, answered};
 use dom_nodes::fault::OutOfMemory;
-use dom_nodes::node_id::NodeId;
 use dom_selectors::copies::copy_selectors;
 use dom_selectors::fault::SelectorFault;
 use dom_selectors::parser::parse_selectors;
@@ -28,7 +26,6 @@ pub(crate) mod parts;
 pub(crate) mod positions;
 pub(crate) mod roots;
 pub mod several;
-pub(crate) mod stops;
 pub(crate) mod texts;
 pub(crate) mod type_counts;
 pub(crate) mod type_indexes;
@@ -59,7 +56,6 @@ impl Matcher {
     ghost use Rattle.dom_selectors.specs.Grammar.{Refused, StandsFor};
     ghost use Rattle.dom_select.specs.Ends.{SubjectIsAmong};
     ghost use Rattle.dom_select.specs.Meaning.{Means, MeansType};
-    ghost use Rattle.dom_select.specs.Stops.{IfAnswered};
     ghost use Rattle.dom_selectors.specs.Spelling.{Decides};
     ghost use Rattle.dom_selectors.specs.ValuesAsTrees.{read_list};
 
@@ -110,7 +106,7 @@ impl Matcher {
         ensures { Decides result (Means self.now node.now.tree.now node.now.id) }
     {
         let mut caches = SelectorCaches::none(node.tree);
-        answered(means::<Never>(&self.selectors, &mut caches, node.id))
+        means(&self.selectors, &mut caches, node.id)
     }
 
     /// Whether one of the selectors means the node of that number in the caches' tree. What the
@@ -123,19 +119,7 @@ impl Matcher {
         ensures is { Decides result (Means self.now caches.old node.now.id) }
         ensures same { caches.new ≡ caches.old }
     {
-        answered(means::<Never>(&self.selectors, caches, node.id))
-    }
-
-    /// The same of the node of that number, if nothing stops the match.
-    pub(crate) fn try_match<S: Stop>(
-        &self,
-        caches: &mut SelectorCaches<'_>,
-        id: NodeId,
-    ) -> Result<bool, S>
-        ensures is { IfAnswered result (Means self.now caches.old id) }
-        ensures same { caches.new ≡ caches.old }
-    {
-        means::<S>(&self.selectors, caches, id)
+        means(&self.selectors, caches, node.id)
     }
 }
 

@@ -25,7 +25,6 @@ pub struct SelectorCaches<'t> {
     of_type: Vec<u32>,
     last_of_type: Vec<u32>,
     hits: u64,
-    tests_left: u64,
 }
 
 impl<'t> Model for SelectorCaches<'t> {
@@ -61,15 +60,6 @@ impl<'t> SelectorCaches<'t> {
         SelectorCaches::made(tree, Some(256))
     }
 
-    /// The same for a selection that makes no more than so many tests.
-    pub(crate) fn metered(tree: &'t Tree, tests: u64) -> SelectorCaches<'t>
-        ensures { result ≡ tree.entry.now }
-    {
-        let mut caches = SelectorCaches::late(tree);
-        caches.tests_left = tests;
-        caches
-    }
-
     /// Caches that never keep anything, and take no memory.
     pub(crate) fn none(tree: &'t Tree) -> SelectorCaches<'t>
         ensures { result ≡ tree.entry.now }
@@ -89,7 +79,6 @@ impl<'t> SelectorCaches<'t> {
             of_type: Vec::new(tree.allocator()),
             last_of_type: Vec::new(tree.allocator()),
             hits: 0,
-            tests_left: u64::MAX,
         }
     }
 
@@ -103,24 +92,6 @@ impl<'t> SelectorCaches<'t> {
     /// How many indexes were taken from the caches. No clause: nothing else depends on it.
     pub fn hits(&self) -> u64 {
         self.hits
-    }
-
-    /// Counts a test, of a compound at a node or of a node that is stepped to, where so many may
-    /// still be made: false where none may.
-    #[inline(always)]
-    pub(crate) fn take_test(&mut self) -> bool
-        ensures { self.new ≡ self.old }
-    {
-        if self.tests_left == 0 {
-            return false;
-        }
-        self.tests_left -= 1;
-        true
-    }
-
-    /// How many tests may still be made. No clause: nothing else depends on it.
-    pub(crate) fn tests_left(&self) -> u64 {
-        self.tests_left
     }
 
     /// Whether the next index is kept.

@@ -3,19 +3,17 @@
 ghost use Rattle.std.specs.Prelude.{◌≡◌, ◌∷◌, [], length, IfOk, IfSome};
 ghost use Rattle.std.specs.Iterator.{IsFinite, at_most};
 ghost use Rattle.dom_links.specs.Trees.{walk_below};
-ghost use Rattle.dom_select.specs.Descendants.{FiltersUnless, GivesMatch, IsMatch};
-ghost use Rattle.dom_select.specs.Descendants.{SelectsBelow, SelectsUnless};
+ghost use Rattle.dom_select.specs.Descendants.{FiltersItems, GivesMatch, IsMatch};
+ghost use Rattle.dom_select.specs.Descendants.{SelectsBelow};
 ghost use Rattle.dom_select.specs.Ends.{SubjectIsAmong};
 ghost use Rattle.dom_select.specs.Meaning.{MeansType};
 ghost use Rattle.dom_select.specs.Selected.{Selected, walks_below};
-ghost use Rattle.dom_select.specs.Stops.{IfAnswered};
 ghost use Rattle.dom_selectors.specs.Spelling.{Decides};
 
 use crate::matcher::Matcher;
 use crate::matcher::caches::SelectorCaches;
 use crate::matcher::matches::{has_either_type, has_type};
 use crate::matcher::parts::element_at;
-use crate::matcher::stops::{Never, Stop, answered};
 use dom_links::iters::DescendantNodes;
 use dom_nodes::fault::OutOfMemory;
 use dom_nodes::node_id::NodeId;
@@ -103,11 +101,7 @@ pub fn select_below(
     if let Some(name) = matcher.sole_type() {
         return named_below(tree, root, matcher, name);
     }
-    let mut caches = SelectorCaches::late(tree);
-    match select_below_unless::<Never>(tree, root, matcher, &mut caches)? {
-        Ok(matched) => Ok(matched),
-        Err(never) => match never {},
-    }
+    collect_matches(tree, tree.descendant_ids_of_it(root), matcher)
 }
 
 /// The elements below the root that bear the name, which is all that the selector asks.
@@ -130,43 +124,26 @@ fn named_below(
     Ok(named)
 }
 
-/// The elements below the root that the selector means, if nothing stops a match.
+/// The elements among those nodes that the selector means.
 #[inline(always)]
-pub(crate) fn select_below_unless<S: Stop>(
-    tree: &Tree,
-    root: &NodeId,
-    matcher: &Matcher,
-    caches: &mut SelectorCaches<'_>,
-) -> Result<Result<Vec<NodeId>, S>, OutOfMemory>
-    requires { caches.old ≡ tree.now }
-    ensures { SelectsUnless result tree.now (root.now ∷ []) matcher.now }
-{
-    collect_unless::<_, S>(tree, tree.descendant_ids_of_it(root), matcher, caches)
-}
-
-/// The elements among those nodes that the selector means, if nothing stops a match. The caches are
-/// the tree's.
-#[inline(always)]
-pub(crate) fn collect_unless<I: Iterator<Item = NodeId> + Drop, S: Stop>(
+pub(crate) fn collect_matches<I: Iterator<Item = NodeId> + Drop>(
     tree: &Tree,
     ids: I,
     matcher: &Matcher,
-    caches: &mut SelectorCaches<'_>,
-) -> Result<Result<Vec<NodeId>, S>, OutOfMemory>
-    requires ids { I.can_next ids × IsFinite (I.remaining ids) }
-    requires caches { caches.old ≡ tree.now }
-    ensures { FiltersUnless result I.next_gives ids (IsMatch matcher.now tree.now) }
+) -> Result<Vec<NodeId>, OutOfMemory>
+    requires { I.can_next ids × IsFinite (I.remaining ids) }
+    ensures { FiltersItems result I.next_gives ids (IsMatch matcher.now tree.now) }
 {
     let names = matcher.subject_types();
+    let mut caches = SelectorCaches::late(tree);
     let mut matched = Vec::new(tree.allocator());
     for id in ids {
-        match is_match_of_types::<S>(matcher, &names, caches, id) {
-            Ok(true) => matched.push(id)?,
-            Ok(false) => {}
-            Err(stop) => return Ok(Err(stop)),
+        if !is_match_of_types(matcher, &names, &mut caches, id) {
+            continue;
         }
+        matched.push(id)?;
     }
-    Ok(Ok(matched))
+    Ok(matched)
 }
 
 /// Whether the node is an element that the selector means; where the selector is a type alone, that
@@ -190,23 +167,24 @@ fn is_match_by_type(
 /// Whether the node is an element that the selector means, which bears one of the names if there
 /// are some.
 #[inline(always)]
-fn is_match_of_types<S: Stop>(
+fn is_match_of_types(
     matcher: &Matcher,
     names: &Option<(&SelectorName, &SelectorName)>,
     caches: &mut SelectorCaches<'_>,
     id: NodeId,
-) -> Result<bool, S>
+) -> bool
     requires { IfSome names.now (λ names. SubjectIsAmong names.0.now names.1.now matcher.now) }
-    ensures is { IfAnswered result (IsMatch matcher.now caches.old id) }
+    ensures is { Decides result (IsMatch matcher.now caches.old id) }
     ensures same { caches.new ≡ caches.old }
 {
     let Some((one, other)) = names else {
-        return is_selected_unless::<S>(matcher, caches, id);
+        return is_selected_with(matcher, caches, id);
     };
-    if !has_either_type(caches.tree(), &id, one, other) {
-        return Ok(false);
+    let tree = caches.tree();
+    if !has_either_type(tree, &id, one, other) {
+        return false;
     }
-    matcher.try_match::<S>(caches, id)
+    matcher.match_element_with_caches(&NodeRef::new(id, tree), caches)
 }
 
 /// Whether the node is an element that the selector means.
@@ -228,20 +206,9 @@ pub(crate) fn is_selected_with(
     ensures is { Decides result (IsMatch matcher.now caches.old id) }
     ensures same { caches.new ≡ caches.old }
 {
-    answered(is_selected_unless::<Never>(matcher, caches, id))
-}
-
-/// The same, if nothing stops the match.
-fn is_selected_unless<S: Stop>(
-    matcher: &Matcher,
-    caches: &mut SelectorCaches<'_>,
-    id: NodeId,
-) -> Result<bool, S>
-    ensures is { IfAnswered result (IsMatch matcher.now caches.old id) }
-    ensures same { caches.new ≡ caches.old }
-{
-    if !element_at(caches.tree(), &id) {
-        return Ok(false);
+    let tree = caches.tree();
+    if !element_at(tree, &id) {
+        return false;
     }
-    matcher.try_match::<S>(caches, id)
+    matcher.match_element_with_caches(&NodeRef::new(id, tree), caches)
 }

@@ -3,7 +3,7 @@
 //! the nearest node from which they can be followed is taken and never given up: what stands on the
 //! left of a farther one stands on the left of that one too.
 
-ghost use Rattle.std.specs.Prelude.{◌≡◌, ◌↔◌, ◌∷◌, ◌<◌, ◌⊎◌, [], IfOk, IfSome, IsTrue, Some, map};
+ghost use Rattle.std.specs.Prelude.{◌≡◌, ◌↔◌, ◌∷◌, ◌<◌, ◌⊎◌, [], IfSome, IsTrue, Some, map};
 ghost use Rattle.dom_selectors.specs.declared.syntax.Combinator.TheVariants.{Descendant};
 ghost use Rattle.dom_selectors.specs.ListsAsTrees.{lists_of};
 ghost use Rattle.dom_selectors.specs.Spelling.{Decides};
@@ -16,7 +16,6 @@ ghost use Rattle.dom_select.specs.Has.{IsElementThat, may_be_subject};
 ghost use Rattle.dom_select.specs.Leftward.{ends_at};
 ghost use Rattle.dom_select.specs.Meaning.{HasHolds, HasType, Holds, IsTypeAlone, ListHolds};
 ghost use Rattle.dom_select.specs.Meaning.{ListsHold, Means, MeansType};
-ghost use Rattle.dom_select.specs.Stops.{IfAnswered};
 
 use crate::matcher::caches::SelectorCaches;
 use crate::matcher::chains::{binding_level, ends_at, left_of, line_laws, may_be_operand};
@@ -25,7 +24,6 @@ use crate::matcher::has::{
     next_search_root,
 };
 use crate::matcher::parts::{element_at, is_named_either, is_named_node, parts_hold};
-use crate::matcher::stops::{Never, Stop, answered};
 use dom_nodes::node_id::NodeId;
 use dom_selectors::selector_name::SelectorName;
 use dom_selectors::syntax::{Combinator, Compound, Nested, Part, Selector, Step};
@@ -129,188 +127,159 @@ pub(crate) fn has_either_type(
 
 /// Whether the compound holds of the node. Of a type alone nothing else is looked at.
 #[cycle(matching)]
-fn holds<S: Stop>(
-    compound: &Compound,
-    caches: &mut SelectorCaches<'_>,
-    id: NodeId,
-) -> Result<bool, S>
-    ensures is { IfAnswered result (Holds (read_compound compound.now) caches.old id) }
+fn holds(compound: &Compound, caches: &mut SelectorCaches<'_>, id: NodeId) -> bool
+    ensures is { IsTrue result ↔ Holds (read_compound compound.now) caches.old id }
     ensures kept { caches.new ≡ caches.old }
 {
-    S::count_test(caches)?;
     if let Some(name) = sole_type_selector(compound) {
-        return Ok(has_type(caches.tree(), &id, name));
+        return has_type(caches.tree(), &id, name);
     }
     if !parts_hold(&compound.parts, caches, &id) {
-        return Ok(false);
+        return false;
     }
-    lists_hold::<S>(&compound.nested, caches, id)
+    lists_hold(&compound.nested, caches, id)
 }
 
 /// Whether each of the lists in a compound holds of the node.
 #[cycle(matching)]
-fn lists_hold<S: Stop>(
-    lists: &[Nested],
-    caches: &mut SelectorCaches<'_>,
-    id: NodeId,
-) -> Result<bool, S>
-    ensures is { IfAnswered result
-        (ListsHold (lists_of (map read_nested lists.now)) caches.old id) }
+pub(crate) fn lists_hold(lists: &[Nested], caches: &mut SelectorCaches<'_>, id: NodeId) -> bool
+    ensures is { IsTrue result ↔ ListsHold (lists_of (map read_nested lists.now)) caches.old id }
     ensures kept { caches.new ≡ caches.old }
 {
     for list in lists {
-        if !list_holds::<S>(list, caches, id)? {
-            return Ok(false);
+        if !list_holds(list, caches, id) {
+            return false;
         }
     }
-    Ok(true)
+    true
 }
 
 #[cycle(matching)]
-fn list_holds<S: Stop>(
-    list: &Nested,
-    caches: &mut SelectorCaches<'_>,
-    id: NodeId,
-) -> Result<bool, S>
-    ensures is { IfAnswered result (ListHolds (read_nested list.now) caches.old id) }
+fn list_holds(list: &Nested, caches: &mut SelectorCaches<'_>, id: NodeId) -> bool
+    ensures is { IsTrue result ↔ ListHolds (read_nested list.now) caches.old id }
     ensures kept { caches.new ≡ caches.old }
 {
     match list {
-        Nested::Is(selectors) => means::<S>(selectors, caches, id),
-        Nested::Not(selectors) => Ok(!means::<S>(selectors, caches, id)?),
-        Nested::Has(selectors) => has_holds::<S>(selectors, caches, id),
+        Nested::Is(selectors) => means(selectors, caches, id),
+        Nested::Not(selectors) => !means(selectors, caches, id),
+        Nested::Has(selectors) => has_holds(selectors, caches, id),
     }
 }
 
 /// Whether one of the selectors means the node.
 #[cycle(matching)]
-pub(crate) fn means<S: Stop>(
-    selectors: &[Selector],
-    caches: &mut SelectorCaches<'_>,
-    id: NodeId,
-) -> Result<bool, S>
-    ensures is { IfAnswered result (Means (read_list selectors.now) caches.old id) }
+pub(crate) fn means(selectors: &[Selector], caches: &mut SelectorCaches<'_>, id: NodeId) -> bool
+    ensures is { IsTrue result ↔ Means (read_list selectors.now) caches.old id }
     ensures kept { caches.new ≡ caches.old }
 {
     let start = Start::Absolute;
     for selector in selectors {
-        if chain_matches::<S>(&start, &selector.first, &selector.rest, caches, id)? {
-            return Ok(true);
+        if chain_matches(&start, &selector.first, &selector.rest, caches, id) {
+            return true;
         }
     }
-    Ok(false)
+    false
 }
 
 /// Whether one of the selectors leads from the node to an element.
 #[cycle(matching)]
-fn has_holds<S: Stop>(
-    selectors: &[Selector],
-    caches: &mut SelectorCaches<'_>,
-    id: NodeId,
-) -> Result<bool, S>
-    ensures is { IfAnswered result (HasHolds (read_list selectors.now) caches.old id) }
+fn has_holds(selectors: &[Selector], caches: &mut SelectorCaches<'_>, id: NodeId) -> bool
+    ensures is { IsTrue result ↔ HasHolds (read_list selectors.now) caches.old id }
     ensures kept { caches.new ≡ caches.old }
 {
     for selector in selectors {
-        if relative_matches::<S>(selector.lead, &selector.first, &selector.rest, caches, id)? {
-            return Ok(true);
+        if relative_matches(selector.lead, &selector.first, &selector.rest, caches, id) {
+            return true;
         }
     }
-    Ok(false)
+    false
 }
 
 /// Whether a selector leads from the node to an element: it is followed from each node that it
 /// could lead to.
 #[cycle(matching)]
-fn relative_matches<S: Stop>(
+fn relative_matches(
     lead: Combinator,
     first: &Compound,
     steps: &[Step],
     caches: &mut SelectorCaches<'_>,
     id: NodeId,
-) -> Result<bool, S>
-    ensures is { IfAnswered result (CompoundsMatchFrom lead first.now steps.now caches.old id) }
+) -> bool
+    ensures is { IsTrue result ↔ CompoundsMatchFrom lead first.now steps.now caches.old id }
     ensures kept { caches.new ≡ caches.old }
 {
     if is_near(lead, steps) {
-        return holds_beside::<S>(lead, first, caches, id);
+        return holds_beside(lead, first, caches, id);
     }
     let tree = caches.tree();
     line_laws(tree);
     let start = Start::Relative(lead, id);
     let mut top = first_search_root(tree, lead, id);
     while let Some(at) = top {
-        if matches_within::<S>(&start, first, steps, caches, at)? {
-            return Ok(true);
+        if matches_within(&start, first, steps, caches, at) {
+            return true;
         }
         top = next_search_root(tree, lead, at);
     }
-    Ok(false)
+    false
 }
 
 /// The same of one compound, where the lead goes to children or siblings: no others are looked at.
 #[cycle(matching)]
-fn holds_beside<S: Stop>(
+fn holds_beside(
     lead: Combinator,
     first: &Compound,
     caches: &mut SelectorCaches<'_>,
     id: NodeId,
-) -> Result<bool, S>
+) -> bool
     requires { lead ≡ Descendant → ⊥ }
-    ensures is { IfAnswered result (CompoundsMatchFrom lead first.now [] caches.old id) }
+    ensures is { IsTrue result ↔ CompoundsMatchFrom lead first.now [] caches.old id }
     ensures kept { caches.new ≡ caches.old }
 {
     let tree = caches.tree();
     let mut next = first_right(tree, lead, id);
     while let Some(at) = next {
-        S::count_test(caches)?;
-        if holds_of_element::<S>(first, caches, at)? {
-            return Ok(true);
+        if holds_of_element(first, caches, at) {
+            return true;
         }
         next = next_right(tree, lead, at);
     }
-    Ok(false)
+    false
 }
 
 /// Whether the node is an element of which the compound holds.
 #[cycle(matching)]
-fn holds_of_element<S: Stop>(
-    compound: &Compound,
-    caches: &mut SelectorCaches<'_>,
-    id: NodeId,
-) -> Result<bool, S>
-    ensures is { IfAnswered result (IsElementThat (read_compound compound.now) caches.old id) }
+fn holds_of_element(compound: &Compound, caches: &mut SelectorCaches<'_>, id: NodeId) -> bool
+    ensures is { IsTrue result ↔ IsElementThat (read_compound compound.now) caches.old id }
     ensures kept { caches.new ≡ caches.old }
 {
     if !element_at(caches.tree(), &id) {
-        return Ok(false);
+        return false;
     }
-    holds::<S>(compound, caches, id)
+    holds(compound, caches, id)
 }
 
 /// Whether the compounds lead from the start to this node or to one below it.
 #[cycle(matching)]
-fn matches_within<S: Stop>(
+fn matches_within(
     start: &Start,
     first: &Compound,
     steps: &[Step],
     caches: &mut SelectorCaches<'_>,
     top: NodeId,
-) -> Result<bool, S>
-    ensures is { IfOk result (λ b. Decides b
-        (CompoundsMatchWithin start.now first.now steps.now caches.old top)) }
+) -> bool
+    ensures is { Decides result (CompoundsMatchWithin start.now first.now steps.now caches.old top) }
     ensures kept { caches.new ≡ caches.old }
 {
-    if chain_matches::<S>(start, first, steps, caches, top)? {
-        return Ok(true);
+    if chain_matches(start, first, steps, caches, top) {
+        return true;
     }
     for y in caches.tree().descendant_ids_of_it(&top) {
-        S::count_test(caches)?;
-        if chain_matches::<S>(start, first, steps, caches, y)? {
-            return Ok(true);
+        if chain_matches(start, first, steps, caches, y) {
+            return true;
         }
     }
-    Ok(false)
+    false
 }
 
 /// What stays the same while the compounds of one selector are followed: where they start, the
@@ -325,18 +294,18 @@ struct Chain<'c> {
 /// Whether there are nodes for the first compound and for those of the steps, the last of them this
 /// one.
 #[cycle(matching)]
-fn chain_matches<S: Stop>(
+fn chain_matches(
     start: &Start,
     first: &Compound,
     steps: &[Step],
     caches: &mut SelectorCaches<'_>,
     id: NodeId,
-) -> Result<bool, S>
-    ensures is { IfAnswered result (CompoundsMatch start.now first.now steps.now caches.old id) }
+) -> bool
+    ensures is { IsTrue result ↔ CompoundsMatch start.now first.now steps.now caches.old id }
     ensures kept { caches.new ≡ caches.old }
 {
     if !may_be_subject(start, caches.tree(), id) {
-        return Ok(false);
+        return false;
     }
     let chain = Chain {
         start,
@@ -344,50 +313,46 @@ fn chain_matches<S: Stop>(
         exempt: id,
     };
     if steps.is_empty() {
-        return begins::<S>(&chain, caches, id);
+        return begins(&chain, caches, id);
     }
-    Ok(match_suffix::<S>(&chain, steps, ALL, caches, id)?.is_some())
+    match_suffix(&chain, steps, ALL, caches, id).is_some()
 }
 
 /// Whether the node may be the first.
 #[cycle(matching)]
-fn begins<S: Stop>(
-    chain: &Chain<'_>,
-    caches: &mut SelectorCaches<'_>,
-    id: NodeId,
-) -> Result<bool, S>
-    ensures is { IfAnswered result (BeginsChain chain.now caches.old id) }
+fn begins(chain: &Chain<'_>, caches: &mut SelectorCaches<'_>, id: NodeId) -> bool
+    ensures is { IsTrue result ↔ BeginsChain chain.now caches.old id }
     ensures kept { caches.new ≡ caches.old }
 {
     match chain.start {
-        Start::Absolute => holds::<S>(chain.first, caches, id),
+        Start::Absolute => holds(chain.first, caches, id),
         Start::Relative(lead, from) => {
             if !is_joined(caches.tree(), *lead, *from, id) {
-                return Ok(false);
+                return false;
             }
-            holds::<S>(chain.first, caches, id)
+            holds(chain.first, caches, id)
         }
     }
 }
 
 /// Whether the last compound holds of the node, which may stand as the combinator on its left asks.
 #[cycle(matching)]
-fn last_holds<S: Stop>(
+fn last_holds(
     chain: &Chain<'_>,
     steps: &[Step],
     caches: &mut SelectorCaches<'_>,
     id: NodeId,
-) -> Result<bool, S>
-    ensures is { IfOk result (λ b. Decides b (EndsChain chain.now steps.now caches.old id)) }
+) -> bool
+    ensures is { Decides result (EndsChain chain.now steps.now caches.old id) }
     ensures kept { caches.new ≡ caches.old }
 {
     match steps.split_last() {
-        None => begins::<S>(chain, caches, id),
+        None => begins(chain, caches, id),
         Some((last, _)) => {
             if !may_be_operand(caches.tree(), chain.exempt, last.combinator, id) {
-                return Ok(false);
+                return false;
             }
-            holds::<S>(&last.compound, caches, id)
+            holds(&last.compound, caches, id)
         }
     }
 }
@@ -422,19 +387,19 @@ struct Remainder<'a> {
 
 /// Follows the steps from the node to the left, over all that bind more tightly than `level`.
 #[cycle(matching)]
-fn match_suffix<'a, S: Stop>(
+fn match_suffix<'a>(
     chain: &Chain<'_>,
     steps: &'a [Step],
     level: usize,
     caches: &mut SelectorCaches<'_>,
     id: NodeId,
-) -> Result<Option<Remainder<'a>>, S>
+) -> Option<Remainder<'a>>
     requires { IsOrPrecedes caches.old id chain.now.exempt }
-    ensures is { IfOk result (FollowsChain chain.now steps.now level caches.old id) }
+    ensures is { FollowsChain chain.now steps.now level caches.old id result }
     ensures kept { caches.new ≡ caches.old }
 {
-    if !last_holds::<S>(chain, steps, caches, id)? {
-        return Ok(None);
+    if !last_holds(chain, steps, caches, id) {
+        return None;
     }
     line_laws(caches.tree());
     let mut remainder = Remainder {
@@ -443,49 +408,47 @@ fn match_suffix<'a, S: Stop>(
     };
     while let Some((last, front)) = remainder.left.split_last() {
         if binding_level(last.combinator) >= level {
-            return Ok(Some(remainder));
+            return Some(remainder);
         }
-        let combinator = last.combinator;
-        let found = match_from_candidates::<S>(chain, front, combinator, caches, remainder.at)?;
-        let Some(next) = found else {
-            return Ok(None);
+        let Some(next) = match_from_candidates(chain, front, last.combinator, caches, remainder.at)
+        else {
+            return None;
         };
         remainder = next;
     }
-    Ok(Some(remainder))
+    Some(remainder)
 }
 
 /// Follows the steps from the nearest node that they can be followed from, of those that stand to
 /// this one as the combinator says.
 #[cycle(matching)]
-fn match_from_candidates<'a, S: Stop>(
+fn match_from_candidates<'a>(
     chain: &Chain<'_>,
     steps: &'a [Step],
     combinator: Combinator,
     caches: &mut SelectorCaches<'_>,
     id: NodeId,
-) -> Result<Option<Remainder<'a>>, S>
+) -> Option<Remainder<'a>>
     requires { IsOrPrecedes caches.old id chain.now.exempt }
-    ensures is { IfOk result (FollowsCandidate chain.now steps.now combinator caches.old id) }
+    ensures is { FollowsCandidate chain.now steps.now combinator caches.old id result }
     ensures kept { caches.new ≡ caches.old }
 {
     let name = subject_type(chain.first, steps);
     let tree = caches.tree();
     let mut at = id;
     while let Some(v) = left_of(tree, combinator, at) {
-        S::count_test(caches)?;
         if is_candidate(name, combinator, tree, chain.exempt, v) {
             let level = binding_level(combinator);
-            if let Some(remainder) = match_suffix::<S>(chain, steps, level, caches, v)? {
-                return Ok(Some(remainder));
+            if let Some(remainder) = match_suffix(chain, steps, level, caches, v) {
+                return Some(remainder);
             }
         }
         if ends_at(tree, combinator, v) {
-            return Ok(None);
+            return None;
         }
         at = v;
     }
-    Ok(None)
+    None
 }
 
 /// Whether the selector means the node.
@@ -493,5 +456,5 @@ pub(crate) fn is_meant(selector: &Selector, caches: &mut SelectorCaches<'_>, id:
     ensures { IsTrue result ↔ Means (read_list (selector.now ∷ [])) caches.old id }
 {
     let start = Start::Absolute;
-    answered(chain_matches::<Never>(&start, &selector.first, &selector.rest, caches, id))
+    chain_matches(&start, &selector.first, &selector.rest, caches, id)
 }

@@ -3,8 +3,7 @@
 ghost use Rattle.std.specs.Prelude.{◌≡◌, length, IfOk};
 ghost use Rattle.std.specs.Iterator.{YieldsFirst, at_most, item_count};
 ghost use Rattle.dom_links.specs.Laws.{AreTrees};
-ghost use Rattle.dom_select.specs.Descendants.{GivesMatch, SelectsAll, SelectsUnless};
-ghost use Rattle.dom_select.specs.Descendants.{SelectsWithin, WalksAll};
+ghost use Rattle.dom_select.specs.Descendants.{GivesMatch, SelectsAll, WalksAll};
 ghost use Rattle.dom_select.specs.Marks.{SetsMark, left_in};
 ghost use Rattle.dom_select.specs.Roots.{node_ids, root_ids};
 ghost use Rattle.dom_select.specs.Selected.{Selected, walks_below};
@@ -12,11 +11,8 @@ ghost use Rattle.dom_selectors.specs.Spelling.{same};
 
 use crate::matcher::Matcher;
 use crate::matcher::caches::SelectorCaches;
-use crate::matcher::descendants::{
-    collect_unless, is_selected_with, select_below, select_below_unless,
-};
+use crate::matcher::descendants::{collect_matches, is_selected_with, select_below};
 use crate::matcher::roots::{Roots, take_first};
-use crate::matcher::stops::{Never, Spent, Stop};
 use dom_links::iters::DescendantNodes;
 use dom_links::laws::trees_of_a_forest;
 use dom_nodes::fault::OutOfMemory;
@@ -76,7 +72,7 @@ fn next_in(walk: &mut Option<DescendantNodes<'_>>) -> Option<NodeId>
 
 /// The nodes below some nodes, each once, where it is met first.
 #[derive(Drop)]
-struct FirstOccurrences<'a, 'r> {
+pub struct FirstOccurrences<'a, 'r> {
     walks: Walks<'a, 'r>,
     marks: Vec<bool>,
 }
@@ -231,70 +227,24 @@ pub fn select_below_all(
 ) -> Result<Vec<NodeId>, OutOfMemory>
     ensures { IfOk result (λ ids. Selected tree.now roots.now matcher.now ids.items) }
 {
-    let mut caches = SelectorCaches::late(tree);
-    match select_unless::<Never>(tree, roots, matcher, &mut caches)? {
-        Ok(matched) => Ok(matched),
-        Err(never) => match never {},
-    }
-}
-
-/// The same, where `left` is how many tests may be made, of a compound at a node or of a node that
-/// `:has` or a combinator to the left steps to, and what is left of them when it returns. None where
-/// more were needed.
-pub fn select_metered(
-    tree: &Tree,
-    roots: &[NodeId],
-    matcher: &Matcher,
-    left: &mut u64,
-) -> Result<Option<Vec<NodeId>>, OutOfMemory>
-    ensures { SelectsWithin result tree.now roots.now matcher.now }
-{
-    let filtering = type_tests(tree, matcher);
-    if filtering > *left {
-        return Ok(None);
-    }
-    *left -= filtering;
     if let [root] = roots {
-        if matcher.sole_type().is_some() {
-            return Ok(Some(select_below(tree, root, matcher)?));
-        }
+        return select_below(tree, root, matcher);
     }
-    let mut caches = SelectorCaches::metered(tree, *left);
-    let found = select_unless::<Spent>(tree, roots, matcher, &mut caches);
-    *left = caches.tests_left();
-    match found? {
-        Ok(ids) => Ok(Some(ids)),
-        Err(_) => Ok(None),
-    }
+    let ids = nodes_below(tree, roots)?;
+    collect_matches(tree, ids, matcher)
 }
 
-/// How many tests the types of the subjects take at most, which are asked before anything is
-/// counted: each at each node.
-fn type_tests(tree: &Tree, matcher: &Matcher) -> u64 {
-    match matcher.subject_types() {
-        Some(_) => (tree.len() as u64).saturating_mul(matcher.selectors().len() as u64),
-        None => 0,
-    }
-}
-
-/// The elements below the roots that the selector means, each once, if nothing stops a match.
-fn select_unless<S: Stop>(
-    tree: &Tree,
-    roots: &[NodeId],
-    matcher: &Matcher,
-    caches: &mut SelectorCaches<'_>,
-) -> Result<Result<Vec<NodeId>, S>, OutOfMemory>
-    requires { caches.old ≡ tree.now }
-    ensures { SelectsUnless result tree.now roots.now matcher.now }
+/// The nodes below the roots, each once, in the order of the walks; an unknown number has none.
+pub fn nodes_below<'a, 'r>(
+    tree: &'a Tree,
+    roots: &'r [NodeId],
+) -> Result<FirstOccurrences<'a, 'r>, OutOfMemory>
+    ensures { IfOk result (λ ids. ids ≡ walks_below tree.entry.now roots.entry.now) }
 {
-    if let [root] = roots {
-        return select_below_unless::<S>(tree, root, matcher, caches);
-    }
-    let ids = first_occurrences(tree, Roots::Numbers(roots))?;
-    collect_unless::<_, S>(tree, ids, matcher, caches)
+    first_occurrences(tree, Roots::Numbers(roots))
 }
 
-/// The nodes below the roots, each once, in the order of the walks.
+/// The same below nodes or numbers.
 fn first_occurrences<'a, 'r>(
     tree: &'a Tree,
     roots: Roots<'a, 'r>,

@@ -1,136 +1,131 @@
-use Rattle.std.proofs.Common.{◌≡◌, ◌↔◌, ◌∷◌, IsTrue, Some, false, true≢false, refl, ◌<◌, ◌≤◌, ◌+◌, ℕ, inr, length, ap, map, sym, ◌∙◌, subst, arith}
-use Rattle.std.proofs.lemmas.Result.{IfOk-weaker}
+use Rattle.std.proofs.Common.{◌≡◌, ◌↔◌, ◌∷◌, IsTrue, Some, false, true≢false, refl, ◌<◌, ◌≤◌, ℕ, inr, length, ap, map, sym, ◌∙◌, subst, arith}
 use Rattle.dom_links.specs.Lists.{stands_in}
 use Rattle.dom_selectors.specs.ListsAsTrees.{steps_of}
 use Rattle.dom_selectors.specs.ValuesAsTrees.{read_compound, read_step}
-use Rattle.dom_selectors.proofs.Weights.{compound_weight, steps_weight}
 use Rattle.dom_select.specs.Chains.{BeginsChain, binding_level}
 use Rattle.dom_select.specs.Has.{Begins, CompoundsMatchFrom, right_row, search_roots_from}
 use Rattle.std.proofs.lemmas.Bool.Decides.{when_true}
 use Rattle.dom_select.proofs.ChildRowLemmas.{shorter}
 use Rattle.dom_select.proofs.EndLemmas.{not_reached}
 use Rattle.dom_select.proofs.ReachLemmas.{IsMeant, left_ends, left_farther, left_nowhere, line_some, to_line}
-use Rattle.dom_select.proofs.HasLemmas.{ends_if, led_to, list_lighter, means_here, means_later, reached_from, stands_first, steps_here, steps_later}
+use Rattle.dom_select.proofs.HasLemmas.{ends_if, steps_here, steps_later, led_to, list_lighter, reached_from, stands_first}
 use Rattle.dom_select.proofs.RightLemmas.{leads_beside, row_ends, row_here, row_later}
 use Rattle.dom_select.proofs.StepLemmas.{read_front_and_last, weight_front_and_last}
 use Rattle.dom_select.proofs.FollowLemmas.{ends_here, ends_match, followed_all, followed_nearest, followed_so_far, following_at, following_none, following_more, following_not, is_nil, line_back, next_precedes, chain_alone, chain_end, some_where, weight_cut}
 use Rattle.dom_select.proofs.matcher.matches.+matching.Goals as goal
-use Rattle.dom_select.proofs.matcher.matches.+matching.Goals.{match_from_candidates-then-is_candidate+in_ok-remainder+in_default-2, match_from_candidates-else-is_candidate}
+use Rattle.dom_select.proofs.matcher.matches.+matching.Goals.{match_from_candidates-then-is_candidate+in_default-match_suffix, match_from_candidates-else-is_candidate}
 
 pub last_holds-holds-requires : goal.last_holds-holds-requires
-last_holds-holds-requires g t c κs within =
+last_holds-holds-requires t c =
     let w = weight_front_and_last c.args.steps.now c.in-Some.field-0-1.now c.in-Some.last.now c.in-Some.ensures.cases.0 in
-    let low : compound_weight (read_compound c.in-Some.last.now.compound) < t = omega (arith, w, c.decreases) in
-    (low, within)
+    omega (arith, w, c.decreases)
 
 pub last_holds-returns-else-not-may_be_operand-clause-is : goal.last_holds-returns-else-not-may_be_operand-clause-is
-last_holds-returns-else-not-may_be_operand-clause-is g t c =
+last_holds-returns-else-not-may_be_operand-clause-is t c =
     let is = read_front_and_last c.args.steps.now c.in-Some.field-0-1.now c.in-Some.last.now c.in-Some.ensures.cases.0 in
-    IfOk-weaker c.holds.result _ _ (λ b h. ends_match c.args.caches.now c.args.chain.now.exempt (BeginsChain c.args.chain.now c.args.caches.now) (map read_step c.args.steps.now) _ _ c.args.id b is
-    ((rw c.tree.ensures at c.may_be_operand.ensures).0 c.if-not-may_be_operand.false) h) c.holds.ensures.is
+    ends_match c.args.caches.now c.args.chain.now.exempt (BeginsChain c.args.chain.now c.args.caches.now) (map read_step c.args.steps.now) _ _ c.args.id c.holds.result is
+    ((rw c.tree.ensures at c.may_be_operand.ensures).0 c.if-not-may_be_operand.false) c.holds.ensures.is
 
-pub match_suffix-returns-then-not-branch-clause-is : goal.match_suffix-returns-then-not-branch-clause-is
-match_suffix-returns-then-not-branch-clause-is g t c = λ r. (rw c.if-not-branch.true at c.in_ok-last_holds.ensures.is) (chain_end c.args.caches.now c.args.chain.now.exempt (BeginsChain c.args.chain.now c.args.caches.now) (map read_step c.args.steps.now) c.args.id r)
+pub match_suffix-returns-then-not-last_holds-clause-is : goal.match_suffix-returns-then-not-last_holds-clause-is
+match_suffix-returns-then-not-last_holds-clause-is t c = λ r. c.if-not-last_holds.ensures.is (chain_end c.args.caches.now c.args.chain.now.exempt (BeginsChain c.args.chain.now c.args.caches.now) (map read_step c.args.steps.now) c.args.id r)
 
 pub match_suffix-loop-last-init : goal.match_suffix-loop-last-init
-match_suffix-loop-last-init g t c =
-    record { kept = c.last_holds.ensures.kept; following = following_none c.args.caches.now c.args.chain.now.exempt (BeginsChain c.args.chain.now c.args.caches.now) c.args.level (map read_step c.args.steps.now) c.args.id (rw c.if-not-branch.false at c.in_ok-last_holds.ensures.is) }
+match_suffix-loop-last-init t c =
+    record { kept = c.last_holds.ensures.kept; following = following_none c.args.caches.now c.args.chain.now.exempt (BeginsChain c.args.chain.now c.args.caches.now) c.args.level (map read_step c.args.steps.now) c.args.id c.if-not-last_holds.ensures.is }
 
 pub match_suffix-returns-then-binding_level-level-clause-is : goal.match_suffix-returns-then-binding_level-level-clause-is
-match_suffix-returns-then-binding_level-level-clause-is g t c =
+match_suffix-returns-then-binding_level-level-clause-is t c =
     let is = read_front_and_last c.loop-last.remainder.left.now c.in-Some.front.now c.in-Some.last.now c.in-Some.ensures.cases.0 in
     let far : c.args.level ≤ binding_level c.in-Some.last.now.combinator = omega (arith, c.binding_level.ensures, c.if-binding_level-level.true) in
     followed_so_far c.args.caches.now c.args.chain.now.exempt (BeginsChain c.args.chain.now c.args.caches.now) c.args.level (map read_step c.args.steps.now) (map read_step c.loop-last.remainder.left.now) c.args.id c.loop-last.remainder.at
     (ends_here c.args.caches.now c.args.chain.now.exempt (BeginsChain c.args.chain.now c.args.caches.now) c.args.level _ _ _ is far) c.loop-last.invariant.following
 
 pub match_suffix-match_from_candidates-requires : goal.match_suffix-match_from_candidates-requires
-match_suffix-match_from_candidates-requires g t c κs within =
+match_suffix-match_from_candidates-requires t c =
     let lines = rw (c.tree.ensures ∙ c.last_holds.ensures.kept) at c.line_laws.ensures in
     let at = c.loop-last.invariant.following in
     let w = weight_front_and_last c.loop-last.remainder.left.now c.in-Some.front.now c.in-Some.last.now c.in-Some.ensures.cases.0 in
     let cut = weight_cut (map read_step c.args.steps.now) (map read_step c.loop-last.remainder.left.now) at.passed at.split in
-    let below : binding_level c.in-Some.last.now.combinator < c.args.level = omega (arith, c.binding_level.ensures, c.if-binding_level-level.false) in
-    let low : 4 + compound_weight (read_compound c.args.chain.now.first.now) + steps_weight (steps_of (map read_step c.in-Some.front.now)) + binding_level c.in-Some.last.now.combinator < t = omega (arith, w, cut, below, c.decreases) in (
-      low,
-      (within, rw c.loop-last.invariant.kept (following_at c.args.caches.now c.args.chain.now.exempt (BeginsChain c.args.chain.now c.args.caches.now) c.args.level (map read_step c.args.steps.now) (map read_step c.loop-last.remainder.left.now) c.args.id c.loop-last.remainder.at lines c.requires at)),
+    let below : binding_level c.in-Some.last.now.combinator < c.args.level = omega (arith, c.binding_level.ensures, c.if-binding_level-level.false) in (
+      omega (arith, w, cut, below, c.decreases),
+      rw c.loop-last.invariant.kept (following_at c.args.caches.now c.args.chain.now.exempt (BeginsChain c.args.chain.now c.args.caches.now) c.args.level (map read_step c.args.steps.now) (map read_step c.loop-last.remainder.left.now) c.args.id c.loop-last.remainder.at lines c.requires at),
     )
 
-pub match_suffix-returns-in_default-found-clause-is : goal.match_suffix-returns-in_default-found-clause-is
-match_suffix-returns-in_default-found-clause-is g t c =
+pub match_suffix-returns-in_default-match_from_candidates-clause-is : goal.match_suffix-returns-in_default-match_from_candidates-clause-is
+match_suffix-returns-in_default-match_from_candidates-clause-is t c =
     let is = read_front_and_last c.loop-last.remainder.left.now c.in-Some.front.now c.in-Some.last.now c.in-Some.ensures.cases.0 in
     following_not c.args.caches.now c.args.chain.now.exempt (BeginsChain c.args.chain.now c.args.caches.now) c.args.level (map read_step c.args.steps.now) (map read_step c.loop-last.remainder.left.now) _ _ c.args.id c.loop-last.remainder.at is
-    c.loop-last.invariant.following (rw c.loop-last.invariant.kept at (rw c.in_default-found.is at c.in_ok-found.ensures.is))
+    c.loop-last.invariant.following (rw c.loop-last.invariant.kept at c.in_default-match_from_candidates.ensures.is)
 
 pub match_suffix-loop-last-preserved : goal.match_suffix-loop-last-preserved
-match_suffix-loop-last-preserved g t c =
+match_suffix-loop-last-preserved t c =
     let is = read_front_and_last c.loop-last.remainder.left.now c.in-Some.front.now c.in-Some.last.now c.in-Some.ensures.cases.0 in
     let below : binding_level c.in-Some.last.now.combinator < c.args.level = omega (arith, c.binding_level.ensures, c.if-binding_level-level.false) in
     record {
-      kept = c.match_from_candidates.ensures.kept ∙ c.loop-last.invariant.kept;
-      following = following_more c.args.caches.now c.args.chain.now.exempt (BeginsChain c.args.chain.now c.args.caches.now) c.args.level (map read_step c.args.steps.now) (map read_step c.loop-last.remainder.left.now) _ (map read_step c.in-Some-found.next.left.now) _
-          c.args.id c.loop-last.remainder.at c.in-Some-found.next.at is below c.loop-last.invariant.following (rw c.loop-last.invariant.kept at (rw c.in-Some-found.is at c.in_ok-found.ensures.is));
+      kept = c.in-Some-match_from_candidates.ensures.kept ∙ c.loop-last.invariant.kept;
+      following = following_more c.args.caches.now c.args.chain.now.exempt (BeginsChain c.args.chain.now c.args.caches.now) c.args.level (map read_step c.args.steps.now) (map read_step c.loop-last.remainder.left.now) _ (map read_step c.in-Some-match_from_candidates.next.left.now) _
+          c.args.id c.loop-last.remainder.at c.in-Some-match_from_candidates.next.at is below c.loop-last.invariant.following (rw c.loop-last.invariant.kept at c.in-Some-match_from_candidates.ensures.is);
     }
 
 pub match_from_candidates-match_suffix-requires : goal.match_from_candidates-match_suffix-requires
-match_from_candidates-match_suffix-requires g t c κs within =
+match_from_candidates-match_suffix-requires t c =
     let lines = rw c.tree-tree.ensures at c.left_of.ensures.lines in
     let link = sym (rw c.tree-tree.ensures at c.in-Some.ensures.link) in
-    let same = c.count_test.ensures ∙ c.loop-v.invariant.kept in
-    let low : 3 + compound_weight (read_compound c.args.chain.now.first.now) + steps_weight (steps_of (map read_step c.args.steps.now)) + c.binding_level-level.result < t = omega (arith, c.binding_level-level.ensures, c.decreases) in (
-      low,
-      (within, rw same (inr (next_precedes c.args.caches.now c.args.chain.now.exempt (BeginsChain c.args.chain.now c.args.caches.now) lines c.args.combinator (map read_step c.args.steps.now) c.args.id c.loop-v.at c.in-Some.v c.requires c.loop-v.invariant.back link))),
+    let same = c.loop-v.invariant.kept in (
+      omega (arith, c.binding_level-level.ensures, c.decreases),
+      rw same (inr (next_precedes c.args.caches.now c.args.chain.now.exempt (BeginsChain c.args.chain.now c.args.caches.now) lines c.args.combinator (map read_step c.args.steps.now) c.args.id c.loop-v.at c.in-Some.v c.requires c.loop-v.invariant.back link)),
     )
 
-pub match_from_candidates-returns-in-Some-2-clause-is : goal.match_from_candidates-returns-in-Some-2-clause-is
-match_from_candidates-returns-in-Some-2-clause-is g t c =
+pub match_from_candidates-returns-in-Some-match_suffix-clause-is : goal.match_from_candidates-returns-in-Some-match_suffix-clause-is
+match_from_candidates-returns-in-Some-match_suffix-clause-is t c =
     let lines = rw c.tree-tree.ensures at c.left_of.ensures.lines in
     let link = sym (rw c.tree-tree.ensures at c.in-Some.ensures.link) in
-    let same = c.count_test.ensures ∙ c.loop-v.invariant.kept in
+    let same = c.loop-v.invariant.kept in
     let may = rw c.tree-tree.ensures at c.is_candidate.ensures in
-    followed_nearest c.args.caches.now c.args.chain.now.exempt (BeginsChain c.args.chain.now c.args.caches.now) lines c.args.combinator (map read_step c.args.steps.now) (map read_step c.in-Some-2.remainder.left.now)
-    c.args.id c.loop-v.at c.in-Some.v c.in-Some-2.remainder.at c.binding_level-level.result c.requires link (when_true _ _ c.if-is_candidate.true may).0 c.binding_level-level.ensures (rw same at (rw c.in-Some-2.is at c.in_ok-remainder.ensures.is))
+    followed_nearest c.args.caches.now c.args.chain.now.exempt (BeginsChain c.args.chain.now c.args.caches.now) lines c.args.combinator (map read_step c.args.steps.now) (map read_step c.in-Some-match_suffix.remainder.left.now)
+    c.args.id c.loop-v.at c.in-Some.v c.in-Some-match_suffix.remainder.at c.binding_level-level.result c.requires link (when_true _ _ c.if-is_candidate.true may).0 c.binding_level-level.ensures (rw same at c.in-Some-match_suffix.ensures.is)
     c.loop-v.invariant.forth c.loop-v.invariant.back
 
 pub match_from_candidates-returns-then-ends_at-clause-is : goal.match_from_candidates-returns-then-ends_at-clause-is
-match_from_candidates-returns-then-ends_at-clause-is g t c =
+match_from_candidates-returns-then-ends_at-clause-is t c =
     let lines = rw c.tree-tree.ensures at c.left_of.ensures.lines in
     let link = sym (rw c.tree-tree.ensures at c.in-Some.ensures.link) in
-    let same = c.count_test.ensures ∙ c.loop-v.invariant.kept in
+    let same = c.loop-v.invariant.kept in
     let may = rw c.tree-tree.ensures at c.is_candidate.ensures in
     let forest = c.args.caches.now in
     let k = c.args.combinator in
     let Q : ℕ → Type 0 = IsMeant forest c.args.chain.now.exempt (BeginsChain c.args.chain.now c.args.caches.now) (steps_of (map read_step c.args.steps.now)) k in
     let refuted : Q c.in-Some.v → ⊥ = elim c.if-is_candidate.branch [
-      | match_from_candidates-then-is_candidate+in_ok-remainder+in_default-2 w ↦ λ q. (rw same at (rw w.in_default-2.is at w.in_ok-remainder.ensures.is)) q.1
+      | match_from_candidates-then-is_candidate+in_default-match_suffix w ↦ λ q. (rw same at w.in_default-match_suffix.ensures.is) q.1
       | match_from_candidates-else-is_candidate w ↦ λ q. not_reached c.subject_type-name.result (read_compound c.args.chain.now.first.now) (map read_step c.args.steps.now) k forest c.args.chain.now.exempt c.in-Some.v c.is_candidate.result c.subject_type-name.ensures may w.if-is_candidate.false c.args.chain.now.start.now q
     ] in
     let none = left_ends forest k Q lines c.loop-v.at c.in-Some.v link refuted (sym (rw c.tree-tree.ensures at c.ends_at.ensures) ∙ c.if-ends_at.true) in
     λ s. none (c.loop-v.invariant.forth (to_line Q forest k c.args.id s.0 lines s.1 s.2))
 
 pub match_from_candidates-loop-v-smaller : goal.match_from_candidates-loop-v-smaller
-match_from_candidates-loop-v-smaller g t c =
+match_from_candidates-loop-v-smaller t c =
     let lines = rw c.tree-tree.ensures at c.left_of.ensures.lines in
     let link = sym (rw c.tree-tree.ensures at c.in-Some.ensures.link) in
     let is = ap length (line_some c.args.caches.now c.args.combinator c.loop-v.at c.in-Some.v lines link) in
     omega arith
 
 pub match_from_candidates-loop-v-preserved : goal.match_from_candidates-loop-v-preserved
-match_from_candidates-loop-v-preserved g t c =
+match_from_candidates-loop-v-preserved t c =
     let lines = rw c.tree-tree.ensures at c.left_of.ensures.lines in
     let link = sym (rw c.tree-tree.ensures at c.in-Some.ensures.link) in
-    let same = c.count_test.ensures ∙ c.loop-v.invariant.kept in
+    let same = c.loop-v.invariant.kept in
     let may = rw c.tree-tree.ensures at c.is_candidate.ensures in
     let forest = c.args.caches.now in
     let k = c.args.combinator in
     let Q : ℕ → Type 0 = IsMeant forest c.args.chain.now.exempt (BeginsChain c.args.chain.now c.args.caches.now) (steps_of (map read_step c.args.steps.now)) k in
     let refuted : Q c.in-Some.v → ⊥ = elim c.if-is_candidate.branch [
-      | match_from_candidates-then-is_candidate+in_ok-remainder+in_default-2 w ↦ λ q. (rw same at (rw w.in_default-2.is at w.in_ok-remainder.ensures.is)) q.1
+      | match_from_candidates-then-is_candidate+in_default-match_suffix w ↦ λ q. (rw same at w.in_default-match_suffix.ensures.is) q.1
       | match_from_candidates-else-is_candidate w ↦ λ q. not_reached c.subject_type-name.result (read_compound c.args.chain.now.first.now) (map read_step c.args.steps.now) k forest c.args.chain.now.exempt c.in-Some.v c.is_candidate.result c.subject_type-name.ensures may w.if-is_candidate.false c.args.chain.now.start.now q
     ] in
     let goes = sym (rw c.tree-tree.ensures at c.ends_at.ensures) ∙ c.if-ends_at.false in
     record {
       kept = elim c.if-is_candidate.branch [
-        | match_from_candidates-then-is_candidate+in_ok-remainder+in_default-2 w ↦ w.caches-is ∙ (w.match_suffix.ensures.kept ∙ same)
+        | match_from_candidates-then-is_candidate+in_default-match_suffix w ↦ w.caches-is ∙ (w.in_default-match_suffix.ensures.kept ∙ same)
         | match_from_candidates-else-is_candidate w ↦ w.caches-is ∙ same
       ];
       forth = λ s. (left_farther forest k Q lines c.loop-v.at c.in-Some.v link refuted goes).0 (c.loop-v.invariant.forth s);
@@ -138,7 +133,7 @@ match_from_candidates-loop-v-preserved g t c =
     }
 
 pub match_from_candidates-returns-clause-is : goal.match_from_candidates-returns-clause-is
-match_from_candidates-returns-clause-is g t c =
+match_from_candidates-returns-clause-is t c =
     let lines = rw c.tree-tree.ensures at c.left_of.ensures.lines in
     let forest = c.args.caches.now in
     let k = c.args.combinator in
@@ -147,42 +142,40 @@ match_from_candidates-returns-clause-is g t c =
     λ s. none (c.loop-v.invariant.forth (to_line Q forest k c.args.id s.0 lines s.1 s.2))
 
 pub chain_matches-returns-clause-is : goal.chain_matches-returns-clause-is
-chain_matches-returns-clause-is g t c =
+chain_matches-returns-clause-is t c =
     let first = Begins c.args.start.now (read_compound c.args.first.now) c.args.caches.now in
     let steps = map read_step c.args.steps.now in
     ends_if c.args.start.now (read_compound c.args.first.now) (steps_of steps) c.args.caches.now c.args.id _ (sym (rw c.tree.ensures at c.may_be_subject.ensures) ∙ c.if-not-may_be_subject.false)
-    (some_where c.in_ok-match_suffix.field-0 c.is_some.result _ _ (λ remainder f. followed_all c.args.caches.now c.args.id first steps (map read_step remainder.left.now) c.args.id remainder.at f) c.in_ok-match_suffix.ensures.is c.is_some.ensures)
+    (some_where c.match_suffix.result c.is_some.result _ _ (λ remainder f. followed_all c.args.caches.now c.args.id first steps (map read_step remainder.left.now) c.args.id remainder.at f) c.match_suffix.ensures.is c.is_some.ensures)
 
 pub chain_matches-begins-requires : goal.chain_matches-begins-requires
-chain_matches-begins-requires g t c κs within =
-    let low : 1 + compound_weight (read_compound c.args.first.now) < t = omega (arith, c.decreases) in
-    (low, within)
+chain_matches-begins-requires t c = omega (arith, c.decreases)
 
 pub chain_matches-returns-then-is_empty-clause-is : goal.chain_matches-returns-then-is_empty-clause-is
-chain_matches-returns-then-is_empty-clause-is g t c =
+chain_matches-returns-then-is_empty-clause-is t c =
     let first = Begins c.args.start.now (read_compound c.args.first.now) c.args.caches.now in
     let none = is_nil c.args.steps.now (sym c.is_empty.ensures ∙ c.if-is_empty.true) in
-    IfOk-weaker c.begins.result _ _ (λ b h. ends_if c.args.start.now (read_compound c.args.first.now) (steps_of (map read_step c.args.steps.now)) c.args.caches.now c.args.id b (sym (rw c.tree.ensures at c.may_be_subject.ensures) ∙ c.if-not-may_be_subject.false)
-    (chain_alone c.args.caches.now c.args.id first (map read_step c.args.steps.now) c.args.id b (ap (map read_step) none) h)) c.begins.ensures.is
+    ends_if c.args.start.now (read_compound c.args.first.now) (steps_of (map read_step c.args.steps.now)) c.args.caches.now c.args.id _ (sym (rw c.tree.ensures at c.may_be_subject.ensures) ∙ c.if-not-may_be_subject.false)
+    (chain_alone c.args.caches.now c.args.id first (map read_step c.args.steps.now) c.args.id c.begins.result (ap (map read_step) none) c.begins.ensures.is)
 
-pub has_holds-returns-then-branch-clause-is : goal.has_holds-returns-then-branch-clause-is
-has_holds-returns-then-branch-clause-is g t c =
-    let here = steps_here c.args.selectors.now c.loop-selector.selector-index c.selector-item.result c.deref.result.now c.args.caches.now c.args.id c.in_ok-relative_matches.field-0 (omega (arith, c.loop-selector-test.true)) c.selector-item.is c.deref.ensures.value (rw c.loop-selector.invariant.kept at c.in_ok-relative_matches.ensures.is) c.if-branch.true in
+pub has_holds-returns-then-relative_matches-clause-is : goal.has_holds-returns-then-relative_matches-clause-is
+has_holds-returns-then-relative_matches-clause-is t c =
+    let here = steps_here c.args.selectors.now c.loop-selector.selector-index c.selector-item.result c.deref.result.now c.args.caches.now c.args.id c.relative_matches.result (omega (arith, c.loop-selector-test.true)) c.selector-item.is c.deref.ensures.value (rw c.loop-selector.invariant.kept at c.relative_matches.ensures.is) c.if-relative_matches.true in
     (λ e. c.loop-selector.invariant.same.0 here, λ h. refl)
 
 pub has_holds-loop-selector-preserved : goal.has_holds-loop-selector-preserved
-has_holds-loop-selector-preserved g t c =
-    let same = steps_later c.args.selectors.now c.loop-selector.selector-index c.selector-item.result c.deref.result.now c.args.caches.now c.args.id c.in_ok-relative_matches.field-0 (omega (arith, c.loop-selector-test.true)) c.selector-item.is c.deref.ensures.value (rw c.loop-selector.invariant.kept at c.in_ok-relative_matches.ensures.is) c.if-branch.false in
+has_holds-loop-selector-preserved t c =
+    let same = steps_later c.args.selectors.now c.loop-selector.selector-index c.selector-item.result c.deref.result.now c.args.caches.now c.args.id c.relative_matches.result (omega (arith, c.loop-selector-test.true)) c.selector-item.is c.deref.ensures.value (rw c.loop-selector.invariant.kept at c.relative_matches.ensures.is) c.if-relative_matches.false in
     let less = list_lighter c.args.selectors.now c.loop-selector.selector-index c.selector-item.result (omega (arith, c.loop-selector-test.true)) c.selector-item.is in
     let light = c.loop-selector.invariant.light in
     record { kept = c.relative_matches.ensures.kept ∙ c.loop-selector.invariant.kept; same = (λ h. c.loop-selector.invariant.same.0 (same.0 h), λ h. same.1 (c.loop-selector.invariant.same.1 h)); light = omega arith }
 
-pub relative_matches-returns-then-branch-clause-is : goal.relative_matches-returns-then-branch-clause-is
-relative_matches-returns-then-branch-clause-is g t c =
-    (λ e. led_to c.args.caches.now (rw c.tree-tree.ensures at c.line_laws.ensures) c.args.lead (read_compound c.args.first.now) (steps_of (map read_step c.args.steps.now)) c.args.id c.in-Some.at (rw c.loop-top.invariant.kept at (rw c.if-branch.true at c.in_ok-matches_within.ensures.is)), λ h. refl)
+pub relative_matches-returns-then-matches_within-clause-is : goal.relative_matches-returns-then-matches_within-clause-is
+relative_matches-returns-then-matches_within-clause-is t c =
+    (λ e. led_to c.args.caches.now (rw c.tree-tree.ensures at c.line_laws.ensures) c.args.lead (read_compound c.args.first.now) (steps_of (map read_step c.args.steps.now)) c.args.id c.in-Some.at (rw c.loop-top.invariant.kept at c.if-matches_within.ensures.is), λ h. refl)
 
 pub relative_matches-returns-clause-is : goal.relative_matches-returns-clause-is
-relative_matches-returns-clause-is g t c = (
+relative_matches-returns-clause-is t c = (
   λ e. absurd (true≢false (sym e)),
   λ s.
       let r = reached_from c.args.caches.now (rw c.tree-tree.ensures at c.line_laws.ensures) c.args.lead (read_compound c.args.first.now) (steps_of (map read_step c.args.steps.now)) c.args.id s in
@@ -191,67 +184,53 @@ relative_matches-returns-clause-is g t c = (
       absurd (true≢false (sym there ∙ none)),
 )
 
-pub matches_within-returns-then-branch-2-clause-is : goal.matches_within-returns-then-branch-2-clause-is
-matches_within-returns-then-branch-2-clause-is g t c =
-    (c.in-Some.y, inr (c.loop-y.invariant.among c.in-Some.y (ap (stands_in c.in-Some.y) c.in-Some.ensures.steps.first ∙ stands_first c.in-Some.y _)), (rw (c.count_test.ensures ∙ c.loop-y.invariant.kept) at c.in_ok-chain_matches-2.ensures.is).0 c.if-branch-2.true)
-
-pub means-returns-then-branch-clause-is : goal.means-returns-then-branch-clause-is
-means-returns-then-branch-clause-is g t c =
-    let here = means_here c.args.selectors.now c.loop-selector.selector-index c.selector-item.result c.deref.result.now c.args.caches.now c.args.id c.in_ok-chain_matches.field-0 (omega (arith, c.loop-selector-test.true)) c.selector-item.is c.deref.ensures.value (rw c.loop-selector.invariant.kept at c.in_ok-chain_matches.ensures.is) c.if-branch.true in
-    (λ e. c.loop-selector.invariant.same.0 here, λ h. refl)
-
-pub means-loop-selector-preserved : goal.means-loop-selector-preserved
-means-loop-selector-preserved g t c =
-    let same = means_later c.args.selectors.now c.loop-selector.selector-index c.selector-item.result c.deref.result.now c.args.caches.now c.args.id c.in_ok-chain_matches.field-0 (omega (arith, c.loop-selector-test.true)) c.selector-item.is c.deref.ensures.value (rw c.loop-selector.invariant.kept at c.in_ok-chain_matches.ensures.is) c.if-branch.false in
-    let less = list_lighter c.args.selectors.now c.loop-selector.selector-index c.selector-item.result (omega (arith, c.loop-selector-test.true)) c.selector-item.is in
-    let light = c.loop-selector.invariant.light in
-    record { kept = c.chain_matches.ensures.kept ∙ c.loop-selector.invariant.kept; same = (λ h. c.loop-selector.invariant.same.0 (same.0 h), λ h. same.1 (c.loop-selector.invariant.same.1 h)); light = omega arith }
+pub matches_within-returns-then-chain_matches-2-clause-is : goal.matches_within-returns-then-chain_matches-2-clause-is
+matches_within-returns-then-chain_matches-2-clause-is t c =
+    (c.in-Some.y, inr (c.loop-y.invariant.among c.in-Some.y (ap (stands_in c.in-Some.y) c.in-Some.ensures.steps.first ∙ stands_first c.in-Some.y _)), (rw c.loop-y.invariant.kept at c.chain_matches-in-loop-y.ensures.is).0 c.if-chain_matches-2.true)
 
 pub relative_matches-holds_beside-requires : goal.relative_matches-holds_beside-requires
-relative_matches-holds_beside-requires g t c κs within =
-    let low : 2 + compound_weight (read_compound c.args.first.now) < t = omega (arith, c.decreases) in
-    (low, (within, (c.is_near.ensures c.if-is_near.true).1))
+relative_matches-holds_beside-requires t c = (omega (arith, c.decreases), (c.is_near.ensures c.if-is_near.true).1)
 
 pub relative_matches-returns-then-is_near-clause-is : goal.relative_matches-returns-then-is_near-clause-is
-relative_matches-returns-then-is_near-clause-is g t c =
+relative_matches-returns-then-is_near-clause-is t c =
     let none = (c.is_near.ensures c.if-is_near.true).0 in
-    IfOk-weaker c.holds_beside.result _ _ (λ b h. subst (λ steps. IsTrue b ↔ CompoundsMatchFrom c.args.lead c.args.first.now steps c.args.caches.now c.args.id) (sym none) h) c.holds_beside.ensures.is
+    subst (λ steps. IsTrue c.holds_beside.result ↔ CompoundsMatchFrom c.args.lead c.args.first.now steps c.args.caches.now c.args.id) (sym none) c.holds_beside.ensures.is
 
 pub holds_beside-loop-next-init : goal.holds_beside-loop-next-init
-holds_beside-loop-next-init g t c = record {
+holds_beside-loop-next-init t c = record {
   kept = refl;
   same = leads_beside (read_compound c.args.first.now) c.args.caches.now c.args.lead c.args.id _ (rw c.tree-tree.ensures at c.first_right-next.ensures);
 }
 
-pub holds_beside-returns-then-branch-clause-is : goal.holds_beside-returns-then-branch-clause-is
-holds_beside-returns-then-branch-clause-is g t c =
+pub holds_beside-returns-then-holds_of_element-clause-is : goal.holds_beside-returns-then-holds_of_element-clause-is
+holds_beside-returns-then-holds_of_element-clause-is t c =
     let first = read_compound c.args.first.now in
     let forest = c.args.caches.now in
-    let here = (rw (c.count_test.ensures ∙ c.loop-next.invariant.kept) at c.in_ok-holds_of_element.ensures.is).0 c.if-branch.true in
+    let here = (rw c.loop-next.invariant.kept at c.holds_of_element.ensures.is).0 c.if-holds_of_element.true in
     (λ e. c.loop-next.invariant.same.0 (row_here first forest (right_row forest c.args.lead c.loop-next.next) _ c.in-Some.at (ap (right_row forest c.args.lead) c.in-Some.is) here), λ h. refl)
 
 pub holds_beside-loop-next-smaller : goal.holds_beside-loop-next-smaller
-holds_beside-loop-next-smaller g t c =
+holds_beside-loop-next-smaller t c =
     let forest = c.args.caches.now in
     shorter _ _ c.in-Some.at (ap (right_row forest c.args.lead) c.in-Some.is ∙ subst (λ f. right_row f c.args.lead (Some c.in-Some.at) ≡ c.in-Some.at ∷ right_row f c.args.lead c.next_right-next.result) c.tree-tree.ensures c.next_right-next.ensures)
 
 pub holds_beside-loop-next-preserved : goal.holds_beside-loop-next-preserved
-holds_beside-loop-next-preserved g t c =
+holds_beside-loop-next-preserved t c =
     let first = read_compound c.args.first.now in
     let forest = c.args.caches.now in
-    let fact = rw (c.count_test.ensures ∙ c.loop-next.invariant.kept) at c.in_ok-holds_of_element.ensures.is in
+    let fact = rw c.loop-next.invariant.kept at c.holds_of_element.ensures.is in
     let on = ap (right_row forest c.args.lead) c.in-Some.is ∙ subst (λ f. right_row f c.args.lead (Some c.in-Some.at) ≡ c.in-Some.at ∷ right_row f c.args.lead c.next_right-next.result) c.tree-tree.ensures c.next_right-next.ensures in
-    let later = row_later first forest (right_row forest c.args.lead c.loop-next.next) _ c.in-Some.at on (λ h. true≢false (sym (fact.1 h) ∙ c.if-branch.false)) in
+    let later = row_later first forest (right_row forest c.args.lead c.loop-next.next) _ c.in-Some.at on (λ h. true≢false (sym (fact.1 h) ∙ c.if-holds_of_element.false)) in
     record {
-      kept = c.holds_of_element.ensures.kept ∙ (c.count_test.ensures ∙ c.loop-next.invariant.kept);
+      kept = c.holds_of_element.ensures.kept ∙ c.loop-next.invariant.kept;
       same = (λ h. c.loop-next.invariant.same.0 (later.0 h), λ h. later.1 (c.loop-next.invariant.same.1 h));
     }
 
 pub holds_beside-returns-clause-is : goal.holds_beside-returns-clause-is
-holds_beside-returns-clause-is g t c =
+holds_beside-returns-clause-is t c =
     (λ e. absurd (true≢false (sym e)), λ r. absurd (row_ends (read_compound c.args.first.now) c.args.caches.now c.args.lead _ c.in_default.is (c.loop-next.invariant.same.1 r)))
 
 pub holds_of_element-returns-clause-is : goal.holds_of_element-returns-clause-is
-holds_of_element-returns-clause-is g t c =
+holds_of_element-returns-clause-is t c =
     let el = sym (rw c.tree.ensures at c.element_at.ensures) ∙ c.if-not-element_at.false in
-    IfOk-weaker c.holds.result _ _ (λ b h. (λ e. (el, h.0 e), λ p. h.1 p.1)) c.holds.ensures.is
+    (λ e. (el, c.holds.ensures.is.0 e), λ p. c.holds.ensures.is.1 p.1)

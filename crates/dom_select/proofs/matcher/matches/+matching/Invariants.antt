@@ -16,32 +16,32 @@ use Rattle.dom_selectors.specs.Syntax.{no_steps}
 use Rattle.dom_select.proofs.matcher.matches.+matching.Given as goal
 
 abbrev pub decreases-holds : goal.decreases-holds
-decreases-holds g l = compound_weight (read_compound l.compound.now)
+decreases-holds l = compound_weight (read_compound l.compound.now)
 
 abbrev pub decreases-lists_hold : goal.decreases-lists_hold
-decreases-lists_hold g l = lists_weight (lists_of (map read_nested l.lists.now))
+decreases-lists_hold l = lists_weight (lists_of (map read_nested l.lists.now))
 
 abbrev pub decreases-list_holds : goal.decreases-list_holds
-decreases-list_holds g l = list_weight (read_nested l.list.now)
+decreases-list_holds l = list_weight (read_nested l.list.now)
 
 abbrev pub decreases-means : goal.decreases-means
-decreases-means g l = selectors_weight (read_list l.selectors.now)
+decreases-means l = selectors_weight (read_list l.selectors.now)
 
 abbrev pub decreases-chain_matches : goal.decreases-chain_matches
-decreases-chain_matches g l = 9 + compound_weight (read_compound l.first.now) + steps_weight (steps_of (map read_step l.steps.now))
+decreases-chain_matches l = 9 + compound_weight (read_compound l.first.now) + steps_weight (steps_of (map read_step l.steps.now))
 
 abbrev pub decreases-last_holds : goal.decreases-last_holds
-decreases-last_holds g l = 2 + compound_weight (read_compound l.chain.now.first.now) + steps_weight (steps_of (map read_step l.steps.now))
+decreases-last_holds l = 2 + compound_weight (read_compound l.chain.now.first.now) + steps_weight (steps_of (map read_step l.steps.now))
 
 abbrev pub decreases-match_suffix : goal.decreases-match_suffix
-decreases-match_suffix g l = 3 + compound_weight (read_compound l.chain.now.first.now) + steps_weight (steps_of (map read_step l.steps.now)) + l.level
+decreases-match_suffix l = 3 + compound_weight (read_compound l.chain.now.first.now) + steps_weight (steps_of (map read_step l.steps.now)) + l.level
 
 abbrev pub decreases-match_from_candidates : goal.decreases-match_from_candidates
-decreases-match_from_candidates g l = 4 + compound_weight (read_compound l.chain.now.first.now) + steps_weight (steps_of (map read_step l.steps.now)) + binding_level l.combinator
+decreases-match_from_candidates l = 4 + compound_weight (read_compound l.chain.now.first.now) + steps_weight (steps_of (map read_step l.steps.now)) + binding_level l.combinator
 
 -- the lists that are left decide
 abbrev pub invariant-lists_hold-loop-list : goal.invariant-lists_hold-loop-list
-invariant-lists_hold-loop-list g l =
+invariant-lists_hold-loop-list l =
     let all = lists_of (map read_nested l.lists) in
     let left = lists_of (map read_nested (drop l.list-index l.lists)) in
     record {
@@ -52,7 +52,7 @@ invariant-lists_hold-loop-list g l =
 
 -- the selectors that are left decide
 abbrev pub invariant-means-loop-selector : goal.invariant-means-loop-selector
-invariant-means-loop-selector g l =
+invariant-means-loop-selector l =
     let all = read_list l.selectors in
     let left = read_list (drop l.selector-index l.selectors) in
     record {
@@ -63,17 +63,17 @@ invariant-means-loop-selector g l =
 
 -- the steps are followed so far
 abbrev pub invariant-match_suffix-loop-last : goal.invariant-match_suffix-loop-last
-invariant-match_suffix-loop-last g l = record {
+invariant-match_suffix-loop-last l = record {
   kept : l.caches ≡ l.fn.caches;
   following : Following l.fn.caches l.chain.exempt (BeginsChain l.chain l.fn.caches) l.level (map read_step l.steps) (map read_step l.remainder.left.now) l.fn.id l.remainder.at;
 }
 
 abbrev pub decreases-match_suffix-loop-last : goal.decreases-match_suffix-loop-last
-decreases-match_suffix-loop-last g l = length l.remainder.left.now
+decreases-match_suffix-loop-last l = length l.remainder.left.now
 
 -- what is left of the way decides
 abbrev pub invariant-match_from_candidates-loop-v : goal.invariant-match_from_candidates-loop-v
-invariant-match_from_candidates-loop-v g l =
+invariant-match_from_candidates-loop-v l =
     let ends = ends_at l.fn.caches l.combinator in
     let meant = SomeOnLine ends (IsMeant l.fn.caches l.chain.exempt (BeginsChain l.chain l.fn.caches) (steps_of (map read_step l.steps)) l.combinator) in
     record {
@@ -83,23 +83,23 @@ invariant-match_from_candidates-loop-v g l =
     }
 
 abbrev pub decreases-match_from_candidates-loop-v : goal.decreases-match_from_candidates-loop-v
-decreases-match_from_candidates-loop-v g l = length (line l.fn.caches l.combinator l.at)
+decreases-match_from_candidates-loop-v l = length (line l.fn.caches l.combinator l.at)
 
 abbrev pub decreases-begins : goal.decreases-begins
-decreases-begins g l = 1 + compound_weight (read_compound l.chain.now.first.now)
+decreases-begins l = 1 + compound_weight (read_compound l.chain.now.first.now)
 
 abbrev pub decreases-has_holds : goal.decreases-has_holds
-decreases-has_holds g l = selectors_weight (read_list l.selectors.now)
+decreases-has_holds l = selectors_weight (read_list l.selectors.now)
 
 abbrev pub decreases-relative_matches : goal.decreases-relative_matches
-decreases-relative_matches g l = 11 + compound_weight (read_compound l.first.now) + steps_weight (steps_of (map read_step l.steps.now))
+decreases-relative_matches l = 11 + compound_weight (read_compound l.first.now) + steps_weight (steps_of (map read_step l.steps.now))
 
 abbrev pub decreases-matches_within : goal.decreases-matches_within
-decreases-matches_within g l = 10 + compound_weight (read_compound l.first.now) + steps_weight (steps_of (map read_step l.steps.now))
+decreases-matches_within l = 10 + compound_weight (read_compound l.first.now) + steps_weight (steps_of (map read_step l.steps.now))
 
 -- the selectors that are left decide
 abbrev pub invariant-has_holds-loop-selector : goal.invariant-has_holds-loop-selector
-invariant-has_holds-loop-selector g l =
+invariant-has_holds-loop-selector l =
     let all = read_list l.selectors in
     let left = read_list (drop l.selector-index l.selectors) in
     record {
@@ -110,18 +110,18 @@ invariant-has_holds-loop-selector g l =
 
 -- what is led to lies at or below a node that is left
 abbrev pub invariant-relative_matches-loop-top : goal.invariant-relative_matches-loop-top
-invariant-relative_matches-loop-top g l = record {
+invariant-relative_matches-loop-top l = record {
   kept : l.caches ≡ l.fn.caches;
   left : (t : ℕ) → stands_in t (search_roots l.fn.caches l.fn.lead l.fn.id) ≡ true →
       MatchesWithin (Relative l.fn.lead l.fn.id) (read_compound l.first) (steps_of (map read_step l.steps)) l.fn.caches t → stands_in t (search_roots_from l.fn.caches l.fn.lead l.top) ≡ true;
 }
 
 abbrev pub decreases-relative_matches-loop-top : goal.decreases-relative_matches-loop-top
-decreases-relative_matches-loop-top g l = length (search_roots_from l.fn.caches l.fn.lead l.top)
+decreases-relative_matches-loop-top l = length (search_roots_from l.fn.caches l.fn.lead l.top)
 
 -- what is reached is among the nodes left, which stand below the top
 abbrev pub invariant-matches_within-loop-y : goal.invariant-matches_within-loop-y
-invariant-matches_within-loop-y g l = record {
+invariant-matches_within-loop-y l = record {
   kept : l.caches ≡ l.fn.caches;
   left : (y : ℕ) → ((y ≡ l.fn.top) ⊎ (stands_in y (walk_below l.fn.caches l.fn.top) ≡ true)) →
       SelectorMatches l.start (read_compound l.first) (steps_of (map read_step l.steps)) l.fn.caches y → stands_in y l.y-iterator.left ≡ true;
@@ -129,17 +129,17 @@ invariant-matches_within-loop-y g l = record {
 }
 
 abbrev pub decreases-holds_beside : goal.decreases-holds_beside
-decreases-holds_beside g l = 2 + compound_weight (read_compound l.first.now)
+decreases-holds_beside l = 2 + compound_weight (read_compound l.first.now)
 
 abbrev pub decreases-holds_of_element : goal.decreases-holds_of_element
-decreases-holds_of_element g l = 1 + compound_weight (read_compound l.compound.now)
+decreases-holds_of_element l = 1 + compound_weight (read_compound l.compound.now)
 
 -- the nodes that are left decide
 abbrev pub invariant-holds_beside-loop-next : goal.invariant-holds_beside-loop-next
-invariant-holds_beside-loop-next g l = record {
+invariant-holds_beside-loop-next l = record {
   kept : l.caches ≡ l.fn.caches;
   same : SomeOfRow (read_compound l.first) l.fn.caches (right_row l.fn.caches l.fn.lead l.next) ↔ RelativeMatches l.fn.lead (read_compound l.first) no_steps l.fn.caches l.fn.id;
 }
 
 abbrev pub decreases-holds_beside-loop-next : goal.decreases-holds_beside-loop-next
-decreases-holds_beside-loop-next g l = length (right_row l.fn.caches l.fn.lead l.next)
+decreases-holds_beside-loop-next l = length (right_row l.fn.caches l.fn.lead l.next)

@@ -1,7 +1,7 @@
 use Rattle.std.proofs.Common.{◌≡◌}
 use Rattle.dom_select.specs.Descendants.{IsMatch}
 use Rattle.dom_select.specs.Selected.{FiltersTo}
-use Rattle.dom_select.proofs.matcher.descendants.collect_unless.Given as goal
+use Rattle.dom_select.proofs.matcher.descendants.collect_matches.Given as goal
 
 abbrev pub invariant-loop-id : goal.invariant-loop-id
 invariant-loop-id g l = record {
