@@ -1,16 +1,16 @@
-//! A compound that is asked of one node, by what its nested lists answered, and nested lists.
+//! A compound that is asked of one node, by what its nested lists answered or with them.
 
 ghost use Rattle.std.specs.Prelude.{◌≡◌, ◌+◌, ◌<◌, ◌^◌};
 ghost use Rattle.std.specs.List.{list_all};
 ghost use Rattle.dom_selectors.specs.Spelling.{Decides};
-ghost use Rattle.dom_selectors.specs.ValuesAsTrees.{read_compound, read_lists};
+ghost use Rattle.dom_selectors.specs.ValuesAsTrees.{read_compound};
 ghost use Rattle.dom_select.specs.Answers.{AreAnswersAt};
-ghost use Rattle.dom_select.specs.Meaning.{Holds, ListsHold};
+ghost use Rattle.dom_select.specs.Meaning.{Holds};
 
 use crate::matcher::caches::SelectorCaches;
-use crate::matcher::matches::{has_type, lists_hold, sole_type_selector};
+use crate::matcher::matches::{has_type, holds, sole_type_selector};
 use crate::matcher::parts::parts_hold;
-use dom_selectors::syntax::{Compound, Nested};
+use dom_selectors::syntax::Compound;
 use dom_trees::node_ref::NodeRef;
 
 /// Whether the compound holds of the node, where `nested` states of each of its lists, in their
@@ -40,13 +40,17 @@ pub fn test_compound(
     parts_hold(&compound.parts, caches, &x.id)
 }
 
-/// Whether each of a compound's nested lists holds of the node. The caches are the tree's.
-pub fn lists_match(lists: &[Nested], x: &NodeRef<'_>, caches: &mut SelectorCaches<'_>) -> bool
+/// Whether the compound holds of the node, with its nested lists. The caches are the tree's.
+pub fn compound_matches(
+    compound: &Compound,
+    x: &NodeRef<'_>,
+    caches: &mut SelectorCaches<'_>,
+) -> bool
     requires { caches.old ≡ x.now.tree.now }
-    ensures is { Decides result (ListsHold (read_lists lists.now) x.now.tree.now x.now.id) }
+    ensures is { Decides result (Holds (read_compound compound.now) x.now.tree.now x.now.id) }
     ensures kept { caches.new ≡ caches.old }
 {
-    lists_hold(lists, caches, x.id)
+    holds(compound, caches, x.id)
 }
 
 /// Whether each of the answers is true.

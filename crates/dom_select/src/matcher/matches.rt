@@ -127,7 +127,7 @@ pub(crate) fn has_either_type(
 
 /// Whether the compound holds of the node. Of a type alone nothing else is looked at.
 #[cycle(matching)]
-fn holds(compound: &Compound, caches: &mut SelectorCaches<'_>, id: NodeId) -> bool
+pub(crate) fn holds(compound: &Compound, caches: &mut SelectorCaches<'_>, id: NodeId) -> bool
     ensures is { IsTrue result ↔ Holds (read_compound compound.now) caches.old id }
     ensures kept { caches.new ≡ caches.old }
 {
@@ -142,7 +142,7 @@ fn holds(compound: &Compound, caches: &mut SelectorCaches<'_>, id: NodeId) -> bo
 
 /// Whether each of the lists in a compound holds of the node.
 #[cycle(matching)]
-pub(crate) fn lists_hold(lists: &[Nested], caches: &mut SelectorCaches<'_>, id: NodeId) -> bool
+fn lists_hold(lists: &[Nested], caches: &mut SelectorCaches<'_>, id: NodeId) -> bool
     ensures is { IsTrue result ↔ ListsHold (lists_of (map read_nested lists.now)) caches.old id }
     ensures kept { caches.new ≡ caches.old }
 {
