@@ -1,11 +1,12 @@
 -- When the parts of a compound hold of a node that was looked up.
-use Rattle.std.proofs.Common.{◌≡◌, ◌≤◌, ◌↔◌, ℕ, Bool, true, false, List, [], ◌∷◌, Some, length, slice_get, sym, ap, ◌∙◌, refl, true≢false, MatchBool, IsTrue, arith}
+use Rattle.std.proofs.Common.{◌≡◌, ◌<◌, ◌≤◌, ◌↔◌, ℕ, Bool, true, false, List, [], ◌∷◌, Some, length, slice_get, sym, ap, ◌∙◌, refl, subst, inl, inr, true≢false, MatchBool, IsTrue, arith}
 use Rattle.std.specs.Option.{option_map_or}
 use Rattle.std.proofs.lemmas.Option.{slice_get_within}
 use Rattle.dom_nodes.specs.declared.node_data.NodeData.{NodeData}
 use Rattle.dom_links.specs.Forest.{Forest}
 use Rattle.dom_selectors.specs.declared.syntax.Part.{Part}
-use Rattle.dom_select.specs.Meaning.{PartsHold}
+use Rattle.dom_selectors.specs.Syntax.{CompoundSelector, SelectorList, Steps, alternative, compound, no_selectors, no_steps, step}
+use Rattle.dom_select.specs.Meaning.{Holds, Means, PartsHold, StepsMatch}
 use Rattle.dom_select.specs.Parts.{EachHolds, PartHolds, node_passes, passes_at}
 
 -- a test as a decision, and back
@@ -33,3 +34,18 @@ parts_unknown parts forest n past held = let known = held.0 in omega arith
 
 pub one_part : (part : Part) (forest : Forest) (n : ℕ) (b : Bool) → (IsTrue b ↔ PartHolds part forest n) → IsTrue b ↔ EachHolds (part ∷ []) forest n
 one_part part forest n b h = ((λ t. (h.0 t, tt)), λ held. h.1 held.0)
+
+-- what is matched is a node of the forest
+
+known_by : (c : CompoundSelector) (forest : Forest) (n : ℕ) → Holds c forest n → n < length forest.content
+unfolding PartsHold
+known_by (compound parts lists) forest n h = h.0.0
+
+known_last : (steps : Steps) (forest : Forest) (exempt w n : ℕ) → w < length forest.content → StepsMatch steps forest exempt w n → n < length forest.content
+known_last no_steps forest exempt w n known led = subst (λ m. m < length forest.content) led known
+known_last (step k c more) forest exempt w n known (v, joined, holds, led) = known_last more forest exempt v n (known_by c forest v holds) led
+
+pub means_unknown : (list : SelectorList) (forest : Forest) (n : ℕ) → length forest.content ≤ n → Means list forest n → ⊥
+means_unknown no_selectors forest n past m = m
+means_unknown (alternative lead first rest more) forest n past (inl (w, holds, led)) = let known = known_last rest forest n w n (known_by first forest w holds) led in omega arith
+means_unknown (alternative lead first rest more) forest n past (inr m) = means_unknown more forest n past m

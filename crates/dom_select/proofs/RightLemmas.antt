@@ -1,23 +1,31 @@
 -- The nodes to the right of a node that a combinator goes to in one step.
-use Rattle.std.proofs.Common.{◌≡◌, ◌⊎◌, ◌↔◌, ℕ, List, [], ◌∷◌, length, Bool, true, false, Option, Some, None, inl, inr, refl, sym, ap, ◌∙◌, subst, true≢false}
+use Rattle.std.proofs.Common.{◌≡◌, ◌⊎◌, ◌↔◌, ℕ, suc, List, [], ◌∷◌, length, map, Bool, true, false, Option, Some, None, inl, inr, refl, sym, ap, ◌∙◌, subst, true≢false}
+use Rattle.std.specs.List.{list_all}
 use Rattle.std.specs.Prelude.{◌==◌, if◌then◌else◌}
-use Rattle.std.proofs.lemmas.Bool.{cases_Bool, cases_lt, eqb-true, eq-eqb, or_left, or_right, or_cases}
+use Rattle.std.proofs.lemmas.Bool.{and_parts, cases_Bool, cases_lt, eqb-true, eq-eqb, or_left, or_right, or_cases}
 use Rattle.std.proofs.lemmas.Option.{none-some}
 use Rattle.dom_links.specs.Forest.{Forest, StandsOnce, children_of, parent, siblings}
 use Rattle.dom_links.specs.Laws.{AreLines}
 use Rattle.dom_links.specs.ListMoves.{SomeOf, element_at}
 use Rattle.dom_links.specs.Lists.{after, before, first, stands_in}
+use Rattle.dom_links.specs.Trees.{ancestors}
 use Rattle.dom_links.specs.Walk.{later, row_on}
 use Rattle.dom_links.proofs.checks.Sounds.{after_before, before_after}
 use Rattle.dom_links.proofs.forest.Neighbours.{after-stands, before-stands}
 use Rattle.dom_links.proofs.forest.Places.{Beside, beside, siblings_child, siblings_once}
 use Rattle.dom_selectors.specs.declared.syntax.Combinator.{Combinator}
 use Rattle.dom_selectors.specs.declared.syntax.Combinator.TheVariants.{Descendant, Child, Adjacent, Sibling}
+use Rattle.dom_selectors.specs.declared.syntax.Step.{Step}
+use Rattle.dom_selectors.specs.ListsAsTrees.{steps_of}
 use Rattle.dom_selectors.specs.Syntax.{CompoundSelector, no_steps}
-use Rattle.dom_select.specs.Has.{AreRightOf, IsElementThat, ends_right, is_sideways, right_row, row_to}
+use Rattle.dom_selectors.specs.ValuesAsTrees.{read_step}
+use Rattle.dom_selectors.proofs.Layers.{read_step_is}
+use Rattle.dom_select.specs.declared.matcher.has.Start.TheVariants.{Relative}
+use Rattle.dom_select.specs.Has.{AreRightOf, IsElementThat, IsInRow, SelectorMatches, ends_right, is_sideways, right_row, row_combinator, row_to}
 use Rattle.dom_select.specs.Leftward.{earlier}
-use Rattle.dom_select.specs.Meaning.{CombinatorHolds, ComesFirst, Holds, MayBeOperand, RelativeMatches}
+use Rattle.dom_select.specs.Meaning.{CombinatorHolds, ComesFirst, Holds, MayBeOperand, RelativeMatches, StepsMatch}
 use Rattle.dom_select.proofs.HasLemmas.{beside_itself, stands_first, stands_on}
+use Rattle.dom_select.proofs.RowLemmas.{first_stands, on_earlier, parent_first, same_above, stands_farther}
 
 -- a row that ends nowhere
 whole : (ends : ℕ → Bool) (ns : List ℕ) → ((n : ℕ) → ends n ≡ false) → row_to ends ns ≡ ns
@@ -176,3 +184,51 @@ goes_below Descendant e other = absurd (other refl)
 goes_below Child e other = refl
 goes_below Adjacent e other = absurd (true≢false e)
 goes_below Sibling e other = absurd (true≢false e)
+
+-- a selector whose steps go to siblings reaches children or siblings alone
+
+module _ (forest : Forest) (lines : AreLines forest) where
+  earlier_by : (k : Combinator) (w v : ℕ) → is_sideways k ≡ true → CombinatorHolds forest k w v → stands_in w (earlier forest v) ≡ true
+  unfolding CombinatorHolds
+  earlier_by Descendant w v e h = absurd (true≢false (sym e))
+  earlier_by Child w v e h = absurd (true≢false (sym e))
+  earlier_by Adjacent w v e h = first_stands forest (earlier forest v) w h
+  earlier_by Sibling w v e h = h
+
+  sibling_in_row : (x w v : ℕ) → stands_in w (earlier forest v) ≡ true → CombinatorHolds forest Sibling x w → CombinatorHolds forest Sibling x v
+  unfolding CombinatorHolds
+  sibling_in_row x w v s h = let far = on_earlier forest lines v w s in stands_farther (suc far.0) (earlier forest v) x (ap (stands_in x) (sym far.1) ∙ h)
+
+  child_in_row : (x w v : ℕ) → stands_in w (earlier forest v) ≡ true → CombinatorHolds forest Child x w → CombinatorHolds forest Child x v
+  unfolding CombinatorHolds
+  child_in_row x w v s h = parent_first forest lines v x (ancestors forest x) (sym (same_above forest lines v w s) ∙ lines.up w x h)
+
+  in_row : (k : Combinator) (x w v : ℕ) → stands_in w (earlier forest v) ≡ true → CombinatorHolds forest (row_combinator k) x w → CombinatorHolds forest (row_combinator k) x v
+  in_row Descendant x w v s h = sibling_in_row x w v s h
+  in_row Child x w v s h = child_in_row x w v s h
+  in_row Adjacent x w v s h = sibling_in_row x w v s h
+  in_row Sibling x w v s h = sibling_in_row x w v s h
+
+  begins_row : (k : Combinator) (x w : ℕ) → (k ≡ Descendant → ⊥) → CombinatorHolds forest k x w → CombinatorHolds forest (row_combinator k) x w
+  unfolding CombinatorHolds
+  begins_row Descendant x w other h = absurd (other refl)
+  begins_row Child x w other h = h
+  begins_row Adjacent x w other h = first_stands forest (earlier forest w) x h
+  begins_row Sibling x w other h = h
+
+  leads_in_row : (k : Combinator) (steps : List Step) (exempt x w y : ℕ) → list_all (λ s. is_sideways s.combinator) steps ≡ true → StepsMatch (steps_of (map read_step steps)) forest exempt w y →
+      CombinatorHolds forest (row_combinator k) x w → CombinatorHolds forest (row_combinator k) x y
+  leads_in_row k [] exempt x w y all led h = subst (CombinatorHolds forest (row_combinator k) x) led h
+  leads_in_row k (s ∷ steps) exempt x w y all (v, joined, holds, led) h =
+      let both = and_parts (is_sideways s.combinator) (list_all (λ t. is_sideways t.combinator) steps) all in
+      let sideways : is_sideways (read_step s).0 ≡ true = ap (λ t. is_sideways t.0) (read_step_is s) ∙ both.0 in
+      leads_in_row k steps exempt x v y both.1 led (in_row k x w v (earlier_by (read_step s).0 w v sideways joined.0) h)
+
+  pub reached_in_row : (k : Combinator) (first : CompoundSelector) (steps : List Step) (x y : ℕ) → IsInRow k steps → SelectorMatches (Relative k x) first (steps_of (map read_step steps)) forest y → CombinatorHolds forest (row_combinator k) x y
+  reached_in_row k first steps x y near (el, (w, (joined, holds), led)) = leads_in_row k steps y x w y near.0 led (begins_row k x w near.1 joined.0)
+
+pub row_goes_near : (k : Combinator) → row_combinator k ≡ Descendant → ⊥
+row_goes_near Descendant e = cc
+row_goes_near Child e = cc
+row_goes_near Adjacent e = cc
+row_goes_near Sibling e = cc

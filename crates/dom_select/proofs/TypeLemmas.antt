@@ -1,5 +1,5 @@
 -- Selectors that are a type and nothing else.
-use Rattle.std.proofs.Common.{◌≡◌, ◌↔◌, ◌<◌, ◌≤◌, ℕ, Bool, true, false, List, [], ◌∷◌, Option, None, Some, IfSome, length, map, slice_get, get_or, sym, ap, ◌∙◌, refl, subst, inl, inr, MatchBool, arith}
+use Rattle.std.proofs.Common.{◌≡◌, ◌↔◌, ◌<◌, ◌≤◌, ℕ, Bool, true, false, List, [], ◌∷◌, Option, None, Some, IfSome, length, map, slice_get, get_or, sym, ap, ◌∙◌, refl, subst, inl, inr, not, true≢false, MatchBool, arith}
 use Rattle.std.specs.Borrow.{Bor}
 use Rattle.std.specs.Option.{option_map_or}
 use Rattle.std.specs.Prelude.{◌==◌, ◌||◌, ◌⊎◌, IsTrue}
@@ -9,12 +9,16 @@ use Rattle.dom_nodes.specs.Kinds.{is_element}
 use Rattle.dom_links.specs.Forest.{Forest}
 use Rattle.dom_links.specs.ListMoves.{element_at}
 use Rattle.dom_selectors.specs.declared.syntax.Part.{Part}
+use Rattle.dom_selectors.specs.declared.syntax.Compound.{Compound}
 use Rattle.dom_selectors.specs.declared.syntax.Selector.{Selector, out-Selector}
+use Rattle.dom_selectors.specs.declared.syntax.Step.{Step}
 use Rattle.dom_selectors.specs.ListsAsTrees.{selector_list, steps_of}
 use Rattle.dom_selectors.specs.Syntax.{SelectorList, alternative, compound, no_lists, no_selectors, no_steps}
 use Rattle.dom_selectors.specs.ValuesAsTrees.{read_compound, read_list, read_step}
 use Rattle.dom_selectors.proofs.Layers.{read_selector_is}
 use Rattle.dom_select.specs.Descendants.{IsMatch}
+use Rattle.dom_select.specs.Ends.{AreRuledOut, IsSubjectType}
+use Rattle.dom_select.specs.declared.matcher.has.Start.TheVariants.{Absolute}
 use Rattle.dom_select.specs.Meaning.{HasType, Means, MeansType, PartsHold}
 use Rattle.dom_select.specs.Parts.{node_passes}
 use Rattle.dom_select.proofs.FollowLemmas.{is_nil}
@@ -80,3 +84,8 @@ either_is_element one other forest n (inr held) = type_is_element other forest n
 pub element_means : (list : SelectorList) (forest : Forest) (n : ℕ) (b : Bool) → element_at forest n ≡ true → MatchBool b (Means list forest n) (Means list forest n → ⊥) → MatchBool b (IsMatch list forest n) (IsMatch list forest n → ⊥)
 element_means list forest n true el h = (el, h)
 element_means list forest n false el h = λ match. h match.1
+
+-- compounds whose subject has a type don't match a node that doesn't bear it
+pub ruled_out : (name : List ℕ) (first : Compound) (steps : List Step) (node : NodeData) (b : Bool) → IsSubjectType first steps name → b ≡ node_passes (Part.«Type» name) node → not b ≡ true → AreRuledOut first steps node
+ruled_out name first steps node true ends is lacks forest n e r = true≢false (sym lacks)
+ruled_out name first steps node false ends is lacks forest n e r = true≢false (sym ((type_known name forest n node e).1 (ends Absolute forest n n (r.0, r.1, r.2))) ∙ sym is)

@@ -1,5 +1,6 @@
 -- Names that nodes bear which a selector reaches or means.
-use Rattle.std.specs.Prelude.{ℕ, List, ◌⊎◌, map}
+use Rattle.std.specs.Prelude.{◌≡◌, ℕ, List, Some, ◌⊎◌, map, slice_get}
+use Rattle.dom_nodes.specs.declared.node_data.NodeData.{NodeData}
 use Rattle.dom_links.specs.Forest.{Forest}
 use Rattle.dom_selectors.specs.declared.syntax.Combinator.{Combinator}
 use Rattle.dom_selectors.specs.declared.syntax.Compound.{Compound}
@@ -8,7 +9,8 @@ use Rattle.dom_selectors.specs.ListsAsTrees.{steps_of}
 use Rattle.dom_selectors.specs.Syntax.{CompoundSelector, SelectorList}
 use Rattle.dom_selectors.specs.ValuesAsTrees.{read_compound, read_step}
 use Rattle.dom_select.specs.declared.matcher.has.Start.{Start}
-use Rattle.dom_select.specs.Has.{Begins}
+use Rattle.dom_select.specs.declared.matcher.has.Start.TheVariants.{Absolute}
+use Rattle.dom_select.specs.Has.{Begins, CompoundsMatch}
 use Rattle.dom_select.specs.Meaning.{ChainMatches, HasType, Holds, Means}
 
 -- the compound holds only of what bears the name as a type
@@ -26,3 +28,7 @@ IsSubjectType first steps name = SubjectImpliesType name (read_compound first) (
 -- the selectors mean only what bears one of the names as a type
 abbrev pub SubjectIsAmong : List ℕ → List ℕ → SelectorList → Type 0
 SubjectIsAmong one other list = (forest : Forest) (n : ℕ) → Means list forest n → HasType one forest n ⊎ HasType other forest n
+
+-- the compounds don't match what is such a node
+abbrev pub AreRuledOut : Compound → List Step → NodeData → Type 0
+AreRuledOut first steps node = (forest : Forest) (n : ℕ) → slice_get forest.content n ≡ Some node → CompoundsMatch Absolute first steps forest n → ⊥

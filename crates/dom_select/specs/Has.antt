@@ -1,5 +1,6 @@
 -- Where the relative selectors of `:has` begin, and what they can lead to.
 use Rattle.std.specs.Prelude.{if◌then◌else◌, Bool, true, false, Option, Some, None, ◌≡◌, ◌⊎◌, ◌↔◌, ℕ, List, [], ◌∷◌, map}
+use Rattle.std.specs.List.{list_all}
 use Rattle.dom_links.specs.Forest.{Forest}
 use Rattle.dom_links.specs.Lists.{stands_in}
 use Rattle.dom_links.specs.Trees.{walk_below}
@@ -64,6 +65,17 @@ CompoundsMatchFrom lead first steps forest x = RelativeMatches lead (read_compou
 -- A selector of one compound whose lead goes one step: nothing below the nodes that the lead goes to is reached
 abbrev pub IsNear : Combinator → List Step → Type 0
 IsNear k steps = (steps ≡ []) × (k ≡ Descendant → ⊥)
+
+-- A selector whose steps go to siblings: it leads to children or siblings alone
+abbrev pub IsInRow : Combinator → List Step → Type 0
+IsInRow k steps = (list_all (λ s. is_sideways s.combinator) steps ≡ true) × (k ≡ Descendant → ⊥)
+
+-- the combinator that goes to all of these
+abbrev pub row_combinator : Combinator → Combinator
+row_combinator Descendant = Sibling
+row_combinator Child = Child
+row_combinator Adjacent = Sibling
+row_combinator Sibling = Sibling
 
 -- where a row of siblings ends: at the first element beside `+`
 abbrev pub ends_right : Forest → Combinator → ℕ → Bool

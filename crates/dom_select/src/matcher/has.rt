@@ -1,10 +1,11 @@
 //! Where a relative selector of `:has` starts, and which nodes it can lead to.
 
 ghost use Rattle.std.specs.Prelude.{◌≡◌, ◌↔◌, ◌∷◌, Some, IsTrue};
+ghost use Rattle.std.specs.List.{list_all};
 ghost use Rattle.dom_selectors.specs.declared.syntax.Combinator.TheVariants.{Descendant};
 ghost use Rattle.dom_select.specs.Meaning.{IsJoined};
-ghost use Rattle.dom_select.specs.Has.{AreRightOf, IsNear, ends_right, is_sideways};
-ghost use Rattle.dom_select.specs.Has.{may_be_subject, right_row, search_roots};
+ghost use Rattle.dom_select.specs.Has.{AreRightOf, IsInRow, IsNear, ends_right, is_sideways};
+ghost use Rattle.dom_select.specs.Has.{may_be_subject, right_row, row_combinator, search_roots};
 ghost use Rattle.dom_select.specs.Has.{search_roots_from};
 
 use crate::matcher::chains::{combinator_holds, line_laws, may_be_operand};
@@ -82,6 +83,32 @@ pub(crate) fn is_near(lead: Combinator, steps: &[Step]) -> bool
     match lead {
         Combinator::Descendant => false,
         Combinator::Child | Combinator::Adjacent | Combinator::Sibling => steps.is_empty(),
+    }
+}
+
+/// Whether the selector leads no farther than to children or siblings: its steps go to siblings.
+pub(crate) fn is_in_row(lead: Combinator, steps: &[Step]) -> bool
+    ensures { IsTrue result → IsInRow lead steps.now }
+{
+    match lead {
+        Combinator::Descendant => false,
+        Combinator::Child | Combinator::Adjacent | Combinator::Sibling => are_sideways(steps),
+    }
+}
+
+fn are_sideways(steps: &[Step]) -> bool
+    ensures { result ≡ list_all (λ step. is_sideways step.combinator) steps.now }
+{
+    steps.iter().all(|step| is_sideways(step.combinator))
+}
+
+/// The combinator that goes to all of those children or siblings.
+pub(crate) fn row_combinator(lead: Combinator) -> Combinator
+    ensures { result ≡ row_combinator lead }
+{
+    match lead {
+        Combinator::Child => Combinator::Child,
+        Combinator::Descendant | Combinator::Adjacent | Combinator::Sibling => Combinator::Sibling,
     }
 }
 

@@ -10,9 +10,9 @@ ghost use Rattle.dom_selectors.specs.Spelling.{Decides};
 ghost use Rattle.dom_selectors.specs.ValuesAsTrees.{read_compound, read_list, read_nested};
 ghost use Rattle.dom_select.specs.Chains.{BeginsChain, EndsChain, FollowsCandidate, FollowsChain};
 ghost use Rattle.dom_select.specs.Chains.{IsCandidate, IsOrPrecedes, binding_level};
-ghost use Rattle.dom_select.specs.Ends.{ImpliesType, IsSubjectType, SubjectIsAmong};
+ghost use Rattle.dom_select.specs.Ends.{AreRuledOut, ImpliesType, IsSubjectType, SubjectIsAmong};
 ghost use Rattle.dom_select.specs.Has.{CompoundsMatch, CompoundsMatchFrom, CompoundsMatchWithin};
-ghost use Rattle.dom_select.specs.Has.{IsElementThat, may_be_subject};
+ghost use Rattle.dom_select.specs.Has.{IsElementThat, IsInRow, may_be_subject};
 ghost use Rattle.dom_select.specs.Leftward.{ends_at};
 ghost use Rattle.dom_select.specs.Meaning.{HasHolds, HasType, Holds, IsTypeAlone, ListHolds};
 ghost use Rattle.dom_select.specs.Meaning.{ListsHold, Means, MeansType};
@@ -20,10 +20,11 @@ ghost use Rattle.dom_select.specs.Meaning.{ListsHold, Means, MeansType};
 use crate::matcher::caches::SelectorCaches;
 use crate::matcher::chains::{binding_level, ends_at, left_of, line_laws, may_be_operand};
 use crate::matcher::has::{
-    Start, first_right, first_search_root, is_joined, is_near, may_be_subject, next_right,
-    next_search_root,
+    Start, first_right, first_search_root, is_in_row, is_joined, is_near, may_be_subject,
+    next_right, next_search_root, row_combinator,
 };
 use crate::matcher::parts::{element_at, is_named_either, is_named_node, parts_hold};
+use dom_nodes::node_data::NodeData;
 use dom_nodes::node_id::NodeId;
 use dom_selectors::selector_name::SelectorName;
 use dom_selectors::syntax::{Combinator, Compound, Nested, Part, Selector, Step};
@@ -125,6 +126,17 @@ pub(crate) fn has_either_type(
     }
 }
 
+/// Whether the last of the compounds begins with a type that the node doesn't bear.
+#[inline(always)]
+fn lacks_subject_type(first: &Compound, steps: &[Step], node: &NodeData) -> bool
+    ensures { IsTrue result → AreRuledOut first.now steps.now node.now }
+{
+    match subject_type(first, steps) {
+        Some(name) => !is_named_node(node, name),
+        None => false,
+    }
+}
+
 /// Whether the compound holds of the node. Of a type alone nothing else is looked at.
 #[cycle(matching)]
 pub(crate) fn holds(compound: &Compound, caches: &mut SelectorCaches<'_>, id: NodeId) -> bool
@@ -172,8 +184,14 @@ pub(crate) fn means(selectors: &[Selector], caches: &mut SelectorCaches<'_>, id:
     ensures is { IsTrue result ↔ Means (read_list selectors.now) caches.old id }
     ensures kept { caches.new ≡ caches.old }
 {
+    let Some(node) = caches.tree().tree_node(&id) else {
+        return false;
+    };
     let start = Start::Absolute;
     for selector in selectors {
+        if lacks_subject_type(&selector.first, &selector.rest, &node.content) {
+            continue;
+        }
         if chain_matches(&start, &selector.first, &selector.rest, caches, id) {
             return true;
         }
@@ -211,6 +229,9 @@ fn relative_matches(
     if is_near(lead, steps) {
         return holds_beside(lead, first, caches, id);
     }
+    if is_in_row(lead, steps) {
+        return matches_in_row(lead, first, steps, caches, id);
+    }
     let tree = caches.tree();
     line_laws(tree);
     let start = Start::Relative(lead, id);
@@ -224,7 +245,8 @@ fn relative_matches(
     false
 }
 
-/// The same of one compound, where the lead goes to children or siblings: no others are looked at.
+/// The same of one compound, where the lead goes to children or siblings: no others are looked at,
+/// and nothing is followed.
 #[cycle(matching)]
 fn holds_beside(
     lead: Combinator,
@@ -257,6 +279,33 @@ fn holds_of_element(compound: &Compound, caches: &mut SelectorCaches<'_>, id: No
         return false;
     }
     holds(compound, caches, id)
+}
+
+/// The same where the selector leads to children or siblings: it is followed from these alone.
+#[cycle(matching)]
+fn matches_in_row(
+    lead: Combinator,
+    first: &Compound,
+    steps: &[Step],
+    caches: &mut SelectorCaches<'_>,
+    id: NodeId,
+) -> bool
+    requires { IsInRow lead steps.now }
+    ensures is { IsTrue result ↔ CompoundsMatchFrom lead first.now steps.now caches.old id }
+    ensures kept { caches.new ≡ caches.old }
+{
+    let tree = caches.tree();
+    line_laws(tree);
+    let start = Start::Relative(lead, id);
+    let row = row_combinator(lead);
+    let mut next = first_right(tree, row, id);
+    while let Some(at) = next {
+        if chain_matches(&start, first, steps, caches, at) {
+            return true;
+        }
+        next = next_right(tree, row, at);
+    }
+    false
 }
 
 /// Whether the compounds lead from the start to this node or to one below it.

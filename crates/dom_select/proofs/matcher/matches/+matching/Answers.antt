@@ -1,15 +1,17 @@
-use Rattle.std.proofs.Common.{◌≡◌, ◌↔◌, ◌∷◌, IsTrue, Some, false, true≢false, refl, ◌<◌, ◌≤◌, ℕ, inr, length, ap, map, sym, ◌∙◌, subst, arith}
+use Rattle.std.proofs.Common.{◌≡◌, ◌↔◌, ◌∷◌, IsTrue, Some, false, true≢false, refl, inl, ◌<◌, ◌≤◌, ℕ, inr, length, ap, map, sym, ◌∙◌, subst, arith}
 use Rattle.dom_links.specs.Lists.{stands_in}
 use Rattle.dom_selectors.specs.ListsAsTrees.{steps_of}
-use Rattle.dom_selectors.specs.ValuesAsTrees.{read_compound, read_step}
+use Rattle.dom_selectors.specs.ValuesAsTrees.{read_compound, read_list, read_step}
 use Rattle.dom_select.specs.Chains.{BeginsChain, binding_level}
-use Rattle.dom_select.specs.Has.{Begins, CompoundsMatchFrom, right_row, search_roots_from}
+use Rattle.dom_select.specs.Has.{Begins, CompoundsMatch, CompoundsMatchFrom, right_row, row_combinator, search_roots_from}
+use Rattle.dom_select.specs.declared.matcher.has.Start.TheVariants.{Relative}
 use Rattle.std.proofs.lemmas.Bool.Decides.{when_true}
 use Rattle.dom_select.proofs.ChildRowLemmas.{shorter}
 use Rattle.dom_select.proofs.EndLemmas.{not_reached}
 use Rattle.dom_select.proofs.ReachLemmas.{IsMeant, left_ends, left_farther, left_nowhere, line_some, to_line}
-use Rattle.dom_select.proofs.HasLemmas.{ends_if, steps_here, steps_later, led_to, list_lighter, reached_from, stands_first}
-use Rattle.dom_select.proofs.RightLemmas.{leads_beside, row_ends, row_here, row_later}
+use Rattle.dom_select.proofs.HasLemmas.{ends_if, means_later, steps_here, steps_later, led_to, list_lighter, reached_from, stands_first, stands_on}
+use Rattle.dom_select.proofs.MeaningLemmas.{means_unknown}
+use Rattle.dom_select.proofs.RightLemmas.{leads_beside, reached_in_row, row_ends, row_goes_near, row_here, row_later}
 use Rattle.dom_select.proofs.StepLemmas.{read_front_and_last, weight_front_and_last}
 use Rattle.dom_select.proofs.FollowLemmas.{ends_here, ends_match, followed_all, followed_nearest, followed_so_far, following_at, following_none, following_more, following_not, is_nil, line_back, next_precedes, chain_alone, chain_end, some_where, weight_cut}
 use Rattle.dom_select.proofs.matcher.matches.+matching.Goals as goal
@@ -234,3 +236,74 @@ pub holds_of_element-returns-clause-is : goal.holds_of_element-returns-clause-is
 holds_of_element-returns-clause-is t c =
     let el = sym (rw c.tree.ensures at c.element_at.ensures) ∙ c.if-not-element_at.false in
     (λ e. (el, c.holds.ensures.is.0 e), λ p. c.holds.ensures.is.1 p.1)
+
+pub relative_matches-matches_in_row-requires : goal.relative_matches-matches_in_row-requires
+relative_matches-matches_in_row-requires t c = (omega (arith, c.decreases), c.is_in_row.ensures c.if-is_in_row.true)
+
+pub matches_in_row-first_right-next-requires : goal.matches_in_row-first_right-next-requires
+matches_in_row-first_right-next-requires t c = λ e. row_goes_near c.args.lead (sym c.row_combinator-row.ensures ∙ e)
+
+pub matches_in_row-loop-next-init : goal.matches_in_row-loop-next-init
+matches_in_row-loop-next-init t c = record {
+  kept = refl;
+  left = λ y m.
+      let right = rw c.row_combinator-row.ensures at (rw c.tree-tree.ensures at c.first_right-next.ensures) in
+      let lines = rw c.tree-tree.ensures at c.line_laws.ensures in
+      (right y m.0).1 (reached_in_row c.args.caches.now lines c.args.lead (read_compound c.args.first.now) c.args.steps.now c.args.id y c.requires m);
+}
+
+pub matches_in_row-returns-then-chain_matches-clause-is : goal.matches_in_row-returns-then-chain_matches-clause-is
+matches_in_row-returns-then-chain_matches-clause-is t c =
+    let forest = c.args.caches.now in
+    let reached = (rw c.loop-next.invariant.kept at c.chain_matches.ensures.is).0 c.if-chain_matches.true in
+    (λ e. led_to forest (rw c.tree-tree.ensures at c.line_laws.ensures) c.args.lead (read_compound c.args.first.now) (steps_of (map read_step c.args.steps.now)) c.args.id c.in-Some.at (c.in-Some.at, inl refl, reached), λ h. refl)
+
+pub matches_in_row-loop-next-smaller : goal.matches_in_row-loop-next-smaller
+matches_in_row-loop-next-smaller t c =
+    let forest = c.args.caches.now in
+    let row = row_combinator c.args.lead in
+    let step = subst (λ k. right_row forest k (Some c.in-Some.at) ≡ c.in-Some.at ∷ right_row forest k c.next_right-next.result) c.row_combinator-row.ensures
+    (subst (λ f. right_row f c.row_combinator-row.result (Some c.in-Some.at) ≡ c.in-Some.at ∷ right_row f c.row_combinator-row.result c.next_right-next.result) c.tree-tree.ensures c.next_right-next.ensures) in
+    shorter _ _ c.in-Some.at (ap (right_row forest row) c.in-Some.is ∙ step)
+
+pub matches_in_row-loop-next-preserved : goal.matches_in_row-loop-next-preserved
+matches_in_row-loop-next-preserved t c =
+    let forest = c.args.caches.now in
+    let row = row_combinator c.args.lead in
+    let fact = rw c.loop-next.invariant.kept at c.chain_matches.ensures.is in
+    let step = subst (λ k. right_row forest k (Some c.in-Some.at) ≡ c.in-Some.at ∷ right_row forest k c.next_right-next.result) c.row_combinator-row.ensures
+    (subst (λ f. right_row f c.row_combinator-row.result (Some c.in-Some.at) ≡ c.in-Some.at ∷ right_row f c.row_combinator-row.result c.next_right-next.result) c.tree-tree.ensures c.next_right-next.ensures) in
+    let on = ap (right_row forest row) c.in-Some.is ∙ step in
+    record {
+      kept = c.chain_matches.ensures.kept ∙ c.loop-next.invariant.kept;
+      left = λ y m.
+          let other : y ≡ c.in-Some.at → ⊥ = λ e.
+          let here = subst (λ n. CompoundsMatch (Relative c.args.lead c.args.id) c.args.first.now c.args.steps.now forest n) e m in
+          true≢false (sym (fact.1 here) ∙ c.if-chain_matches.false) in
+          stands_on (right_row forest row c.loop-next.next) _ c.in-Some.at y on (c.loop-next.invariant.left y m) other;
+    }
+
+pub matches_in_row-returns-clause-is : goal.matches_in_row-returns-clause-is
+matches_in_row-returns-clause-is t c = (
+  λ e. absurd (true≢false (sym e)),
+  λ s.
+      let forest = c.args.caches.now in
+      let r = reached_from forest (rw c.tree-tree.ensures at c.line_laws.ensures) c.args.lead (read_compound c.args.first.now) (steps_of (map read_step c.args.steps.now)) c.args.id s in
+      let y = r.2.0 in
+      let there = c.loop-next.invariant.left y r.2.2 in
+      let none : stands_in y (right_row forest (row_combinator c.args.lead) c.loop-next.next) ≡ false = ap (λ o. stands_in y (right_row forest (row_combinator c.args.lead) o)) c.in_default.is in
+      absurd (true≢false (sym there ∙ none)),
+)
+
+pub means-returns-in_default-clause-is : goal.means-returns-in_default-clause-is
+means-returns-in_default-clause-is t c =
+    (λ e. absurd (true≢false (sym e)), λ m. absurd (means_unknown (read_list c.args.selectors.now) c.args.caches.now c.args.id (rw c.tree.ensures at c.in_default.ensures) m))
+
+pub means-loop-selector-preserved-then-lacks_subject_type : goal.means-loop-selector-preserved-then-lacks_subject_type
+means-loop-selector-preserved-then-lacks_subject_type t c =
+    let node = rw c.tree.ensures at c.in-Some.ensures.content_is in
+    let other = c.lacks_subject_type.ensures c.if-lacks_subject_type.true c.args.caches.now c.args.id node in
+    let same = means_later c.args.selectors.now c.loop-selector.selector-index c.selector-item.result c.deref.result.now c.args.caches.now c.args.id false (omega (arith, c.loop-selector-test.true)) c.selector-item.is c.deref.ensures.value (λ e. absurd (true≢false (sym e)), λ h. absurd (other h)) refl in
+    let less = list_lighter c.args.selectors.now c.loop-selector.selector-index c.selector-item.result (omega (arith, c.loop-selector-test.true)) c.selector-item.is in
+    let light = c.loop-selector.invariant.light in
+    record { kept = c.loop-selector.invariant.kept; same = (λ h. c.loop-selector.invariant.same.0 (same.0 h), λ h. same.1 (c.loop-selector.invariant.same.1 h)); light = omega arith }

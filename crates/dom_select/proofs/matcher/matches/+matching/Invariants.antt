@@ -9,7 +9,7 @@ use Rattle.dom_selectors.specs.ValuesAsTrees.{read_compound, read_list, read_nes
 use Rattle.dom_selectors.proofs.Weights.{compound_weight, lists_weight, list_weight, selectors_weight, steps_weight}
 use Rattle.dom_select.proofs.ReachLemmas.{IsMeant, SomeOnLine}
 use Rattle.dom_select.specs.Chains.{BeginsChain, binding_level}
-use Rattle.dom_select.specs.Has.{SelectorMatches, MatchesWithin, right_row, search_roots, search_roots_from}
+use Rattle.dom_select.specs.Has.{SelectorMatches, MatchesWithin, right_row, row_combinator, search_roots, search_roots_from}
 use Rattle.dom_select.proofs.FollowLemmas.{Following}
 use Rattle.dom_select.proofs.RightLemmas.{SomeOfRow}
 use Rattle.dom_selectors.specs.Syntax.{no_steps}
@@ -143,3 +143,16 @@ invariant-holds_beside-loop-next l = record {
 
 abbrev pub decreases-holds_beside-loop-next : goal.decreases-holds_beside-loop-next
 decreases-holds_beside-loop-next l = length (right_row l.fn.caches l.fn.lead l.next)
+
+abbrev pub decreases-matches_in_row : goal.decreases-matches_in_row
+decreases-matches_in_row l = 10 + compound_weight (read_compound l.first.now) + steps_weight (steps_of (map read_step l.steps.now))
+
+-- what is reached is among the nodes left
+abbrev pub invariant-matches_in_row-loop-next : goal.invariant-matches_in_row-loop-next
+invariant-matches_in_row-loop-next l = record {
+  kept : l.caches ≡ l.fn.caches;
+  left : (y : ℕ) → SelectorMatches (Relative l.fn.lead l.fn.id) (read_compound l.first) (steps_of (map read_step l.steps)) l.fn.caches y → stands_in y (right_row l.fn.caches (row_combinator l.fn.lead) l.next) ≡ true;
+}
+
+abbrev pub decreases-matches_in_row-loop-next : goal.decreases-matches_in_row-loop-next
+decreases-matches_in_row-loop-next l = length (right_row l.fn.caches (row_combinator l.fn.lead) l.next)
