@@ -236,9 +236,6 @@ module _ (selectors : List Selector) (i : ℕ) (s : Selector) (rest : List Step)
   one : IsTrue b ↔ ChainMatches (Holds (read_compound (out-Selector s).first) forest) (steps_of (map read_step (out-Selector s).rest.items)) forest n n
   one = subst (λ r. IsTrue b ↔ ChainMatches (Holds (read_compound (out-Selector s).first) forest) (steps_of (map read_step r)) forest n n) steps fact
 
-  pub means_here : b ≡ true → Means (read_list (drop i selectors)) forest n
-  means_here e = subst (λ l. Means l forest n) (sym (list_from selectors i s within is)) (inl (one.0 e))
-
   pub means_later : b ≡ false → Means (read_list (drop (i + 1) selectors)) forest n ↔ Means (read_list (drop i selectors)) forest n
   means_later e = (λ h. subst (λ l. Means l forest n) (sym (list_from selectors i s within is)) (inr h), λ h. others (subst (λ l. Means l forest n) (list_from selectors i s within is) h))
     where

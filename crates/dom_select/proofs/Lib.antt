@@ -13,7 +13,6 @@ pub mod MiniMatchLemmas
 pub mod OnwardLemmas
 pub mod PathFlagLemmas
 pub mod PathLemmas
-pub mod PositionLemmas
 pub mod ReachLemmas
 pub mod RightLemmas
 pub mod RowLemmas
@@ -21,6 +20,4 @@ pub mod SearchLemmas
 pub mod SelectionLemmas
 pub mod SeveralLemmas
 pub mod StepLemmas
-pub mod TypeCountLemmas
-pub mod TypeIndexLemmas
-pub mod TypeLemmas
+pub mod types

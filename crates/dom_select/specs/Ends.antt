@@ -1,5 +1,6 @@
 -- Names that nodes bear which a selector reaches or means.
-use Rattle.std.specs.Prelude.{◌≡◌, ℕ, List, Some, ◌⊎◌, map, slice_get}
+use Rattle.std.specs.Prelude.{◌≡◌, ℕ, List, [], ◌∷◌, Some, ◌⊎◌, map, slice_get}
+use Rattle.std.specs.Borrow.{Bor}
 use Rattle.dom_nodes.specs.declared.node_data.NodeData.{NodeData}
 use Rattle.dom_links.specs.Forest.{Forest}
 use Rattle.dom_selectors.specs.declared.syntax.Combinator.{Combinator}
@@ -25,9 +26,14 @@ SubjectImpliesType name first steps = (start : Start) (forest : Forest) (exempt 
 abbrev pub IsSubjectType : Compound → List Step → List ℕ → Type 0
 IsSubjectType first steps name = SubjectImpliesType name (read_compound first) (map read_step steps)
 
+-- n bears one of the names as a type
+abbrev pub HasSomeType : List (Bor (List ℕ)) → Forest → ℕ → Type 0
+HasSomeType [] forest n = ⊥
+HasSomeType (name ∷ names) forest n = HasType name.now forest n ⊎ HasSomeType names forest n
+
 -- the selectors mean only what bears one of the names as a type
-abbrev pub SubjectIsAmong : List ℕ → List ℕ → SelectorList → Type 0
-SubjectIsAmong one other list = (forest : Forest) (n : ℕ) → Means list forest n → HasType one forest n ⊎ HasType other forest n
+abbrev pub SubjectIsAmong : List (Bor (List ℕ)) → SelectorList → Type 0
+SubjectIsAmong names list = (forest : Forest) (n : ℕ) → Means list forest n → HasSomeType names forest n
 
 -- the compounds don't match what is such a node
 abbrev pub AreRuledOut : Compound → List Step → NodeData → Type 0

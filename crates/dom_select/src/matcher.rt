@@ -92,12 +92,13 @@ impl Matcher {
         sole_type(&self.selectors)
     }
 
-    /// Two names, which may be one, of which each node that the selectors mean bears one, where
-    /// they are one or two and end in a type.
-    pub(crate) fn subject_types(&self) -> Option<(&SelectorName, &SelectorName)>
-        ensures { IfSome result (λ names. SubjectIsAmong names.0.now names.1.now self.now) }
+    /// Names of which each node that the selectors mean bears one, where each selector ends in a
+    /// type.
+    pub(crate) fn subject_types(&self) -> Result<Option<Vec<&SelectorName>>, OutOfMemory>
+        ensures { IfOk result (λ found. IfSome found (λ names.
+            SubjectIsAmong names.items self.now)) }
     {
-        subject_types(&self.selectors)
+        subject_types(*self.selectors.allocator(), &self.selectors)
     }
 
     /// Whether one of the selectors means the node; false for an unknown number. It takes no

@@ -12,7 +12,7 @@ ghost use Rattle.dom_selectors.specs.Spelling.{Decides};
 
 use crate::matcher::Matcher;
 use crate::matcher::caches::SelectorCaches;
-use crate::matcher::matches::{has_either_type, has_type};
+use crate::matcher::matches::{has_any_type, has_type};
 use crate::matcher::parts::element_at;
 use dom_links::iters::DescendantNodes;
 use dom_nodes::fault::OutOfMemory;
@@ -134,7 +134,7 @@ pub(crate) fn collect_matches<I: Iterator<Item = NodeId> + Drop>(
     requires { I.can_next ids × IsFinite (I.remaining ids) }
     ensures { FiltersItems result I.next_gives ids (IsMatch matcher.now tree.now) }
 {
-    let names = matcher.subject_types();
+    let names = matcher.subject_types()?;
     let mut caches = SelectorCaches::late(tree);
     let mut matched = Vec::new(tree.allocator());
     for id in ids {
@@ -169,19 +169,19 @@ fn is_match_by_type(
 #[inline(always)]
 fn is_match_of_types(
     matcher: &Matcher,
-    names: &Option<(&SelectorName, &SelectorName)>,
+    names: &Option<Vec<&SelectorName>>,
     caches: &mut SelectorCaches<'_>,
     id: NodeId,
 ) -> bool
-    requires { IfSome names.now (λ names. SubjectIsAmong names.0.now names.1.now matcher.now) }
+    requires { IfSome names.now (λ names. SubjectIsAmong names.items matcher.now) }
     ensures is { Decides result (IsMatch matcher.now caches.old id) }
     ensures same { caches.new ≡ caches.old }
 {
-    let Some((one, other)) = names else {
+    let Some(names) = names else {
         return is_selected_with(matcher, caches, id);
     };
     let tree = caches.tree();
-    if !has_either_type(tree, &id, one, other) {
+    if !has_any_type(tree, &id, names) {
         return false;
     }
     matcher.match_element_with_caches(&NodeRef::new(id, tree), caches)

@@ -1,6 +1,6 @@
 //! Whether a part of a compound holds of a node.
 
-ghost use Rattle.std.specs.Prelude.{◌≡◌, ◌↔◌, ◌||◌, Some, slice_get, codes, IsTrue, MatchBool};
+ghost use Rattle.std.specs.Prelude.{◌≡◌, ◌↔◌, Some, slice_get, codes, IsTrue, MatchBool};
 ghost use Rattle.std.specs.List.{list_any};
 ghost use Rattle.std.specs.Str.{bytes_eq};
 ghost use Rattle.dom_links.specs.ListMoves.{element_at};
@@ -48,16 +48,10 @@ pub(crate) fn is_named_node(node: &NodeData, name: &SelectorName) -> bool
 
 /// Whether the node is an element that bears one of the names as a type.
 #[inline(always)]
-pub(crate) fn is_named_either(node: &NodeData, one: &SelectorName, other: &SelectorName) -> bool
-    ensures { result ≡ (node_passes (Part.«Type» one.now) node.now
-        || node_passes (Part.«Type» other.now) node.now) }
+pub(crate) fn is_named_any(node: &NodeData, names: &[&SelectorName]) -> bool
+    ensures { result ≡ list_any (λ name. node_passes (Part.«Type» name.now) node.now) names.now }
 {
-    let NodeData::Element(element) = node else {
-        return false;
-    };
-    let ns = element.name.ns();
-    let local = element.name.local();
-    is_named(ns, local, one) || is_named(ns, local, other)
+    names.iter().any(|name| is_named_node(node, name))
 }
 
 pub(crate) fn element_at(tree: &Tree, id: &NodeId) -> bool

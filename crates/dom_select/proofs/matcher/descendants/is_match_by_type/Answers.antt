@@ -2,7 +2,7 @@ use Rattle.std.proofs.Common.{[], ◌∷◌, IfSome, MatchBool, subst}
 use Rattle.dom_links.specs.Forest.{Forest}
 use Rattle.dom_selectors.specs.declared.syntax.Part.{Part}
 use Rattle.dom_select.specs.Meaning.{MeansType, PartsHold}
-use Rattle.dom_select.proofs.TypeLemmas.{wanted_by_type}
+use Rattle.dom_select.proofs.types.TypeLemmas.{wanted_by_type}
 use Rattle.dom_select.proofs.matcher.descendants.is_match_by_type.Goals as goal
 
 pub returns-in-Some-clause-is : goal.returns-in-Some-clause-is

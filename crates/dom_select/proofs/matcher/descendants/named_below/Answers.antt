@@ -4,7 +4,7 @@ use Rattle.dom_links.specs.Walk.{Walk}
 use Rattle.dom_select.specs.Descendants.{IsMatch}
 use Rattle.dom_select.specs.Selected.{FiltersTo, Selected}
 use Rattle.dom_select.proofs.SelectionLemmas.{selected_below}
-use Rattle.dom_select.proofs.TypeLemmas.{bears_wanted}
+use Rattle.dom_select.proofs.types.TypeLemmas.{bears_wanted}
 use Rattle.dom_select.proofs.matcher.descendants.named_below.Goals as goal
 
 pub loop-id-init : goal.loop-id-init

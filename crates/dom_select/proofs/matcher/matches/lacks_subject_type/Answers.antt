@@ -1,4 +1,4 @@
-use Rattle.dom_select.proofs.TypeLemmas.{ruled_out}
+use Rattle.dom_select.proofs.types.TypeLemmas.{ruled_out}
 use Rattle.dom_select.proofs.matcher.matches.lacks_subject_type.Goals as goal
 
 pub returns-in-Some : goal.returns-in-Some

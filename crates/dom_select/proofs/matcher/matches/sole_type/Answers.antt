@@ -1,6 +1,6 @@
 use Rattle.std.proofs.Common.{ap, sym, ◌∙◌, length}
 use Rattle.std.specs.Prelude.{◌==◌}
-use Rattle.dom_select.proofs.TypeLemmas.{type_of_one}
+use Rattle.dom_select.proofs.types.TypeLemmas.{type_of_one}
 use Rattle.dom_select.proofs.matcher.matches.sole_type.Goals as goal
 
 pub returns : goal.returns

@@ -1,5 +1,5 @@
 use Rattle.dom_links.specs.Indexes.{counts}
-use Rattle.dom_select.proofs.PositionLemmas.{LeftDecides}
+use Rattle.dom_select.proofs.types.PositionLemmas.{LeftDecides}
 use Rattle.dom_select.proofs.matcher.positions.has_index.Given as goal
 
 -- how many siblings that count are left decides

@@ -1,7 +1,7 @@
 use Rattle.std.specs.Prelude.{count_by}
 use Rattle.dom_links.specs.Indexes.{counts, is_from_first}
 use Rattle.dom_links.specs.Walk.{later}
-use Rattle.dom_select.proofs.PositionLemmas.{at_index_if}
+use Rattle.dom_select.proofs.types.PositionLemmas.{at_index_if}
 use Rattle.dom_select.proofs.matcher.positions.has_near_position.Goals as goal
 
 pub returns : goal.returns

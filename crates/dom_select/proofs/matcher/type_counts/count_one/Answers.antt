@@ -1,5 +1,5 @@
 use Rattle.std.proofs.Common.{rules}
-use Rattle.dom_select.proofs.TypeCountLemmas.{count_set}
+use Rattle.dom_select.proofs.types.TypeCountLemmas.{count_set}
 use Rattle.dom_select.proofs.matcher.type_counts.count_one.Goals as goal
 
 pub returns-in-Ok : goal.returns-in-Ok

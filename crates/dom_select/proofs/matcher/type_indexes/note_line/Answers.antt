@@ -2,7 +2,7 @@ use Rattle.std.proofs.Common.{sym, ◌∙◌, subst}
 use Rattle.dom_links.specs.Indexes.{AreIndexes}
 use Rattle.dom_links.proofs.walks.KnownLemmas.{noted}
 use Rattle.dom_select.specs.TypeCounts.{type_kind}
-use Rattle.dom_select.proofs.TypeIndexLemmas.{AreCounted, element_passed, next_index, other_passed}
+use Rattle.dom_select.proofs.types.TypeIndexLemmas.{AreCounted, element_passed, next_index, other_passed}
 use Rattle.dom_select.proofs.matcher.type_indexes.note_line.Goals as goal
 use Rattle.dom_select.proofs.matcher.type_indexes.note_line.Goals.{in-Some-as_element+in-Some-count_one, in_default-as_element}
 

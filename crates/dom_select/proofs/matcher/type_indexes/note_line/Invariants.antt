@@ -3,7 +3,7 @@ use Rattle.std.specs.Prelude.{not}
 use Rattle.dom_links.specs.Indexes.{AreIndexes}
 use Rattle.dom_links.specs.Walk.{row_on}
 use Rattle.dom_select.specs.TypeCounts.{type_kind}
-use Rattle.dom_select.proofs.TypeIndexLemmas.{AreCounted}
+use Rattle.dom_select.proofs.types.TypeIndexLemmas.{AreCounted}
 use Rattle.dom_select.proofs.matcher.type_indexes.note_line.Given as goal
 
 -- what was passed is counted, and what is noted is right

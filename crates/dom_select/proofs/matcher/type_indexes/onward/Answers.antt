@@ -1,6 +1,6 @@
 use Rattle.std.proofs.Common.{subst}
 use Rattle.dom_links.specs.Forest.{StandsOnce}
-use Rattle.dom_select.proofs.TypeIndexLemmas.{onward_row}
+use Rattle.dom_select.proofs.types.TypeIndexLemmas.{onward_row}
 use Rattle.dom_select.proofs.matcher.type_indexes.onward.Goals as goal
 
 pub returns-clause-passed : goal.returns-clause-passed
