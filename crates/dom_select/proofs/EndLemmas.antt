@@ -1,8 +1,7 @@
 -- Names that the last compounds of selectors begin with.
-use Rattle.std.proofs.Common.{◌≡◌, ℕ, Bool, true, false, List, [], ◌∷◌, ◌++◌, Option, None, Some, IfSome, map, drop, get_or, slice_get, sym, ap, ◌∙◌, refl, subst, inl, inr, true≢false, length, ◌<◌, ◌≤◌, ◌+◌, arith}
+use Rattle.std.proofs.Common.{◌≡◌, ℕ, Bool, true, false, List, [], ◌∷◌, ◌++◌, Option, None, Some, IfSome, map, slice_get, sym, ap, ◌∙◌, subst, true≢false}
 use Rattle.std.specs.Prelude.{◌⊎◌}
 use Rattle.std.specs.Borrow.{Bor}
-use Rattle.std.proofs.lemmas.List.{drop_all, drop_more}
 use Rattle.std.proofs.lemmas.Option.{none-some, same_Some}
 use Rattle.dom_links.specs.Forest.{Forest}
 use Rattle.dom_selectors.specs.declared.syntax.Combinator.{Combinator}
@@ -16,9 +15,9 @@ use Rattle.dom_selectors.specs.ValuesAsTrees.{read_compound, read_list, read_nes
 use Rattle.dom_selectors.proofs.Layers.{read_compound_is, read_selector_is}
 use Rattle.dom_select.specs.declared.matcher.has.Start.{Start}
 use Rattle.dom_select.specs.declared.matcher.has.Start.TheVariants.{Absolute, Relative}
-use Rattle.dom_select.specs.Ends.{HasSomeType, ImpliesType, SubjectIsAmong, SubjectImpliesType}
+use Rattle.dom_select.specs.Ends.{ImpliesType, SubjectImpliesType}
 use Rattle.dom_select.specs.Has.{Begins}
-use Rattle.dom_select.specs.Meaning.{HasType, Holds, MayBeOperand, Means, PartsHold, ChainMatches}
+use Rattle.dom_select.specs.Meaning.{Holds, MayBeOperand, Means, PartsHold, ChainMatches}
 use Rattle.dom_select.specs.Parts.{PartHolds}
 use Rattle.dom_select.proofs.FollowLemmas.{chain_end}
 
@@ -44,45 +43,9 @@ behind_as None first steps front last is h = h
 behind_as (Some name) first steps front last is h = λ start forest exempt n r. h forest n ((chain_end forest exempt (Begins start first forest) steps n r).behind front last is).1
 
 -- what the first selector means is what its compounds reach
-means_one : (s : Selector) (more : List Selector) (forest : Forest) (n : ℕ) → Means (read_list (s ∷ more)) forest n →
+pub means_one : (s : Selector) (more : List Selector) (forest : Forest) (n : ℕ) → Means (read_list (s ∷ more)) forest n →
     ChainMatches (Begins Absolute (read_compound (out-Selector s).first) forest) (steps_of (map read_step (out-Selector s).rest.items)) forest n n ⊎ Means (read_list more) forest n
 means_one s more forest n h = subst (λ (t : Combinator × CompoundSelector × _). Means (selector_list (t ∷ map read_selector more)) forest n) (read_selector_is s) h
-
--- the names of the selectors that were met, and those that are left
-
-some_before : (names : List (Bor (List ℕ))) (name : Bor (List ℕ)) (forest : Forest) (n : ℕ) → HasSomeType names forest n → HasSomeType (names ++ name ∷ []) forest n
-some_before [] name forest n none = absurd none
-some_before (x ∷ names) name forest n (inl held) = inl held
-some_before (x ∷ names) name forest n (inr more) = inr (some_before names name forest n more)
-
-some_last : (names : List (Bor (List ℕ))) (name : Bor (List ℕ)) (forest : Forest) (n : ℕ) → HasType name.now forest n → HasSomeType (names ++ name ∷ []) forest n
-some_last [] name forest n held = inl held
-some_last (x ∷ names) name forest n held = inr (some_last names name forest n held)
-
--- what the selectors mean bears one of the names, or one of the selectors that are left means it
-abbrev pub AreMetTo : List (Bor (List ℕ)) → List Selector → ℕ → Type 0
-AreMetTo names selectors i = (forest : Forest) (n : ℕ) → Means (read_list selectors) forest n → HasSomeType names forest n ⊎ Means (read_list (drop i selectors)) forest n
-
-module _ (selectors : List Selector) (i : ℕ) where
-  pub met_more : (names made : List (Bor (List ℕ))) (name : Bor (List ℕ)) (s : Selector) → i < length selectors → s ≡ get_or selectors i s → made ≡ names ++ name ∷ [] →
-      SubjectImpliesType name.now (read_compound (out-Selector s).first) (map read_step (out-Selector s).rest.items) → AreMetTo names selectors i → AreMetTo made selectors (i + 1)
-  met_more names made name s within is added ends met forest n m = subst (λ ns. HasSomeType ns forest n ⊎ Means (read_list (drop (i + 1) selectors)) forest n) (sym added) (by (met forest n m))
-    where
-      left : drop i selectors ≡ s ∷ drop (i + 1) selectors
-      left = drop_more selectors i s within ∙ ap (λ x. x ∷ drop (i + 1) selectors) (sym is)
-
-      by : HasSomeType names forest n ⊎ Means (read_list (drop i selectors)) forest n → HasSomeType (names ++ name ∷ []) forest n ⊎ Means (read_list (drop (i + 1) selectors)) forest n
-      by (inl had) = inl (some_before names name forest n had)
-      by (inr next) = elim (means_one s (drop (i + 1) selectors) forest n (subst (λ l. Means (read_list l) forest n) left next)) [
-        | inl r ↦ inl (some_last names name forest n (ends Absolute forest n n r))
-        | inr more ↦ inr more
-      ]
-
-  pub met_all : (names : List (Bor (List ℕ))) → length selectors ≤ i → AreMetTo names selectors i → SubjectIsAmong names (read_list selectors)
-  met_all names past met forest n m = elim (met forest n m) [
-    | inl had ↦ had
-    | inr more ↦ absurd (subst (λ l. Means (read_list l) forest n) (drop_all i selectors past) more)
-  ]
 
 -- a node that is no candidate isn't reached
 pub not_reached : (found : Option (Bor (List ℕ))) (first : CompoundSelector) (steps : List (Combinator × CompoundSelector)) (k : Combinator) (forest : Forest) (exempt n : ℕ) (b : Bool) → IfSome found (λ name. SubjectImpliesType name.now first steps) →

@@ -3,3 +3,4 @@ pub mod PositionLemmas
 pub mod TypeCountLemmas
 pub mod TypeIndexLemmas
 pub mod TypeLemmas
+pub mod SubjectLemmas

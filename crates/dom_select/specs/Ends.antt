@@ -1,18 +1,17 @@
 -- Names that nodes bear which a selector reaches or means.
-use Rattle.std.specs.Prelude.{◌≡◌, ℕ, List, [], ◌∷◌, Some, ◌⊎◌, map, slice_get}
-use Rattle.std.specs.Borrow.{Bor}
+use Rattle.std.specs.Prelude.{◌≡◌, ℕ, List, Some, map, slice_get}
 use Rattle.dom_nodes.specs.declared.node_data.NodeData.{NodeData}
 use Rattle.dom_links.specs.Forest.{Forest}
 use Rattle.dom_selectors.specs.declared.syntax.Combinator.{Combinator}
 use Rattle.dom_selectors.specs.declared.syntax.Compound.{Compound}
 use Rattle.dom_selectors.specs.declared.syntax.Step.{Step}
 use Rattle.dom_selectors.specs.ListsAsTrees.{steps_of}
-use Rattle.dom_selectors.specs.Syntax.{CompoundSelector, SelectorList}
+use Rattle.dom_selectors.specs.Syntax.{CompoundSelector}
 use Rattle.dom_selectors.specs.ValuesAsTrees.{read_compound, read_step}
 use Rattle.dom_select.specs.declared.matcher.has.Start.{Start}
 use Rattle.dom_select.specs.declared.matcher.has.Start.TheVariants.{Absolute}
 use Rattle.dom_select.specs.Has.{Begins, CompoundsMatch}
-use Rattle.dom_select.specs.Meaning.{ChainMatches, HasType, Holds, Means}
+use Rattle.dom_select.specs.Meaning.{ChainMatches, HasType, Holds}
 
 -- the compound holds only of what bears the name as a type
 abbrev pub ImpliesType : List ℕ → CompoundSelector → Type 0
@@ -25,15 +24,6 @@ SubjectImpliesType name first steps = (start : Start) (forest : Forest) (exempt 
 -- the same of compounds as the program has them
 abbrev pub IsSubjectType : Compound → List Step → List ℕ → Type 0
 IsSubjectType first steps name = SubjectImpliesType name (read_compound first) (map read_step steps)
-
--- n bears one of the names as a type
-abbrev pub HasSomeType : List (Bor (List ℕ)) → Forest → ℕ → Type 0
-HasSomeType [] forest n = ⊥
-HasSomeType (name ∷ names) forest n = HasType name.now forest n ⊎ HasSomeType names forest n
-
--- the selectors mean only what bears one of the names as a type
-abbrev pub SubjectIsAmong : List (Bor (List ℕ)) → SelectorList → Type 0
-SubjectIsAmong names list = (forest : Forest) (n : ℕ) → Means list forest n → HasSomeType names forest n
 
 -- the compounds don't match what is such a node
 abbrev pub AreRuledOut : Compound → List Step → NodeData → Type 0

@@ -17,6 +17,7 @@ pub mod Parts
 pub mod PathFlags
 pub mod Roots
 pub mod Selected
+pub mod Subjects
 pub mod Texts
 pub mod Traversals
 pub mod TypeCounts

@@ -1,7 +1,8 @@
 //! A list of selectors that nodes are asked for.
 
 use crate::matcher::caches::SelectorCaches;
-use crate::matcher::matches::{is_meant, means, sole_type, subject_types};
+use crate::matcher::matches::{is_meant, means, sole_type};
+use crate::matcher::subjects::subject_types;
 use dom_nodes::fault::OutOfMemory;
 use dom_selectors::copies::copy_selectors;
 use dom_selectors::fault::SelectorFault;
@@ -26,6 +27,7 @@ pub(crate) mod parts;
 pub(crate) mod positions;
 pub(crate) mod roots;
 pub mod several;
+pub(crate) mod subjects;
 pub(crate) mod texts;
 pub(crate) mod type_counts;
 pub(crate) mod type_indexes;
@@ -54,8 +56,8 @@ impl Model for Matcher {
 impl Matcher {
     ghost use Rattle.std.specs.Prelude.{◌≡◌, chars, IfErr, IfOk, IfSome};
     ghost use Rattle.dom_selectors.specs.Grammar.{Refused, StandsFor};
-    ghost use Rattle.dom_select.specs.Ends.{SubjectIsAmong};
     ghost use Rattle.dom_select.specs.Meaning.{Means, MeansType};
+    ghost use Rattle.dom_select.specs.Subjects.{SubjectIsAmong};
     ghost use Rattle.dom_selectors.specs.Spelling.{Decides};
     ghost use Rattle.dom_selectors.specs.ValuesAsTrees.{read_list};
 
@@ -92,13 +94,11 @@ impl Matcher {
         sole_type(&self.selectors)
     }
 
-    /// Names of which each node that the selectors mean bears one, where each selector ends in a
-    /// type.
-    pub(crate) fn subject_types(&self) -> Result<Option<Vec<&SelectorName>>, OutOfMemory>
-        ensures { IfOk result (λ found. IfSome found (λ names.
-            SubjectIsAmong names.items self.now)) }
+    /// The types of the elements that the selectors can match, where each selector ends in one.
+    pub(crate) fn subject_types(&self) -> Option<[bool; 256]>
+        ensures { IfSome result (λ types. SubjectIsAmong types self.now) }
     {
-        subject_types(*self.selectors.allocator(), &self.selectors)
+        subject_types(&self.selectors)
     }
 
     /// Whether one of the selectors means the node; false for an unknown number. It takes no

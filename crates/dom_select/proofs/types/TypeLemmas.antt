@@ -2,8 +2,7 @@
 use Rattle.std.proofs.Common.{◌≡◌, ◌↔◌, ◌<◌, ◌≤◌, ℕ, Bool, true, false, List, [], ◌∷◌, Option, None, Some, IfSome, length, map, slice_get, get_or, sym, ap, ◌∙◌, refl, subst, inl, inr, not, true≢false, MatchBool, arith}
 use Rattle.std.specs.Borrow.{Bor}
 use Rattle.std.specs.Option.{option_map_or}
-use Rattle.std.specs.List.{list_any}
-use Rattle.std.specs.Prelude.{◌==◌, ◌⊎◌, IsTrue}
+use Rattle.std.specs.Prelude.{◌==◌, IsTrue}
 use Rattle.dom_nodes.specs.declared.node_data.NodeData.{NodeData}
 use Rattle.dom_nodes.specs.declared.node_data.NodeData.TheVariants.{Element as AnElement}
 use Rattle.dom_nodes.specs.Kinds.{is_element}
@@ -18,13 +17,12 @@ use Rattle.dom_selectors.specs.Syntax.{SelectorList, alternative, compound, no_l
 use Rattle.dom_selectors.specs.ValuesAsTrees.{read_compound, read_list, read_step}
 use Rattle.dom_selectors.proofs.Layers.{read_selector_is}
 use Rattle.dom_select.specs.Descendants.{IsMatch}
-use Rattle.dom_select.specs.Ends.{AreRuledOut, HasSomeType, IsSubjectType}
+use Rattle.dom_select.specs.Ends.{AreRuledOut, IsSubjectType}
 use Rattle.dom_select.specs.declared.matcher.has.Start.TheVariants.{Absolute}
 use Rattle.dom_select.specs.Meaning.{HasType, Means, MeansType, PartsHold}
 use Rattle.dom_select.specs.Parts.{node_passes}
 use Rattle.dom_select.proofs.FollowLemmas.{is_nil}
-use Rattle.dom_select.proofs.MeaningLemmas.{decided, decides, one_part, parts_known, parts_unknown, passes_known}
-use Rattle.std.proofs.lemmas.Bool.Decides.{Decides-or}
+use Rattle.dom_select.proofs.MeaningLemmas.{decided, one_part, parts_known, passes_known}
 
 -- a selector that is a type alone means what bears the name
 pub means_type : (name : List ℕ) (s : Selector) → read_compound (out-Selector s).first ≡ compound (Part.«Type» name ∷ []) no_lists → (out-Selector s).rest.items ≡ [] → MeansType name (read_list (s ∷ []))
@@ -64,36 +62,11 @@ wanted_by_type name list forest n false means h = λ match. h ((means forest n).
 pub bears_wanted : (name : List ℕ) (list : SelectorList) (forest : Forest) (n : ℕ) → MeansType name list → PartsHold (Part.«Type» name ∷ []) forest n → IsMatch list forest n
 bears_wanted name list forest n means held = (type_is_element name forest n held, (means forest n).1 held)
 
-type_known : (name : List ℕ) (forest : Forest) (n : ℕ) (node : NodeData) → slice_get forest.content n ≡ Some node → IsTrue (node_passes (Part.«Type» name) node) ↔ HasType name forest n
+pub type_known : (name : List ℕ) (forest : Forest) (n : ℕ) (node : NodeData) → slice_get forest.content n ≡ Some node → IsTrue (node_passes (Part.«Type» name) node) ↔ HasType name forest n
 type_known name forest n node e =
     let part = Part.«Type» name in
     let b = node_passes part node in
     decided b (HasType name forest n) (parts_known _ forest n node e b (one_part part forest n b (passes_known part forest n node b e refl)))
-
--- a node that was looked up bears one of the names as a type
-
-module _ (forest : Forest) (n : ℕ) where
-  some_known : (names : List (Bor (List ℕ))) (node : NodeData) → slice_get forest.content n ≡ Some node → IsTrue (list_any (λ name. node_passes (Part.«Type» name.now) node) names) ↔ HasSomeType names forest n
-  some_known [] node e = (λ t. true≢false (sym t), λ none. absurd none)
-  some_known (name ∷ names) node e = Decides-or (node_passes (Part.«Type» name.now) node) (list_any (λ x. node_passes (Part.«Type» x.now) node) names) (type_known name.now forest n node e) (some_known names node e)
-
-  pub some_decided : (names : List (Bor (List ℕ))) (node : NodeData) (b : Bool) → slice_get forest.content n ≡ Some node → b ≡ list_any (λ name. node_passes (Part.«Type» name.now) node) names → MatchBool b (HasSomeType names forest n) (HasSomeType names forest n → ⊥)
-  some_decided names node b e is = decides b (HasSomeType names forest n) (subst (λ x. IsTrue x ↔ HasSomeType names forest n) (sym is) (some_known names node e))
-
-  pub some_unknown : (names : List (Bor (List ℕ))) → length forest.content ≤ n → HasSomeType names forest n → ⊥
-  some_unknown [] past none = none
-  some_unknown (name ∷ names) past (inl held) = parts_unknown _ forest n past held
-  some_unknown (name ∷ names) past (inr more) = some_unknown names past more
-
-  pub some_is_element : (names : List (Bor (List ℕ))) → HasSomeType names forest n → element_at forest n ≡ true
-  some_is_element [] none = absurd none
-  some_is_element (name ∷ names) (inl held) = type_is_element name.now forest n held
-  some_is_element (name ∷ names) (inr more) = some_is_element names more
-
--- an element is a match where the selector means it
-pub element_means : (list : SelectorList) (forest : Forest) (n : ℕ) (b : Bool) → element_at forest n ≡ true → MatchBool b (Means list forest n) (Means list forest n → ⊥) → MatchBool b (IsMatch list forest n) (IsMatch list forest n → ⊥)
-element_means list forest n true el h = (el, h)
-element_means list forest n false el h = λ match. h match.1
 
 -- compounds whose subject has a type don't match a node that doesn't bear it
 pub ruled_out : (name : List ℕ) (first : Compound) (steps : List Step) (node : NodeData) (b : Bool) → IsSubjectType first steps name → b ≡ node_passes (Part.«Type» name) node → not b ≡ true → AreRuledOut first steps node

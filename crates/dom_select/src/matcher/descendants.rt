@@ -5,15 +5,16 @@ ghost use Rattle.std.specs.Iterator.{IsFinite, at_most};
 ghost use Rattle.dom_links.specs.Trees.{walk_below};
 ghost use Rattle.dom_select.specs.Descendants.{FiltersItems, GivesMatch, IsMatch};
 ghost use Rattle.dom_select.specs.Descendants.{SelectsBelow};
-ghost use Rattle.dom_select.specs.Ends.{SubjectIsAmong};
 ghost use Rattle.dom_select.specs.Meaning.{MeansType};
 ghost use Rattle.dom_select.specs.Selected.{Selected, walks_below};
+ghost use Rattle.dom_select.specs.Subjects.{SubjectIsAmong};
 ghost use Rattle.dom_selectors.specs.Spelling.{Decides};
 
 use crate::matcher::Matcher;
 use crate::matcher::caches::SelectorCaches;
-use crate::matcher::matches::{has_any_type, has_type};
+use crate::matcher::matches::has_type;
 use crate::matcher::parts::element_at;
+use crate::matcher::subjects::may_be_subject_of;
 use dom_links::iters::DescendantNodes;
 use dom_nodes::fault::OutOfMemory;
 use dom_nodes::node_id::NodeId;
@@ -134,11 +135,11 @@ pub(crate) fn collect_matches<I: Iterator<Item = NodeId> + Drop>(
     requires { I.can_next ids × IsFinite (I.remaining ids) }
     ensures { FiltersItems result I.next_gives ids (IsMatch matcher.now tree.now) }
 {
-    let names = matcher.subject_types()?;
+    let types = matcher.subject_types();
     let mut caches = SelectorCaches::late(tree);
     let mut matched = Vec::new(tree.allocator());
     for id in ids {
-        if !is_match_of_types(matcher, &names, &mut caches, id) {
+        if !is_match_of_types(matcher, &types, &mut caches, id) {
             continue;
         }
         matched.push(id)?;
@@ -164,27 +165,25 @@ fn is_match_by_type(
     }
 }
 
-/// Whether the node is an element that the selector means, which bears one of the names if there
-/// are some.
+/// Whether the node is an element that the selector means; where types are given, it has one of
+/// these.
 #[inline(always)]
 fn is_match_of_types(
     matcher: &Matcher,
-    names: &Option<Vec<&SelectorName>>,
+    types: &Option<[bool; 256]>,
     caches: &mut SelectorCaches<'_>,
     id: NodeId,
 ) -> bool
-    requires { IfSome names.now (λ names. SubjectIsAmong names.items matcher.now) }
+    requires { IfSome types.now (λ types. SubjectIsAmong types matcher.now) }
     ensures is { Decides result (IsMatch matcher.now caches.old id) }
     ensures same { caches.new ≡ caches.old }
 {
-    let Some(names) = names else {
-        return is_selected_with(matcher, caches, id);
-    };
-    let tree = caches.tree();
-    if !has_any_type(tree, &id, names) {
-        return false;
+    if let Some(types) = types {
+        if !may_be_subject_of(types, caches.tree(), &id) {
+            return false;
+        }
     }
-    matcher.match_element_with_caches(&NodeRef::new(id, tree), caches)
+    is_selected_with(matcher, caches, id)
 }
 
 /// Whether the node is an element that the selector means.

@@ -3,15 +3,14 @@
 //! the nearest node from which they can be followed is taken and never given up: what stands on the
 //! left of a farther one stands on the left of that one too.
 
-ghost use Rattle.std.specs.Prelude.{◌≡◌, ◌↔◌, ◌∷◌, ◌<◌, [], IfOk, IfSome, IsTrue, Some, map};
+ghost use Rattle.std.specs.Prelude.{◌≡◌, ◌↔◌, ◌∷◌, ◌<◌, [], IfSome, IsTrue, Some, map};
 ghost use Rattle.dom_selectors.specs.declared.syntax.Combinator.TheVariants.{Descendant};
 ghost use Rattle.dom_selectors.specs.ListsAsTrees.{lists_of};
 ghost use Rattle.dom_selectors.specs.Spelling.{Decides};
 ghost use Rattle.dom_selectors.specs.ValuesAsTrees.{read_compound, read_list, read_nested};
 ghost use Rattle.dom_select.specs.Chains.{BeginsChain, EndsChain, FollowsCandidate, FollowsChain};
 ghost use Rattle.dom_select.specs.Chains.{IsCandidate, IsOrPrecedes, binding_level};
-ghost use Rattle.dom_select.specs.Ends.{AreRuledOut, HasSomeType, ImpliesType, IsSubjectType};
-ghost use Rattle.dom_select.specs.Ends.{SubjectIsAmong};
+ghost use Rattle.dom_select.specs.Ends.{AreRuledOut, ImpliesType, IsSubjectType};
 ghost use Rattle.dom_select.specs.Has.{CompoundsMatch, CompoundsMatchFrom, CompoundsMatchWithin};
 ghost use Rattle.dom_select.specs.Has.{IsElementThat, IsInRow, may_be_subject};
 ghost use Rattle.dom_select.specs.Leftward.{ends_at};
@@ -24,14 +23,12 @@ use crate::matcher::has::{
     Start, first_right, first_search_root, is_in_row, is_joined, is_near, may_be_subject,
     next_right, next_search_root, row_combinator,
 };
-use crate::matcher::parts::{element_at, is_named_any, is_named_node, parts_hold};
-use dom_nodes::fault::OutOfMemory;
+use crate::matcher::parts::{element_at, is_named_node, parts_hold};
 use dom_nodes::node_data::NodeData;
 use dom_nodes::node_id::NodeId;
 use dom_selectors::selector_name::SelectorName;
 use dom_selectors::syntax::{Combinator, Compound, Nested, Part, Selector, Step};
 use dom_trees::tree::Tree;
-use std::alloc::Global;
 
 /// Looser than every combinator.
 const ALL: usize = 5;
@@ -76,32 +73,13 @@ fn type_selector(compound: &Compound) -> Option<&SelectorName>
 }
 
 /// The name that the last of the compounds begins with, where that is a type.
-fn subject_type<'a>(first: &'a Compound, steps: &'a [Step]) -> Option<&'a SelectorName>
+pub(crate) fn subject_type<'a>(first: &'a Compound, steps: &'a [Step]) -> Option<&'a SelectorName>
     ensures { IfSome result (λ name. IsSubjectType first.now steps.now name.now) }
 {
     match steps.split_last() {
         None => type_selector(first),
         Some((last, _)) => type_selector(&last.compound),
     }
-}
-
-/// The type selectors of the selectors' subjects: each node that the selectors mean has one of the
-/// types. None where a subject has no type selector.
-pub(crate) fn subject_types<'a>(
-    alloc: Global,
-    selectors: &'a [Selector],
-) -> Result<Option<Vec<&'a SelectorName>>, OutOfMemory>
-    ensures { IfOk result (λ found. IfSome found (λ names.
-        SubjectIsAmong names.items (read_list selectors.now))) }
-{
-    let mut names = Vec::new(alloc);
-    for selector in selectors {
-        let Some(name) = subject_type(&selector.first, &selector.rest) else {
-            return Ok(None);
-        };
-        names.push(name)?;
-    }
-    Ok(Some(names))
 }
 
 /// Whether the number is an element's that bears the name as a type.
@@ -111,17 +89,6 @@ pub(crate) fn has_type(tree: &Tree, id: &NodeId, name: &SelectorName) -> bool
 {
     match tree.tree_node(id) {
         Some(found) => is_named_node(&found.content, name),
-        None => false,
-    }
-}
-
-/// Whether the node bears one of the names as a type.
-#[inline(always)]
-pub(crate) fn has_any_type(tree: &Tree, id: &NodeId, names: &[&SelectorName]) -> bool
-    ensures { Decides result (HasSomeType names.now tree.now id.now) }
-{
-    match tree.tree_node(id) {
-        Some(found) => is_named_any(&found.content, names),
         None => false,
     }
 }

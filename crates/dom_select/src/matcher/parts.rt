@@ -46,14 +46,6 @@ pub(crate) fn is_named_node(node: &NodeData, name: &SelectorName) -> bool
     }
 }
 
-/// Whether the node is an element that bears one of the names as a type.
-#[inline(always)]
-pub(crate) fn is_named_any(node: &NodeData, names: &[&SelectorName]) -> bool
-    ensures { result ≡ list_any (λ name. node_passes (Part.«Type» name.now) node.now) names.now }
-{
-    names.iter().any(|name| is_named_node(node, name))
-}
-
 pub(crate) fn element_at(tree: &Tree, id: &NodeId) -> bool
     ensures { result ≡ element_at tree.now id.now }
 {

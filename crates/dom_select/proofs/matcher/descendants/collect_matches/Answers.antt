@@ -8,7 +8,6 @@ use Rattle.dom_select.proofs.matcher.descendants.collect_matches.Goals as goal
 pub loop-id-preserved-then-not-is_match_of_types : goal.loop-id-preserved-then-not-is_match_of_types
 loop-id-preserved-then-not-is_match_of_types g c = record {
   kept = c.is_match_of_types.ensures.same ∙ c.loop-id.invariant.kept;
-  among = c.loop-id.invariant.among;
   so_far =
       let n = c.in-Some.id in
       let other = subst (λ (forest : Forest). IsMatch c.args.matcher.now forest n → ⊥) c.loop-id.invariant.kept c.if-not-is_match_of_types.ensures.is in
@@ -18,7 +17,6 @@ loop-id-preserved-then-not-is_match_of_types g c = record {
 pub loop-id-preserved : goal.loop-id-preserved
 loop-id-preserved g c = record {
   kept = c.is_match_of_types.ensures.same ∙ c.loop-id.invariant.kept;
-  among = c.loop-id.invariant.among;
   so_far =
       let n = c.in-Some.id in
       let P = IsMatch c.args.matcher.now c.args.tree.now in

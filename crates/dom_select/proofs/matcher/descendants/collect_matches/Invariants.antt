@@ -1,12 +1,10 @@
-use Rattle.std.proofs.Common.{◌≡◌, IfSome}
+use Rattle.std.proofs.Common.{◌≡◌}
 use Rattle.dom_select.specs.Descendants.{IsMatch}
-use Rattle.dom_select.specs.Ends.{SubjectIsAmong}
 use Rattle.dom_select.specs.Selected.{FiltersTo}
 use Rattle.dom_select.proofs.matcher.descendants.collect_matches.Given as goal
 
 abbrev pub invariant-loop-id : goal.invariant-loop-id
 invariant-loop-id g l = record {
   kept : l.caches ≡ l.tree;
-  among : IfSome l.names (λ names. SubjectIsAmong names.items l.matcher);
   so_far : FiltersTo (IsMatch l.matcher l.tree) l.yielded l.matched.items;
 }

@@ -1,8 +1,8 @@
-use Rattle.std.proofs.lemmas.Bool.Decides.{when_true}
-use Rattle.dom_select.proofs.types.TypeLemmas.{element_means, some_is_element}
+use Rattle.std.proofs.Common.{IfSome, subst}
+use Rattle.dom_select.specs.Subjects.{SubjectIsAmong}
 use Rattle.dom_select.proofs.matcher.descendants.is_match_of_types.Goals as goal
 
-pub returns-clause-is : goal.returns-clause-is
-returns-clause-is c =
-    let named = when_true _ _ c.if-not-has_any_type.false (rw c.tree-tree.ensures at c.has_any_type.ensures) in
-    element_means c.args.matcher.now c.args.caches.now c.args.id _ (some_is_element c.args.caches.now c.args.id _ named) (rw c.new.ensures at c.match_element_with_caches.ensures.is)
+pub returns-then-not-may_be_subject_of-clause-is : goal.returns-then-not-may_be_subject_of-clause-is
+returns-then-not-may_be_subject_of-clause-is c = λ match.
+    let among = subst (λ o. IfSome o (λ types. SubjectIsAmong types c.args.matcher.now)) c.in-Some.is c.requires in
+    (rw c.tree.ensures at c.may_be_subject_of.ensures) c.if-not-may_be_subject_of.true c.args.matcher.now among match.1
