@@ -94,7 +94,7 @@ impl Matcher {
         sole_type(&self.selectors)
     }
 
-    /// The types of the elements that the selectors can match, where each selector ends in one.
+    /// The types of the subjects, if each has one.
     pub(crate) fn subject_types(&self) -> Option<[bool; 256]>
         ensures { IfSome result (λ types. SubjectIsAmong types self.now) }
     {

@@ -1,5 +1,5 @@
 -- Selectors that are a type and nothing else.
-use Rattle.std.proofs.Common.{◌≡◌, ◌↔◌, ◌<◌, ◌≤◌, ℕ, Bool, true, false, List, [], ◌∷◌, Option, None, Some, IfSome, length, map, slice_get, get_or, sym, ap, ◌∙◌, refl, subst, inl, inr, not, true≢false, MatchBool, arith}
+use Rattle.std.proofs.Common.{◌≡◌, ◌↔◌, ◌<◌, ◌≤◌, ℕ, Bool, true, false, List, [], ◌∷◌, Option, None, Some, IfSome, length, map, slice_get, get_or, sym, ap, ◌∙◌, refl, subst, inl, inr, not, true≢false, arith}
 use Rattle.std.specs.Borrow.{Bor}
 use Rattle.std.specs.Option.{option_map_or}
 use Rattle.std.specs.Prelude.{◌==◌, IsTrue}
@@ -54,11 +54,7 @@ type_is_element name forest n held = at (slice_get forest.content n) held.1.0
     at (Some (AnElement element)) h = refl
     at (Some _) h = h
 
--- so where a selector means what bears the name, that is all there is to ask
-pub wanted_by_type : (name : List ℕ) (list : SelectorList) (forest : Forest) (n : ℕ) (b : Bool) → MeansType name list → MatchBool b (PartsHold (Part.«Type» name ∷ []) forest n) (PartsHold (Part.«Type» name ∷ []) forest n → ⊥) → MatchBool b (IsMatch list forest n) (IsMatch list forest n → ⊥)
-wanted_by_type name list forest n true means h = (type_is_element name forest n h, (means forest n).1 h)
-wanted_by_type name list forest n false means h = λ match. h ((means forest n).0 match.1)
-
+-- where a selector means what bears the name, that is all there is to ask
 pub bears_wanted : (name : List ℕ) (list : SelectorList) (forest : Forest) (n : ℕ) → MeansType name list → PartsHold (Part.«Type» name ∷ []) forest n → IsMatch list forest n
 bears_wanted name list forest n means held = (type_is_element name forest n held, (means forest n).1 held)
 

@@ -31,15 +31,15 @@ pub struct DescendantMatches<'a, 'b> {
     tree: &'a Tree,
     caches: SelectorCaches<'a>,
     matcher: &'b Matcher,
-    /// The name, where the selector is a type alone.
-    name: Option<&'b SelectorName>,
+    /// The types of the subjects, if each has one.
+    types: Option<[bool; 256]>,
 }
 
 impl<'a, 'b> Model for DescendantMatches<'a, 'b> {
     ghost use Rattle.std.specs.Prelude.{◌≡◌, IfSome, List};
     ghost use Rattle.std.specs.Coded.{code_by, codes};
     ghost use Rattle.dom_select.specs.Descendants.{Matches};
-    ghost use Rattle.dom_select.specs.Meaning.{MeansType};
+    ghost use Rattle.dom_select.specs.Subjects.{SubjectIsAmong};
     ghost use Rattle.dom_selectors.specs.Tokens.{Token, list_of, read_back, tokens_of};
 
     ghost Value = { Matches };
@@ -50,7 +50,7 @@ impl<'a, 'b> Model for DescendantMatches<'a, 'b> {
     ghost view = { λ it. record { left = it.ids.left; tree = it.tree; selector = it.matcher.now } };
 
     ghost invariant = { λ it. (it.caches ≡ it.tree.now)
-        × IfSome it.name (λ name. MeansType name.now it.matcher.now) };
+        × IfSome it.types (λ types. SubjectIsAmong types it.matcher.now) };
 }
 
 impl<'a, 'b> DescendantMatches<'a, 'b> {
@@ -68,7 +68,7 @@ impl<'a, 'b> DescendantMatches<'a, 'b> {
             tree,
             caches: SelectorCaches::late(tree),
             matcher,
-            name: matcher.sole_type(),
+            types: matcher.subject_types(),
         }
     }
 }
@@ -83,7 +83,7 @@ impl<'a, 'b> Iterator for DescendantMatches<'a, 'b> {
     fn next(&mut self) -> Option<NodeRef<'a>> {
         loop {
             let id = self.ids.next()?;
-            if is_match_by_type(self.matcher, self.name, &mut self.caches, id) {
+            if is_match_of_types(self.matcher, &self.types, &mut self.caches, id) {
                 return Some(NodeRef::new(id, self.tree));
             }
         }
@@ -147,28 +147,10 @@ pub(crate) fn collect_matches<I: Iterator<Item = NodeId> + Drop>(
     Ok(matched)
 }
 
-/// Whether the node is an element that the selector means; where the selector is a type alone, that
-/// is its name.
-fn is_match_by_type(
-    matcher: &Matcher,
-    name: Option<&SelectorName>,
-    caches: &mut SelectorCaches<'_>,
-    id: NodeId,
-) -> bool
-    requires { IfSome name (λ name. MeansType name.now matcher.now) }
-    ensures is { Decides result (IsMatch matcher.now caches.old id) }
-    ensures same { caches.new ≡ caches.old }
-{
-    match name {
-        Some(name) => has_type(caches.tree(), &id, name),
-        None => is_selected_with(matcher, caches, id),
-    }
-}
-
 /// Whether the node is an element that the selector means; where types are given, it has one of
 /// these.
 #[inline(always)]
-fn is_match_of_types(
+pub(crate) fn is_match_of_types(
     matcher: &Matcher,
     types: &Option<[bool; 256]>,
     caches: &mut SelectorCaches<'_>,
@@ -197,11 +179,7 @@ pub(crate) fn is_selected(tree: &Tree, id: NodeId, matcher: &Matcher) -> bool
 }
 
 /// The same, asked with caches of the tree.
-pub(crate) fn is_selected_with(
-    matcher: &Matcher,
-    caches: &mut SelectorCaches<'_>,
-    id: NodeId,
-) -> bool
+fn is_selected_with(matcher: &Matcher, caches: &mut SelectorCaches<'_>, id: NodeId) -> bool
     ensures is { Decides result (IsMatch matcher.now caches.old id) }
     ensures same { caches.new ≡ caches.old }
 {

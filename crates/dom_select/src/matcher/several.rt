@@ -11,7 +11,7 @@ ghost use Rattle.dom_selectors.specs.Spelling.{same};
 
 use crate::matcher::Matcher;
 use crate::matcher::caches::SelectorCaches;
-use crate::matcher::descendants::{collect_matches, is_selected_with, select_below};
+use crate::matcher::descendants::{collect_matches, is_match_of_types, select_below};
 use crate::matcher::roots::{Roots, take_first};
 use dom_links::iters::DescendantNodes;
 use dom_links::laws::trees_of_a_forest;
@@ -127,12 +127,15 @@ pub struct Matches<'a, 'b, 'r> {
     tree: &'a Tree,
     caches: SelectorCaches<'a>,
     matcher: &'b Matcher,
+    /// The types of the subjects, if each has one.
+    types: Option<[bool; 256]>,
 }
 
 impl<'a, 'b, 'r> Model for Matches<'a, 'b, 'r> {
-    ghost use Rattle.std.specs.Prelude.{◌≡◌, List};
+    ghost use Rattle.std.specs.Prelude.{◌≡◌, IfSome, List};
     ghost use Rattle.std.specs.Coded.{code_by, codes};
     ghost use Rattle.dom_select.specs.Descendants.{Matches};
+    ghost use Rattle.dom_select.specs.Subjects.{SubjectIsAmong};
     ghost use Rattle.dom_selectors.specs.Tokens.{Token, list_of, read_back, tokens_of};
 
     ghost Value = { Matches };
@@ -142,7 +145,8 @@ impl<'a, 'b, 'r> Model for Matches<'a, 'b, 'r> {
 
     ghost view = { λ it. record { left = it.ids; tree = it.tree; selector = it.matcher.now } };
 
-    ghost invariant = { λ it. it.caches ≡ it.tree.now };
+    ghost invariant = { λ it. (it.caches ≡ it.tree.now)
+        × IfSome it.types (λ types. SubjectIsAmong types it.matcher.now) };
 }
 
 impl<'a, 'b, 'r> Matches<'a, 'b, 'r> {
@@ -190,6 +194,7 @@ impl<'a, 'b, 'r> Matches<'a, 'b, 'r> {
             tree,
             caches: SelectorCaches::late(tree),
             matcher,
+            types: matcher.subject_types(),
         })
     }
 }
@@ -212,7 +217,7 @@ impl<'a, 'b, 'r> Iterator for Matches<'a, 'b, 'r> {
     fn next(&mut self) -> Option<NodeRef<'a>> {
         loop {
             let id = self.ids.next()?;
-            if is_selected_with(self.matcher, &mut self.caches, id) {
+            if is_match_of_types(self.matcher, &self.types, &mut self.caches, id) {
                 return Some(NodeRef::new(id, self.tree));
             }
         }

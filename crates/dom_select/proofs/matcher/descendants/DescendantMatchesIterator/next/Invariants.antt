@@ -1,5 +1,5 @@
 use Rattle.std.proofs.Common.{◌≡◌, IfSome, length}
-use Rattle.dom_select.specs.Meaning.{MeansType}
+use Rattle.dom_select.specs.Subjects.{SubjectIsAmong}
 use Rattle.dom_select.proofs.MatchLemmas.{Passes, walk_of}
 use Rattle.dom_select.proofs.matcher.descendants.DescendantMatchesIterator.next.Given as goal
 
@@ -8,7 +8,7 @@ invariant-loop-id l =
     record {
       passes : Passes (walk_of l.initial.self-inside.ids.left l.initial.self-inside.tree l.initial.self-inside.matcher.now) (walk_of l.self-inside.ids.left l.self-inside.tree l.self-inside.matcher.now);
       caches : l.self-inside.caches ≡ l.self-inside.tree.now;
-      named : IfSome l.self-inside.name (λ name. MeansType name.now l.self-inside.matcher.now);
+      among : IfSome l.self-inside.types (λ types. SubjectIsAmong types l.self-inside.matcher.now);
     }
 
 abbrev pub decreases-loop-id : goal.decreases-loop-id

@@ -5,22 +5,23 @@ use Rattle.dom_select.proofs.MatchLemmas.{passes_none, passes_one, gives_one, gi
 use Rattle.dom_select.proofs.matcher.several.MatchesIterator.next.Goals as goal
 
 pub loop-id-init : goal.loop-id-init
-loop-id-init c = record { passes = passes_none _; caches = c.self.invariant }
+loop-id-init c = record { passes = passes_none _; caches = c.self.invariant.0; among = c.self.invariant.1 }
 
 pub returns-in_err-id-clause-steps : goal.returns-in_err-id-clause-steps
 returns-in_err-id-clause-steps c =
     let given = gives_none _ c.loop-id.self-inside.ids c.next.new.self c.loop-id.self-inside.tree c.loop-id.self-inside.matcher.now c.from_residual.result c.loop-id.invariant.passes c.in_err-id.ensures.steps.0 c.in_err-id.ensures.steps.1 c.from_residual.ensures in
     gives_from _ _ _ _ c.self.view_is given
 
-pub returns-then-is_selected_with-clause-steps : goal.returns-then-is_selected_with-clause-steps
-returns-then-is_selected_with-clause-steps c =
-    let given = gives_one _ c.loop-id.self-inside.ids c.next.new.self c.loop-id.self-inside.tree c.loop-id.self-inside.matcher.now c.in_ok-id.id c.new.result c.loop-id.invariant.passes c.in_ok-id.ensures.steps (subst (λ (forest : Forest). IsMatch c.loop-id.self-inside.matcher.now forest c.in_ok-id.id) c.loop-id.invariant.caches c.if-is_selected_with.ensures.is) c.new.ensures in
+pub returns-then-is_match_of_types-clause-steps : goal.returns-then-is_match_of_types-clause-steps
+returns-then-is_match_of_types-clause-steps c =
+    let given = gives_one _ c.loop-id.self-inside.ids c.next.new.self c.loop-id.self-inside.tree c.loop-id.self-inside.matcher.now c.in_ok-id.id c.new.result c.loop-id.invariant.passes c.in_ok-id.ensures.steps (subst (λ (forest : Forest). IsMatch c.loop-id.self-inside.matcher.now forest c.in_ok-id.id) c.loop-id.invariant.caches c.if-is_match_of_types.ensures.is) c.new.ensures in
     gives_from _ _ _ _ c.self.view_is given
 
 pub loop-id-preserved : goal.loop-id-preserved
 loop-id-preserved c =
-    let out = subst (λ (forest : Forest). IsMatch c.loop-id.self-inside.matcher.now forest c.in_ok-id.id → ⊥) c.loop-id.invariant.caches c.if-is_selected_with.ensures.is in
+    let out = subst (λ (forest : Forest). IsMatch c.loop-id.self-inside.matcher.now forest c.in_ok-id.id → ⊥) c.loop-id.invariant.caches c.if-is_match_of_types.ensures.is in
     record {
       passes = passes_one _ c.loop-id.self-inside.ids c.next.new.self c.loop-id.self-inside.tree c.loop-id.self-inside.matcher.now c.in_ok-id.id c.loop-id.invariant.passes c.in_ok-id.ensures.steps out;
-      caches = c.is_selected_with.ensures.same ∙ c.loop-id.invariant.caches;
+      caches = c.is_match_of_types.ensures.same ∙ c.loop-id.invariant.caches;
+      among = c.loop-id.invariant.among;
     }

@@ -1,4 +1,5 @@
-use Rattle.std.proofs.Common.{◌≡◌, length}
+use Rattle.std.proofs.Common.{◌≡◌, IfSome, length}
+use Rattle.dom_select.specs.Subjects.{SubjectIsAmong}
 use Rattle.dom_select.proofs.MatchLemmas.{Passes, walk_of}
 use Rattle.dom_select.proofs.matcher.several.MatchesIterator.next.Given as goal
 
@@ -7,6 +8,7 @@ invariant-loop-id l =
     record {
       passes : Passes (walk_of l.initial.self-inside.ids l.initial.self-inside.tree l.initial.self-inside.matcher.now) (walk_of l.self-inside.ids l.self-inside.tree l.self-inside.matcher.now);
       caches : l.self-inside.caches ≡ l.self-inside.tree.now;
+      among : IfSome l.self-inside.types (λ types. SubjectIsAmong types l.self-inside.matcher.now);
     }
 
 abbrev pub decreases-loop-id : goal.decreases-loop-id
