@@ -1,21 +1,16 @@
 -- Types of the elements that selectors match, by the numbers of their names.
-use Rattle.std.specs.Prelude.{◌≡◌, ◌<◌, ℕ, List, Bool, true, false, Some, slice_get, slice_index_or}
+use Rattle.std.specs.Prelude.{◌≡◌, ℕ, List, Bool, true, false, Some, slice_get, slice_index_or}
 use Rattle.dom_nodes.specs.declared.node_data.NodeData.{NodeData}
 use Rattle.dom_nodes.specs.declared.node_data.NodeData.TheVariants.{Element}
-use Rattle.dom_nodes.specs.declared.name.Namespace.{Namespace}
-use Rattle.dom_nodes.specs.KnownNames.{HasNumber, known_name}
+use Rattle.dom_nodes.specs.declared.name.Namespace.TheVariants.{Html}
+use Rattle.dom_nodes.specs.KnownNames.{HasNumber}
 use Rattle.dom_links.specs.Forest.{Forest}
 use Rattle.dom_selectors.specs.Syntax.{SelectorList}
 use Rattle.dom_select.specs.Meaning.{Means}
-use Rattle.dom_select.specs.Parts.{name_within}
 
--- in every namespace a type selector of that name asks for the known name of that number
-abbrev pub IsNumberOf : List ℕ → ℕ → Type 0
-IsNumberOf name number = (number < 247) × ((ns : Namespace) → name_within ns name ≡ known_name number)
-
--- an element whose name has a number with a flag, or none
+-- an element whose name has a number with a flag, or none, or that is no HTML element
 abbrev pub MayBear : List Bool → NodeData → Type 0
-MayBear types (Element element) = (number : ℕ) → HasNumber element.name.local number → slice_index_or types number false ≡ true
+MayBear types (Element element) = element.name.ns ≡ Html → (number : ℕ) → HasNumber element.name.local number → slice_index_or types number false ≡ true
 MayBear types _ = ⊥
 
 -- the selectors match only such elements

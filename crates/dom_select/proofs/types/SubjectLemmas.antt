@@ -6,7 +6,8 @@ use Rattle.std.proofs.lemmas.List.{drop_all, drop_more, get_or-set_same, get_or-
 use Rattle.std.proofs.lemmas.Slice.Eq.{bytes_eq-Decides}
 use Rattle.dom_nodes.specs.declared.node_data.NodeData.{NodeData}
 use Rattle.dom_nodes.specs.declared.node_data.NodeData.TheVariants.{Comment, Doctype, Document, Element as AnElement, Fragment, ProcessingInstruction, Text}
-use Rattle.dom_nodes.specs.KnownNames.{known_name}
+use Rattle.dom_nodes.specs.declared.name.Namespace.TheVariants.{Html}
+use Rattle.dom_nodes.specs.KnownNames.{HasNumber, known_name}
 use Rattle.dom_nodes.proofs.KnownLemmas.{known-same}
 use Rattle.dom_links.specs.Forest.{Forest}
 use Rattle.dom_selectors.specs.declared.syntax.Part.{Part}
@@ -16,7 +17,7 @@ use Rattle.dom_select.specs.declared.matcher.has.Start.TheVariants.{Absolute}
 use Rattle.dom_select.specs.Ends.{SubjectImpliesType}
 use Rattle.dom_select.specs.Meaning.{Means}
 use Rattle.dom_select.specs.Parts.{name_within, node_passes}
-use Rattle.dom_select.specs.Subjects.{IsNumberOf, MayBear, SubjectIsAmong}
+use Rattle.dom_select.specs.Subjects.{MayBear, SubjectIsAmong}
 use Rattle.dom_select.proofs.EndLemmas.{means_one}
 use Rattle.dom_select.proofs.types.TypeLemmas.{type_known}
 
@@ -30,9 +31,9 @@ module _ (types : List Bool) (number : ℕ) (within : number < length types) whe
   flag_here k e = ap (λ j. slice_index_or (set types number true) j false) e ∙ get_or-set_same types number true false within
 
   still_flagged : (node : NodeData) → MayBear types node → MayBear (set types number true) node
-  still_flagged (AnElement element) may = λ k has. elim (cases_eq k number) [
+  still_flagged (AnElement element) may = λ html k has. elim (cases_eq k number) [
     | inl e ↦ flag_here k e
-    | inr other ↦ get_or-set_other types number k true false other ∙ may k has
+    | inr other ↦ get_or-set_other types number k true false other ∙ may html k has
   ]
   still_flagged Document none = none
   still_flagged Fragment none = none
@@ -41,9 +42,9 @@ module _ (types : List Bool) (number : ℕ) (within : number < length types) whe
   still_flagged (Comment _) none = none
   still_flagged (ProcessingInstruction _ _) none = none
 
-  now_flagged : (name : List ℕ) (node : NodeData) → IsNumberOf name number → node_passes (Part.«Type» name) node ≡ true → MayBear (set types number true) node
-  now_flagged name (AnElement element) is passes = λ k has.
-      let local : element.name.local ≡ known_name number = (bytes_eq-Decides element.name.local (name_within element.name.ns name)).0 passes ∙ is.1 element.name.ns in
+  now_flagged : (name : List ℕ) (node : NodeData) → HasNumber (name_within Html name) number → node_passes (Part.«Type» name) node ≡ true → MayBear (set types number true) node
+  now_flagged name (AnElement element) is passes = λ html k has.
+      let local : element.name.local ≡ known_name number = (bytes_eq-Decides element.name.local (name_within element.name.ns name)).0 passes ∙ (ap (λ ns. name_within ns name) html ∙ sym is.1) in
       flag_here k (known_once k number has.0 is.0 (has.1 ∙ local))
   now_flagged name Document is passes = true≢false (sym passes)
   now_flagged name Fragment is passes = true≢false (sym passes)
@@ -59,7 +60,7 @@ AreMetTo types selectors i =
 
 module _ (selectors : List Selector) (i : ℕ) (types : List Bool) where
   pub met_more : (number : ℕ) (name : List ℕ) (s : Selector) → i < length selectors → s ≡ get_or selectors i s → number < length types →
-      SubjectImpliesType name (read_compound (out-Selector s).first) (map read_step (out-Selector s).rest.items) → IsNumberOf name number → AreMetTo types selectors i → AreMetTo (set types number true) selectors (i + 1)
+      SubjectImpliesType name (read_compound (out-Selector s).first) (map read_step (out-Selector s).rest.items) → HasNumber (name_within Html name) number → AreMetTo types selectors i → AreMetTo (set types number true) selectors (i + 1)
   met_more number name s within is below ends numbered met forest n node e m = by (met forest n node e m)
     where
       left : drop i selectors ≡ s ∷ drop (i + 1) selectors

@@ -2,42 +2,32 @@
 
 ghost use Rattle.std.specs.Prelude.{◌≡◌, false, IfSome};
 ghost use Rattle.dom_selectors.specs.ValuesAsTrees.{read_list};
-ghost use Rattle.dom_select.specs.Subjects.{IsNumberOf, IsOther, MayBear, SubjectIsAmong};
+ghost use Rattle.dom_select.specs.Subjects.{IsOther, MayBear, SubjectIsAmong};
 
 use crate::matcher::matches::subject_type;
+use dom_nodes::name::NamespaceRef;
 use dom_nodes::node_data::NodeData;
 use dom_nodes::node_id::NodeId;
-use dom_selectors::selector_name::SelectorName;
 use dom_selectors::syntax::Selector;
 use dom_trees::tree::Tree;
 
-/// The types of the subjects, a flag for each number of a name: an element that a selector matches
-/// has one of these types. None where a subject has no type, or one whose name has no number.
+/// The types of the subjects, a flag for each number of a name: an HTML element that a selector
+/// matches has one of these types. None where a subject has no type, or one whose name has no
+/// number.
 pub(crate) fn subject_types(selectors: &[Selector]) -> Option<[bool; 256]>
     ensures { IfSome result (λ types. SubjectIsAmong types (read_list selectors.now)) }
 {
     let mut types = [false; 256];
     for selector in selectors {
         let name = subject_type(&selector.first, &selector.rest)?;
-        let number = type_number(name)?;
+        let number = name.folded().number()?;
         types[number as usize] = true;
     }
     Some(types)
 }
 
-/// The number of the name that elements of every namespace have to match a type selector.
-fn type_number(name: &SelectorName) -> Option<u8>
-    ensures { IfSome result (IsNumberOf name.now) }
-{
-    let folded = name.folded();
-    if folded.as_str() != name.as_str() {
-        return None;
-    }
-    folded.number()
-}
-
 /// Whether the number is a node's that may have one of the types: it is an element whose name has
-/// one of the numbers, or none.
+/// one of the numbers, or none, or that is no HTML element.
 #[inline(always)]
 pub(crate) fn may_be_subject_of(types: &[bool; 256], tree: &Tree, id: &NodeId) -> bool
     ensures { result ≡ false → IsOther types.now tree.now id.now }
@@ -54,6 +44,9 @@ fn may_bear(types: &[bool; 256], node: &NodeData) -> bool
 {
     let NodeData::Element(element) = node else {
         return false;
+    };
+    let NamespaceRef::Html = element.name.ns() else {
+        return true;
     };
     match element.name.local().number() {
         Some(number) => types[number as usize],

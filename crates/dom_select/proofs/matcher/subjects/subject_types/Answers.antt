@@ -17,10 +17,11 @@ loop-selector-preserved c =
     let types = c.loop-selector.types in
     let number = c.in_ok-number.number in
     let ends = subst (λ (steps : List Step). SubjectImpliesType name (read_compound (out-Selector s).first) (map read_step steps)) c.deref.ensures.value c.in_ok-name.ensures in
+    let numbered = rw c.folded.ensures at c.in_ok-number.ensures in
     let low = c.in_ok-number.ensures.0 in
     record {
       long = length-set types number _ ∙ c.loop-selector.invariant.long;
-      met = met_more c.args.selectors.now c.loop-selector.selector-index types number name s (omega (arith, c.loop-selector-test.true)) c.selector-item.is (omega (arith, low, c.loop-selector.invariant.long)) ends c.in_ok-number.ensures c.loop-selector.invariant.met;
+      met = met_more c.args.selectors.now c.loop-selector.selector-index types number name s (omega (arith, c.loop-selector-test.true)) c.selector-item.is (omega (arith, low, c.loop-selector.invariant.long)) ends numbered c.loop-selector.invariant.met;
     }
 
 pub returns : goal.returns
