@@ -13,7 +13,6 @@ pub mod PlaceLemmas
 pub mod PositionLemmas
 pub mod SpanLemmas
 pub mod FlagLemmas
-pub mod BareLemmas
-pub mod RowStackLemmas
+pub mod RowLemmas
 pub mod PlainLemmas
 pub mod TraversalLemmas

@@ -1,32 +1,30 @@
 -- Plain selectors: their tests, and what they mean.
-use Rattle.std.proofs.Common.{◌≡◌, ◌↔◌, ◌⊎◌, ◌<◌, ◌+◌, ℕ, zero, suc, List, [], ◌∷◌, ◌++◌, Some, false, inl, inr, refl, sym, ap, ◌∙◌, subst, length, slice_get, set, take, map, replicate, arith}
+use Rattle.std.proofs.Common.{◌≡◌, ◌↔◌, ◌⊎◌, ◌<◌, ◌≤◌, ◌+◌, ℕ, zero, suc, List, [], ◌∷◌, ◌++◌, Some, inl, inr, refl, sym, ap, ◌∙◌, subst, length, slice_get, set, take, map, arith}
 use Rattle.std.specs.Option.{option_map}
 use Rattle.dom_index.proofs.PlaceLemmas.{same_or_not}
 use Rattle.std.proofs.Math.ListN.{get_or}
 use Rattle.std.proofs.lemmas.Option.{none-some, same_Some, slice_get-map, slice_get-get_or, slice_get_cases, slice_get_past, slice_get_within, get_or_from_slice_get}
 use Rattle.std.proofs.lemmas.Bool.{cases_lt}
-use Rattle.std.proofs.lemmas.List.{get_or-set_other, get_or-set_same, length-map, length-set, nil_from_length, take_more}
-use Rattle.dom_selectors.specs.declared.syntax.Nested.{Nested}
+use Rattle.std.proofs.lemmas.List.{get_or-set_other, get_or-set_same, length-set, take_more}
 use Rattle.dom_links.specs.Forest.{Forest}
 use Rattle.dom_selectors.specs.declared.syntax.Combinator.{Combinator}
 use Rattle.dom_selectors.specs.declared.syntax.Compound.{Compound}
 use Rattle.dom_selectors.specs.declared.syntax.Selector.{Selector, out-Selector}
 use Rattle.dom_selectors.specs.declared.syntax.Step.{Step}
-use Rattle.dom_selectors.specs.ListsAsTrees.{lists_of, steps_of}
+use Rattle.dom_selectors.specs.ListsAsTrees.{steps_of}
 use Rattle.dom_selectors.specs.Syntax.{CompoundSelector, Steps}
-use Rattle.dom_selectors.specs.ValuesAsTrees.{read_compound, read_list, read_nested, read_step}
-use Rattle.dom_selectors.proofs.Layers.{read_compound_is, read_selector_is, read_step_is}
+use Rattle.dom_selectors.specs.ValuesAsTrees.{read_compound, read_list, read_step}
+use Rattle.dom_selectors.proofs.Layers.{read_selector_is, read_step_is}
 use Rattle.dom_select.specs.Meaning.{Holds, Means, StepsMatch}
 use Rattle.dom_index.specs.declared.node_tests.NodeTest.{NodeTest}
 use Rattle.dom_index.specs.declared.chains.Chain.{Chain}
 use Rattle.dom_index.specs.declared.streaming.Rows.{Rows}
-use Rattle.dom_index.specs.Tracks.{AreChainsOf, AreFollowing, ArePrepared, AreTracked, IsChainOf, IsFollowing, IsPrepared, IsTracked, Reaches, SomeReaches, first_in, steps_in}
-use Rattle.dom_index.specs.BareLists.{IsBare}
-use Rattle.dom_index.specs.TypeBytes.{lists_in}
-use Rattle.dom_index.specs.FlagRows.{IsUpward, StepsReach, compound_at}
-use Rattle.dom_index.specs.NodeTests.{ArePlain, HasBareLists, IsPlain, IsReady}
+use Rattle.dom_index.specs.Tracks.{AreChainsOf, AreFollowing, ArePrepared, AreTracked, IsChainOf, IsFollowing, IsPrepared, IsTracked, Reaches, SomeReaches, compounds_of_all, first_in, steps_in}
+use Rattle.dom_index.specs.FlagRows.{AreUpward, IsUpward, StepsReach, compound_at}
+use Rattle.dom_index.specs.NodeTests.{ArePlain, IsPlain, IsReady}
+use Rattle.dom_index.specs.CompoundCounts.{compound_count, selectors_count, steps_count}
 use Rattle.dom_index.proofs.FlagLemmas.{read_there}
-use Rattle.dom_index.proofs.RowStackLemmas.{rows_none}
+use Rattle.dom_index.proofs.ListLemmas.{selectors_cut}
 
 -- an element of a list with one more at its end
 pub old_or_last : {A : Type 0} (xs : List A) (y : A) (j : ℕ) (x : A) → slice_get (xs ++ y ∷ []) j ≡ Some x → (slice_get xs j ≡ Some x) ⊎ ((j ≡ length xs) × (y ≡ x))
@@ -67,35 +65,24 @@ reached_meant s first steps begins goes forest n =
     )
 
 -- all steps are upward where each is
-pub all_plain : (first : Compound) (steps : List Step) → HasBareLists first → ((j : ℕ) (s : Step) → j < length steps → slice_get steps j ≡ Some s → HasBareLists s.compound × IsUpward s.combinator) → IsPlain first steps
-all_plain first steps bare each = record {
-  first_bare = bare;
-  bare = λ j s at. (each j s (slice_get_within steps j s at) at).0;
-  upward = λ j r at. elim (slice_get_cases steps j).1 [
-    | inl some ↦
-        let here : slice_get (map read_step steps) j ≡ Some (read_step some.0) = slice_get-map read_step steps j ∙ ap (option_map read_step) some.2 in
-        let same : (some.0.combinator, read_compound some.0.compound) ≡ r = sym (read_step_is some.0) ∙ same_Some (read_step some.0) r (sym here ∙ at) in
-        subst IsUpward (ap (λ (q : Combinator × CompoundSelector). q.0) same) (each j some.0 some.1 some.2).1
-    | inr past ↦ absurd (none-some r (sym (slice_get-map read_step steps j ∙ ap (option_map read_step) past.1) ∙ at))
-  ];
-}
+pub all_upward : (steps : List Step) → ((j : ℕ) (s : Step) → j < length steps → slice_get steps j ≡ Some s → IsUpward s.combinator) → AreUpward (map read_step steps)
+all_upward steps each = λ j r at. elim (slice_get_cases steps j).1 [
+  | inl some ↦
+      let here : slice_get (map read_step steps) j ≡ Some (read_step some.0) = slice_get-map read_step steps j ∙ ap (option_map read_step) some.2 in
+      let same : (some.0.combinator, read_compound some.0.compound) ≡ r = sym (read_step_is some.0) ∙ same_Some (read_step some.0) r (sym here ∙ at) in
+      subst IsUpward (ap (λ (q : Combinator × CompoundSelector). q.0) same) (each j some.0 some.1 some.2)
+  | inr past ↦ absurd (none-some r (sym (slice_get-map read_step steps j ∙ ap (option_map read_step) past.1) ∙ at))
+]
 
--- a selector of one compound without nested lists
-pub bare_one : (s : Selector) → length (out-Selector s).rest.items ≡ 0 → length (out-Selector s).first.nested.items ≡ 0 → IsBare (read_compound (out-Selector s).first) (steps_of (map read_step (out-Selector s).rest.items))
-bare_one s alone simple = record {
-  alone = ap (λ (ss : List Step). steps_of (map read_step ss)) (nil_from_length (out-Selector s).rest.items alone);
-  simple = ap lists_in (read_compound_is (out-Selector s).first) ∙ ap (λ (ls : List Nested). lists_of (map read_nested ls)) (nil_from_length (out-Selector s).first.nested.items simple);
-}
-
--- one step more is plain
-pub plain_more : (steps : List Step) (i : ℕ) (one other : Step) → ((j : ℕ) (s : Step) → j < i → slice_get steps j ≡ Some s → HasBareLists s.compound × IsUpward s.combinator) →
-    HasBareLists (get_or steps i one).compound → IsUpward (get_or steps i other).combinator → (j : ℕ) (s : Step) → j < i + 1 → slice_get steps j ≡ Some s → HasBareLists s.compound × IsUpward s.combinator
-plain_more steps i one other so_far bare up j s below at = elim (cases_lt j i) [
+-- one step more is upward
+pub upward_more : (steps : List Step) (i : ℕ) (one : Step) → ((j : ℕ) (s : Step) → j < i → slice_get steps j ≡ Some s → IsUpward s.combinator) → IsUpward (get_or steps i one).combinator →
+    (j : ℕ) (s : Step) → j < i + 1 → slice_get steps j ≡ Some s → IsUpward s.combinator
+upward_more steps i one so_far up j s below at = elim (cases_lt j i) [
   | inl less ↦ so_far j s less at
   | inr past ↦
       let same : j ≡ i = omega (arith, below, past) in
       let here : slice_get steps i ≡ Some s = ap (slice_get steps) (sym same) ∙ at in
-      (subst (λ (x : Step). HasBareLists x.compound) (get_or_from_slice_get steps i s one here) bare, subst (λ (x : Step). IsUpward x.combinator) (get_or_from_slice_get steps i s other here) up)
+      subst (λ (x : Step). IsUpward x.combinator) (get_or_from_slice_get steps i s one here) up
 ]
 
 -- what the selectors of a list mean
@@ -163,15 +150,14 @@ some_more (c ∷ cs) chain forest n =
       ],
     )
 
--- an empty path more
+-- rows more
 pub tracked_more : (chains : List Chain) (forest : Forest) (all longer : List Rows) (rows : Rows) (i : ℕ) (one : Chain) → i < length chains → one ≡ get_or chains i one → length all ≡ i → longer ≡ all ++ rows ∷ [] →
-    rows.path.items ≡ [] → rows.flags.items ≡ replicate (length one.steps.now) false → AreTracked chains forest all → AreTracked chains forest longer
-tracked_more chains forest all longer rows i one inside read long is path flags so_far = λ j chain r there at. elim (old_or_last all rows j r (ap (λ (rs : List Rows). slice_get rs j) (sym is) ∙ at)) [
+    IsTracked one forest rows → AreTracked chains forest all → AreTracked chains forest longer
+tracked_more chains forest all longer rows i one inside read long is here so_far = λ j chain r there at. elim (old_or_last all rows j r (ap (λ (rs : List Rows). slice_get rs j) (sym is) ∙ at)) [
   | inl old ↦ so_far j chain r there old
   | inr last ↦
       let same : one ≡ chain = same_Some one chain (sym (read_there chains i one inside read) ∙ (ap (slice_get chains) (sym (last.0 ∙ long)) ∙ there)) in
-      let empty : IsTracked one forest rows.path.items rows.flags.items = rows_none forest (first_in one) (steps_in one) rows.path.items rows.flags.items path (flags ∙ ap (λ k. replicate k false) (sym (length-map one.steps.now read_step))) in
-      subst (λ (q : Rows). IsTracked chain forest q.path.items q.flags.items) last.1 (subst (λ (k : Chain). IsTracked k forest rows.path.items rows.flags.items) same empty)
+      subst (IsTracked chain forest) last.1 (subst (λ (k : Chain). IsTracked k forest rows) same here)
 ]
 
 pub tracked_none : (chains : List Chain) (forest : Forest) (all : List Rows) → all ≡ [] → AreTracked chains forest all
@@ -181,20 +167,17 @@ tracked_none chains forest all is = λ i chain rows there at. absurd (none-some 
 same_read : {A : Type 0} (xs : List A) (i : ℕ) (d e : A) → i < length xs → get_or xs i d ≡ get_or xs i e
 same_read xs i d e inside = get_or_from_slice_get xs i (get_or xs i e) d (slice_get-get_or xs i e inside)
 
-pub plain_here : (selectors : List Selector) (i : ℕ) (one other : Selector) (rest : List Step) → ArePlain selectors → i < length selectors → rest ≡ (out-Selector (get_or selectors i other)).rest.items → IsPlain (out-Selector (get_or selectors i one)).first rest
-plain_here selectors i one other rest plain inside is =
-    subst (IsPlain (out-Selector (get_or selectors i one)).first) (sym (is ∙ ap (λ (x : Selector). (out-Selector x).rest.items) (same_read selectors i other one inside)))
-    (plain i (get_or selectors i one) (slice_get-get_or selectors i one inside))
+pub plain_here : (selectors : List Selector) (i : ℕ) (one : Selector) (rest : List Step) → ArePlain selectors → i < length selectors → rest ≡ (out-Selector (get_or selectors i one)).rest.items → IsPlain rest
+plain_here selectors i one rest plain inside is = subst IsPlain (sym is) (plain i (get_or selectors i one) (slice_get-get_or selectors i one inside))
 
-pub plain_next : (selectors : List Selector) (i : ℕ) (one other : Selector) (rest : List Step) → ((j : ℕ) (s : Selector) → j < i → slice_get selectors j ≡ Some s → IsPlain (out-Selector s).first (out-Selector s).rest.items) →
-    rest ≡ (out-Selector (get_or selectors i other)).rest.items → IsPlain (out-Selector (get_or selectors i one)).first rest → (j : ℕ) (s : Selector) → j < i + 1 → slice_get selectors j ≡ Some s → IsPlain (out-Selector s).first (out-Selector s).rest.items
-plain_next selectors i one other rest so_far is plain j s below at = elim (cases_lt j i) [
+pub plain_next : (selectors : List Selector) (i : ℕ) (one : Selector) (rest : List Step) → ((j : ℕ) (s : Selector) → j < i → slice_get selectors j ≡ Some s → IsPlain (out-Selector s).rest.items) →
+    rest ≡ (out-Selector (get_or selectors i one)).rest.items → IsPlain rest → (j : ℕ) (s : Selector) → j < i + 1 → slice_get selectors j ≡ Some s → IsPlain (out-Selector s).rest.items
+plain_next selectors i one rest so_far is plain j s below at = elim (cases_lt j i) [
   | inl less ↦ so_far j s less at
   | inr past ↦
       let same : j ≡ i = omega (arith, below, past) in
       let here : slice_get selectors i ≡ Some s = ap (slice_get selectors) (sym same) ∙ at in
-      subst (λ (x : Selector). IsPlain (out-Selector x).first (out-Selector s).rest.items) (get_or_from_slice_get selectors i s one here)
-      (subst (IsPlain (out-Selector (get_or selectors i one)).first) (is ∙ ap (λ (x : Selector). (out-Selector x).rest.items) (get_or_from_slice_get selectors i s other here)) plain)
+      subst IsPlain (is ∙ ap (λ (x : Selector). (out-Selector x).rest.items) (get_or_from_slice_get selectors i s one here)) plain
 ]
 
 pub chains_next : (selectors : List Selector) (i : ℕ) (one other : Selector) (chains longer : List Chain) (chain : Chain) (rest : List Step) → i < length selectors → AreChainsOf (take i selectors) chains → longer ≡ chains ++ chain ∷ [] → IsPrepared chain →
@@ -217,7 +200,7 @@ following_set chains all i one rows forest caches new inside following here = re
         let known : i < length all = let long = following.long in omega (arith, inside, long) in
         let old : get_or chains i one ≡ chain = get_or_from_slice_get chains i chain one (ap (slice_get chains) (sym same) ∙ there) in
         let written : rows ≡ r = sym (get_or-set_same all i rows rows known) ∙ get_or_from_slice_get (set all i rows) i r rows (ap (slice_get (set all i rows)) (sym same) ∙ read) in
-        subst (λ (q : Rows). IsTracked chain forest q.path.items q.flags.items) written (subst (λ (k : Chain). IsTracked k forest rows.path.items rows.flags.items) old here.tracked)
+        subst (IsTracked chain forest) written (subst (λ (k : Chain). IsTracked k forest rows) old here.tracked)
     | inr other ↦
         let within : j < length all = let w = slice_get_within (set all i rows) j r read in let long = length-set all i rows in omega (arith, w, long) in
         let kept : get_or all j r ≡ r = sym (get_or-set_other all i j rows r other) ∙ get_or_from_slice_get (set all i rows) j r r read in
@@ -255,3 +238,20 @@ module _ (chains : List Chain) (i : ℕ) (one : Chain) (forest : Forest) (n : �
     | inl some ↦ before some
     | inr one ↦ here one
   ]
+
+-- the chains have as many compounds as their selectors
+pub all_counted : (selectors : List Selector) (chains : List Chain) → AreChainsOf selectors chains → compounds_of_all chains ≡ selectors_count (read_list selectors)
+all_counted [] chains are = ap compounds_of_all are
+all_counted (s ∷ ss) [] are = absurd are
+all_counted (s ∷ ss) (chain ∷ chains) are =
+    let cut = ap selectors_count (selectors_cut 0 (s ∷ ss) s (omega arith) refl) in
+    let first = ap compound_count are.0.first in
+    let rest = ap (λ (goes : List (Combinator × CompoundSelector)). steps_count (steps_of goes)) are.0.steps in
+    let more = all_counted ss chains are.1 in
+    omega (arith, cut, first, rest, more)
+
+-- the only item of a list
+pub one_item : (xs : List ℕ) (x : ℕ) → 1 ≤ length xs → length xs < 2 → x ≡ get_or xs 0 x → xs ≡ x ∷ []
+one_item [] x least below is = absurd (omega (arith, least))
+one_item (y ∷ []) x least below is = ap (λ (z : ℕ). z ∷ []) (sym is)
+one_item (y ∷ z ∷ zs) x least below is = absurd (omega (arith, below))

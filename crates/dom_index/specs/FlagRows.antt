@@ -1,5 +1,5 @@
 -- Rows of flags, one for each step of a selector: whether the compounds before the step match a node from which a node to the right is reached.
-use Rattle.std.specs.Prelude.{ℕ, suc, zero, ◌≡◌, ◌⊎◌, ◌-◌, true, Bool, false, List, [], ◌∷◌, ◌++◌, Option, Some, None, length, take, slice_get, slice_index_or}
+use Rattle.std.specs.Prelude.{ℕ, suc, zero, ◌≡◌, ◌⊎◌, true, Bool, false, List, Option, Some, None, length, take, slice_get, slice_index_or}
 use Rattle.std.specs.Option.{option_map}
 use Rattle.dom_links.specs.Forest.{Forest}
 use Rattle.dom_selectors.specs.declared.syntax.Combinator.{Combinator}
@@ -43,15 +43,6 @@ pub record AreFlags (forest : Forest) (first : CompoundSelector) (steps : List (
   pub long : length flags ≡ length steps
   pub each : (j : ℕ) (s : Combinator × CompoundSelector) → slice_get steps j ≡ Some s → Decides (slice_index_or flags j false) (PropagatesFrom forest s.0 (StepsReach forest first (take j steps)) above)
 
--- the flags at a node without a parent, and at the children of each of so many nodes, one row after the other
-abbrev pub AreRowsTo : Forest → CompoundSelector → List (Combinator × CompoundSelector) → ℕ → List ℕ → List Bool → Type 0
-AreRowsTo forest first steps zero ns flags = (ns ≡ []) × AreFlags forest first steps None flags
-AreRowsTo forest first steps (suc depth) ns flags =
-    (front : List ℕ) × (n : ℕ) × (before : List Bool) × (row : List Bool) × (ns ≡ front ++ n ∷ []) × (flags ≡ before ++ row) × AreFlags forest first steps (Some n) row × AreRowsTo forest first steps depth front before
-
-abbrev pub AreRows : Forest → CompoundSelector → List (Combinator × CompoundSelector) → List ℕ → List Bool → Type 0
-AreRows forest first steps ns flags = (depth : ℕ) × AreRowsTo forest first steps depth ns flags
-
 -- the compound of that number, from 0, the first before those of the steps
 abbrev pub compound_at : CompoundSelector → List (Combinator × CompoundSelector) → ℕ → Option CompoundSelector
 compound_at first steps zero = Some first
@@ -61,7 +52,3 @@ compound_at first steps (suc j) = option_map (λ s. s.1) (slice_get steps j)
 abbrev pub reached_at : List Bool → ℕ → Bool
 reached_at flags zero = true
 reached_at flags (suc j) = slice_index_or flags j false
-
--- the last of the nodes
-abbrev pub top : List ℕ → Option ℕ
-top ns = slice_get ns (length ns - 1)

@@ -1,5 +1,6 @@
 -- The contents of an index of a tree's nodes.
-use Rattle.std.specs.Prelude.{ℕ, ◌≡◌, ◌<◌, ◌≤◌, ◌⊎◌, true, List, Option, Some, MatchOption, length}
+use Rattle.std.specs.Prelude.{ℕ, ◌≡◌, ◌<◌, ◌≤◌, ◌⊎◌, true, List, Option, Some, MatchOption, Result, IfOk, length}
+use Rattle.std.specs.Global.{Vec}
 use Rattle.std.specs.Borrow.{Bor}
 use Rattle.dom_links.specs.Forest.{Forest}
 use Rattle.dom_nodes.specs.declared.indexes.IndexKind.{IndexKind}
@@ -20,6 +21,10 @@ pub record Indexed : Type 0 where
 -- these are the nodes, in the tree, that the selector selects below the roots
 abbrev pub Finds : Bor Forest → List ℕ → SelectorList → List NodeRef → Type 0
 Finds tree roots selector found = (ids : List ℕ) × Selected tree.now roots selector ids × (found ≡ refs_to tree ids)
+
+-- What a call that may leave a selection to tables returns: nothing, and then no tests were made, or what the selector selects below the roots
+abbrev pub SelectsOrLeaves : {E : Type 0} → Result (Option (Vec ℕ)) E → Forest → List ℕ → SelectorList → ℕ → ℕ → Type 0
+SelectsOrLeaves result forest roots selector old new = IfOk result (λ found. MatchOption found (new ≡ old) (λ ids. Selected forest roots selector ids.items))
 
 -- m is n or a descendant of it
 abbrev pub IsAtOrBelow : Forest → ℕ → ℕ → Type 0

@@ -8,7 +8,6 @@ pub mod Collected
 pub mod Preorder
 pub mod NodeSets
 pub mod FlagRows
-pub mod BareLists
 pub mod NodeTests
 pub mod Tracks
 pub mod PreparedCompounds

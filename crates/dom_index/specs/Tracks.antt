@@ -1,18 +1,21 @@
 -- Selectors in a traversal.
-use Rattle.std.specs.Prelude.{ℕ, ◌≡◌, ◌⊎◌, ◌+◌, ◌++◌, Bool, true, List, [], ◌∷◌, Option, Some, length, map, slice_get, take}
+use Rattle.std.specs.Prelude.{ℕ, ◌≡◌, ◌≤◌, ◌⊎◌, ◌+◌, ◌*◌, ◌++◌, Bool, true, false, List, [], ◌∷◌, Option, None, Some, length, map, slice_get, slice_index_or, take}
 use Rattle.dom_links.specs.Forest.{Forest, parent}
 use Rattle.dom_links.specs.ListMoves.{element_at}
 use Rattle.dom_links.specs.Lists.{first}
 use Rattle.dom_links.specs.Trees.{ancestors}
 use Rattle.dom_selectors.specs.declared.syntax.Combinator.{Combinator}
 use Rattle.dom_selectors.specs.declared.syntax.Selector.{Selector, out-Selector}
+use Rattle.dom_selectors.specs.ListsAsTrees.{steps_of}
 use Rattle.dom_selectors.specs.Spelling.{Decides}
 use Rattle.dom_selectors.specs.Syntax.{CompoundSelector}
 use Rattle.dom_selectors.specs.ValuesAsTrees.{read_compound, read_step}
 use Rattle.dom_index.specs.declared.chains.Chain.{Chain}
 use Rattle.dom_index.specs.declared.node_tests.NodeTest.{NodeTest}
 use Rattle.dom_index.specs.declared.streaming.Rows.{Rows}
-use Rattle.dom_index.specs.FlagRows.{AreFlags, AreRows, AreUpward, PropagatesFrom, StepsReach, compound_at, top}
+use Rattle.dom_index.specs.CompoundCounts.{compound_count, steps_count}
+use Rattle.dom_index.specs.FlagRows.{AreFlags, AreUpward, PropagatesFrom, StepsReach, compound_at}
+use Rattle.dom_index.specs.NodeSets.{in_set}
 use Rattle.dom_index.specs.NodeTests.{IsReady}
 
 -- the steps of a chain, and its first compound
@@ -22,11 +25,20 @@ steps_in chain = map read_step chain.steps.now
 abbrev pub first_in : Chain → CompoundSelector
 first_in chain = read_compound chain.first.now
 
--- a test for each of its compounds; its combinators go upward
+-- how many compounds a chain has, those in nested lists too, and how many several chains have
+abbrev pub compounds_of_chain : Chain → ℕ
+compounds_of_chain chain = compound_count (first_in chain) + steps_count (steps_of (steps_in chain))
+
+abbrev pub compounds_of_all : List Chain → ℕ
+compounds_of_all [] = 0
+compounds_of_all (chain ∷ chains) = compounds_of_chain chain + compounds_of_all chains
+
+-- a test for each of its compounds; its combinators go upward, and it counts no compound twice
 pub record IsPrepared (chain : Chain) : Type 0 where
   pub count : length chain.tests.items ≡ length chain.steps.now + 1
   pub tests : (i : ℕ) (test : NodeTest) → slice_get chain.tests.items i ≡ Some test → IsReady test × (compound_at (first_in chain) (steps_in chain) i ≡ Some (read_compound test.compound.now))
   pub upward : AreUpward (steps_in chain)
+  pub counted : chain.subject_tests + chain.row_tests ≤ compounds_of_chain chain
 
 abbrev pub ArePrepared : List Chain → Type 0
 ArePrepared chains = (i : ℕ) (chain : Chain) → slice_get chains i ≡ Some chain → IsPrepared chain
@@ -40,41 +52,49 @@ abbrev pub IsStepFlag : Chain → Forest → ℕ → ℕ → Bool → Type 0
 IsStepFlag chain forest n i flag =
     (s : Combinator × CompoundSelector) → slice_get (steps_in chain) i ≡ Some s → Decides flag (PropagatesFrom forest s.0 (StepsReach forest (first_in chain) (take i (steps_in chain))) (Some n))
 
+-- the same of the flag that stands in the row of n
+abbrev pub IsStepFlagAt : Chain → Forest → ℕ → List Bool → ℕ → Type 0
+IsStepFlagAt chain forest n flags i = IsStepFlag chain forest n i (slice_index_or flags (n * length chain.steps.now + i) false)
+
 -- the flags are those at a node of the forest, which the caches are of
 pub record AreFlagsAt (chain : Chain) (forest : Forest) (n : ℕ) (flags : List Bool) (caches : Forest) : Type 0 where
   pub prepared : IsPrepared chain
   pub flags_are : FlagsBelow chain forest (parent forest n) flags
   pub caches_are : caches ≡ forest
 
--- the flags are the rows of the nodes of the path
-abbrev pub IsTracked : Chain → Forest → List ℕ → List Bool → Type 0
-IsTracked chain forest path flags = AreRows forest (first_in chain) (steps_in chain) path flags
+-- the flags from n times as many as there are steps on are the row of n: those at its children
+abbrev pub IsRow : Chain → Forest → ℕ → List Bool → Type 0
+IsRow chain forest n flags = (j : ℕ) → IsStepFlagAt chain forest n flags j
 
--- the last row of the flags of any path: those at the children of its last node
-abbrev pub IsLastRow : Chain → List Bool → List Bool → Type 0
-IsLastRow chain flags row = (forest : Forest) (path : List ℕ) → IsTracked chain forest path flags → FlagsBelow chain forest (top path) row
+-- the row of n is filled
+abbrev pub IsFilledAt : List Bool → Option ℕ → Type 0
+IsFilledAt filled None = Unit {0}
+IsFilledAt filled (Some n) = in_set filled n ≡ true
 
--- where the rows were those of a forest, so are the new ones
-abbrev pub StaysTracked : Chain → Rows → Rows → Type 0
-StaysTracked chain old new = (forest : Forest) → IsTracked chain forest old.path.items old.flags.items → IsTracked chain forest new.path.items new.flags.items
+-- the rows that are filled are those of their nodes, and one is that at a node without a parent
+pub record IsTracked (chain : Chain) (forest : Forest) (rows : Rows) : Type 0 where
+  pub none : FlagsBelow chain forest None rows.none.items
+  pub long : length rows.flags.items ≡ length forest.content * length chain.steps.now
+  pub count : length rows.filled.items ≡ length forest.content
+  pub rows_are : (n : ℕ) → in_set rows.filled.items n ≡ true → IsRow chain forest n rows.flags.items
 
 -- the selector matches the node
 abbrev pub Reaches : Chain → Forest → ℕ → Type 0
 Reaches chain forest n = StepsReach forest (first_in chain) (steps_in chain) n
 
--- the ancestors of n: the missing ones, and then the last of the path and those above it
-abbrev pub IsOnWay : Forest → ℕ → List ℕ → List ℕ → Type 0
-IsOnWay forest n path missing = (rest : List ℕ) × (ancestors forest n ≡ missing ++ rest) × (top path ≡ first rest)
+-- the ancestors of n: the missing ones, and then one whose row is filled, if one is left
+abbrev pub IsOnWay : Forest → ℕ → List Bool → List ℕ → Type 0
+IsOnWay forest n filled missing = (rest : List ℕ) × (ancestors forest n ≡ missing ++ rest) × IsFilledAt filled (first rest)
 
 -- the rows of a prepared selector are those of the forest, and so are the caches
 pub record IsFollowing (chain : Chain) (rows : Rows) (forest caches : Forest) : Type 0 where
   pub prepared : IsPrepared chain
-  pub tracked : IsTracked chain forest rows.path.items rows.flags.items
+  pub tracked : IsTracked chain forest rows
   pub caches_are : caches ≡ forest
 
 -- the same for several selectors, with rows for each
 abbrev pub AreTracked : List Chain → Forest → List Rows → Type 0
-AreTracked chains forest all = (i : ℕ) (chain : Chain) (rows : Rows) → slice_get chains i ≡ Some chain → slice_get all i ≡ Some rows → IsTracked chain forest rows.path.items rows.flags.items
+AreTracked chains forest all = (i : ℕ) (chain : Chain) (rows : Rows) → slice_get chains i ≡ Some chain → slice_get all i ≡ Some rows → IsTracked chain forest rows
 
 pub record AreFollowing (chains : List Chain) (all : List Rows) (forest caches : Forest) : Type 0 where
   pub prepared : ArePrepared chains

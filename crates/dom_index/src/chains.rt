@@ -25,18 +25,17 @@ pub(crate) struct Chain<'s> {
 impl<'s> Chain<'s> {
     /// Prepares a selector for the nodes of a tree.
     fn new(first: &'s Compound, steps: &'s [Step], tree: &Tree) -> Result<Chain<'s>, OutOfMemory>
-        requires { IsPlain first.now steps.now }
+        requires { IsPlain steps.now }
         ensures prepared { IfOk result IsPrepared }
         ensures first { IfOk result (λ chain. chain.first ≡ first.entry) }
         ensures steps { IfOk result (λ chain. chain.steps ≡ steps.entry) }
     {
         let mut tests = Vec::new(tree.allocator());
-        push_test(&mut tests, NodeTest::new(first, tree)?)?;
+        push_test(&mut tests, NodeTest::new(first))?;
         let mut subject_tests = count_compound(first);
         let mut row_tests: u64 = 0;
         for i in 0..steps.len() {
-            let test = NodeTest::new(&steps[i].compound, tree)?;
-            push_test(&mut tests, test)?;
+            push_test(&mut tests, NodeTest::new(&steps[i].compound))?;
             row_tests = row_tests.saturating_add(subject_tests);
             subject_tests = count_compound(&steps[i].compound);
         }

@@ -1,71 +1,51 @@
-//! Selection below a node in one traversal. A node that the last compound of a selector matches
-//! asks for flags: for each node of the path to it, whether the steps are reached at its children.
+//! Selection below some nodes in one traversal. A node that the last compound of a selector matches
+//! asks for its parent's row of flags: whether the steps are reached at the parent's children.
 
-ghost use Rattle.std.specs.Prelude.{◌≡◌, ◌<◌, ◌+◌, ◌∷◌, ◌++◌, [], length, take, IfOk};
-ghost use Rattle.std.specs.Prelude.{IfSome, OnOk, Some};
+ghost use Rattle.std.specs.Prelude.{◌≡◌, ◌<◌, ◌≤◌, ◌+◌, ◌*◌, ◌∷◌, ◌++◌, [], length, true, IfOk};
+ghost use Rattle.std.specs.Prelude.{OnOk};
+ghost use Rattle.std.specs.Iterator.{IsFinite};
 ghost use Rattle.dom_links.specs.Forest.{parent};
-ghost use Rattle.dom_links.specs.Trees.{walk_below};
 ghost use Rattle.dom_selectors.specs.Spelling.{Decides};
 ghost use Rattle.dom_selectors.specs.ValuesAsTrees.{read_list};
-ghost use Rattle.dom_select.specs.Selected.{FiltersTo, Selected};
-ghost use Rattle.dom_index.specs.FlagRows.{reached_at, top};
+ghost use Rattle.dom_select.specs.Descendants.{FiltersItems};
+ghost use Rattle.dom_select.specs.Selected.{FiltersTo, Selected, walks_below};
+ghost use Rattle.dom_index.specs.FlagRows.{reached_at};
+ghost use Rattle.dom_index.specs.NodeSets.{in_set};
 ghost use Rattle.dom_index.specs.NodeTests.{ArePlain};
+ghost use Rattle.dom_index.specs.SelectorValues.{compounds_among};
 ghost use Rattle.dom_index.specs.Tracks.{AreFlagsAt, AreFollowing, ArePrepared, AreTracked};
-ghost use Rattle.dom_index.specs.Tracks.{FlagsBelow, IsFollowing, IsLastRow, IsOnWay, IsReached};
-ghost use Rattle.dom_index.specs.Tracks.{IsStepFlag, Reaches, SomeReaches, StaysTracked};
+ghost use Rattle.dom_index.specs.Tracks.{FlagsBelow, IsFilledAt, IsFollowing, IsOnWay, IsReached};
+ghost use Rattle.dom_index.specs.Tracks.{IsPrepared, IsStepFlag, IsTracked, Reaches, SomeReaches};
+ghost use Rattle.dom_index.specs.Tracks.{compounds_of_all, compounds_of_chain};
 
 use crate::chains::{Chain, prepare_all};
+use crate::node_set::member_count;
 use crate::node_tests::Visited;
 use crate::preorder::forest_laws;
+use dom_links::iters::parent_id;
 use dom_nodes::fault::OutOfMemory;
 use dom_nodes::node_id::NodeId;
 use dom_select::matcher::caches::SelectorCaches;
 use dom_select::matcher::chains::is_deep;
+use dom_select::matcher::several::nodes_below;
 use dom_selectors::syntax::Selector;
 use dom_trees::tree::Tree;
 
-/// The path to a node from the ancestor that has no parent, and a row of flags for each node of it:
-/// the flags of a selector's steps at its children. The flags begin with those at a node that has
-/// no parent. `row` is room for the next row.
+/// Rows of flags, one for each node by its number: the flags of a selector's steps at the node's
+/// children. Those that `filled` has are filled. `none` is the row at a node that has no parent.
 #[derive(Drop)]
 struct Rows {
-    path: Vec<NodeId>,
+    none: Vec<bool>,
     flags: Vec<bool>,
-    row: Vec<bool>,
+    filled: Vec<bool>,
 }
 
-/// What the selectors of a traversal share: sibling indexes, by number the place on the path at
-/// which a node was added last, room for nodes that are still to be added, and how many tests may
-/// still be made.
+/// What the selectors of a traversal share: sibling indexes, and room for nodes whose rows are
+/// still to be filled.
 #[derive(Drop)]
 struct Shared<'t> {
     caches: SelectorCaches<'t>,
-    places: Vec<u32>,
     missing: Vec<NodeId>,
-    tests_left: u64,
-}
-
-/// Why a traversal stops: memory was refused, or no more tests may be made.
-#[derive(Clone, Copy)]
-enum Halt {
-    Memory,
-    Spent,
-}
-
-impl From<OutOfMemory> for Halt {
-    fn from(_fault: OutOfMemory) -> Halt {
-        Halt::Memory
-    }
-}
-
-/// Takes the tests of a row from those that may still be made.
-#[inline(always)]
-fn take_row(chain: &Chain<'_>, left: &mut u64) -> Result<(), Halt> {
-    if chain.row_tests > *left {
-        return Err(Halt::Spent);
-    }
-    *left -= chain.row_tests;
-    Ok(())
 }
 
 /// Whether the compound of that number is reached at a node with these flags: the first one is
@@ -106,163 +86,111 @@ fn step_flag(
     chain.tests[i].matches(visited, caches)
 }
 
-/// Fills the row of a node by the flags at it.
+/// The row of a node's parent: the flags at the node.
 #[inline(always)]
-fn fill_row(
-    chain: &Chain<'_>,
-    flags: &[bool],
-    visited: &Visited<'_>,
-    caches: &mut SelectorCaches<'_>,
-    row: &mut Vec<bool>,
-) -> Result<(), OutOfMemory>
-    requires { AreFlagsAt chain.now visited.now.tree.now visited.now.id flags.now caches.old }
-    ensures flags { OnOk result (FlagsBelow chain.now visited.now.tree.now (Some visited.now.id)
-        row.new.items) }
-    ensures kept { caches.new ≡ caches.old }
+fn row_above<'r>(chain: &Chain<'_>, rows: &'r Rows, visited: &Visited<'_>) -> &'r [bool]
+    requires tracked { IsTracked chain.now visited.now.tree.now rows.now }
+    requires filled { IsFilledAt rows.now.filled.items
+        (parent visited.now.tree.now visited.now.id) }
+    ensures { FlagsBelow chain.now visited.now.tree.now
+        (parent visited.now.tree.now visited.now.id) result.now }
 {
-    row.clear();
-    for i in 0..chain.steps.len() {
-        let flag = step_flag(chain, i, flags, visited, caches);
-        row.push(flag)?;
-    }
-    Ok(())
+    forest_laws(visited.tree);
+    let Some(above) = parent_id(visited.tree.nodes(), &visited.id) else {
+        return &rows.none;
+    };
+    let width = chain.steps.len();
+    let start = above.value() * width;
+    &rows.flags[start..start + width]
 }
 
-/// The last row: the flags at a child of the path's last node, or at a node that has no parent.
-#[inline(always)]
-fn last_row<'r>(chain: &Chain<'_>, flags: &'r [bool]) -> &'r [bool]
-    ensures { IsLastRow chain.now flags.now result.now }
-{
-    let start = flags.len().saturating_sub(chain.steps.len());
-    &flags[start..]
-}
-
-/// Adds a node, whose parent is the last of the path, to the path.
-fn enter(
-    chain: &Chain<'_>,
-    rows: &mut Rows,
-    visited: &Visited<'_>,
-    caches: &mut SelectorCaches<'_>,
-    places: &mut Vec<u32>,
-) -> Result<(), OutOfMemory>
+/// Fills the row of a node, unless it is filled.
+fn fill(chain: &Chain<'_>, rows: &mut Rows, visited: &Visited<'_>, caches: &mut SelectorCaches<'_>)
     requires following { IsFollowing chain.now rows.old visited.now.tree.now caches.old }
-    requires at { top rows.old.path.items ≡ parent visited.now.tree.now visited.now.id }
-    ensures following { OnOk result
-        (IsFollowing chain.now rows.new visited.now.tree.now caches.new) }
-    ensures last { OnOk result (top rows.new.path.items ≡ Some visited.now.id) }
+    requires above { IsFilledAt rows.old.filled.items
+        (parent visited.now.tree.now visited.now.id) }
+    ensures following { IsFollowing chain.now rows.new visited.now.tree.now caches.new }
+    ensures filled { in_set rows.new.filled.items visited.now.id ≡ true }
 {
-    let flags = last_row(chain, &rows.flags);
-    fill_row(chain, flags, visited, caches, &mut rows.row)?;
-    rows.flags.extend_from_slice(&rows.row)?;
-    note_place(places, visited.id, rows.path.len());
-    rows.path.push(visited.id)?;
-    Ok(())
-}
-
-/// Notes the place of a node on a path.
-fn note_place(places: &mut Vec<u32>, id: NodeId, place: usize) {
-    let n = id.value();
-    if n >= places.len() {
+    let n = visited.id.value();
+    if rows.filled[n] {
         return;
     }
-    if place > 4_294_967_295 {
-        return;
+    let width = chain.steps.len();
+    for i in 0..width {
+        let flags = row_above(chain, rows, visited);
+        let flag = step_flag(chain, i, flags, visited, caches);
+        rows.flags[n * width + i] = flag;
     }
-    places[n] = place as u32;
+    rows.filled[n] = true;
 }
 
-/// How many nodes the path has down to that one, if it stands there: its place was noted.
+/// Whether the row of that node is filled.
 #[inline(always)]
-fn depth_of(path: &[NodeId], places: &[u32], id: NodeId) -> Option<usize>
-    ensures { IfSome result (λ depth. top (take depth path.now) ≡ Some id) }
+fn is_filled(filled: &[bool], id: NodeId) -> bool
+    ensures { result ≡ in_set filled.now id }
 {
-    let n = id.value();
-    if n >= places.len() {
-        return None;
+    match filled.get(id.value()) {
+        Some(flag) => *flag,
+        None => false,
     }
-    let place = places[n] as usize;
-    if place >= path.len() {
-        return None;
-    }
-    if path[place] != id {
-        return None;
-    }
-    Some(place + 1)
 }
 
-/// Lists the ancestors of the node that aren't on the path, from its parent on. How many nodes the
-/// path has down to the next ancestor, 0 without one.
+/// Lists the ancestors of the node whose rows aren't filled, from its parent on, as far as one
+/// whose row is.
 #[inline(always)]
 fn find_missing(
-    path: &[NodeId],
-    places: &[u32],
+    filled: &[bool],
     visited: &Visited<'_>,
     missing: &mut Vec<NodeId>,
-) -> Result<usize, OutOfMemory>
-    ensures { IfOk result (λ depth. IsOnWay visited.now.tree.now visited.now.id
-        (take depth path.now) missing.new.items) }
+) -> Result<(), OutOfMemory>
+    ensures { OnOk result
+        (IsOnWay visited.now.tree.now visited.now.id filled.now missing.new.items) }
 {
     missing.clear();
     for id in visited.tree.ancestor_ids_of_it(&visited.id, None) {
-        if let Some(depth) = depth_of(path, places, id) {
-            return Ok(depth);
+        if is_filled(filled, id) {
+            return Ok(());
         }
         missing.push(id)?;
     }
-    Ok(0)
+    Ok(())
 }
 
-/// Removes nodes and their rows from the end of the path, until it has no more than so many.
-#[inline(always)]
-fn cut(chain: &Chain<'_>, rows: &mut Rows, depth: usize)
-    ensures path { rows.new.path.items ≡ take depth rows.old.path.items }
-    ensures tracked { StaysTracked chain.now rows.old rows.new }
-{
-    while rows.path.len() > depth {
-        let _passed = rows.path.pop();
-        let left = rows.flags.len().saturating_sub(chain.steps.len());
-        rows.flags.truncate(left);
-    }
-}
-
-/// Makes the path end with the node's parent, or empty without one.
+/// Fills the row of the node's parent, and before it those of ancestors that it needs.
 fn follow(
     chain: &Chain<'_>,
     rows: &mut Rows,
     visited: &Visited<'_>,
     shared: &mut Shared<'_>,
-) -> Result<(), Halt>
+) -> Result<(), OutOfMemory>
     requires { IsFollowing chain.now rows.old visited.now.tree.now shared.old.caches }
-    ensures following { OnOk result
-        (IsFollowing chain.now rows.new visited.now.tree.now shared.new.caches) }
-    ensures last { OnOk result
-        (top rows.new.path.items ≡ parent visited.now.tree.now visited.now.id) }
+    ensures following { IsFollowing chain.now rows.new visited.now.tree.now shared.new.caches }
+    ensures filled { OnOk result (IsFilledAt rows.new.filled.items
+        (parent visited.now.tree.now visited.now.id)) }
 {
     let tree = visited.tree;
     forest_laws(tree);
-    let depth = find_missing(&rows.path, &shared.places, visited, &mut shared.missing)?;
-    cut(chain, rows, depth);
+    find_missing(&rows.filled, visited, &mut shared.missing)?;
     while let Some(id) = shared.missing.pop() {
-        take_row(chain, &mut shared.tests_left)?;
         let above = Visited::new(tree, id);
-        enter(chain, rows, &above, &mut shared.caches, &mut shared.places)?;
+        fill(chain, rows, &above, &mut shared.caches);
     }
     Ok(())
 }
 
-/// Whether the selector matches the node. The path is asked for only where the last compound does.
+/// Whether the selector matches the node. Rows are asked for only where the last compound does.
 #[inline(always)]
 fn visit(
     chain: &Chain<'_>,
     rows: &mut Rows,
     visited: &Visited<'_>,
     shared: &mut Shared<'_>,
-) -> Result<bool, Halt>
+) -> Result<bool, OutOfMemory>
     requires { IsFollowing chain.now rows.old visited.now.tree.now shared.old.caches }
     ensures is { IfOk result
         (λ b. Decides b (Reaches chain.now visited.now.tree.now visited.now.id)) }
-    ensures following { OnOk result
-        (IsFollowing chain.now rows.new visited.now.tree.now shared.new.caches) }
+    ensures following { IsFollowing chain.now rows.new visited.now.tree.now shared.new.caches }
 {
     forest_laws(visited.tree);
     let last = chain.steps.len();
@@ -273,7 +201,7 @@ fn visit(
         return Ok(true);
     }
     follow(chain, rows, visited, shared)?;
-    let flags = last_row(chain, &rows.flags);
+    let flags = row_above(chain, rows, visited);
     Ok(reached_at(flags, last))
 }
 
@@ -284,12 +212,12 @@ fn visit_all(
     rows: &mut Vec<Rows>,
     visited: &Visited<'_>,
     shared: &mut Shared<'_>,
-) -> Result<bool, Halt>
+) -> Result<bool, OutOfMemory>
     requires { AreFollowing chains.now rows.old.items visited.now.tree.now shared.old.caches }
     ensures is { IfOk result
         (λ b. Decides b (SomeReaches chains.now visited.now.tree.now visited.now.id)) }
-    ensures following { OnOk result
-        (AreFollowing chains.now rows.new.items visited.now.tree.now shared.new.caches) }
+    ensures following { AreFollowing chains.now rows.new.items visited.now.tree.now
+        shared.new.caches }
 {
     for i in 0..chains.len() {
         if visit(&chains[i], &mut rows[i], visited, shared)? {
@@ -307,11 +235,10 @@ fn is_selected(
     tree: &Tree,
     id: NodeId,
     shared: &mut Shared<'_>,
-) -> Result<bool, Halt>
+) -> Result<bool, OutOfMemory>
     requires { AreFollowing chains.now rows.old.items tree.now shared.old.caches }
     ensures is { IfOk result (λ b. Decides b (IsReached chains.now tree.now id)) }
-    ensures following { OnOk result
-        (AreFollowing chains.now rows.new.items tree.now shared.new.caches) }
+    ensures following { AreFollowing chains.now rows.new.items tree.now shared.new.caches }
 {
     if id.value() >= tree.len() {
         return Ok(false);
@@ -323,19 +250,30 @@ fn is_selected(
     visit_all(chains, rows, &visited, shared)
 }
 
-/// An empty path for each of the selectors.
-fn empty_paths(tree: &Tree, chains: &[Chain<'_>]) -> Result<Vec<Rows>, OutOfMemory>
+/// Rows of which none is filled.
+fn empty_rows(tree: &Tree, chain: &Chain<'_>) -> Result<Rows, OutOfMemory>
+    ensures { IfOk result (IsTracked chain.now tree.now) }
+{
+    let alloc = tree.allocator();
+    let width = chain.steps.len();
+    let Some(count) = tree.len().checked_mul(width) else {
+        return Err(OutOfMemory);
+    };
+    Ok(Rows {
+        none: vec![in alloc; false; width]?,
+        flags: vec![in alloc; false; count]?,
+        filled: vec![in alloc; false; tree.len()]?,
+    })
+}
+
+/// The same for each of the selectors.
+fn all_empty(tree: &Tree, chains: &[Chain<'_>]) -> Result<Vec<Rows>, OutOfMemory>
     ensures long { IfOk result (λ all. length all.items ≡ length chains.now) }
     ensures tracked { IfOk result (λ all. AreTracked chains.now tree.now all.items) }
 {
-    let alloc = tree.allocator();
-    let mut all = Vec::new(alloc);
+    let mut all = Vec::new(tree.allocator());
     for i in 0..chains.len() {
-        let rows = Rows {
-            path: Vec::new(alloc),
-            flags: vec![in alloc; false; chains[i].steps.len()]?,
-            row: Vec::new(alloc),
-        };
+        let rows = empty_rows(tree, &chains[i])?;
         push_rows(&mut all, rows)?;
     }
     Ok(all)
@@ -350,66 +288,97 @@ fn push_rows(all: &mut Vec<Rows>, rows: Rows) -> Result<(), OutOfMemory>
     }
 }
 
-/// The elements below the root that one of the selectors matches, or None where that took too many
-/// tests.
+/// The elements among those nodes that one of the selectors matches.
+#[inline(always)]
+fn select_among<I: Iterator<Item = NodeId> + Drop>(
+    tree: &Tree,
+    ids: I,
+    chains: &[Chain<'_>],
+    rows: &mut Vec<Rows>,
+    shared: &mut Shared<'_>,
+) -> Result<Vec<NodeId>, OutOfMemory>
+    requires ids { I.can_next ids × IsFinite (I.remaining ids) }
+    requires following { AreFollowing chains.now rows.old.items tree.now shared.old.caches }
+    ensures found { FiltersItems result I.next_gives ids (IsReached chains.now tree.now) }
+    ensures following { AreFollowing chains.now rows.new.items tree.now shared.new.caches }
+{
+    let mut matched = Vec::new(tree.allocator());
+    for id in ids {
+        if !is_selected(chains, rows, tree, id, shared)? {
+            continue;
+        }
+        matched.push(id)?;
+    }
+    Ok(matched)
+}
+
+/// The elements below the roots that one of the selectors matches, each once.
 fn select_along(
     tree: &Tree,
-    root: &NodeId,
+    roots: &[NodeId],
     chains: &[Chain<'_>],
+    rows: &mut Vec<Rows>,
     shared: &mut Shared<'_>,
-) -> Result<Option<Vec<NodeId>>, OutOfMemory>
-    requires prepared { ArePrepared chains.now }
-    requires caches { shared.old.caches ≡ tree.now }
-    ensures { IfOk result (λ found. IfSome found (λ ids. FiltersTo (IsReached chains.now tree.now)
-        (walk_below tree.now root.now) ids.items)) }
+) -> Result<Vec<NodeId>, OutOfMemory>
+    requires { AreFollowing chains.now rows.old.items tree.now shared.old.caches }
+    ensures found { IfOk result (λ ids. FiltersTo (IsReached chains.now tree.now)
+        (walks_below tree.now roots.now) ids.items) }
+    ensures following { AreFollowing chains.now rows.new.items tree.now shared.new.caches }
 {
-    let mut rows = empty_paths(tree, chains)?;
-    let mut matched = Vec::new(tree.allocator());
-    for id in tree.descendant_ids_of_it(root) {
-        match is_selected(chains, &mut rows, tree, id, shared) {
-            Ok(true) => matched.push(id)?,
-            Ok(false) => {}
-            Err(Halt::Spent) => return Ok(None),
-            Err(Halt::Memory) => return Err(OutOfMemory),
-        }
+    if let [root] = roots {
+        return select_among(tree, tree.descendant_ids_of_it(root), chains, rows, shared);
     }
-    Ok(Some(matched))
+    let ids = nodes_below(tree, roots)?;
+    select_among(tree, ids, chains, rows, shared)
 }
 
-/// How many tests the last compounds take where they are tested at all nodes of the tree.
-fn subject_tests(tree: &Tree, chains: &[Chain<'_>]) -> u64 {
-    let mut count: u64 = 0;
+/// How many tests the last compound took, counted for all nodes, and the others to fill the rows.
+fn chain_tests(chain: &Chain<'_>, rows: &Rows, tree: &Tree) -> u128
+    requires prepared { IsPrepared chain.now }
+    requires tracked { IsTracked chain.now tree.now rows.now }
+    ensures { result ≤ compounds_of_chain chain.now * length tree.now.content }
+{
+    let subject = (chain.subject_tests as u128).saturating_mul(tree.len() as u128);
+    let filled = member_count(&rows.filled) as u128;
+    (chain.row_tests as u128)
+        .saturating_mul(filled)
+        .saturating_add(subject)
+}
+
+/// The same of all selectors.
+fn tests_made(chains: &[Chain<'_>], all: &[Rows], tree: &Tree) -> u128
+    requires prepared { ArePrepared chains.now }
+    requires long { length all.now ≡ length chains.now }
+    requires tracked { AreTracked chains.now tree.now all.now }
+    ensures { result ≤ compounds_of_all chains.now * length tree.now.content }
+{
+    let mut count: u128 = 0;
     for i in 0..chains.len() {
-        count = count.saturating_add(chains[i].subject_tests);
+        count = count.saturating_add(chain_tests(&chains[i], &all[i], tree));
     }
-    count.saturating_mul(tree.len() as u64)
+    count
 }
 
-/// The elements below the root that one of the plain selectors matches. `left` is how many tests
-/// may be made, and what is left of them when it returns; None where more were needed.
+/// The elements below the roots that one of the plain selectors matches, each once. It adds to
+/// `tests` how many tests were made, those of last compounds for all nodes of the tree at once.
 pub(crate) fn select_plain(
     tree: &Tree,
-    root: &NodeId,
+    roots: &[NodeId],
     selectors: &[Selector],
-    left: &mut u64,
-) -> Result<Option<Vec<NodeId>>, OutOfMemory>
+    tests: &mut u128,
+) -> Result<Vec<NodeId>, OutOfMemory>
     requires { ArePlain selectors.now }
-    ensures { IfOk result (λ found. IfSome found (λ ids. Selected tree.now (root.now ∷ [])
-        (read_list selectors.now) ids.items)) }
+    ensures found { IfOk result (λ ids. Selected tree.now roots.now
+        (read_list selectors.now) ids.items) }
+    ensures tests { tests.new ≤ tests.old + compounds_among selectors.now * length tree.now.content }
 {
-    forest_laws(tree);
     let chains = prepare_all(selectors, tree)?;
-    let asked = subject_tests(tree, &chains);
-    if asked > *left {
-        return Ok(None);
-    }
+    let mut rows = all_empty(tree, &chains)?;
     let mut shared = Shared {
         caches: SelectorCaches::new(tree),
-        places: vec![in tree.allocator(); 0; tree.len()]?,
         missing: Vec::new(tree.allocator()),
-        tests_left: *left - asked,
     };
-    let found = select_along(tree, root, &chains, &mut shared);
-    *left = shared.tests_left;
+    let found = select_along(tree, roots, &chains, &mut rows, &mut shared);
+    *tests = tests.saturating_add(tests_made(&chains, &rows, tree));
     found
 }

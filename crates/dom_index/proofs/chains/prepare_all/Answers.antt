@@ -4,7 +4,7 @@ use Rattle.dom_index.proofs.PlainLemmas.{chains_next, plain_here}
 use Rattle.dom_index.proofs.chains.prepare_all.Goals as goal
 
 pub new-requires : goal.new-requires
-new-requires c = plain_here c.args.selectors.now c.loop-i.i c.index-selectors-i.result c.index-selectors-i-in-loop-i.result c.deref.result.now c.requires (omega arith) c.deref.ensures.value
+new-requires c = plain_here c.args.selectors.now c.loop-i.i c.index-selectors-i-in-loop-i.result c.deref.result.now c.requires (omega arith) c.deref.ensures.value
 
 pub loop-i-preserved : goal.loop-i-preserved
 loop-i-preserved c =

@@ -1,11 +1,9 @@
 use Rattle.std.proofs.Common.{◌≡◌, ◌<◌, ◌∙◌, length, sym, true≢false, arith}
 use Rattle.std.proofs.lemmas.List.{length-map}
-use Rattle.dom_links.specs.Forest.{parent}
 use Rattle.dom_selectors.specs.ValuesAsTrees.{read_compound, read_step}
 use Rattle.dom_select.specs.Meaning.{Holds}
-use Rattle.dom_index.specs.Tracks.{FlagsBelow, Reaches, first_in, steps_in}
+use Rattle.dom_index.specs.Tracks.{Reaches, first_in, steps_in}
 use Rattle.dom_index.proofs.FlagLemmas.{alone_reaches, both_ways, decided_from, read_there, subject_needed, subject_reached}
-use Rattle.dom_index.proofs.RowStackLemmas.{last_flags}
 use Rattle.dom_index.proofs.streaming.visit.Goals as goal
 
 pub matches-requires-clause-ready : goal.matches-requires-clause-ready
@@ -39,26 +37,19 @@ returns-then-not-matches-clause-is c = λ r.
 pub reached_at-requires : goal.reached_at-requires
 reached_at-requires c =
     let chain = c.args.chain.now in
-    let visited = c.args.visited.now in
-    let rows = c.follow.new.rows in
-    let last = length chain.steps.now in
-    let all : last ≡ length (steps_in chain) = sym (length-map chain.steps.now read_step) in
-    let flags : FlagsBelow chain visited.tree.now (parent visited.tree.now visited.id) c.last_row-flags.result.now =
-    last_flags visited.tree.now (first_in chain) (steps_in chain) rows.path.items rows.flags.items c.deref.result.now c.last_row-flags.result.now _ c.deref.ensures.value c.in_ok-follow.ensures.last c.last_row-flags.ensures c.in_ok-follow.ensures.following.tracked in
-    let long = flags.long in omega (arith, long, all)
+    let all : length chain.steps.now ≡ length (steps_in chain) = sym (length-map chain.steps.now read_step) in
+    let long = c.row_above-flags.ensures.long in
+    omega (arith, long, all)
 
 pub returns-clause-is : goal.returns-clause-is
 returns-clause-is c =
     let chain = c.args.chain.now in
     let visited = c.args.visited.now in
-    let rows = c.follow.new.rows in
     let last = length chain.steps.now in
     let all : last ≡ length (steps_in chain) = sym (length-map chain.steps.now read_step) in
-    let flags : FlagsBelow chain visited.tree.now (parent visited.tree.now visited.id) c.last_row-flags.result.now =
-    last_flags visited.tree.now (first_in chain) (steps_in chain) rows.path.items rows.flags.items c.deref.result.now c.last_row-flags.result.now _ c.deref.ensures.value c.in_ok-follow.ensures.last c.last_row-flags.ensures c.in_ok-follow.ensures.following.tracked in
     let laws = c.forest_laws.ensures in
     let known : last < length chain.tests.items = let count = c.requires.prepared.count in omega (arith, count) in
     let test = c.requires.prepared.tests last c.index.result.now (read_there chain.tests.items last c.index.result.now known c.index.ensures) in
     let held = (both_ways c.matches.result (Holds (read_compound c.index.result.now.compound.now) visited.tree.now visited.id) c.matches.ensures.is).0 c.if-not-matches.false in
-    let same = subject_reached visited.tree.now laws.forest laws.lines (first_in chain) (steps_in chain) c.requires.prepared.upward visited.id c.last_row-flags.result.now flags last all (read_compound c.index.result.now.compound.now) test.1 in
+    let same = subject_reached visited.tree.now laws.forest laws.lines (first_in chain) (steps_in chain) c.requires.prepared.upward visited.id c.row_above-flags.result.now c.row_above-flags.ensures last all (read_compound c.index.result.now.compound.now) test.1 in
     decided_from c.reached_at.result (Reaches chain visited.tree.now visited.id) (λ e. same.0 (sym c.reached_at.ensures ∙ e, held)) (λ r. c.reached_at.ensures ∙ (same.1 r).0)

@@ -2,7 +2,7 @@ use Rattle.std.proofs.Common.{◌∙◌, arith, subst, sym, true≢false}
 use Rattle.dom_index.specs.declared.chains.Chain.{Chain}
 use Rattle.dom_index.specs.Tracks.{IsFollowing, Reaches}
 use Rattle.dom_index.proofs.FlagLemmas.{both_ways}
-use Rattle.dom_index.proofs.PlainLemmas.{following_set, none_here, some_here}
+use Rattle.dom_index.proofs.PlainLemmas.{following_one, following_set, none_here, some_here}
 use Rattle.dom_index.proofs.streaming.visit_all.Goals as goal
 
 pub returns-then-branch-clause-is : goal.returns-then-branch-clause-is
@@ -28,3 +28,15 @@ loop-i-preserved c =
       following = following_set c.args.chains.now c.loop-i.rows.items c.loop-i.i one c.visit.new.rows visited.tree.now c.loop-i.shared.caches c.visit.new.shared.caches (omega arith) c.loop-i.invariant.following followed;
       none = none_here c.args.chains.now c.loop-i.i one visited.tree.now visited.id (omega arith) c.loop-i.invariant.none answer;
     }
+
+pub visit-requires : goal.visit-requires
+visit-requires c =
+    let visited = c.args.visited.now in
+    subst (λ (k : Chain). IsFollowing k c.index_mut.result.now visited.tree.now c.loop-i.shared.caches) (sym c.index-chains-i.is)
+    (following_one c.args.chains.now c.loop-i.rows.items c.loop-i.i c.index-chains-i.result c.index_mut.result.now visited.tree.now c.loop-i.shared.caches c.loop-i-test.true c.index_mut.ensures.value c.loop-i.invariant.following)
+
+pub returns-in_err-visit-clause-following : goal.returns-in_err-visit-clause-following
+returns-in_err-visit-clause-following c =
+    let visited = c.args.visited.now in
+    let followed = subst (λ (k : Chain). IsFollowing k c.visit.new.rows visited.tree.now c.visit.new.shared.caches) c.index-chains-i.is c.in_err-visit.ensures.following in
+    following_set c.args.chains.now c.loop-i.rows.items c.loop-i.i c.index-chains-i.result c.visit.new.rows visited.tree.now c.loop-i.shared.caches c.visit.new.shared.caches (omega arith) c.loop-i.invariant.following followed

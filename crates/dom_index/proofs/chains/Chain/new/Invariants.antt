@@ -1,7 +1,9 @@
-use Rattle.std.proofs.Common.{◌≡◌, ◌+◌, ℕ, Some, length, map}
+use Rattle.std.proofs.Common.{◌≡◌, ◌≤◌, ◌+◌, ℕ, Some, drop, length, map}
 use Rattle.std.specs.Prelude.{slice_get}
 use Rattle.dom_selectors.specs.ValuesAsTrees.{read_compound, read_step}
 use Rattle.dom_index.specs.declared.node_tests.NodeTest.{NodeTest}
+use Rattle.dom_selectors.specs.ListsAsTrees.{steps_of}
+use Rattle.dom_index.specs.CompoundCounts.{compound_count, steps_count}
 use Rattle.dom_index.specs.FlagRows.{compound_at}
 use Rattle.dom_index.specs.NodeTests.{IsReady}
 use Rattle.dom_index.proofs.chains.Chain.new.Given as goal
@@ -11,4 +13,5 @@ abbrev pub invariant-loop-i : goal.invariant-loop-i
 invariant-loop-i l = record {
   count : length l.tests.items ≡ l.i + 1;
   tests : (j : ℕ) (test : NodeTest) → slice_get l.tests.items j ≡ Some test → IsReady test × (compound_at (read_compound l.first) (map read_step l.steps) j ≡ Some (read_compound test.compound.now));
+  counted : l.subject_tests + l.row_tests + steps_count (steps_of (map read_step (drop l.i l.steps))) ≤ compound_count (read_compound l.first) + steps_count (steps_of (map read_step l.steps));
 }
