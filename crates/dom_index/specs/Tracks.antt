@@ -38,7 +38,7 @@ pub record IsPrepared (chain : Chain) : Type 0 where
   pub count : length chain.tests.items ≡ length chain.steps.now + 1
   pub tests : (i : ℕ) (test : NodeTest) → slice_get chain.tests.items i ≡ Some test → IsReady test × (compound_at (first_in chain) (steps_in chain) i ≡ Some (read_compound test.compound.now))
   pub upward : AreUpward (steps_in chain)
-  pub counted : chain.subject_tests + chain.row_tests ≤ compounds_of_chain chain
+  pub counted : chain.all_tests + chain.row_tests ≤ compounds_of_chain chain
 
 abbrev pub ArePrepared : List Chain → Type 0
 ArePrepared chains = (i : ℕ) (chain : Chain) → slice_get chains i ≡ Some chain → IsPrepared chain

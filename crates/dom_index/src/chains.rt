@@ -6,6 +6,7 @@ ghost use Rattle.dom_index.specs.Tracks.{AreChainsOf, IsPrepared};
 
 use crate::counting::count_compound;
 use crate::node_tests::NodeTest;
+use crate::ways::has_has;
 use dom_nodes::fault::OutOfMemory;
 use dom_selectors::syntax::{Compound, Selector, Step};
 use dom_trees::tree::Tree;
@@ -17,13 +18,15 @@ pub(crate) struct Chain<'s> {
     pub(crate) first: &'s Compound,
     pub(crate) steps: &'s [Step],
     pub(crate) tests: Vec<NodeTest<'s>>,
-    /// How many tests the last compound takes at a node, and how many the others.
-    pub(crate) subject_tests: u64,
+    /// How many tests are counted for all nodes, those of the last compound among them, and how many
+    /// for each row that is filled.
+    pub(crate) all_tests: u64,
     pub(crate) row_tests: u64,
 }
 
 impl<'s> Chain<'s> {
-    /// Prepares a selector for the nodes of a tree.
+    /// Prepares a selector for the nodes of a tree. To fill few rows `:has` may look at many nodes,
+    /// so all compounds are counted for all nodes where one of them but the last has it.
     fn new(first: &'s Compound, steps: &'s [Step], tree: &Tree) -> Result<Chain<'s>, OutOfMemory>
         requires { IsPlain steps.now }
         ensures prepared { IfOk result IsPrepared }
@@ -39,13 +42,25 @@ impl<'s> Chain<'s> {
             row_tests = row_tests.saturating_add(subject_tests);
             subject_tests = count_compound(&steps[i].compound);
         }
+        if rows_have_has(first, steps) {
+            subject_tests = subject_tests.saturating_add(row_tests);
+            row_tests = 0;
+        }
         Ok(Chain {
             first,
             steps,
             tests,
-            subject_tests,
+            all_tests: subject_tests,
             row_tests,
         })
+    }
+}
+
+/// Whether a compound but the last has `:has`.
+fn rows_have_has(first: &Compound, steps: &[Step]) -> bool {
+    match steps.split_last() {
+        None => false,
+        Some((_, front)) => has_has(first) || front.iter().any(|step| has_has(&step.compound)),
     }
 }
 

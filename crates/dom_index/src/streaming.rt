@@ -332,13 +332,13 @@ fn select_along(
     select_among(tree, ids, chains, rows, shared)
 }
 
-/// How many tests the last compound took, counted for all nodes, and the others to fill the rows.
+/// How many tests a selector took: those that are counted for all nodes, and those of filled rows.
 fn chain_tests(chain: &Chain<'_>, rows: &Rows, tree: &Tree) -> u128
     requires prepared { IsPrepared chain.now }
     requires tracked { IsTracked chain.now tree.now rows.now }
     ensures { result ≤ compounds_of_chain chain.now * length tree.now.content }
 {
-    let subject = (chain.subject_tests as u128).saturating_mul(tree.len() as u128);
+    let subject = (chain.all_tests as u128).saturating_mul(tree.len() as u128);
     let filled = member_count(&rows.filled) as u128;
     (chain.row_tests as u128)
         .saturating_mul(filled)

@@ -44,7 +44,7 @@ fn is_bound(combinator: Combinator) -> bool {
 }
 
 /// Whether the compound has a list `:has`.
-fn has_has(compound: &Compound) -> bool {
+pub(crate) fn has_has(compound: &Compound) -> bool {
     compound
         .nested
         .iter()
