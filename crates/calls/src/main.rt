@@ -65,6 +65,7 @@ fn read(rt: &HostRuntime, document: &Document, group: &str, line: &str) -> Optio
         "clone" => pages::print_copy(rt, document),
         "places" => indexes::show_places(rt, &document.tree),
         "tests" => selecting::count_tests(rt, &document.tree, line),
+        "chosen" => selecting::count_chosen_tests(rt, &document.tree, line),
         "select" => selecting::select(rt, document, line),
         "selection" => selections::select(rt, document, line),
         "step" => selections::step(rt, document, line),

@@ -4,7 +4,7 @@ use crate::printing::{begin, end, show, show_ids_read, show_next, show_nodes_rea
 use dom_index::selecting::select_nodes;
 use dom_query::{
     DescendantMatches, Document, MatchNode, Matcher, MatcherIter, NodeId, NodeRef, NodeSelect,
-    SelectorCaches, Tree, TreeIndex,
+    OutOfMemory, SelectorCaches, Tree, TreeIndex,
 };
 use dom_select::matcher::descendants::select_below;
 use dom_select::matcher::several::select_below_all;
@@ -58,7 +58,7 @@ fn walk_below(rt: &HostRuntime, matches: MatcherIter<'_, '_, '_>) {
     end(rt);
 }
 
-/// What is selected below roots, by asking each node, by tables, and by the choice between them.
+/// What is selected below roots, by asking each node, by the structure of the list, and by tables.
 fn list_below(rt: &HostRuntime, tree: &Tree, roots: &[NodeId], matcher: &Matcher) {
     let found = select_below_all(tree, roots, matcher);
     show_ids_read(rt, "select_below_all", found);
@@ -66,6 +66,8 @@ fn list_below(rt: &HostRuntime, tree: &Tree, roots: &[NodeId], matcher: &Matcher
     match TreeIndex::new(tree) {
         Ok(mut index) => {
             show_nodes_read(rt, "TreeIndex::select", index.select(matcher, roots));
+            let found = index.select_by_tables(matcher, roots);
+            show_nodes_read(rt, "TreeIndex::select_by_tables", found);
         }
         Err(fault) => show(rt, "TreeIndex::new", fault),
     }
@@ -84,19 +86,32 @@ pub fn select_below_several(rt: &HostRuntime, tree: &Tree, line: &str) -> Option
 /// How many nodes tables select below the root, and how many tests that takes: `SELECTOR`.
 pub fn count_tests(rt: &HostRuntime, tree: &Tree, line: &str) {
     if let Some(matcher) = matcher_of(rt, line) {
-        show_tests(rt, tree, &matcher);
+        match TreeIndex::new(tree) {
+            Ok(mut index) => {
+                let found = index.select_by_tables(&matcher, &[NodeId::root()]);
+                show_tests(rt, found, index.tests());
+            }
+            Err(fault) => show(rt, "TreeIndex::new", fault),
+        }
     }
 }
 
-fn show_tests(rt: &HostRuntime, tree: &Tree, matcher: &Matcher) {
-    match TreeIndex::new(tree) {
-        Ok(mut index) => {
-            let found = index.select(matcher, &[NodeId::root()]);
-            show_read(rt, "found", found.map(|nodes| nodes.len()));
-            show(rt, "tests", index.tests());
+/// The same of an index that chooses how to select: `SELECTOR`.
+pub fn count_chosen_tests(rt: &HostRuntime, tree: &Tree, line: &str) {
+    if let Some(matcher) = matcher_of(rt, line) {
+        match TreeIndex::new(tree) {
+            Ok(mut index) => {
+                let found = index.select(&matcher, &[NodeId::root()]);
+                show_tests(rt, found, index.tests());
+            }
+            Err(fault) => show(rt, "TreeIndex::new", fault),
         }
-        Err(fault) => show(rt, "TreeIndex::new", fault),
     }
+}
+
+fn show_tests(rt: &HostRuntime, found: Result<Vec<NodeRef<'_>>, OutOfMemory>, tests: u128) {
+    show_read(rt, "found", found.map(|nodes| nodes.len()));
+    show(rt, "tests", tests);
 }
 
 /// Why a text is no selector, or that it is one: `SELECTOR`.

@@ -316,12 +316,12 @@ fn count_found(page: &Page<'_>, call: Call) -> Option<usize> {
     }
 }
 
-/// What an index counts below the root, or selects there.
+/// What an index counts below the root, or selects there by tables.
 fn count_indexed(mut index: TreeIndex<'_>, matcher: &Matcher, call: Call) -> Option<usize> {
     if call == Call::Index {
         return index.last_below(&NodeId::root());
     }
-    match index.select(matcher, &[NodeId::root()]) {
+    match index.select_by_tables(matcher, &[NodeId::root()]) {
         Ok(found) => Some(found.len()),
         Err(OutOfMemory) => None,
     }

@@ -35,6 +35,7 @@ pub enum Copying {
 pub enum Selecting {
     IndexNew,
     Index,
+    Tables,
     Nodes,
     Below,
     BelowAll,
@@ -96,7 +97,7 @@ pub enum Read {
     Asking(Asking),
 }
 
-pub const READS: [(&str, Read); 43] = [
+pub const READS: [(&str, Read); 44] = [
     ("Document::parse", Read::Markup(Markup::Parse)),
     ("Document::fragment", Read::Markup(Markup::Fragment)),
     ("Snippet::read", Read::Markup(Markup::Snippet)),
@@ -107,6 +108,10 @@ pub const READS: [(&str, Read); 43] = [
     ("to_fragment", Read::Copying(Copying::ToFragment)),
     ("TreeIndex::new", Read::Selecting(Selecting::IndexNew)),
     ("TreeIndex::select", Read::Selecting(Selecting::Index)),
+    (
+        "TreeIndex::select_by_tables",
+        Read::Selecting(Selecting::Tables),
+    ),
     ("select_nodes", Read::Selecting(Selecting::Nodes)),
     ("select_below", Read::Selecting(Selecting::Below)),
     ("select_below_all", Read::Selecting(Selecting::BelowAll)),
@@ -252,6 +257,7 @@ fn select(page: &Page, call: Selecting) -> Option<Size> {
             Err(OutOfMemory) => Err(OutOfMemory),
         },
         Selecting::Index => select_by_index(tree, matcher, &roots),
+        Selecting::Tables => select_by_tables(tree, matcher, &roots),
         Selecting::Nodes => number(select_nodes(tree, &roots, matcher)),
         Selecting::Below => number(select_below(tree, &NodeId::root(), matcher)),
         Selecting::BelowAll => number(select_below_all(tree, &roots, matcher)),
@@ -269,6 +275,13 @@ fn select(page: &Page, call: Selecting) -> Option<Size> {
 fn select_by_index(tree: &Tree, matcher: &Matcher, roots: &[NodeId]) -> Size {
     match TreeIndex::new(tree) {
         Ok(mut index) => number(index.select(matcher, roots)),
+        Err(OutOfMemory) => Err(OutOfMemory),
+    }
+}
+
+fn select_by_tables(tree: &Tree, matcher: &Matcher, roots: &[NodeId]) -> Size {
+    match TreeIndex::new(tree) {
+        Ok(mut index) => number(index.select_by_tables(matcher, roots)),
         Err(OutOfMemory) => Err(OutOfMemory),
     }
 }

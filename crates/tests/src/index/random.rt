@@ -201,15 +201,18 @@ fn are_selected(nodes: Result<Vec<NodeRef<'_>>, OutOfMemory>, ids: &[NodeId]) ->
     }
 }
 
-/// Whether tables select these nodes.
+/// Whether an index selects these nodes, by tables too.
 fn by_tables(tree: &Tree, roots: &[NodeId], matcher: &Matcher, asked: &[NodeId]) -> bool {
     match TreeIndex::new(tree) {
-        Ok(mut index) => are_selected(index.select(matcher, roots), asked),
+        Ok(mut index) => {
+            let chosen = are_selected(index.select(matcher, roots), asked);
+            chosen && are_selected(index.select_by_tables(matcher, roots), asked)
+        }
         Err(_) => false,
     }
 }
 
-/// Whether the choice between tables and asking selects these nodes.
+/// Whether the choice by the list's structure selects these nodes.
 fn by_choice(tree: &Tree, roots: &[NodeId], matcher: &Matcher, asked: &[NodeId]) -> bool {
     are_selected(select_nodes(tree, roots, matcher), asked)
 }

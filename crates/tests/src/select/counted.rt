@@ -4,37 +4,26 @@ use dom_index::selecting::select_counted;
 use dom_markup::document::Document;
 use dom_nodes::node_id::NodeId;
 use dom_select::matcher::Matcher;
-use dom_select::matcher::several::select_metered;
 use dom_trees::tree::Tree;
 use std::test::Fail;
 
-/// How many nodes the matcher selects, where tests were counted.
-fn counted(tree: &Tree, matcher: &Matcher) -> Option<usize> {
-    let mut tests = 0;
+/// How many nodes the matcher selects, and how many tests are added to 100.
+fn counted(tree: &Tree, matcher: &Matcher) -> Option<(usize, u128)> {
+    let mut tests = 100;
     match select_counted(tree, &[NodeId::root()], matcher, &mut tests) {
-        Ok(ids) if tests > 0 => Some(ids.len()),
-        _ => None,
+        Ok(ids) => Some((ids.len(), tests)),
+        Err(_) => None,
     }
-}
-
-/// How many nodes the matcher selects within so many tests.
-fn within(tree: &Tree, matcher: &Matcher, tests: u64) -> Option<usize> {
-    let mut left = tests;
-    match select_metered(tree, &[NodeId::root()], matcher, &mut left) {
-        Ok(Some(ids)) => Some(ids.len()),
-        _ => None,
-    }
-}
-
-fn is_counted(tree: &Tree, matcher: &Matcher) -> bool {
-    let all = counted(tree, matcher) == Some(2) && within(tree, matcher, u64::MAX) == Some(2);
-    all && within(tree, matcher, 40) == Some(2) && within(tree, matcher, 1).is_none()
 }
 
 #[test]
 fn selections_count_their_tests(rt: HostRuntime) -> Result<(), Fail> {
     let document = Document::parse(rt.alloc(), "<div><p><a></a><b></b><a></a></p></div>")?;
-    let matcher = Matcher::new(rt.alloc(), "div > p > a")?;
-    assert!(rt; is_counted(&document.tree, &matcher));
+    let each = Matcher::new(rt.alloc(), "div > p > a")?;
+    assert!(rt; counted(&document.tree, &each) == Some((2, 118)));
+    let along = Matcher::new(rt.alloc(), "div a, b b")?;
+    assert!(rt; counted(&document.tree, &along) == Some((2, 118)));
+    let tables = Matcher::new(rt.alloc(), "b ~ a")?;
+    assert!(rt; counted(&document.tree, &tables) == Some((1, 107)));
     Ok(())
 }
