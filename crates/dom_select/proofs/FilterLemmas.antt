@@ -1,6 +1,5 @@
 -- What is matched of numbers that come one after the other.
 use Rattle.std.proofs.Common.{ℕ, ◌≡◌, List, [], ◌∷◌, ◌++◌, Bool, true, false, refl, sym, ap, ◌∙◌, subst, inl, inr}
-use Rattle.std.specs.Prelude.{Option, Some, None, IfSome}
 use Rattle.std.specs.Iterator.{Drains, YieldsFirst}
 use Rattle.dom_selectors.specs.Spelling.{Decides}
 use Rattle.dom_select.specs.PathFlags.{one_if}
@@ -56,7 +55,3 @@ drained rest s (n ∷ ns) d = let y = d.1.1 in ap (λ ms. n ∷ ms) (drained res
 -- what is matched of all that calls give is what is matched of what was left
 pub filtered_of_all : (P : ℕ → Type 0) (left matched : List ℕ) (Gives : List ℕ → Type 0) → ((ns : List ℕ) → Gives ns → ns ≡ left) → (ns : List ℕ) × Gives ns × FiltersTo P ns matched → FiltersTo P left matched
 filtered_of_all P left matched Gives all h = subst (λ ns. FiltersTo P ns matched) (all h.0 h.1) h.2
-
-pub some_weaker : {A : Type 0} (found : Option A) (P Q : A → Type 0) → ((x : A) → P x → Q x) → IfSome found P → IfSome found Q
-some_weaker None P Q so h = tt
-some_weaker (Some x) P Q so h = so x h
