@@ -1,6 +1,6 @@
--- The flags at a node by those at its parent.
+-- The flags at a node by those at the next node to its left.
 use Rattle.std.proofs.Common.{◌≡◌, ◌↔◌, ◌⊎◌, ◌<◌, ℕ, zero, suc, List, [], ◌∷◌, ◌++◌, Bool, true, false, true≢false, Option, Some, None, inl, inr, refl, sym, ap, ◌∙◌, subst, length, slice_get, take, map, add-one, arith}
-use Rattle.std.specs.Prelude.{◌&&◌, slice_index_or}
+use Rattle.std.specs.Prelude.{◌&&◌, not, slice_index_or}
 use Rattle.std.specs.Option.{option_map}
 use Rattle.std.proofs.lemmas.List.{nil_from_length, take_all, take_more}
 use Rattle.std.proofs.Math.ListN.{get_or}
@@ -8,7 +8,8 @@ use Rattle.std.proofs.lemmas.Option.{none-some, same_Some, slice_get_within, sli
 use Rattle.dom_selectors.specs.declared.syntax.Step.{Step}
 use Rattle.dom_selectors.specs.ValuesAsTrees.{read_step}
 use Rattle.dom_selectors.proofs.Layers.{read_step_is}
-use Rattle.dom_links.specs.Forest.{Forest, parent}
+use Rattle.dom_links.specs.Forest.{Forest, parent, siblings}
+use Rattle.dom_links.specs.Lists.{before}
 use Rattle.dom_links.specs.Laws.{AreLines}
 use Rattle.dom_links.specs.Sound.{IsForest}
 use Rattle.dom_selectors.specs.declared.syntax.Combinator.{Combinator}
@@ -20,8 +21,7 @@ use Rattle.dom_select.specs.Leftward.{ends_at, left_of, line}
 use Rattle.dom_select.specs.Meaning.{ChainMatches, Holds}
 use Rattle.dom_select.proofs.FollowLemmas.{stands_precedes}
 use Rattle.dom_select.proofs.ReachLemmas.{SomeOnLine, from_line, to_line, line_some, line_none, from_chain, to_chain}
-use Rattle.dom_index.specs.FlagRows.{AreFlags, AreUpward, HasLeft, IsUpward, Propagates, PropagatesFrom, StepsReach, compound_at, reached_at}
-use Rattle.dom_select.specs.Descents.{is_deep}
+use Rattle.dom_index.specs.FlagRows.{AreAlong, AreFlags, HasLeft, Propagates, PropagatesFrom, StepsReach, compound_at, is_sideways, reached_at}
 use Rattle.dom_index.specs.NodeSets.{may_be_operand}
 use Rattle.dom_index.proofs.ChainLemmas.{may_itself, may_serve, must_serve, reached_fit, sparing_here, sparing_there, both_true}
 use Rattle.dom_index.proofs.ForwardLemmas.{decided_by}
@@ -49,12 +49,19 @@ module _ (forest : Forest) (lines : AreLines forest) (k : Combinator) (Q : ℕ �
       here (inl q) = inl q
       here (inr s) = inr (s.0, from_line IsOperand forest k v lines s.1)
 
--- the way to the left of an upward combinator begins at the parent
-pub upward_left : (forest : Forest) (k : Combinator) → IsUpward k → (n : ℕ) → left_of forest k n ≡ parent forest n
-upward_left forest Descendant up n = refl
-upward_left forest Child up n = refl
-upward_left forest Adjacent up n = absurd up
-upward_left forest Sibling up n = absurd up
+abbrev left_on_side : Forest → Bool → ℕ → Option ℕ
+left_on_side forest true n = before (siblings forest n) n
+left_on_side forest false n = parent forest n
+
+left_by_side : (forest : Forest) (k : Combinator) (n : ℕ) → left_of forest k n ≡ left_on_side forest (is_sideways k) n
+left_by_side forest Descendant n = refl
+left_by_side forest Child n = refl
+left_by_side forest Adjacent n = refl
+left_by_side forest Sibling n = refl
+
+-- combinators that go the same way have the same next node to the left
+pub along_left : (forest : Forest) (k way : Combinator) → is_sideways k ≡ is_sideways way → (n : ℕ) → left_of forest k n ≡ left_of forest way n
+along_left forest k way same n = left_by_side forest k n ∙ (ap (λ b. left_on_side forest b n) same ∙ sym (left_by_side forest way n))
 
 module _ (forest : Forest) (good : IsForest forest) (lines : AreLines forest) (first : CompoundSelector) (front : Chain) (k : Combinator) (c : CompoundSelector) where
   -- one step more
@@ -100,26 +107,28 @@ pub decided_from : (b : Bool) (P : Type 0) → (b ≡ true → P) → (P → b �
 decided_from true P f g = f refl
 decided_from false P f g = λ p. true≢false (sym (g p))
 
--- the flag below a node, by that at it
-flag_next : (forest : Forest) (k : Combinator) → IsUpward k → (Q : ℕ → Type 0) (n : ℕ) (flag : Bool) → Decides flag (HasLeft forest k Q n) → (b : Bool) → ((b ≡ true) ↔ (Q n ⊎ ((is_deep k ≡ true) × (flag ≡ true)))) → Decides b (Propagates forest k Q n)
-flag_next forest Descendant up Q n flag left true same = elim (same.0 refl) [
-  | inl q ↦ inl (refl, q)
-  | inr x ↦ inr ((λ never. true≢false (sym never)), (both_ways flag (HasLeft forest Descendant Q n) left).0 x.1)
-]
-flag_next forest Descendant up Q n flag left false same = λ h. elim h [
-  | inl x ↦ true≢false (sym (same.1 (inl x.1)))
-  | inr x ↦ true≢false (sym (same.1 (inr (refl, (both_ways flag (HasLeft forest Descendant Q n) left).1 x.1))))
-]
-flag_next forest Child up Q n flag left true same = elim (same.0 refl) [
-  | inl q ↦ inl (refl, q)
-  | inr x ↦ absurd (true≢false (sym x.0))
-]
-flag_next forest Child up Q n flag left false same = λ h. elim h [
-  | inl x ↦ true≢false (sym (same.1 (inl x.1)))
-  | inr x ↦ x.0 refl
-]
-flag_next forest Adjacent up Q n flag left b same = absurd up
-flag_next forest Sibling up Q n flag left b same = absurd up
+not_ended : (e : Bool) → not e ≡ true → (e ≡ true → ⊥)
+not_ended true goes = absurd (true≢false (sym goes))
+not_ended false goes = λ never. true≢false (sym never)
+
+goes_farther : (e : Bool) → (e ≡ true → ⊥) → not e ≡ true
+goes_farther true never = absurd (never refl)
+goes_farther false never = refl
+
+-- the flag to the right of a node, by that at it
+flag_next : (forest : Forest) (k : Combinator) (Q : ℕ → Type 0) (n : ℕ) (flag : Bool) → Decides flag (HasLeft forest k Q n) → (b : Bool) →
+    ((b ≡ true) ↔ (((may_be_operand forest k n ≡ true) × Q n) ⊎ ((not (ends_at forest k n) ≡ true) × (flag ≡ true)))) → Decides b (Propagates forest k Q n)
+flag_next forest k Q n flag left b same =
+    let both = both_ways flag (HasLeft forest k Q n) left in
+    decided_from b (Propagates forest k Q n)
+    (λ e. elim (same.0 e) [
+      | inl q ↦ inl q
+      | inr x ↦ inr (not_ended (ends_at forest k n) x.0, both.0 x.1)
+    ])
+    (λ h. elim h [
+      | inl q ↦ same.1 (inl q)
+      | inr x ↦ same.1 (inr (goes_farther (ends_at forest k n) x.0, both.1 x.1))
+    ])
 
 -- the last compound matches where all do
 module _ (forest : Forest) (good : IsForest forest) (lines : AreLines forest) (first : CompoundSelector) (steps : Chain) (n : ℕ) where
@@ -143,14 +152,14 @@ alone_reaches forest first steps n i none zeroth c at h =
     let same : first ≡ c = same_Some first c (sym (ap (compound_at first steps) zeroth) ∙ at) in
     subst (λ (ss : Chain). StepsReach forest first ss n) (sym (nil_from_length steps none)) (n, subst (λ d. Holds d forest n) (sym same) h, refl)
 
-module _ (forest : Forest) (good : IsForest forest) (lines : AreLines forest) (first : CompoundSelector) (steps : Chain) (upward : AreUpward steps) (n : ℕ) (flags : List Bool) (given : AreFlags forest first steps (parent forest n) flags) where
+module _ (forest : Forest) (good : IsForest forest) (lines : AreLines forest) (first : CompoundSelector) (steps : Chain) (way : Combinator) (along : AreAlong way steps) (n : ℕ) (flags : List Bool) (given : AreFlags forest first steps (left_of forest way n) flags) where
   -- the flag of a step at n
   pub flag_left : (j : ℕ) (s : Combinator × CompoundSelector) → slice_get steps j ≡ Some s → Decides (slice_index_or flags j false) (HasLeft forest s.0 (StepsReach forest first (take j steps)) n)
   flag_left j s is =
-      let e = upward_left forest s.0 (upward j s is) n in
+      let e = along_left forest s.0 way (along j s is) n in
       let Q = StepsReach forest first (take j steps) in
-      decided_by (slice_index_or flags j false) (PropagatesFrom forest s.0 Q (parent forest n)) (HasLeft forest s.0 Q n)
-      (left_by_next forest lines s.0 Q n (parent forest n) e) (next_by_left forest lines s.0 Q n (parent forest n) e) (given.each j s is)
+      decided_by (slice_index_or flags j false) (PropagatesFrom forest s.0 Q (left_of forest way n)) (HasLeft forest s.0 Q n)
+      (left_by_next forest lines s.0 Q n (left_of forest way n) e) (next_by_left forest lines s.0 Q n (left_of forest way n) e) (given.each j s is)
 
   step_reached : (j : ℕ) (o : Option (Combinator × CompoundSelector)) → slice_get steps j ≡ o → (c : CompoundSelector) → option_map (λ s. s.1) o ≡ Some c →
       ((slice_index_or flags j false ≡ true) × Holds c forest n) ↔ StepsReach forest first (take (suc j) steps) n
@@ -178,35 +187,45 @@ module _ (forest : Forest) (good : IsForest forest) (lines : AreLines forest) (f
       let whole : take i steps ≡ steps = take_all i steps (omega (arith, e)) in
       (λ x. subst (λ (ss : Chain). StepsReach forest first ss n) whole (same.0 x), λ r. same.1 (subst (λ (ss : Chain). StepsReach forest first ss n) (sym whole) r))
 
-  -- the flag of a step at the children of n: set where it is set at n, of a descendant combinator, or the compounds before match n
-  pub flag_below : (j : ℕ) (s : Combinator × CompoundSelector) → slice_get steps j ≡ Some s → (b : Bool) →
-      ((b ≡ true) ↔ (StepsReach forest first (take j steps) n ⊎ ((is_deep s.0 ≡ true) × (slice_index_or flags j false ≡ true)))) → Decides b (PropagatesFrom forest s.0 (StepsReach forest first (take j steps)) (Some n))
-  flag_below j s is b same = flag_next forest s.0 (upward j s is) (StepsReach forest first (take j steps)) n (slice_index_or flags j false) (flag_left j s is) b same
-
-  -- what a step's flag below n is decided by: the flag at n, that its compound isn't reached, or a test
+  -- what a step's flag to the right of n is decided by: the flag at n, that n can't be an operand or that its compound isn't reached, or a test
   module _ (j : ℕ) (s : Combinator × CompoundSelector) (is : slice_get steps j ≡ Some s) where
-    abbrev Below : Type 0
-    Below = PropagatesFrom forest s.0 (StepsReach forest first (take j steps)) (Some n)
+    abbrev Right : Type 0
+    Right = PropagatesFrom forest s.0 (StepsReach forest first (take j steps)) (Some n)
 
-    pub step_kept : (slice_index_or flags j false && is_deep s.0) ≡ true → Below
-    step_kept on = let both = both_true (slice_index_or flags j false) (is_deep s.0) on in flag_below j s is true ((λ e. inr (both.1, both.0)), λ x. refl)
+    abbrev on : Bool
+    on = slice_index_or flags j false
 
-    off_below : (b : Bool) → (slice_index_or flags j false && is_deep s.0) ≡ false → ((b ≡ true) ↔ StepsReach forest first (take j steps) n) → Decides b Below
-    off_below b off same = flag_below j s is b (
+    abbrev goes : Bool
+    goes = not (ends_at forest s.0 n)
+
+    flag_right : (b : Bool) → ((b ≡ true) ↔ (((may_be_operand forest s.0 n ≡ true) × StepsReach forest first (take j steps) n) ⊎ ((goes ≡ true) × (on ≡ true)))) → Decides b Right
+    flag_right b same = flag_next forest s.0 (StepsReach forest first (take j steps)) n on (flag_left j s is) b same
+
+    pub step_kept : (on && goes) ≡ true → Right
+    step_kept kept = let both = both_true on goes kept in flag_right true ((λ e. inr (both.1, both.0)), λ x. refl)
+
+    off_right : (b : Bool) → (on && goes) ≡ false → ((b ≡ true) ↔ ((may_be_operand forest s.0 n ≡ true) × StepsReach forest first (take j steps) n)) → Decides b Right
+    off_right b off same = flag_right b (
       (λ e. inl (same.0 e)),
       λ x. elim x [
         | inl r ↦ same.1 r
-        | inr y ↦ absurd (true≢false (sym (both_on (slice_index_or flags j false) (is_deep s.0) y.1 y.0) ∙ off))
+        | inr y ↦ absurd (true≢false (sym (both_on on goes y.1 y.0) ∙ off))
       ],
     )
 
-    pub step_unreached : (slice_index_or flags j false && is_deep s.0) ≡ false → reached_at flags j ≡ false → (c : CompoundSelector) → compound_at first steps j ≡ Some c → Below → ⊥
-    step_unreached off unreached c at = off_below false off (
+    pub step_unfit : (on && goes) ≡ false → may_be_operand forest s.0 n ≡ false → Right → ⊥
+    step_unfit off unfit = off_right false off (
       (λ e. absurd (true≢false (sym e))),
-      λ r. sym unreached ∙ ((compound_reached j c at).1 r).0,
+      λ x. sym unfit ∙ x.0,
     )
 
-    pub step_tested : (slice_index_or flags j false && is_deep s.0) ≡ false → reached_at flags j ≡ true → (c : CompoundSelector) → compound_at first steps j ≡ Some c → (b : Bool) → Decides b (Holds c forest n) → Decides b Below
-    step_tested off reached c at b answer =
+    pub step_unreached : (on && goes) ≡ false → reached_at flags j ≡ false → (c : CompoundSelector) → compound_at first steps j ≡ Some c → Right → ⊥
+    step_unreached off unreached c at = off_right false off (
+      (λ e. absurd (true≢false (sym e))),
+      λ x. sym unreached ∙ ((compound_reached j c at).1 x.1).0,
+    )
+
+    pub step_tested : (on && goes) ≡ false → may_be_operand forest s.0 n ≡ true → reached_at flags j ≡ true → (c : CompoundSelector) → compound_at first steps j ≡ Some c → (b : Bool) → Decides b (Holds c forest n) → Decides b Right
+    step_tested off fit reached c at b answer =
         let both = both_ways b (Holds c forest n) answer in
-        off_below b off ((λ e. (compound_reached j c at).0 (reached, both.0 e)), λ r. both.1 ((compound_reached j c at).1 r).1)
+        off_right b off ((λ e. (fit, (compound_reached j c at).0 (reached, both.0 e))), λ x. both.1 ((compound_reached j c at).1 x.1).1)

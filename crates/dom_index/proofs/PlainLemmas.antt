@@ -20,7 +20,7 @@ use Rattle.dom_index.specs.declared.node_tests.NodeTest.{NodeTest}
 use Rattle.dom_index.specs.declared.chains.Chain.{Chain}
 use Rattle.dom_index.specs.declared.streaming.Rows.{Rows}
 use Rattle.dom_index.specs.Tracks.{AreChainsOf, AreFollowing, ArePrepared, AreTracked, IsChainOf, IsFollowing, IsPrepared, IsTracked, Reaches, SomeReaches, compounds_of_all, first_in, steps_in}
-use Rattle.dom_index.specs.FlagRows.{AreUpward, IsUpward, StepsReach, compound_at}
+use Rattle.dom_index.specs.FlagRows.{AreAlong, StepsReach, compound_at, is_sideways}
 use Rattle.dom_index.specs.NodeTests.{ArePlain, IsPlain, IsReady}
 use Rattle.dom_index.specs.CompoundCounts.{compound_count, selectors_count, steps_count}
 use Rattle.dom_index.proofs.FlagLemmas.{read_there}
@@ -64,25 +64,25 @@ reached_meant s first steps begins goes forest n =
       ],
     )
 
--- all steps are upward where each is
-pub all_upward : (steps : List Step) → ((j : ℕ) (s : Step) → j < length steps → slice_get steps j ≡ Some s → IsUpward s.combinator) → AreUpward (map read_step steps)
-all_upward steps each = λ j r at. elim (slice_get_cases steps j).1 [
+-- all steps go one way where each does
+pub all_along : (way : Combinator) (steps : List Step) → ((j : ℕ) (s : Step) → j < length steps → slice_get steps j ≡ Some s → is_sideways s.combinator ≡ is_sideways way) → AreAlong way (map read_step steps)
+all_along way steps each = λ j r at. elim (slice_get_cases steps j).1 [
   | inl some ↦
       let here : slice_get (map read_step steps) j ≡ Some (read_step some.0) = slice_get-map read_step steps j ∙ ap (option_map read_step) some.2 in
       let same : (some.0.combinator, read_compound some.0.compound) ≡ r = sym (read_step_is some.0) ∙ same_Some (read_step some.0) r (sym here ∙ at) in
-      subst IsUpward (ap (λ (q : Combinator × CompoundSelector). q.0) same) (each j some.0 some.1 some.2)
+      subst (λ (k : Combinator). is_sideways k ≡ is_sideways way) (ap (λ (q : Combinator × CompoundSelector). q.0) same) (each j some.0 some.1 some.2)
   | inr past ↦ absurd (none-some r (sym (slice_get-map read_step steps j ∙ ap (option_map read_step) past.1) ∙ at))
 ]
 
--- one step more is upward
-pub upward_more : (steps : List Step) (i : ℕ) (one : Step) → ((j : ℕ) (s : Step) → j < i → slice_get steps j ≡ Some s → IsUpward s.combinator) → IsUpward (get_or steps i one).combinator →
-    (j : ℕ) (s : Step) → j < i + 1 → slice_get steps j ≡ Some s → IsUpward s.combinator
-upward_more steps i one so_far up j s below at = elim (cases_lt j i) [
+-- one step more goes that way
+pub along_more : (way : Combinator) (steps : List Step) (i : ℕ) (one : Step) → ((j : ℕ) (s : Step) → j < i → slice_get steps j ≡ Some s → is_sideways s.combinator ≡ is_sideways way) → is_sideways (get_or steps i one).combinator ≡ is_sideways way →
+    (j : ℕ) (s : Step) → j < i + 1 → slice_get steps j ≡ Some s → is_sideways s.combinator ≡ is_sideways way
+along_more way steps i one so_far next j s below at = elim (cases_lt j i) [
   | inl less ↦ so_far j s less at
   | inr past ↦
       let same : j ≡ i = omega (arith, below, past) in
       let here : slice_get steps i ≡ Some s = ap (slice_get steps) (sym same) ∙ at in
-      subst (λ (x : Step). IsUpward x.combinator) (get_or_from_slice_get steps i s one here) up
+      subst (λ (x : Step). is_sideways x.combinator ≡ is_sideways way) (get_or_from_slice_get steps i s one here) next
 ]
 
 -- what the selectors of a list mean

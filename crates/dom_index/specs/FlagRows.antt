@@ -28,20 +28,21 @@ abbrev pub PropagatesFrom : Forest → Combinator → (ℕ → Type 0) → Optio
 PropagatesFrom forest k Q None = ⊥
 PropagatesFrom forest k Q (Some v) = Propagates forest k Q v
 
--- the left operands are above
-abbrev pub IsUpward : Combinator → Type 0
-IsUpward Descendant = Unit {0}
-IsUpward Child = Unit {0}
-IsUpward Adjacent = ⊥
-IsUpward Sibling = ⊥
+-- the left operands are siblings
+abbrev pub is_sideways : Combinator → Bool
+is_sideways Descendant = false
+is_sideways Child = false
+is_sideways Adjacent = true
+is_sideways Sibling = true
 
-abbrev pub AreUpward : List (Combinator × CompoundSelector) → Type 0
-AreUpward steps = (j : ℕ) (s : Combinator × CompoundSelector) → slice_get steps j ≡ Some s → IsUpward s.0
+-- the steps go the same way as a combinator: to ancestors, or to earlier siblings
+abbrev pub AreAlong : Combinator → List (Combinator × CompoundSelector) → Type 0
+AreAlong way steps = (j : ℕ) (s : Combinator × CompoundSelector) → slice_get steps j ≡ Some s → is_sideways s.0 ≡ is_sideways way
 
--- the flags of the steps at the children of a node, or without one at a node that has no parent
-pub record AreFlags (forest : Forest) (first : CompoundSelector) (steps : List (Combinator × CompoundSelector)) (above : Option ℕ) (flags : List Bool) : Type 0 where
+-- the flags of the steps at the nodes to the right of a node, or without one at a node that has none to its left
+pub record AreFlags (forest : Forest) (first : CompoundSelector) (steps : List (Combinator × CompoundSelector)) (left : Option ℕ) (flags : List Bool) : Type 0 where
   pub long : length flags ≡ length steps
-  pub each : (j : ℕ) (s : Combinator × CompoundSelector) → slice_get steps j ≡ Some s → Decides (slice_index_or flags j false) (PropagatesFrom forest s.0 (StepsReach forest first (take j steps)) above)
+  pub each : (j : ℕ) (s : Combinator × CompoundSelector) → slice_get steps j ≡ Some s → Decides (slice_index_or flags j false) (PropagatesFrom forest s.0 (StepsReach forest first (take j steps)) left)
 
 -- the compound of that number, from 0, the first before those of the steps
 abbrev pub compound_at : CompoundSelector → List (Combinator × CompoundSelector) → ℕ → Option CompoundSelector

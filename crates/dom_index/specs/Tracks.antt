@@ -1,20 +1,20 @@
 -- Selectors in a traversal.
 use Rattle.std.specs.Prelude.{ℕ, ◌≡◌, ◌≤◌, ◌⊎◌, ◌+◌, ◌*◌, ◌++◌, Bool, true, false, List, [], ◌∷◌, Option, None, Some, length, map, slice_get, slice_index_or, take}
-use Rattle.dom_links.specs.Forest.{Forest, parent}
+use Rattle.dom_links.specs.Forest.{Forest}
 use Rattle.dom_links.specs.ListMoves.{element_at}
 use Rattle.dom_links.specs.Lists.{first}
-use Rattle.dom_links.specs.Trees.{ancestors}
 use Rattle.dom_selectors.specs.declared.syntax.Combinator.{Combinator}
 use Rattle.dom_selectors.specs.declared.syntax.Selector.{Selector, out-Selector}
 use Rattle.dom_selectors.specs.ListsAsTrees.{steps_of}
 use Rattle.dom_selectors.specs.Spelling.{Decides}
 use Rattle.dom_selectors.specs.Syntax.{CompoundSelector}
 use Rattle.dom_selectors.specs.ValuesAsTrees.{read_compound, read_step}
+use Rattle.dom_select.specs.Leftward.{left_of, line}
 use Rattle.dom_index.specs.declared.chains.Chain.{Chain}
 use Rattle.dom_index.specs.declared.node_tests.NodeTest.{NodeTest}
 use Rattle.dom_index.specs.declared.streaming.Rows.{Rows}
 use Rattle.dom_index.specs.CompoundCounts.{compound_count, steps_count}
-use Rattle.dom_index.specs.FlagRows.{AreFlags, AreUpward, PropagatesFrom, StepsReach, compound_at}
+use Rattle.dom_index.specs.FlagRows.{AreAlong, AreFlags, PropagatesFrom, StepsReach, compound_at}
 use Rattle.dom_index.specs.NodeSets.{in_set}
 use Rattle.dom_index.specs.NodeTests.{IsReady}
 
@@ -33,21 +33,28 @@ abbrev pub compounds_of_all : List Chain → ℕ
 compounds_of_all [] = 0
 compounds_of_all (chain ∷ chains) = compounds_of_chain chain + compounds_of_all chains
 
--- a test for each of its compounds; its combinators go upward, and it counts no compound twice
+-- a test for each of its compounds; its combinators go one way, and it counts no compound twice
 pub record IsPrepared (chain : Chain) : Type 0 where
   pub count : length chain.tests.items ≡ length chain.steps.now + 1
   pub tests : (i : ℕ) (test : NodeTest) → slice_get chain.tests.items i ≡ Some test → IsReady test × (compound_at (first_in chain) (steps_in chain) i ≡ Some (read_compound test.compound.now))
-  pub upward : AreUpward (steps_in chain)
+  pub along : AreAlong chain.way (steps_in chain)
   pub counted : chain.all_tests + chain.row_tests ≤ compounds_of_chain chain
 
 abbrev pub ArePrepared : List Chain → Type 0
 ArePrepared chains = (i : ℕ) (chain : Chain) → slice_get chains i ≡ Some chain → IsPrepared chain
 
--- the flags at the children of a node, or without one at a node that has no parent
-abbrev pub FlagsBelow : Chain → Forest → Option ℕ → List Bool → Type 0
-FlagsBelow chain forest above flags = AreFlags forest (first_in chain) (steps_in chain) above flags
+-- the next node to the left of n, on the way of the chain, and all nodes on it
+abbrev pub left_in : Chain → Forest → ℕ → Option ℕ
+left_in chain forest n = left_of forest chain.way n
 
--- the flag of the step of that number at the children of n
+abbrev pub line_in : Chain → Forest → ℕ → List ℕ
+line_in chain forest n = line forest chain.way n
+
+-- the flags at the nodes to the right of a node, or without one at a node that has none to its left
+abbrev pub FlagsRight : Chain → Forest → Option ℕ → List Bool → Type 0
+FlagsRight chain forest left flags = AreFlags forest (first_in chain) (steps_in chain) left flags
+
+-- the flag of the step of that number at the nodes to the right of n
 abbrev pub IsStepFlag : Chain → Forest → ℕ → ℕ → Bool → Type 0
 IsStepFlag chain forest n i flag =
     (s : Combinator × CompoundSelector) → slice_get (steps_in chain) i ≡ Some s → Decides flag (PropagatesFrom forest s.0 (StepsReach forest (first_in chain) (take i (steps_in chain))) (Some n))
@@ -59,10 +66,10 @@ IsStepFlagAt chain forest n flags i = IsStepFlag chain forest n i (slice_index_o
 -- the flags are those at a node of the forest, which the caches are of
 pub record AreFlagsAt (chain : Chain) (forest : Forest) (n : ℕ) (flags : List Bool) (caches : Forest) : Type 0 where
   pub prepared : IsPrepared chain
-  pub flags_are : FlagsBelow chain forest (parent forest n) flags
+  pub flags_are : FlagsRight chain forest (left_in chain forest n) flags
   pub caches_are : caches ≡ forest
 
--- the flags from n times as many as there are steps on are the row of n: those at its children
+-- the flags from n times as many as there are steps on are the row of n: those at the nodes to its right
 abbrev pub IsRow : Chain → Forest → ℕ → List Bool → Type 0
 IsRow chain forest n flags = (j : ℕ) → IsStepFlagAt chain forest n flags j
 
@@ -71,9 +78,9 @@ abbrev pub IsFilledAt : List Bool → Option ℕ → Type 0
 IsFilledAt filled None = Unit {0}
 IsFilledAt filled (Some n) = in_set filled n ≡ true
 
--- the rows that are filled are those of their nodes, and one is that at a node without a parent
+-- the rows that are filled are those of their nodes, and one is that at a node with none to its left
 pub record IsTracked (chain : Chain) (forest : Forest) (rows : Rows) : Type 0 where
-  pub none : FlagsBelow chain forest None rows.none.items
+  pub none : FlagsRight chain forest None rows.none.items
   pub long : length rows.flags.items ≡ length forest.content * length chain.steps.now
   pub count : length rows.filled.items ≡ length forest.content
   pub rows_are : (n : ℕ) → in_set rows.filled.items n ≡ true → IsRow chain forest n rows.flags.items
@@ -82,9 +89,9 @@ pub record IsTracked (chain : Chain) (forest : Forest) (rows : Rows) : Type 0 wh
 abbrev pub Reaches : Chain → Forest → ℕ → Type 0
 Reaches chain forest n = StepsReach forest (first_in chain) (steps_in chain) n
 
--- the ancestors of n: the missing ones, and then one whose row is filled, if one is left
-abbrev pub IsOnWay : Forest → ℕ → List Bool → List ℕ → Type 0
-IsOnWay forest n filled missing = (rest : List ℕ) × (ancestors forest n ≡ missing ++ rest) × IsFilledAt filled (first rest)
+-- the nodes to the left of n: the missing ones, and then one whose row is filled, if one is left
+abbrev pub IsOnWay : Chain → Forest → ℕ → List Bool → List ℕ → Type 0
+IsOnWay chain forest n filled missing = (rest : List ℕ) × (line_in chain forest n ≡ missing ++ rest) × IsFilledAt filled (first rest)
 
 -- the rows of a prepared selector are those of the forest, and so are the caches
 pub record IsFollowing (chain : Chain) (rows : Rows) (forest caches : Forest) : Type 0 where

@@ -1,23 +1,25 @@
 //! Selectors that are prepared for a traversal: a test for each compound.
 
 ghost use Rattle.std.specs.Prelude.{◌≡◌, ◌∷◌, ◌++◌, [], IfOk, OnOk};
-ghost use Rattle.dom_index.specs.NodeTests.{ArePlain, IsPlain};
+ghost use Rattle.dom_index.specs.NodeTests.{ArePlain, IsPlain, way_of};
 ghost use Rattle.dom_index.specs.Tracks.{AreChainsOf, IsPrepared};
 
 use crate::counting::count_compound;
 use crate::node_tests::NodeTest;
 use crate::ways::has_has;
 use dom_nodes::fault::OutOfMemory;
-use dom_selectors::syntax::{Compound, Selector, Step};
+use dom_selectors::syntax::{Combinator, Compound, Selector, Step};
 use dom_trees::tree::Tree;
 
-/// A selector whose combinators are descendant and child ones, with a test for each of its
+/// A selector whose combinators lead to ancestors or to earlier siblings, with a test for each of its
 /// compounds.
 #[derive(Drop)]
 pub(crate) struct Chain<'s> {
     pub(crate) first: &'s Compound,
     pub(crate) steps: &'s [Step],
     pub(crate) tests: Vec<NodeTest<'s>>,
+    /// The combinator of the first step: the next node to the left is the same for all steps.
+    pub(crate) way: Combinator,
     /// How many tests are counted for all nodes, those of the last compound among them, and how many
     /// for each row that is filled.
     pub(crate) all_tests: u64,
@@ -50,9 +52,20 @@ impl<'s> Chain<'s> {
             first,
             steps,
             tests,
+            way: way_of(steps),
             all_tests: subject_tests,
             row_tests,
         })
+    }
+}
+
+/// The combinator of the first step; without steps any will do.
+pub(crate) fn way_of(steps: &[Step]) -> Combinator
+    ensures { result ≡ way_of steps.now }
+{
+    match steps.first() {
+        Some(step) => step.combinator,
+        None => Combinator::Descendant,
     }
 }
 

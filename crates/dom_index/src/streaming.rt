@@ -1,38 +1,38 @@
 //! Selection below some nodes in one traversal. A node that the last compound of a selector matches
-//! asks for its parent's row of flags: whether the steps are reached at the parent's children.
+//! asks for a row of flags, that of the next node to its left: its parent or its previous sibling.
 
 ghost use Rattle.std.specs.Prelude.{◌≡◌, ◌<◌, ◌≤◌, ◌+◌, ◌*◌, ◌∷◌, ◌++◌, [], length, true, IfOk};
-ghost use Rattle.std.specs.Prelude.{OnOk};
+ghost use Rattle.std.specs.Prelude.{OnOk, not};
 ghost use Rattle.std.specs.Iterator.{IsFinite};
-ghost use Rattle.dom_links.specs.Forest.{parent};
 ghost use Rattle.dom_selectors.specs.Spelling.{Decides};
 ghost use Rattle.dom_selectors.specs.ValuesAsTrees.{read_list};
 ghost use Rattle.dom_select.specs.Descendants.{FiltersItems};
+ghost use Rattle.dom_select.specs.Leftward.{ends_at, left_of};
 ghost use Rattle.dom_select.specs.Selected.{FiltersTo, Selected, walks_below};
 ghost use Rattle.dom_index.specs.FlagRows.{reached_at};
-ghost use Rattle.dom_index.specs.NodeSets.{in_set};
+ghost use Rattle.dom_index.specs.NodeSets.{in_set, may_be_operand};
 ghost use Rattle.dom_index.specs.NodeTests.{ArePlain};
 ghost use Rattle.dom_index.specs.SelectorValues.{compounds_among};
 ghost use Rattle.dom_index.specs.Tracks.{AreFlagsAt, AreFollowing, ArePrepared, AreTracked};
-ghost use Rattle.dom_index.specs.Tracks.{FlagsBelow, IsFilledAt, IsFollowing, IsOnWay, IsReached};
+ghost use Rattle.dom_index.specs.Tracks.{FlagsRight, IsFilledAt, IsFollowing, IsOnWay, IsReached};
 ghost use Rattle.dom_index.specs.Tracks.{IsPrepared, IsStepFlag, IsTracked, Reaches, SomeReaches};
-ghost use Rattle.dom_index.specs.Tracks.{compounds_of_all, compounds_of_chain};
+ghost use Rattle.dom_index.specs.Tracks.{compounds_of_all, compounds_of_chain, left_in};
 
 use crate::chains::{Chain, prepare_all};
 use crate::node_set::member_count;
 use crate::node_tests::Visited;
 use crate::preorder::forest_laws;
-use dom_links::iters::parent_id;
+use dom_links::iters::{parent_id, prev_sibling_id};
 use dom_nodes::fault::OutOfMemory;
 use dom_nodes::node_id::NodeId;
 use dom_select::matcher::caches::SelectorCaches;
-use dom_select::matcher::chains::is_deep;
 use dom_select::matcher::several::nodes_below;
-use dom_selectors::syntax::Selector;
+use dom_selectors::syntax::{Combinator, Selector};
 use dom_trees::tree::Tree;
 
-/// Rows of flags, one for each node by its number: the flags of a selector's steps at the node's
-/// children. Those that `filled` has are filled. `none` is the row at a node that has no parent.
+/// Rows of flags, one for each node by its number: the flags of a selector's steps at those nodes
+/// that it is the next one to the left of, its children or its next sibling. Those that `filled` has
+/// are filled. `none` is the row at a node that has no node to its left.
 #[derive(Drop)]
 struct Rows {
     none: Vec<bool>,
@@ -61,7 +61,42 @@ fn reached_at(flags: &[bool], i: usize) -> bool
     flags[i - 1]
 }
 
-/// The flag of a step at the children of a node, by the flags at the node.
+/// The next node to the left of a node by a combinator: its parent or its previous sibling.
+#[inline(always)]
+fn next_left(tree: &Tree, way: Combinator, id: NodeId) -> Option<NodeId>
+    ensures { result ≡ left_of tree.now way id }
+{
+    let nodes = tree.nodes();
+    match way {
+        Combinator::Descendant | Combinator::Child => parent_id(nodes, &id),
+        Combinator::Adjacent | Combinator::Sibling => prev_sibling_id(nodes, &id),
+    }
+}
+
+/// Whether left operands of a node that is to the right of this one may be farther to the left.
+#[inline(always)]
+fn goes_on(combinator: Combinator, visited: &Visited<'_>) -> bool
+    ensures { result ≡ not (ends_at visited.now.tree.now combinator visited.now.id) }
+{
+    match combinator {
+        Combinator::Descendant | Combinator::Sibling => true,
+        Combinator::Child => false,
+        Combinator::Adjacent => !visited.is_element(),
+    }
+}
+
+/// Whether the node may be a left operand: of `+` and `~` an element alone.
+#[inline(always)]
+fn may_be_operand(combinator: Combinator, visited: &Visited<'_>) -> bool
+    ensures { result ≡ may_be_operand visited.now.tree.now combinator visited.now.id }
+{
+    match combinator {
+        Combinator::Descendant | Combinator::Child => true,
+        Combinator::Adjacent | Combinator::Sibling => visited.is_element(),
+    }
+}
+
+/// The flag of a step at the nodes to the right of a node, by the flags at the node.
 #[inline(always)]
 fn step_flag(
     chain: &Chain<'_>,
@@ -76,9 +111,13 @@ fn step_flag(
     ensures kept { caches.new ≡ caches.old }
 {
     forest_laws(visited.tree);
+    let combinator = chain.steps[i].combinator;
     let on = flags[i];
-    if on & is_deep(chain.steps[i].combinator) {
+    if on & goes_on(combinator, visited) {
         return true;
+    }
+    if !may_be_operand(combinator, visited) {
+        return false;
     }
     if !reached_at(flags, i) {
         return false;
@@ -86,29 +125,29 @@ fn step_flag(
     chain.tests[i].matches(visited, caches)
 }
 
-/// The row of a node's parent: the flags at the node.
+/// The row of the next node to the left: the flags at the node.
 #[inline(always)]
-fn row_above<'r>(chain: &Chain<'_>, rows: &'r Rows, visited: &Visited<'_>) -> &'r [bool]
+fn row_left<'r>(chain: &Chain<'_>, rows: &'r Rows, visited: &Visited<'_>) -> &'r [bool]
     requires tracked { IsTracked chain.now visited.now.tree.now rows.now }
     requires filled { IsFilledAt rows.now.filled.items
-        (parent visited.now.tree.now visited.now.id) }
-    ensures { FlagsBelow chain.now visited.now.tree.now
-        (parent visited.now.tree.now visited.now.id) result.now }
+        (left_in chain.now visited.now.tree.now visited.now.id) }
+    ensures { FlagsRight chain.now visited.now.tree.now
+        (left_in chain.now visited.now.tree.now visited.now.id) result.now }
 {
     forest_laws(visited.tree);
-    let Some(above) = parent_id(visited.tree.nodes(), &visited.id) else {
+    let Some(left) = next_left(visited.tree, chain.way, visited.id) else {
         return &rows.none;
     };
     let width = chain.steps.len();
-    let start = above.value() * width;
+    let start = left.value() * width;
     &rows.flags[start..start + width]
 }
 
 /// Fills the row of a node, unless it is filled.
 fn fill(chain: &Chain<'_>, rows: &mut Rows, visited: &Visited<'_>, caches: &mut SelectorCaches<'_>)
     requires following { IsFollowing chain.now rows.old visited.now.tree.now caches.old }
-    requires above { IsFilledAt rows.old.filled.items
-        (parent visited.now.tree.now visited.now.id) }
+    requires left { IsFilledAt rows.old.filled.items
+        (left_in chain.now visited.now.tree.now visited.now.id) }
     ensures following { IsFollowing chain.now rows.new visited.now.tree.now caches.new }
     ensures filled { in_set rows.new.filled.items visited.now.id ≡ true }
 {
@@ -118,7 +157,7 @@ fn fill(chain: &Chain<'_>, rows: &mut Rows, visited: &Visited<'_>, caches: &mut 
     }
     let width = chain.steps.len();
     for i in 0..width {
-        let flags = row_above(chain, rows, visited);
+        let flags = row_left(chain, rows, visited);
         let flag = step_flag(chain, i, flags, visited, caches);
         rows.flags[n * width + i] = flag;
     }
@@ -136,28 +175,33 @@ fn is_filled(filled: &[bool], id: NodeId) -> bool
     }
 }
 
-/// Lists the ancestors of the node whose rows aren't filled, from its parent on, as far as one
-/// whose row is.
+/// Lists the nodes to the left of the node whose rows aren't filled, the nearest first, as far as
+/// one whose row is.
 #[inline(always)]
 fn find_missing(
+    chain: &Chain<'_>,
     filled: &[bool],
     visited: &Visited<'_>,
     missing: &mut Vec<NodeId>,
 ) -> Result<(), OutOfMemory>
     ensures { OnOk result
-        (IsOnWay visited.now.tree.now visited.now.id filled.now missing.new.items) }
+        (IsOnWay chain.now visited.now.tree.now visited.now.id filled.now missing.new.items) }
 {
+    let tree = visited.tree;
+    forest_laws(tree);
     missing.clear();
-    for id in visited.tree.ancestor_ids_of_it(&visited.id, None) {
-        if is_filled(filled, id) {
+    let mut at = visited.id;
+    while let Some(left) = next_left(tree, chain.way, at) {
+        if is_filled(filled, left) {
             return Ok(());
         }
-        missing.push(id)?;
+        missing.push(left)?;
+        at = left;
     }
     Ok(())
 }
 
-/// Fills the row of the node's parent, and before it those of ancestors that it needs.
+/// Fills the row of the next node to the left, and before it those farther on that it needs.
 fn follow(
     chain: &Chain<'_>,
     rows: &mut Rows,
@@ -167,14 +211,14 @@ fn follow(
     requires { IsFollowing chain.now rows.old visited.now.tree.now shared.old.caches }
     ensures following { IsFollowing chain.now rows.new visited.now.tree.now shared.new.caches }
     ensures filled { OnOk result (IsFilledAt rows.new.filled.items
-        (parent visited.now.tree.now visited.now.id)) }
+        (left_in chain.now visited.now.tree.now visited.now.id)) }
 {
     let tree = visited.tree;
     forest_laws(tree);
-    find_missing(&rows.filled, visited, &mut shared.missing)?;
+    find_missing(chain, &rows.filled, visited, &mut shared.missing)?;
     while let Some(id) = shared.missing.pop() {
-        let above = Visited::new(tree, id);
-        fill(chain, rows, &above, &mut shared.caches);
+        let left = Visited::new(tree, id);
+        fill(chain, rows, &left, &mut shared.caches);
     }
     Ok(())
 }
@@ -201,7 +245,7 @@ fn visit(
         return Ok(true);
     }
     follow(chain, rows, visited, shared)?;
-    let flags = row_above(chain, rows, visited);
+    let flags = row_left(chain, rows, visited);
     Ok(reached_at(flags, last))
 }
 

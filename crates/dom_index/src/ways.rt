@@ -2,9 +2,10 @@
 //! than all nodes once.
 
 ghost use Rattle.std.specs.Prelude.{◌≡◌, true};
-ghost use Rattle.dom_index.specs.FlagRows.{IsUpward};
+ghost use Rattle.dom_index.specs.FlagRows.{is_sideways};
 ghost use Rattle.dom_index.specs.NodeTests.{ArePlain, IsPlain};
 
+use crate::chains::way_of;
 use crate::counting::count_outer;
 use dom_selectors::syntax::{Combinator, Compound, Nested, Selector, Step};
 
@@ -91,8 +92,8 @@ fn is_near_anchor(selector: &Selector) -> bool {
     }
 }
 
-/// Whether the list is selected in one traversal: it has few compounds, its combinators are
-/// whitespace and `>`, and nested lists are near.
+/// Whether the list is selected in one traversal: it has few compounds, the combinators of each
+/// selector are whitespace and `>` or are `+` and `~`, and nested lists are near.
 pub(crate) fn are_traversed(selectors: &[Selector]) -> bool
     ensures { result ≡ true → ArePlain selectors.now }
 {
@@ -111,7 +112,7 @@ fn lists_are_near(selectors: &[Selector]) -> bool {
     })
 }
 
-/// Whether the combinators of the selectors are whitespace and `>`.
+/// Whether the combinators of each selector are whitespace and `>`, or are `+` and `~`.
 fn are_plain(selectors: &[Selector]) -> bool
     ensures { result ≡ true → ArePlain selectors.now }
 {
@@ -127,20 +128,31 @@ fn are_plain(selectors: &[Selector]) -> bool
 fn is_plain(steps: &[Step]) -> bool
     ensures { result ≡ true → IsPlain steps.now }
 {
+    let way = way_of(steps);
     for i in 0..steps.len() {
-        if !is_upward(steps[i].combinator) {
+        if !is_along(way, steps[i].combinator) {
             return false;
         }
     }
     true
 }
 
-/// Whether left operands of the combinator are above.
-fn is_upward(combinator: Combinator) -> bool
-    ensures { result ≡ true → IsUpward combinator }
+/// Whether left operands of both combinators are ancestors, or are siblings.
+fn is_along(way: Combinator, combinator: Combinator) -> bool
+    ensures { result ≡ true → is_sideways combinator ≡ is_sideways way }
 {
     match combinator {
-        Combinator::Descendant | Combinator::Child => true,
-        Combinator::Adjacent | Combinator::Sibling => false,
+        Combinator::Descendant | Combinator::Child => !is_sideways(way),
+        Combinator::Adjacent | Combinator::Sibling => is_sideways(way),
+    }
+}
+
+/// Whether left operands of the combinator are siblings.
+fn is_sideways(combinator: Combinator) -> bool
+    ensures { result ≡ is_sideways combinator }
+{
+    match combinator {
+        Combinator::Descendant | Combinator::Child => false,
+        Combinator::Adjacent | Combinator::Sibling => true,
     }
 }

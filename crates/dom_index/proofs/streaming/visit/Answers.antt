@@ -38,7 +38,7 @@ pub reached_at-requires : goal.reached_at-requires
 reached_at-requires c =
     let chain = c.args.chain.now in
     let all : length chain.steps.now ≡ length (steps_in chain) = sym (length-map chain.steps.now read_step) in
-    let long = c.row_above-flags.ensures.long in
+    let long = c.row_left-flags.ensures.long in
     omega (arith, long, all)
 
 pub returns-clause-is : goal.returns-clause-is
@@ -51,5 +51,5 @@ returns-clause-is c =
     let known : last < length chain.tests.items = let count = c.requires.prepared.count in omega (arith, count) in
     let test = c.requires.prepared.tests last c.index.result.now (read_there chain.tests.items last c.index.result.now known c.index.ensures) in
     let held = (both_ways c.matches.result (Holds (read_compound c.index.result.now.compound.now) visited.tree.now visited.id) c.matches.ensures.is).0 c.if-not-matches.false in
-    let same = subject_reached visited.tree.now laws.forest laws.lines (first_in chain) (steps_in chain) c.requires.prepared.upward visited.id c.row_above-flags.result.now c.row_above-flags.ensures last all (read_compound c.index.result.now.compound.now) test.1 in
+    let same = subject_reached visited.tree.now laws.forest laws.lines (first_in chain) (steps_in chain) chain.way c.requires.prepared.along visited.id c.row_left-flags.result.now c.row_left-flags.ensures last all (read_compound c.index.result.now.compound.now) test.1 in
     decided_from c.reached_at.result (Reaches chain visited.tree.now visited.id) (λ e. same.0 (sym c.reached_at.ensures ∙ e, held)) (λ r. c.reached_at.ensures ∙ (same.1 r).0)
