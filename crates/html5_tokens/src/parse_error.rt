@@ -55,87 +55,62 @@ pub enum ParseError {
     UnknownNamedCharacterReference,
 }
 
+/// The code of each error, in the order of the errors.
+static CODES: [&str; 47] = [
+    "abrupt-closing-of-empty-comment",
+    "abrupt-doctype-public-identifier",
+    "abrupt-doctype-system-identifier",
+    "absence-of-digits-in-numeric-character-reference",
+    "cdata-in-html-content",
+    "character-reference-outside-unicode-range",
+    "control-character-in-input-stream",
+    "control-character-reference",
+    "duplicate-attribute",
+    "end-tag-with-attributes",
+    "end-tag-with-trailing-solidus",
+    "eof-before-tag-name",
+    "eof-in-cdata",
+    "eof-in-comment",
+    "eof-in-doctype",
+    "eof-in-script-html-comment-like-text",
+    "eof-in-tag",
+    "incorrectly-closed-comment",
+    "incorrectly-opened-comment",
+    "invalid-character-sequence-after-doctype-name",
+    "invalid-first-character-of-tag-name",
+    "missing-attribute-value",
+    "missing-doctype-name",
+    "missing-doctype-public-identifier",
+    "missing-doctype-system-identifier",
+    "missing-end-tag-name",
+    "missing-quote-before-doctype-public-identifier",
+    "missing-quote-before-doctype-system-identifier",
+    "missing-semicolon-after-character-reference",
+    "missing-whitespace-after-doctype-public-keyword",
+    "missing-whitespace-after-doctype-system-keyword",
+    "missing-whitespace-before-doctype-name",
+    "missing-whitespace-between-attributes",
+    "missing-whitespace-between-doctype-public-and-system-identifiers",
+    "nested-comment",
+    "noncharacter-character-reference",
+    "noncharacter-in-input-stream",
+    "null-character-reference",
+    "surrogate-character-reference",
+    "unexpected-character-after-doctype-system-identifier",
+    "unexpected-character-in-attribute-name",
+    "unexpected-character-in-unquoted-attribute-value",
+    "unexpected-equals-sign-before-attribute-name",
+    "unexpected-null-character",
+    "unexpected-question-mark-instead-of-tag-name",
+    "unexpected-solidus-in-tag",
+    "unknown-named-character-reference",
+];
+
 impl ParseError {
     fn code(self) -> &'static str {
-        match self {
-            ParseError::ControlCharacterInInputStream => "control-character-in-input-stream",
-            ParseError::DuplicateAttribute => "duplicate-attribute",
-            ParseError::EndTagWithAttributes => "end-tag-with-attributes",
-            ParseError::EndTagWithTrailingSolidus => "end-tag-with-trailing-solidus",
-            ParseError::EofBeforeTagName => "eof-before-tag-name",
-            ParseError::EofInTag => "eof-in-tag",
-            ParseError::InvalidFirstCharacterOfTagName => "invalid-first-character-of-tag-name",
-            ParseError::MissingAttributeValue => "missing-attribute-value",
-            ParseError::MissingEndTagName => "missing-end-tag-name",
-            ParseError::MissingWhitespaceBetweenAttributes =>
-                "missing-whitespace-between-attributes",
-            ParseError::NoncharacterInInputStream => "noncharacter-in-input-stream",
-            ParseError::UnexpectedCharacterInAttributeName =>
-                "unexpected-character-in-attribute-name",
-            ParseError::UnexpectedCharacterInUnquotedAttributeValue =>
-                "unexpected-character-in-unquoted-attribute-value",
-            ParseError::UnexpectedEqualsSignBeforeAttributeName =>
-                "unexpected-equals-sign-before-attribute-name",
-            ParseError::UnexpectedNullCharacter => "unexpected-null-character",
-            ParseError::UnexpectedQuestionMarkInsteadOfTagName =>
-                "unexpected-question-mark-instead-of-tag-name",
-            ParseError::UnexpectedSolidusInTag => "unexpected-solidus-in-tag",
-            _ => self.inner_code(),
-        }
-    }
-
-    /// The code of an error in a comment, a CDATA section, a reference or a doctype.
-    fn inner_code(self) -> &'static str {
-        match self {
-            ParseError::AbruptClosingOfEmptyComment => "abrupt-closing-of-empty-comment",
-            ParseError::AbsenceOfDigitsInNumericCharacterReference =>
-                "absence-of-digits-in-numeric-character-reference",
-            ParseError::CdataInHtmlContent => "cdata-in-html-content",
-            ParseError::CharacterReferenceOutsideUnicodeRange =>
-                "character-reference-outside-unicode-range",
-            ParseError::ControlCharacterReference => "control-character-reference",
-            ParseError::EofInCdata => "eof-in-cdata",
-            ParseError::EofInComment => "eof-in-comment",
-            ParseError::EofInScriptHtmlCommentLikeText => "eof-in-script-html-comment-like-text",
-            ParseError::IncorrectlyClosedComment => "incorrectly-closed-comment",
-            ParseError::IncorrectlyOpenedComment => "incorrectly-opened-comment",
-            ParseError::MissingSemicolonAfterCharacterReference =>
-                "missing-semicolon-after-character-reference",
-            ParseError::NestedComment => "nested-comment",
-            ParseError::NoncharacterCharacterReference => "noncharacter-character-reference",
-            ParseError::NullCharacterReference => "null-character-reference",
-            ParseError::SurrogateCharacterReference => "surrogate-character-reference",
-            ParseError::UnknownNamedCharacterReference => "unknown-named-character-reference",
-            _ => self.doctype_code(),
-        }
-    }
-
-    /// The code of an error in a doctype.
-    fn doctype_code(self) -> &'static str {
-        match self {
-            ParseError::AbruptDoctypePublicIdentifier => "abrupt-doctype-public-identifier",
-            ParseError::AbruptDoctypeSystemIdentifier => "abrupt-doctype-system-identifier",
-            ParseError::EofInDoctype => "eof-in-doctype",
-            ParseError::InvalidCharacterSequenceAfterDoctypeName =>
-                "invalid-character-sequence-after-doctype-name",
-            ParseError::MissingDoctypeName => "missing-doctype-name",
-            ParseError::MissingDoctypePublicIdentifier => "missing-doctype-public-identifier",
-            ParseError::MissingDoctypeSystemIdentifier => "missing-doctype-system-identifier",
-            ParseError::MissingQuoteBeforeDoctypePublicIdentifier =>
-                "missing-quote-before-doctype-public-identifier",
-            ParseError::MissingQuoteBeforeDoctypeSystemIdentifier =>
-                "missing-quote-before-doctype-system-identifier",
-            ParseError::MissingWhitespaceAfterDoctypePublicKeyword =>
-                "missing-whitespace-after-doctype-public-keyword",
-            ParseError::MissingWhitespaceAfterDoctypeSystemKeyword =>
-                "missing-whitespace-after-doctype-system-keyword",
-            ParseError::MissingWhitespaceBeforeDoctypeName =>
-                "missing-whitespace-before-doctype-name",
-            ParseError::MissingWhitespaceBetweenDoctypePublicAndSystemIdentifiers =>
-                "missing-whitespace-between-doctype-public-and-system-identifiers",
-            ParseError::UnexpectedCharacterAfterDoctypeSystemIdentifier =>
-                "unexpected-character-after-doctype-system-identifier",
-            _ => "",
+        match CODES.get(self as usize) {
+            Some(code) => code,
+            None => "",
         }
     }
 }

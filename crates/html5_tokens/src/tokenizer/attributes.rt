@@ -20,10 +20,6 @@ impl Tokenizer {
         }
     }
 
-    fn attr_then(&mut self, state: AttrState) -> Progress {
-        self.then(State::Attribute(state))
-    }
-
     fn before_attr_name(&mut self, c: char) -> Progress {
         match c {
             '/' | '>' => self.after_attr_name(c),
@@ -62,8 +58,8 @@ impl Tokenizer {
         match c {
             '/' => self.then(State::Tag(TagState::SelfClosing)),
             '>' => self.emit_tag(),
-            '=' => self.attr_then(AttrState::BeforeValue),
-            _ => self.attr_then(AttrState::AfterName),
+            '=' => self.then(State::Attribute(AttrState::BeforeValue)),
+            _ => self.then(State::Attribute(AttrState::AfterName)),
         }
     }
 
@@ -79,7 +75,7 @@ impl Tokenizer {
         match c {
             '/' => self.then(State::Tag(TagState::SelfClosing)),
             '>' => self.emit_tag(),
-            '=' => self.attr_then(AttrState::BeforeValue),
+            '=' => self.then(State::Attribute(AttrState::BeforeValue)),
             _ if is_space(c) => Ok(None),
             _ => self.begin_attr_name(c),
         }
@@ -87,8 +83,8 @@ impl Tokenizer {
 
     fn before_attr_value(&mut self, c: char) -> Progress {
         match c {
-            '"' => self.attr_then(AttrState::Quoted(Quote::Double)),
-            '\'' => self.attr_then(AttrState::Quoted(Quote::Single)),
+            '"' => self.then(State::Attribute(AttrState::Quoted(Quote::Double))),
+            '\'' => self.then(State::Attribute(AttrState::Quoted(Quote::Single))),
             '>' => {
                 self.error(ParseError::MissingAttributeValue)?;
                 self.emit_tag()
@@ -103,7 +99,7 @@ impl Tokenizer {
 
     fn quoted_value(&mut self, quote: Quote, c: char) -> Progress {
         if c == quote.letter() {
-            return self.attr_then(AttrState::AfterQuoted);
+            return self.then(State::Attribute(AttrState::AfterQuoted));
         }
         match c {
             '&' => self.begin_reference(),
@@ -119,7 +115,7 @@ impl Tokenizer {
                 self.error(ParseError::UnexpectedCharacterInUnquotedAttributeValue)?;
                 self.value_letter(c)
             }
-            _ if is_space(c) => self.attr_then(AttrState::BeforeName),
+            _ if is_space(c) => self.then(State::Attribute(AttrState::BeforeName)),
             _ => self.value_letter(c),
         }
     }
@@ -128,7 +124,7 @@ impl Tokenizer {
         match c {
             '/' => self.then(State::Tag(TagState::SelfClosing)),
             '>' => self.emit_tag(),
-            _ if is_space(c) => self.attr_then(AttrState::BeforeName),
+            _ if is_space(c) => self.then(State::Attribute(AttrState::BeforeName)),
             _ => {
                 self.error(ParseError::MissingWhitespaceBetweenAttributes)?;
                 self.state = State::Attribute(AttrState::BeforeName);

@@ -8,16 +8,19 @@ use crate::token::TokenKind;
 impl Tokenizer {
     pub(super) fn in_comment(&mut self, state: CommentState, c: char) -> Progress {
         match state {
-            CommentState::Bogus => self.bogus_comment_letter(c),
+            CommentState::Bogus => match c {
+                '>' => self.emit_comment(),
+                _ => self.comment_letter(c),
+            },
             CommentState::Start | CommentState::StartDash => self.comment_start(state, c),
             CommentState::Comment => self.comment_again("", c),
             CommentState::LessThan => self.comment_less_than(c),
             CommentState::LessThanBang => match c {
-                '-' => self.comment_then(CommentState::LessThanBangDash),
+                '-' => self.then(State::Comment(CommentState::LessThanBangDash)),
                 _ => self.comment_again("", c),
             },
             CommentState::LessThanBangDash => match c {
-                '-' => self.comment_then(CommentState::LessThanBangDashDash),
+                '-' => self.then(State::Comment(CommentState::LessThanBangDashDash)),
                 _ => self.comment_again("-", c),
             },
             CommentState::LessThanBangDashDash => match c {
@@ -28,7 +31,7 @@ impl Tokenizer {
                 }
             },
             CommentState::EndDash => match c {
-                '-' => self.comment_then(CommentState::End),
+                '-' => self.then(State::Comment(CommentState::End)),
                 _ => self.comment_again("-", c),
             },
             CommentState::End => self.comment_end(c),
@@ -36,17 +39,10 @@ impl Tokenizer {
         }
     }
 
-    fn bogus_comment_letter(&mut self, c: char) -> Progress {
-        match c {
-            '>' => self.emit_comment(),
-            _ => self.comment_letter(c),
-        }
-    }
-
     fn comment_start(&mut self, state: CommentState, c: char) -> Progress {
         match (state, c) {
-            (CommentState::Start, '-') => self.comment_then(CommentState::StartDash),
-            (_, '-') => self.comment_then(CommentState::End),
+            (CommentState::Start, '-') => self.then(State::Comment(CommentState::StartDash)),
+            (_, '-') => self.then(State::Comment(CommentState::End)),
             (_, '>') => {
                 self.error(ParseError::AbruptClosingOfEmptyComment)?;
                 self.emit_comment()
@@ -67,7 +63,7 @@ impl Tokenizer {
     fn comment_end(&mut self, c: char) -> Progress {
         match c {
             '>' => self.emit_comment(),
-            '!' => self.comment_then(CommentState::EndBang),
+            '!' => self.then(State::Comment(CommentState::EndBang)),
             '-' => self.comment_put("-", CommentState::End),
             _ => self.comment_again("--", c),
         }
@@ -90,14 +86,10 @@ impl Tokenizer {
         push(&mut self.comment, shown)
     }
 
-    fn comment_then(&mut self, state: CommentState) -> Progress {
-        self.then(State::Comment(state))
-    }
-
     /// Goes on in a state, with a text that is a part of the comment.
     fn comment_put(&mut self, text: &str, state: CommentState) -> Progress {
         self.comment.push_str(text)?;
-        self.comment_then(state)
+        self.then(State::Comment(state))
     }
 
     /// What was read of an end is a part of the comment, and it goes on with this character.
@@ -106,7 +98,7 @@ impl Tokenizer {
         self.state = State::Comment(CommentState::Comment);
         match c {
             '<' => self.comment_put("<", CommentState::LessThan),
-            '-' => self.comment_then(CommentState::EndDash),
+            '-' => self.then(State::Comment(CommentState::EndDash)),
             _ => self.comment_letter(c),
         }
     }

@@ -5,24 +5,27 @@ use super::{Progress, State, Tokenizer, push};
 use crate::parse_error::ParseError;
 use crate::token::Doctype;
 
+/// Whether a word goes on with a letter behind the first so many.
+pub fn goes_on(word: &[u8], count: usize, letter: char) -> bool {
+    match word.get(count) {
+        Some(next) => char::from(*next) == letter,
+        None => false,
+    }
+}
+
 /// What was read with one more character, where that goes on with a word.
 fn seen_with(seen: Seen, c: char) -> Option<Seen> {
-    match (seen, c) {
-        (Seen::Nothing, '-') => Some(Seen::Dash),
-        (Seen::Nothing, 'd' | 'D') => Some(Seen::Doctype(1)),
-        (Seen::Nothing, '[') => Some(Seen::Cdata(1)),
-        (Seen::Doctype(count), _) => {
-            let next = b"doctype".get(count)?;
-            if char::from(*next) != c.to_ascii_lowercase() {
-                return None;
-            }
+    match seen {
+        Seen::Nothing => match c {
+            '-' => Some(Seen::Dash),
+            'd' | 'D' => Some(Seen::Doctype(1)),
+            '[' => Some(Seen::Cdata(1)),
+            _ => None,
+        },
+        Seen::Doctype(count) if goes_on(b"doctype", count, c.to_ascii_lowercase()) => {
             Some(Seen::Doctype(count.saturating_add(1)))
         }
-        (Seen::Cdata(count), _) => {
-            let next = b"[CDATA[".get(count)?;
-            if char::from(*next) != c {
-                return None;
-            }
+        Seen::Cdata(count) if goes_on(b"[CDATA[", count, c) => {
             Some(Seen::Cdata(count.saturating_add(1)))
         }
         _ => None,

@@ -1,5 +1,6 @@
 //! Doctypes.
 
+use super::declarations::goes_on;
 use super::state::{DoctypeState, Id, Quote};
 use super::{Progress, State, Tokenizer, append, is_space, push};
 use crate::parse_error::ParseError;
@@ -61,13 +62,9 @@ impl Tokenizer {
         }
     }
 
-    fn doctype_then(&mut self, state: DoctypeState) -> Progress {
-        self.then(State::Doctype(state))
-    }
-
     fn doctype_begins(&mut self, c: char) -> Progress {
         if is_space(c) {
-            return self.doctype_then(DoctypeState::BeforeName);
+            return self.then(State::Doctype(DoctypeState::BeforeName));
         }
         if c != '>' {
             self.error(ParseError::MissingWhitespaceBeforeDoctypeName)?;
@@ -91,7 +88,7 @@ impl Tokenizer {
     fn doctype_name(&mut self, c: char) -> Progress {
         match c {
             '>' => self.emit_doctype(),
-            _ if is_space(c) => self.doctype_then(DoctypeState::AfterName),
+            _ if is_space(c) => self.then(State::Doctype(DoctypeState::AfterName)),
             _ => self.doctype_letter(c.to_ascii_lowercase()),
         }
     }
@@ -107,8 +104,8 @@ impl Tokenizer {
     fn after_doctype_name(&mut self, c: char) -> Progress {
         match c {
             '>' => self.emit_doctype(),
-            'p' | 'P' => self.doctype_then(DoctypeState::Keyword(Id::Public, 1)),
-            's' | 'S' => self.doctype_then(DoctypeState::Keyword(Id::System, 1)),
+            'p' | 'P' => self.then(State::Doctype(DoctypeState::Keyword(Id::Public, 1))),
+            's' | 'S' => self.then(State::Doctype(DoctypeState::Keyword(Id::System, 1))),
             _ if is_space(c) => Ok(None),
             _ => self.bogus_from(ParseError::InvalidCharacterSequenceAfterDoctypeName, c),
         }
@@ -119,16 +116,14 @@ impl Tokenizer {
             Id::Public => b"public",
             Id::System => b"system",
         };
-        match word.get(count) {
-            Some(next) if char::from(*next) == c.to_ascii_lowercase() => {
-                if count >= 5 {
-                    self.doctype_then(DoctypeState::AfterKeyword(id))
-                } else {
-                    self.doctype_then(DoctypeState::Keyword(id, count + 1))
-                }
-            }
-            _ => self.bogus_from(ParseError::InvalidCharacterSequenceAfterDoctypeName, c),
+        if !goes_on(word, count, c.to_ascii_lowercase()) {
+            return self.bogus_from(ParseError::InvalidCharacterSequenceAfterDoctypeName, c);
         }
+        let state = match count {
+            5 => DoctypeState::AfterKeyword(id),
+            _ => DoctypeState::Keyword(id, count.saturating_add(1)),
+        };
+        self.then(State::Doctype(state))
     }
 
     fn after_keyword(&mut self, id: Id, c: char) -> Progress {
@@ -137,7 +132,7 @@ impl Tokenizer {
                 self.error(id.errors().missing_whitespace)?;
                 self.before_id(id, c)
             }
-            _ if is_space(c) => self.doctype_then(DoctypeState::BeforeId(id)),
+            _ if is_space(c) => self.then(State::Doctype(DoctypeState::BeforeId(id))),
             _ => self.before_id(id, c),
         }
     }
@@ -161,12 +156,12 @@ impl Tokenizer {
             Id::Public => self.doctype.public_id = empty,
             Id::System => self.doctype.system_id = empty,
         }
-        self.doctype_then(DoctypeState::Quoted(id, quote))
+        self.then(State::Doctype(DoctypeState::Quoted(id, quote)))
     }
 
     fn quoted_id(&mut self, id: Id, quote: Quote, c: char) -> Progress {
         if c == quote.letter() {
-            return self.doctype_then(DoctypeState::AfterId(id));
+            return self.then(State::Doctype(DoctypeState::AfterId(id)));
         }
         match c {
             '>' => {
@@ -210,7 +205,7 @@ impl Tokenizer {
                 self.error(missing)?;
                 self.between_ids(c)
             }
-            _ if is_space(c) => self.doctype_then(DoctypeState::BetweenIds),
+            _ if is_space(c) => self.then(State::Doctype(DoctypeState::BetweenIds)),
             _ => self.between_ids(c),
         }
     }

@@ -76,13 +76,6 @@ impl TagDraft {
         added
     }
 
-    /// Adds an attribute that was read whole.
-    pub fn add_attr(&mut self, alloc: Global, name: &str, value: &str) -> Result<(), AllocError>
-        requires { 0 < length name.now }
-    {
-        self.attrs.add_copy(alloc, name, value)
-    }
-
     /// Puts the tag that was begun there, if one was, and returns whether one was. None is begun
     /// then. The memory of the tag that was there serves for those to come.
     pub fn finish(&mut self, alloc: Global, ended: &mut Option<Tag>) -> bool

@@ -6,7 +6,7 @@ ghost use Rattle.html5_tokens.specs.declared.tokenizer.state.State.TheVariants.{
 use super::state::{
     CdataState, CommentState, DoctypeState, EndTagState, Raw, ScriptState, TagState,
 };
-use super::{Progress, State, Step, Tokenizer};
+use super::{Progress, State, Step, Tokenizer, append};
 use crate::parse_error::ParseError;
 use crate::token::TokenKind;
 use std::alloc::AllocError;
@@ -61,15 +61,15 @@ impl Tokenizer {
     /// What was read of a tag without a name is text.
     fn end_tag_begun(&mut self, written: &str) -> Result<(), AllocError> {
         self.error(ParseError::EofBeforeTagName)?;
-        self.put_text(written)
+        append(&mut self.text, written)
     }
 
     fn end_cdata(&mut self, state: CdataState) -> Result<(), AllocError> {
         self.error(ParseError::EofInCdata)?;
         match state {
             CdataState::Section => Ok(()),
-            CdataState::Bracket => self.put_text("]"),
-            CdataState::End => self.put_text("]]"),
+            CdataState::Bracket => append(&mut self.text, "]"),
+            CdataState::End => append(&mut self.text, "]]"),
         }
     }
 

@@ -101,11 +101,6 @@ fn plain_value(text: &str) -> Option<(&str, &str)> {
     }
 }
 
-/// What follows the quote behind `=`.
-fn quoted(text: &str) -> Option<&str> {
-    behind(b'"', behind(b'=', text)?)
-}
-
 /// The attribute at the front of a text.
 #[inline(always)]
 fn plain_attr(text: &str) -> Option<PlainAttr<'_>> {
@@ -259,7 +254,7 @@ impl Tokenizer {
             if attr.name.is_empty() {
                 break;
             }
-            self.tag.add_attr(self.alloc, attr.name, attr.value)?;
+            self.tag.attrs.add_copy(self.alloc, attr.name, attr.value)?;
             rest = attr.rest;
         }
         Ok(rest)
@@ -269,7 +264,7 @@ impl Tokenizer {
     /// follows the first of them.
     fn begin_plain_attr<'a>(&mut self, text: &'a str) -> Result<&'a str, AllocError> {
         let (name, rest) = text.split_at(attr_name_len(text));
-        let Some(inner) = quoted(rest) else {
+        let Some(inner) = rest.strip_prefix("=\"") else {
             return Ok(text);
         };
         if name.is_empty() {

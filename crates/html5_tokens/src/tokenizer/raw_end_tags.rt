@@ -1,7 +1,7 @@
 //! Raw text ends at an end tag of the last start tag's name: what may be one.
 
 use super::state::{AttrState, EndTagState, Raw, ScriptState, TagState};
-use super::{Progress, State, Tokenizer, append, is_space};
+use super::{Progress, State, Tokenizer, append, is_space, push};
 use crate::token::TagKind;
 use std::alloc::AllocError;
 
@@ -18,17 +18,17 @@ impl Tokenizer {
         match (raw, c) {
             (_, '/') => self.then(State::EndTag(raw, EndTagState::Open)),
             (Raw::Script, '!') => {
-                self.put_text("<!")?;
+                append(&mut self.text, "<!")?;
                 self.then(State::ScriptData(ScriptState::EscapeStart))
             }
             (Raw::Escaped, 'a'..='z' | 'A'..='Z') => {
                 self.letters.clear();
-                self.put_text("<")?;
+                append(&mut self.text, "<")?;
                 self.state = State::ScriptData(ScriptState::DoubleStart);
                 self.in_script(ScriptState::DoubleStart, c)
             }
             _ => {
-                self.put_text("<")?;
+                append(&mut self.text, "<")?;
                 self.back_to(raw, c)
             }
         }
@@ -38,24 +38,19 @@ impl Tokenizer {
         if c.is_ascii_alphabetic() {
             self.tag.begin(self.alloc, TagKind::End);
             self.state = State::EndTag(raw, EndTagState::Name);
-            self.name_letter(c)
+            push(&mut self.tag.name, c)
         } else {
             self.put_end_tag(EndTagState::Open)?;
             self.back_to(raw, c)
         }
     }
 
-    /// Whether the end tag names the last start tag.
-    fn is_appropriate(&self) -> bool {
-        let name = self.tag.name.as_str();
-        name.eq_ignore_ascii_case(self.last_start.as_str())
-    }
-
     fn raw_end_tag_name(&mut self, raw: Raw, c: char) -> Progress {
         if c.is_ascii_alphabetic() {
-            return self.name_letter(c);
+            return push(&mut self.tag.name, c);
         }
-        if self.is_appropriate() {
+        let name = self.tag.name.as_str();
+        if name.eq_ignore_ascii_case(self.last_start.as_str()) {
             match c {
                 '/' => return self.then(State::Tag(TagState::SelfClosing)),
                 '>' => return self.emit_tag(),
@@ -70,10 +65,10 @@ impl Tokenizer {
     /// What was read of an end tag is text.
     pub(super) fn put_end_tag(&mut self, state: EndTagState) -> Result<(), AllocError> {
         match state {
-            EndTagState::LessThan => self.put_text("<"),
-            EndTagState::Open => self.put_text("</"),
+            EndTagState::LessThan => append(&mut self.text, "<"),
+            EndTagState::Open => append(&mut self.text, "</"),
             EndTagState::Name => {
-                self.put_text("</")?;
+                append(&mut self.text, "</")?;
                 append(&mut self.text, self.tag.name.as_str())
             }
         }

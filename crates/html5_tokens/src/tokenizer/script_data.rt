@@ -1,7 +1,7 @@
 //! Script data behind `<!--`.
 
 use super::state::{DoubleState, EndTagState, Raw, ScriptState};
-use super::{Progress, State, Tokenizer, is_space, push};
+use super::{Progress, State, Tokenizer, push};
 
 impl Tokenizer {
     pub(super) fn in_script(&mut self, state: ScriptState, c: char) -> Progress {
@@ -16,9 +16,9 @@ impl Tokenizer {
                 self.state = State::Script;
                 self.in_raw(Raw::Script, c)
             }
-            (ScriptState::DoubleStart, _) => self.double_start(c),
+            (ScriptState::DoubleStart, _) => self.double_name(false, c),
             (ScriptState::Double(DoubleState::LessThan), _) => self.double_less_than(c),
-            (ScriptState::Double(DoubleState::End), _) => self.double_end(c),
+            (ScriptState::Double(DoubleState::End), _) => self.double_name(true, c),
             (ScriptState::Double(double), _) => self.in_double(double, c),
             _ => self.in_escaped(state, c),
         }
@@ -36,15 +36,15 @@ impl Tokenizer {
         self.text_then(shown, next)
     }
 
-    fn double_start(&mut self, c: char) -> Progress {
+    /// A character of the name of a tag: script data is escaped twice from a start tag `script` on,
+    /// up to its end tag.
+    fn double_name(&mut self, is_end: bool, c: char) -> Progress {
         let is_script = self.letters.as_str() == "script";
         match c {
-            '/' | '>' | '\t' | '\n' | '\u{c}' | ' ' => self.escape(c, is_script),
+            '/' | '>' | '\t' | '\n' | '\u{c}' | ' ' => self.escape(c, is_script != is_end),
             'a'..='z' | 'A'..='Z' => self.double_letter(c),
-            _ => {
-                self.state = State::ScriptData(ScriptState::Escaped);
-                self.in_escaped(ScriptState::Escaped, c)
-            }
+            _ if is_end => self.in_double(DoubleState::Escaped, c),
+            _ => self.in_escaped(ScriptState::Escaped, c),
         }
     }
 
@@ -59,7 +59,7 @@ impl Tokenizer {
     }
 
     fn double_letter(&mut self, c: char) -> Progress {
-        push(&mut self.letters, c.to_ascii_lowercase())?;
+        self.letters.push(c.to_ascii_lowercase())?;
         push(&mut self.text, c)
     }
 
@@ -67,36 +67,21 @@ impl Tokenizer {
         match c {
             '/' => {
                 self.letters.clear();
-                self.double_then(c, DoubleState::End)
+                self.text_then(c, State::ScriptData(ScriptState::Double(DoubleState::End)))
             }
             _ => self.in_double(DoubleState::Escaped, c),
         }
-    }
-
-    fn double_end(&mut self, c: char) -> Progress {
-        let is_script = self.letters.as_str() == "script";
-        match c {
-            '/' | '>' => self.escape(c, !is_script),
-            _ if is_space(c) => self.escape(c, !is_script),
-            'a'..='z' | 'A'..='Z' => self.double_letter(c),
-            _ => self.in_double(DoubleState::Escaped, c),
-        }
-    }
-
-    fn double_then(&mut self, c: char, state: DoubleState) -> Progress {
-        self.text_then(c, State::ScriptData(ScriptState::Double(state)))
     }
 
     fn in_double(&mut self, state: DoubleState, c: char) -> Progress {
-        match (c, state) {
-            ('-', DoubleState::Escaped) => self.double_then(c, DoubleState::Dash),
-            ('-', _) => self.double_then(c, DoubleState::DashDash),
-            ('<', _) => self.double_then(c, DoubleState::LessThan),
-            ('>', DoubleState::DashDash) => self.text_then(c, State::Script),
-            _ => {
-                let shown = self.shown(c)?;
-                self.double_then(shown, DoubleState::Escaped)
-            }
-        }
+        let next = match (c, state) {
+            ('-', DoubleState::Escaped) => DoubleState::Dash,
+            ('-', _) => DoubleState::DashDash,
+            ('<', _) => DoubleState::LessThan,
+            ('>', DoubleState::DashDash) => return self.text_then(c, State::Script),
+            _ => DoubleState::Escaped,
+        };
+        let shown = self.shown(c)?;
+        self.text_then(shown, State::ScriptData(ScriptState::Double(next)))
     }
 }

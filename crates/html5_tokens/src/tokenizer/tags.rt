@@ -3,7 +3,7 @@
 ghost use Rattle.std.specs.Prelude.{◌≡◌, IfOk};
 
 use super::state::{AttrState, CommentState, Seen, TagState};
-use super::{Progress, State, Tokenizer, is_space, push};
+use super::{Progress, State, Tokenizer, append, is_space, push};
 use crate::parse_error::ParseError;
 use crate::token::{TagKind, TokenKind};
 use std::alloc::AllocError;
@@ -34,7 +34,7 @@ impl Tokenizer {
             }
             _ => {
                 self.error(ParseError::InvalidFirstCharacterOfTagName)?;
-                self.put_text("<")?;
+                append(&mut self.text, "<")?;
                 self.state = State::Data;
                 self.in_data(c)
             }
@@ -66,7 +66,7 @@ impl Tokenizer {
     fn begin_tag(&mut self, kind: TagKind, c: char) -> Progress {
         self.tag.begin(self.alloc, kind);
         self.state = State::Tag(TagState::Name);
-        self.name_letter(c)
+        push(&mut self.tag.name, c)
     }
 
     fn tag_name(&mut self, c: char) -> Progress {
@@ -76,13 +76,9 @@ impl Tokenizer {
             _ if is_space(c) => self.then(State::Attribute(AttrState::BeforeName)),
             _ => {
                 let shown = self.shown(c)?;
-                self.name_letter(shown)
+                push(&mut self.tag.name, shown)
             }
         }
-    }
-
-    pub(super) fn name_letter(&mut self, c: char) -> Progress {
-        push(&mut self.tag.name, c)
     }
 
     fn self_closing(&mut self, c: char) -> Progress {
@@ -136,16 +132,10 @@ impl Tokenizer {
     {
         match &self.ended {
             Some(tag) if tag.kind == TagKind::Start => {
-                put(&mut self.last_start, tag.name.as_str())
+                self.last_start.clear();
+                append(&mut self.last_start, tag.name.as_str())
             }
             _ => Ok(()),
         }
     }
-}
-
-/// Puts a text in place of another one.
-fn put(text: &mut String, other: &str) -> Result<(), AllocError> {
-    text.clear();
-    text.push_str(other)?;
-    Ok(())
 }

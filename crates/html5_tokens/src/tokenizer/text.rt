@@ -6,11 +6,6 @@ use crate::parse_error::ParseError;
 use std::alloc::AllocError;
 
 impl Tokenizer {
-    /// Puts a text behind the characters that stand before the next token.
-    pub(super) fn put_text(&mut self, text: &str) -> Result<(), AllocError> {
-        append(&mut self.text, text)
-    }
-
     /// Goes on in a state, with a character that is text.
     pub(super) fn text_then(&mut self, c: char, state: State) -> Progress {
         self.state = state;
@@ -63,10 +58,10 @@ impl Tokenizer {
             (CdataState::Section, ']') => return self.then(State::Cdata(CdataState::Bracket)),
             (CdataState::Section, _) => {}
             (CdataState::Bracket, ']') => return self.then(State::Cdata(CdataState::End)),
-            (CdataState::Bracket, _) => self.put_text("]")?,
+            (CdataState::Bracket, _) => append(&mut self.text, "]")?,
             (CdataState::End, ']') => return self.text_then(c, State::Cdata(CdataState::End)),
             (CdataState::End, '>') => return self.then(State::Data),
-            (CdataState::End, _) => self.put_text("]]")?,
+            (CdataState::End, _) => append(&mut self.text, "]]")?,
         }
         self.text_then(c, State::Cdata(CdataState::Section))
     }
