@@ -13,7 +13,7 @@ use crate::token::{TagKind, TokenKind};
 use std::alloc::AllocError;
 
 /// The references that are mostly met, without `&`, and what they stand for.
-const REFERENCES: [(&str, &str); 5] = [
+static REFERENCES: [(&str, &str); 5] = [
     ("amp;", "&"),
     ("gt;", ">"),
     ("lt;", "<"),
@@ -142,9 +142,9 @@ fn tag_begins(text: &str) -> Option<(TagKind, &str)>
 /// What a reference at the front of a text stands for, and what follows it.
 fn plain_reference(text: &str) -> Option<(&'static str, &str)> {
     let name = behind(b'&', text)?;
-    for (written, meant) in REFERENCES {
-        if let Some(rest) = name.strip_prefix(written) {
-            return Some((meant, rest));
+    for (written, meant) in &REFERENCES {
+        if let Some(rest) = name.strip_prefix(*written) {
+            return Some((*meant, rest));
         }
     }
     None
