@@ -2,6 +2,7 @@
 
 use crate::fault::PageFault;
 use crate::growing::{GrowingTree, Placing};
+use crate::reading::Options;
 use crate::stack::Open;
 use html5_tokens::tokenizer::State;
 use std::alloc::Global;
@@ -44,6 +45,9 @@ pub enum Next {
 /// What a rule comes to.
 pub type Step = Result<Next, PageFault>;
 
+/// The least bound on depth: `html`, `body`, and one more.
+const LEAST_DEPTH: usize = 3;
+
 /// A document that is filled by tokens, and where the next one finds it.
 #[derive(Drop)]
 pub struct TreeBuilder {
@@ -68,21 +72,21 @@ pub struct TreeBuilder {
 }
 
 impl TreeBuilder {
-    pub fn new(alloc: Global, tree: GrowingTree, scripting: bool) -> TreeBuilder {
+    pub fn new(alloc: Global, tree: GrowingTree, options: Options) -> TreeBuilder {
         TreeBuilder {
             alloc,
             tree,
             placing: Placing {
                 foster: false,
                 in_head: false,
-                max_depth: usize::MAX,
+                max_depth: options.max_depth.unwrap_or(usize::MAX).max(LEAST_DEPTH),
             },
             mode: Mode::Initial,
             original: Mode::InBody,
             template_modes: Vec::new(alloc),
             frameset_ok: true,
             skip_line_feed: false,
-            scripting,
+            scripting: options.scripting,
             quirks: false,
             table_text: String::new(alloc),
             table_text_has_letters: false,

@@ -2,10 +2,9 @@
 
 ghost use Rattle.std.specs.Prelude.{◌≡◌, ◌≤◌, length};
 ghost use Rattle.dom_html5.specs.Calm.{IsFramed};
-ghost use Rattle.dom_html5.specs.Shape.{ReadsPage};
 
 use crate::fault::PageFault;
-use crate::reading::PageParser;
+use crate::reading::PageReader;
 use std::alloc::Global;
 use std::mem;
 
@@ -77,21 +76,15 @@ fn whole_len(bytes: &[u8]) -> usize
     bytes.len()
 }
 
-impl PageParser {
-    /// Reads the next bytes of a page in UTF-8, as a file or a connection gives them; the pieces
-    /// may be cut anywhere. As by `parse_page_bytes`, a byte order mark at the beginning is dropped,
-    /// and U+FFFD takes the place of what isn't UTF-8. After an `Err` nothing is read any more.
-    pub fn feed_bytes(&mut self, piece: &[u8]) -> Result<(), PageFault>
-        ensures { ReadsPage self.old → ReadsPage self.new }
-    {
+impl PageReader {
+    /// Reads the next bytes of a page.
+    pub fn feed_bytes(&mut self, piece: &[u8]) -> Result<(), PageFault> {
         self.fault_before()?;
         let read = self.read_bytes(piece);
         self.noted(read)
     }
 
-    fn read_bytes(&mut self, piece: &[u8]) -> Result<(), PageFault>
-        ensures { ReadsPage self.old → ReadsPage self.new }
-    {
+    fn read_bytes(&mut self, piece: &[u8]) -> Result<(), PageFault> {
         if self.waiting.bytes.is_empty() {
             return self.read_whole(piece);
         }
@@ -101,9 +94,7 @@ impl PageParser {
     }
 
     /// Reads the whole characters, and has the others wait.
-    fn read_whole(&mut self, bytes: &[u8]) -> Result<(), PageFault>
-        ensures { ReadsPage self.old → ReadsPage self.new }
-    {
+    fn read_whole(&mut self, bytes: &[u8]) -> Result<(), PageFault> {
         let (whole, rest) = bytes.split_at(whole_len(bytes));
         let whole = self.waiting.without_mark(whole);
         self.read_decoded(whole)?;
@@ -112,9 +103,7 @@ impl PageParser {
     }
 
     /// Reads the bytes that are still waiting, since no more come.
-    pub(crate) fn read_waiting(&mut self) -> Result<(), PageFault>
-        ensures { ReadsPage self.old → ReadsPage self.new }
-    {
+    pub fn read_waiting(&mut self) -> Result<(), PageFault> {
         if self.waiting.bytes.is_empty() {
             return Ok(());
         }
@@ -122,20 +111,15 @@ impl PageParser {
         self.read_decoded(&bytes)
     }
 
-    fn take_waiting(&mut self) -> Vec<u8>
-        ensures { ReadsPage self.old → ReadsPage self.new }
-    {
-        let alloc = self.alloc();
-        mem::replace(&mut self.waiting.bytes, Vec::new(alloc))
+    fn take_waiting(&mut self) -> Vec<u8> {
+        mem::replace(&mut self.waiting.bytes, Vec::new(self.builder.alloc))
     }
 
-    fn read_decoded(&mut self, bytes: &[u8]) -> Result<(), PageFault>
-        ensures { ReadsPage self.old → ReadsPage self.new }
-    {
+    fn read_decoded(&mut self, bytes: &[u8]) -> Result<(), PageFault> {
         if let Ok(text) = str::from_utf8(bytes) {
             return self.read(text);
         }
-        let text = String::from_utf8_lossy(self.alloc(), bytes)?;
+        let text = String::from_utf8_lossy(self.builder.alloc, bytes)?;
         self.read(text.as_str())
     }
 }

@@ -54,15 +54,16 @@ pub enum Run {
 impl TreeBuilder {
     /// Reads the characters between two tokens.
     pub fn characters(&mut self, text: &str) -> Result<(), PageFault> {
+        let mut text = text;
+        if self.skip_line_feed && !text.is_empty() {
+            self.skip_line_feed = false;
+            text = text.strip_prefix('\n').unwrap_or(text);
+        }
         if text.is_empty() {
             return Ok(());
         }
-        let text = match mem::replace(&mut self.skip_line_feed, false) {
-            true => text.strip_prefix('\n').unwrap_or(text),
-            false => text,
-        };
         if self.mode == Mode::Text {
-            return self.text_run(text);
+            return self.tree.put_text(self.placing, text);
         }
         if !has_null(text) {
             return self.stretch(text);
@@ -82,38 +83,21 @@ impl TreeBuilder {
         self.run(Run::Nulls, "\0")
     }
 
-    fn text_run(&mut self, text: &str) -> Result<(), PageFault> {
-        if text.is_empty() {
-            return Ok(());
-        }
-        self.put_text(text)
-    }
-
     /// Reads characters of which none is null: white space first, and then the others; in one run
     /// where the mode reads them alike.
     fn stretch(&mut self, text: &str) -> Result<(), PageFault> {
         let rest = behind_spaces(text);
-        if rest.is_empty() {
-            return self.spaces_run(text);
-        }
-        if self.joins_spaces() {
+        if !rest.is_empty() && self.joins_spaces() {
             return self.run(Run::Letters, text);
         }
         let spaces = text
             .get(..text.len().saturating_sub(rest.len()))
             .unwrap_or("");
-        self.spaces_run(spaces)?;
+        self.run(Run::Spaces, spaces)?;
         if self.drops_letters() {
             return self.words(rest);
         }
         self.run(Run::Letters, rest)
-    }
-
-    fn spaces_run(&mut self, spaces: &str) -> Result<(), PageFault> {
-        if spaces.is_empty() {
-            return Ok(());
-        }
-        self.run(Run::Spaces, spaces)
     }
 
     /// Whether white space goes where the letters behind it go, and does nothing else.
@@ -143,29 +127,33 @@ impl TreeBuilder {
     /// Reads a word and the white space behind it.
     fn word(&mut self, piece: &str) -> Result<(), PageFault> {
         let word = piece.trim_end_matches(SPACES);
-        if !word.is_empty() {
-            self.run(Run::Letters, word)?;
-        }
-        self.spaces_run(piece.get(word.len()..).unwrap_or(""))
+        self.run(Run::Letters, word)?;
+        self.run(Run::Spaces, piece.get(word.len()..).unwrap_or(""))
     }
 
-    /// Reads a run of characters.
+    /// Reads a run of characters, if there are any.
     fn run(&mut self, kind: Run, text: &str) -> Result<(), PageFault> {
+        if text.is_empty() {
+            return Ok(());
+        }
         self.process(Token::Run(kind, text))
     }
 
     /// Reads a run by the rules that now hold.
     pub fn run_step(&mut self, kind: Run, text: &str) -> Step {
         if self.is_in_foreign() {
-            self.foreign_run(kind, text)
-        } else {
-            self.mode_run(kind, text)
+            return self.foreign_run(kind, text);
+        }
+        match kind {
+            Run::Nulls => self.nulls(text),
+            Run::Spaces => self.spaces(text),
+            Run::Letters => self.letters(text),
         }
     }
 
     fn is_in_foreign(&self) -> bool {
         match self.adjusted_current() {
-            Some(open) => open.ns != Ns::Html && !open.is_text_point() && !open.is_html_point(),
+            Some(open) => open.holds_foreign(),
             None => false,
         }
     }
@@ -178,14 +166,6 @@ impl TreeBuilder {
                 self.frameset_ok = false;
                 self.put_run(text)
             }
-        }
-    }
-
-    fn mode_run(&mut self, kind: Run, text: &str) -> Step {
-        match kind {
-            Run::Nulls => self.nulls(text),
-            Run::Spaces => self.spaces(text),
-            Run::Letters => self.letters(text),
         }
     }
 
@@ -247,7 +227,7 @@ impl TreeBuilder {
     }
 
     fn put_run(&mut self, text: &str) -> Step {
-        self.put_text(text)?;
+        self.tree.put_text(self.placing, text)?;
         Ok(Next::Done)
     }
 
@@ -257,7 +237,7 @@ impl TreeBuilder {
             return Ok(Next::Done);
         }
         self.reconstruct()?;
-        self.put_text(text)?;
+        self.tree.put_text(self.placing, text)?;
         if kind == Run::Letters {
             self.frameset_ok = false;
         }
@@ -318,7 +298,7 @@ impl TreeBuilder {
             return Ok(());
         }
         if !self.table_text_has_letters {
-            return self.put_text(text);
+            return self.tree.put_text(self.placing, text);
         }
         self.fostered_run(Run::Letters, text)?;
         Ok(())

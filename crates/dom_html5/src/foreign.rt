@@ -27,6 +27,13 @@ impl Open {
     }
 }
 
+impl Open {
+    /// Whether what stands in the element is read by the rules for foreign content, but for some tags.
+    pub fn holds_foreign(&self) -> bool {
+        self.ns != Ns::Html && !self.is_text_point() && !self.is_html_point()
+    }
+}
+
 impl TreeBuilder {
     /// Whether a tag is read by the rules for foreign content.
     pub fn is_tag_foreign(&self, kind: TagKind, name: Name) -> bool {
@@ -84,10 +91,7 @@ impl TreeBuilder {
     fn pop_foreign(&mut self) {
         for _ in 0..self.tree.open().len() {
             match self.tree.open().current() {
-                Some(open)
-                    if open.ns != Ns::Html && !open.is_text_point() && !open.is_html_point() => {
-                    self.tree.pop();
-                }
+                Some(open) if open.holds_foreign() => self.tree.pop(),
                 _ => return,
             }
         }

@@ -155,14 +155,12 @@ impl ActiveFormatting {
 
     /// The last element of that name since the last marker.
     pub fn named(&self, name: Name) -> Option<Open> {
-        for entry in self.entries.iter().rev() {
-            match entry {
-                Entry::Marker => return None,
-                Entry::Element(open) => {
-                    if open.name == name {
-                        return Some(*open);
-                    }
-                }
+        for index in (0..self.entries.len()).rev() {
+            let Some(Entry::Element(open)) = self.get(index) else {
+                return None;
+            };
+            if open.name == name {
+                return Some(open);
             }
         }
         None

@@ -31,7 +31,7 @@ use std::marker::Model;
 #[derive(Drop)]
 pub struct GrowingTree {
     document: Document,
-    open: OpenElements,
+    stack: OpenElements,
     formatting: ActiveFormatting,
     head: Option<NodeId>,
     form: FormPointer,
@@ -47,7 +47,7 @@ impl Model for GrowingTree {
 
     ghost view = { λ t. t.document.tree };
 
-    ghost invariant = { λ t. AreElements t.document.tree t.open.elements.items
+    ghost invariant = { λ t. AreElements t.document.tree t.stack.elements.items
         t.formatting.entries.items t.head t.form t.context };
 }
 
@@ -69,7 +69,7 @@ impl GrowingTree {
     {
         GrowingTree {
             document,
-            open: OpenElements::new(alloc),
+            stack: OpenElements::new(alloc),
             formatting: ActiveFormatting::new(alloc),
             head: None,
             form: FormPointer::None,
@@ -83,7 +83,7 @@ impl GrowingTree {
 
     /// The stack of open elements.
     pub fn open(&self) -> &OpenElements {
-        &self.open
+        &self.stack
     }
 
     pub fn has_head(&self) -> bool {
@@ -127,7 +127,7 @@ impl GrowingTree {
     {
         match self.head {
             Some(head) if placing.in_head => Gap::EndOf(head),
-            _ => gap(&self.document.tree, &self.open, placing),
+            _ => gap(&self.document.tree, &self.stack, placing),
         }
     }
 
@@ -141,19 +141,19 @@ impl GrowingTree {
     ) -> Result<(), PageFault> {
         let gap = self.gap(placing);
         let open = put_element(&mut self.document.tree, gap, ns, name, tag)?;
-        self.open.push(&open)
+        self.stack.push(&open)
     }
 
     /// Puts the element `html` at the top, and opens it.
     pub fn insert_html(&mut self, tag: &Tag) -> Result<(), PageFault> {
         let gap = Gap::EndOf(self.document.tree.root_id());
         let open = put_element(&mut self.document.tree, gap, Ns::Html, Name::Html, tag)?;
-        self.open.push(&open)
+        self.stack.push(&open)
     }
 
     /// Makes the current node the one that stands for the context element.
     pub fn set_context(&mut self, ns: Ns, name: Name) {
-        let Some(root) = self.open.current() else {
+        let Some(root) = self.stack.current() else {
             return;
         };
         self.context = Some(Open {
@@ -166,14 +166,14 @@ impl GrowingTree {
 
     /// Makes the current node the head.
     pub fn set_head(&mut self) {
-        if let Some(head) = self.open.current() {
+        if let Some(head) = self.stack.current() {
             self.head = Some(head.id);
         }
     }
 
     /// Makes the current node the form.
     pub fn set_form(&mut self) {
-        if let Some(form) = self.open.current() {
+        if let Some(form) = self.stack.current() {
             self.form = FormPointer::Element(form.id);
         }
     }
@@ -188,7 +188,7 @@ impl GrowingTree {
         let form = self.form;
         self.form = FormPointer::None;
         if let FormPointer::Element(id) = form
-            && self.open.node_in_scope(id)
+            && self.stack.node_in_scope(id)
         {
             self.generate_implied_end_tags(None);
             self.remove(id);
@@ -219,7 +219,7 @@ impl GrowingTree {
 
     /// Puts a comment at the end of the outermost element.
     pub fn put_comment_in_html(&mut self, text: &str) -> Result<(), PageFault> {
-        let Some(html) = self.open.get(0) else {
+        let Some(html) = self.stack.get(0) else {
             return Ok(());
         };
         put_comment(&mut self.document.tree, Gap::EndOf(html.id), text)
@@ -232,7 +232,7 @@ impl GrowingTree {
 
     /// Adds the attributes of a tag to the element at a place of the stack.
     pub fn add_attrs(&mut self, place: usize, tag: &Tag) -> Result<(), PageFault> {
-        let Some(open) = self.open.get(place) else {
+        let Some(open) = self.stack.get(place) else {
             return Ok(());
         };
         add_attrs(&mut self.document.tree, open.id, tag)
@@ -240,7 +240,7 @@ impl GrowingTree {
 
     /// Cuts the element at a place of the stack out of the tree.
     pub fn cut_out(&mut self, place: usize) {
-        if let Some(open) = self.open.get(place) {
+        if let Some(open) = self.stack.get(place) {
             cut_out(&mut self.document.tree, open.id);
         }
     }
@@ -252,7 +252,7 @@ impl GrowingTree {
         };
         let gap = self.gap(placing);
         let copy = put_copy(&mut self.document.tree, gap, open)?;
-        self.open.push(&copy)?;
+        self.stack.push(&copy)?;
         self.formatting.replace(index, &copy);
         Ok(())
     }

@@ -9,22 +9,9 @@ use crate::stack::Ns;
 use html5_tokens::token::{Tag, TagKind};
 
 impl TreeBuilder {
-    /// Inserts characters.
-    pub fn put_text(&mut self, text: &str) -> Result<(), PageFault> {
-        self.tree.put_text(self.placing, text)
-    }
-
-    pub fn put_comment(&mut self, text: &str) -> Result<(), PageFault> {
-        self.tree.put_comment(self.placing, text)
-    }
-
-    pub fn insert_in(&mut self, ns: Ns, name: Name, tag: &Tag) -> Result<(), PageFault> {
-        self.tree.insert(self.placing, ns, name, tag)
-    }
-
     /// Inserts an HTML element for a tag: makes it, puts it where it belongs, and opens it.
     pub fn insert(&mut self, name: Name, tag: &Tag) -> Result<(), PageFault> {
-        self.insert_in(Ns::Html, name, tag)
+        self.tree.insert(self.placing, Ns::Html, name, tag)
     }
 
     /// Inserts an element that no tag wrote.
@@ -71,7 +58,7 @@ impl TreeBuilder {
 
     /// Inserts a foreign element, which holds nothing if its tag says so.
     pub fn insert_foreign(&mut self, ns: Ns, name: Name, tag: &Tag) -> Step {
-        self.insert_in(ns, name, tag)?;
+        self.tree.insert(self.placing, ns, name, tag)?;
         if tag.self_closing {
             self.tree.pop();
         }
@@ -87,10 +74,5 @@ impl TreeBuilder {
     /// Reconstructs the active formatting elements: opens those again that aren't open.
     pub fn reconstruct(&mut self) -> Result<(), PageFault> {
         self.tree.reconstruct(self.placing)
-    }
-
-    /// The adoption agency algorithm for a tag. False: the tag is read as any other end tag.
-    pub fn adopt(&mut self, name: Name) -> Result<bool, PageFault> {
-        self.tree.adopt(name, self.placing.foster)
     }
 }

@@ -30,18 +30,13 @@ impl TreeBuilder {
     /// Reads a tag.
     pub fn tag(&mut self, tag: &Tag) -> Result<(), PageFault> {
         self.skip_line_feed = false;
-        let name = self.name_of(tag)?;
+        let name = Name::of(&LocalName::new(self.alloc, tag.name.as_str())?);
         self.flush_table_text()?;
         self.process(Token::Tag(name, tag))
     }
 
-    fn name_of(&self, tag: &Tag) -> Result<Name, PageFault> {
-        let local = LocalName::new(self.alloc, tag.name.as_str())?;
-        Ok(Name::of(&local))
-    }
-
-    /// Reads a token. If it is reprocessed more often than any stack of open elements asks for, the
-    /// rules for "in body" take it.
+    /// Reads a token. If it is reprocessed more often than any stack of open elements asks for, it is
+    /// read in the body at last.
     pub fn process(&mut self, token: Token<'_>) -> Result<(), PageFault> {
         for _ in 0..self.turns() {
             if self.step(token)? == Next::Done {
@@ -49,7 +44,7 @@ impl TreeBuilder {
             }
         }
         self.mode = Mode::InBody;
-        self.body_step(token)?;
+        self.step(token)?;
         Ok(())
     }
 
@@ -58,13 +53,6 @@ impl TreeBuilder {
         match token {
             Token::Tag(name, tag) => self.tag_step(name, tag),
             Token::Run(kind, text) => self.run_step(kind, text),
-        }
-    }
-
-    fn body_step(&mut self, token: Token<'_>) -> Step {
-        match token {
-            Token::Tag(name, tag) => self.body_tag(name, tag),
-            Token::Run(kind, text) => self.body_run(kind, text),
         }
     }
 
@@ -128,14 +116,14 @@ impl TreeBuilder {
         self.skip_line_feed = false;
         self.flush_table_text()?;
         if self.is_current_foreign() {
-            return self.put_comment(text);
+            return self.tree.put_comment(self.placing, text);
         }
         match self.mode {
             Mode::Initial | Mode::BeforeHtml | Mode::AfterAfterBody | Mode::AfterAfterFrameset => {
                 self.tree.put_comment_at_top(text)
             }
             Mode::AfterBody => self.tree.put_comment_in_html(text),
-            _ => self.put_comment(text),
+            _ => self.tree.put_comment(self.placing, text),
         }
     }
 
@@ -183,22 +171,10 @@ impl TreeBuilder {
             | Mode::AfterAfterFrameset
             | Mode::InFrameset
             | Mode::AfterFrameset => Ok(Next::Done),
-            _ if !self.template_modes.is_empty() => self.template_end(),
+            _ if !self.template_modes.is_empty() => next_if(self.close_template()),
             Mode::InColumnGroup => Ok(self.leave_column_group()),
             _ => Ok(Next::Done),
         }
-    }
-
-    /// The text ends in a template.
-    fn template_end(&mut self) -> Step {
-        if !self.tree.open().has(Name::Template) {
-            return Ok(Next::Done);
-        }
-        self.tree.pop_to(Name::Template);
-        self.tree.clear_to_marker();
-        let _ = self.template_modes.pop();
-        self.reset_mode();
-        Ok(Next::Again)
     }
 }
 
@@ -207,6 +183,11 @@ fn text_of(text: &Option<String>) -> &str {
         Some(text) => text.as_str(),
         None => "",
     }
+}
+
+/// Reads a token again, or is done with it.
+fn next_if(again: bool) -> Step {
+    Ok(if again { Next::Again } else { Next::Done })
 }
 
 pub fn is_start(tag: &Tag) -> bool {

@@ -178,6 +178,25 @@ static KNOWN: [Name; 247] = [
     Name::Other,
 ];
 
+/// The names that the tree knows by no number.
+static RARE: [(&str, Name); 15] = [
+    ("annotation-xml", Name::AnnotationXml),
+    ("desc", Name::Desc),
+    ("foreignobject", Name::Foreignobject),
+    ("image", Name::Image),
+    ("listing", Name::Listing),
+    ("malignmark", Name::Malignmark),
+    ("math", Name::Math),
+    ("mglyph", Name::Mglyph),
+    ("mi", Name::Mi),
+    ("mn", Name::Mn),
+    ("mo", Name::Mo),
+    ("ms", Name::Ms),
+    ("mtext", Name::Mtext),
+    ("rb", Name::Rb),
+    ("rtc", Name::Rtc),
+];
+
 impl Name {
     /// The name that a local name in lower case is.
     pub fn of(local: &LocalName) -> Name {
@@ -191,24 +210,12 @@ impl Name {
     }
 
     /// The name, where the tree knows it by no number.
-    fn rare(name: &str) -> Name {
-        match name {
-            "annotation-xml" => Name::AnnotationXml,
-            "desc" => Name::Desc,
-            "foreignobject" => Name::Foreignobject,
-            "image" => Name::Image,
-            "listing" => Name::Listing,
-            "malignmark" => Name::Malignmark,
-            "math" => Name::Math,
-            "mglyph" => Name::Mglyph,
-            "mi" => Name::Mi,
-            "mn" => Name::Mn,
-            "mo" => Name::Mo,
-            "ms" => Name::Ms,
-            "mtext" => Name::Mtext,
-            "rb" => Name::Rb,
-            "rtc" => Name::Rtc,
-            _ => Name::Other,
+    fn rare(written: &str) -> Name {
+        for (known, name) in &RARE {
+            if *known == written {
+                return *name;
+            }
         }
+        Name::Other
     }
 }

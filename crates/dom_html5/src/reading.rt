@@ -59,11 +59,17 @@ pub enum Context<'a> {
 /// What reads a page in pieces.
 #[derive(Drop)]
 pub struct PageParser {
-    builder: TreeBuilder,
-    tokens: Tokenizer,
-    pub(crate) waiting: Waiting,
-    fault: Option<PageFault>,
+    reader: PageReader,
     is_fragment: bool,
+}
+
+/// The tokens of a page or a fragment, and what is built of them.
+#[derive(Drop)]
+pub(crate) struct PageReader {
+    pub builder: TreeBuilder,
+    tokens: Tokenizer,
+    pub waiting: Waiting,
+    fault: Option<PageFault>,
 }
 
 /// The document that a page stands for. Every text is a page: the standard says what is made of
@@ -136,29 +142,6 @@ pub fn parse_page_fragment(
     parser.finish()
 }
 
-/// How the tokenizer reads the contents of an HTML element.
-fn state_in(name: Name, scripting: bool) -> State {
-    match name {
-        Name::Title | Name::Textarea => State::Rcdata,
-        Name::Style | Name::Xmp | Name::Iframe | Name::Noembed | Name::Noframes => State::Rawtext,
-        Name::Script => State::Script,
-        Name::Noscript if scripting => State::Rawtext,
-        Name::Plaintext => State::Plaintext,
-        _ => State::Data,
-    }
-}
-
-/// The least bound on depth: `html`, `body`, and one more.
-const LEAST_DEPTH: usize = 3;
-
-fn builder_of(alloc: Global, tree: GrowingTree, options: Options) -> TreeBuilder {
-    let mut builder = TreeBuilder::new(alloc, tree, options.scripting);
-    if let Some(depth) = options.max_depth {
-        builder.placing.max_depth = depth.max(LEAST_DEPTH);
-    }
-    builder
-}
-
 /// The document that was read, in the shape of a page.
 fn page_of(document: Document) -> Result<Document, PageFault>
     ensures { IfOk result (λ page. IsPage page.tree) }
@@ -174,13 +157,8 @@ impl PageParser {
         ensures { IfOk result ReadsPage }
     {
         let tree = GrowingTree::page(alloc)?;
-        let mut tokens = Tokenizer::new(alloc);
-        tokens.report_errors(options.errors);
         Ok(PageParser {
-            builder: builder_of(alloc, tree, options),
-            tokens,
-            waiting: Waiting::new(alloc),
-            fault: None,
+            reader: PageReader::new(alloc, tree, options),
             is_fragment: false,
         })
     }
@@ -192,17 +170,10 @@ impl PageParser {
         options: Options,
     ) -> Result<PageParser, PageFault> {
         let tree = GrowingTree::fragment(alloc)?;
-        let mut builder = builder_of(alloc, tree, options);
-        builder.begin_fragment(context)?;
-        let mut tokens = Tokenizer::new(alloc);
-        tokens.report_errors(options.errors);
-        tokens.switch_to(builder.first_state());
-        tokens.set_in_foreign(builder.is_current_foreign());
+        let mut reader = PageReader::new(alloc, tree, options);
+        reader.begin_fragment(context)?;
         Ok(PageParser {
-            builder,
-            tokens,
-            waiting: Waiting::new(alloc),
-            fault: None,
+            reader,
             is_fragment: true,
         })
     }
@@ -212,13 +183,66 @@ impl PageParser {
     pub fn feed(&mut self, piece: &str) -> Result<(), PageFault>
         ensures { ReadsPage self.old → ReadsPage self.new }
     {
+        self.reader.feed(piece)
+    }
+
+    /// Reads the next bytes of a page in UTF-8, as a file or a connection gives them; the pieces
+    /// may be cut anywhere. As by `parse_page_bytes`, a byte order mark at the beginning is dropped,
+    /// and U+FFFD takes the place of what isn't UTF-8. After an `Err` nothing is read any more.
+    pub fn feed_bytes(&mut self, piece: &[u8]) -> Result<(), PageFault>
+        ensures { ReadsPage self.old → ReadsPage self.new }
+    {
+        self.reader.feed_bytes(piece)
+    }
+
+    /// The document, once all pieces are read.
+    pub fn finish(self) -> Result<Document, PageFault>
+        ensures { ReadsPage self → IfOk result (λ document. IsPage document.tree) }
+    {
+        let mut reader = self.reader;
+        reader.read_end()?;
+        let document = reader.into_document();
+        if self.is_fragment {
+            return Ok(document);
+        }
+        page_of(document)
+    }
+}
+
+impl PageReader {
+    fn new(alloc: Global, tree: GrowingTree, options: Options) -> PageReader {
+        let mut tokens = Tokenizer::new(alloc);
+        tokens.report_errors(options.errors);
+        PageReader {
+            builder: TreeBuilder::new(alloc, tree, options),
+            tokens,
+            waiting: Waiting::new(alloc),
+            fault: None,
+        }
+    }
+
+    fn into_document(self) -> Document {
+        self.builder.tree.into_document()
+    }
+
+    /// Begins the contents of an element.
+    fn begin_fragment(&mut self, context: Context<'_>) -> Result<(), PageFault> {
+        self.builder.begin_fragment(context)?;
+        self.tokens.switch_to(self.builder.first_state());
+        self.tokens
+            .set_in_foreign(self.builder.is_current_foreign());
+        Ok(())
+    }
+
+    /// Reads a piece of the text behind the bytes that are still waiting.
+    fn feed(&mut self, piece: &str) -> Result<(), PageFault> {
         self.fault_before()?;
         let read = self.read_text(piece);
         self.noted(read)
     }
 
     /// The fault that reading ended with before.
-    pub(crate) fn fault_before(&self) -> Result<(), PageFault> {
+    pub fn fault_before(&self) -> Result<(), PageFault> {
         match self.fault {
             Some(fault) => Err(fault),
             None => Ok(()),
@@ -226,64 +250,32 @@ impl PageParser {
     }
 
     /// What reading came to; a fault ends it.
-    pub(crate) fn noted(&mut self, read: Result<(), PageFault>) -> Result<(), PageFault>
-        ensures { ReadsPage self.old → ReadsPage self.new }
-    {
+    pub fn noted(&mut self, read: Result<(), PageFault>) -> Result<(), PageFault> {
         if let Err(fault) = read {
             self.fault = Some(fault);
         }
         read
     }
 
-    /// Reads a piece of the text behind the bytes that are still waiting.
-    fn read_text(&mut self, piece: &str) -> Result<(), PageFault>
-        ensures { ReadsPage self.old → ReadsPage self.new }
-    {
+    fn read_text(&mut self, piece: &str) -> Result<(), PageFault> {
         self.read_waiting()?;
         self.read(piece)
     }
 
-    /// The allocator.
-    pub(crate) fn alloc(&self) -> Global {
-        self.builder.alloc
-    }
-
-    /// The document, once all pieces are read.
-    pub fn finish(mut self) -> Result<Document, PageFault>
-        ensures { ReadsPage self → IfOk result (λ document. IsPage document.tree) }
-    {
+    /// Reads the end of the text.
+    fn read_end(&mut self) -> Result<(), PageFault> {
         self.fault_before()?;
         self.read_waiting()?;
-        self.read_end()?;
-        if self.is_fragment {
-            return Ok(self.builder.tree.into_document());
+        let kind = self.tokens.end_kind()?;
+        if let Some(kind) = kind {
+            self.token(kind)?;
         }
-        page_of(self.builder.tree.into_document())
-    }
-
-    /// Reads the end of the text.
-    fn read_end(&mut self) -> Result<(), PageFault>
-        ensures { ReadsPage self.old → ReadsPage self.new }
-    {
-        self.read_last_token()?;
         self.builder.characters(self.tokens.text())?;
         self.builder.end()?;
         self.builder.note_errors(&self.tokens.take_errors())
     }
 
-    /// Reads the token that the end of the text ends.
-    fn read_last_token(&mut self) -> Result<(), PageFault>
-        ensures { ReadsPage self.old → ReadsPage self.new }
-    {
-        match self.tokens.end_kind()? {
-            Some(kind) => self.token(kind),
-            None => Ok(()),
-        }
-    }
-
-    pub(crate) fn read(&mut self, piece: &str) -> Result<(), PageFault>
-        ensures { ReadsPage self.old → ReadsPage self.new }
-    {
+    pub fn read(&mut self, piece: &str) -> Result<(), PageFault> {
         let mut rest = piece;
         for _ in 0..piece.len() {
             rest = self.read_token(rest)?;
@@ -295,9 +287,7 @@ impl PageParser {
     }
 
     /// Reads up to the end of a token, and returns what follows it.
-    fn read_token<'a>(&mut self, text: &'a str) -> Result<&'a str, PageFault>
-        ensures { ReadsPage self.old → ReadsPage self.new }
-    {
+    fn read_token<'a>(&mut self, text: &'a str) -> Result<&'a str, PageFault> {
         let mut kind = None;
         let rest = self.tokens.read_kind(text, &mut kind)?;
         if let Some(kind) = kind {
@@ -307,9 +297,7 @@ impl PageParser {
     }
 
     /// Reads the token that ended, and the characters before it.
-    fn token(&mut self, kind: TokenKind) -> Result<(), PageFault>
-        ensures { ReadsPage self.old → ReadsPage self.new }
-    {
+    fn token(&mut self, kind: TokenKind) -> Result<(), PageFault> {
         self.builder.characters(self.tokens.text())?;
         self.tokens.clear_text();
         self.build(kind)?;
@@ -322,9 +310,7 @@ impl PageParser {
     }
 
     /// Puts what the token stands for into the tree.
-    fn build(&mut self, kind: TokenKind) -> Result<(), PageFault>
-        ensures { ReadsPage self.old → ReadsPage self.new }
-    {
+    fn build(&mut self, kind: TokenKind) -> Result<(), PageFault> {
         match kind {
             TokenKind::Tag => match self.tokens.tag() {
                 Some(tag) => self.builder.tag(tag),
@@ -336,17 +322,22 @@ impl PageParser {
     }
 }
 
-/// The name of a context element, whatever the case.
-fn name_of(alloc: Global, written: &str) -> Result<Name, PageFault> {
-    let local = LocalName::folded(alloc, written)?;
-    Ok(Name::of(&local))
-}
-
 impl TreeBuilder {
     /// How the tokenizer reads the contents of the context element.
     fn first_state(&self) -> State {
-        match self.tree.context() {
-            Some(context) if context.ns == Ns::Html => state_in(context.name, self.scripting),
+        let Some(context) = self.tree.context() else {
+            return State::Data;
+        };
+        if context.ns != Ns::Html {
+            return State::Data;
+        }
+        match context.name {
+            Name::Title | Name::Textarea => State::Rcdata,
+            Name::Style | Name::Xmp | Name::Iframe | Name::Noembed | Name::Noframes =>
+                State::Rawtext,
+            Name::Noscript if self.scripting => State::Rawtext,
+            Name::Script => State::Script,
+            Name::Plaintext => State::Plaintext,
             _ => State::Data,
         }
     }
@@ -372,7 +363,7 @@ impl TreeBuilder {
             Context::Svg(name) => (Ns::Svg, name),
             Context::MathMl(name) => (Ns::MathMl, name),
         };
-        let name = name_of(self.alloc, written)?;
+        let name = Name::of(&LocalName::folded(self.alloc, written)?);
         self.tree.set_context(ns, name);
         if ns == Ns::Html && name == Name::Template {
             self.push_template_mode(Mode::InTemplate)?;

@@ -4,7 +4,7 @@ use crate::name::Name;
 use crate::stack::{Ns, Open};
 
 /// Where a search for an element in scope ends.
-#[derive(Clone, Copy, PartialEq, Eq, Drop)]
+#[derive(Clone, Copy, Drop)]
 pub enum Scope {
     Default,
     ListItem,
@@ -104,21 +104,6 @@ pub fn has_implied_end(name: Name) -> bool {
             | Name::Rt
             | Name::Rtc
     )
-}
-
-pub fn has_implied_end_thoroughly(name: Name) -> bool {
-    has_implied_end(name)
-        || matches!(
-            name,
-            Name::Caption
-                | Name::Colgroup
-                | Name::Tbody
-                | Name::Td
-                | Name::Tfoot
-                | Name::Th
-                | Name::Thead
-                | Name::Tr
-        )
 }
 
 /// Start tags that end foreign content.

@@ -105,9 +105,10 @@ impl OpenElements {
     fn count(&mut self, open: &Open, more: bool)
         ensures { self.new.elements ≡ self.old.elements }
     {
-        if open.ns == Ns::Html
-            && let Some(count) = self.counts.get_mut(open.name as usize)
-        {
+        if open.ns != Ns::Html {
+            return;
+        }
+        if let Some(count) = self.counts.get_mut(open.name as usize) {
             *count = if more {
                 count.saturating_add(1)
             } else {
@@ -172,10 +173,10 @@ impl OpenElements {
 
     /// Where an element stands, which mostly is near the current node.
     pub fn place_of(&self, id: NodeId) -> Option<usize> {
-        let mut place = self.elements.len();
-        for open in self.elements.iter().rev() {
-            place = place.saturating_sub(1);
-            if open.id == id {
+        for place in (0..self.elements.len()).rev() {
+            if let Some(open) = self.get(place)
+                && open.id == id
+            {
                 return Some(place);
             }
         }
@@ -194,11 +195,14 @@ impl OpenElements {
         if !self.has(name) {
             return false;
         }
-        for open in self.elements.iter().rev() {
+        for place in (0..self.elements.len()).rev() {
+            let Some(open) = self.get(place) else {
+                return false;
+            };
             if open.is_html(name) {
                 return true;
             }
-            if scope.ends_at(open) {
+            if scope.ends_at(&open) {
                 return false;
             }
         }
@@ -214,27 +218,32 @@ impl OpenElements {
             || self.has(Name::H6)
     }
 
-    pub fn heading_in_scope(&self) -> bool {
+    /// The name of the heading in scope.
+    pub fn heading_in_scope(&self) -> Option<Name> {
         if !self.has_heading() {
-            return false;
+            return None;
         }
-        for open in self.elements.iter().rev() {
+        for place in (0..self.elements.len()).rev() {
+            let open = self.get(place)?;
             if open.ns == Ns::Html && is_heading(open.name) {
-                return true;
+                return Some(open.name);
             }
-            if Scope::Default.ends_at(open) {
-                return false;
+            if Scope::Default.ends_at(&open) {
+                return None;
             }
         }
-        false
+        None
     }
 
     pub fn node_in_scope(&self, id: NodeId) -> bool {
-        for open in self.elements.iter().rev() {
+        for place in (0..self.elements.len()).rev() {
+            let Some(open) = self.get(place) else {
+                return false;
+            };
             if open.id == id {
                 return true;
             }
-            if Scope::Default.ends_at(open) {
+            if Scope::Default.ends_at(&open) {
                 return false;
             }
         }
@@ -258,7 +267,10 @@ impl OpenElements {
         if !self.has(Name::Table) {
             return false;
         }
-        for open in self.elements.iter().take(place).rev() {
+        for below in (0..place).rev() {
+            let Some(open) = self.get(below) else {
+                return false;
+            };
             if open.is_html(Name::Template) {
                 return false;
             }

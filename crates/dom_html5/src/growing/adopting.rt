@@ -24,7 +24,7 @@ impl GrowingTree {
     fn first_closed(&self) -> usize {
         for index in (0..self.formatting.len()).rev() {
             match self.formatting.get(index) {
-                Some(Entry::Element(open)) if self.open.place_of(open.id).is_none() => {}
+                Some(Entry::Element(open)) if self.stack.place_of(open.id).is_none() => {}
                 _ => return index.saturating_add(1),
             }
         }
@@ -33,7 +33,7 @@ impl GrowingTree {
 
     /// The adoption agency algorithm for a tag. False: the tag is read as any other end tag.
     pub fn adopt(&mut self, name: Name, foster: bool) -> Result<bool, PageFault> {
-        if let Some(current) = self.open.current()
+        if let Some(current) = self.stack.current()
             && current.is_html(name)
             && self.formatting.index_of(current.id).is_none()
         {
@@ -44,14 +44,14 @@ impl GrowingTree {
             let Some(formatting) = self.formatting.named(name) else {
                 return Ok(false);
             };
-            let Some(place) = self.open.place_of(formatting.id) else {
+            let Some(place) = self.stack.place_of(formatting.id) else {
                 self.remove_formatting(formatting.id);
                 return Ok(true);
             };
-            if !self.open.node_in_scope(formatting.id) {
+            if !self.stack.node_in_scope(formatting.id) {
                 return Ok(true);
             }
-            let Some(furthest) = self.open.furthest_block(place) else {
+            let Some(furthest) = self.stack.furthest_block(place) else {
                 self.truncate(place);
                 self.remove_formatting(formatting.id);
                 return Ok(true);
@@ -70,10 +70,10 @@ impl GrowingTree {
         furthest_place: usize,
         foster: bool,
     ) -> Result<(), PageFault> {
-        let (Some(formatting), Some(furthest)) = (
-            self.open.get(place),
-            self.open.get(furthest_place),
-        ) else {
+        let Some(formatting) = self.stack.get(place) else {
+            return Ok(());
+        };
+        let Some(furthest) = self.stack.get(furthest_place) else {
             return Ok(());
         };
         let mut bookmark = self.formatting.index_of(formatting.id).unwrap_or(0);
@@ -81,7 +81,7 @@ impl GrowingTree {
         let mut round: usize = 0;
         for node_place in (place.saturating_add(1)..furthest_place).rev() {
             round = round.saturating_add(1);
-            let Some(node) = self.open.get(node_place) else {
+            let Some(node) = self.stack.get(node_place) else {
                 break;
             };
             match self.formatting.index_of(node.id) {
@@ -100,7 +100,7 @@ impl GrowingTree {
             }
         }
         self.put_below(place, foster);
-        match self.open.place_of(furthest.id) {
+        match self.stack.place_of(furthest.id) {
             Some(furthest_place) => self.adopt_children(place, furthest_place, bookmark),
             None => Ok(()),
         }
@@ -109,23 +109,25 @@ impl GrowingTree {
     /// A copy of an element takes its place on the stack and in the list; the element right behind
     /// it goes below the copy.
     fn renew(&mut self, place: usize, index: usize) -> Result<(), PageFault> {
-        let (Some(node), Some(last)) = (self.open.get(place), self.open.behind(place)) else {
+        let Some(node) = self.stack.get(place) else {
             return Ok(());
         };
-        let last = last.id;
-        let copy = put_into_copy(&mut self.document.tree, node, last)?;
+        let Some(last) = self.stack.behind(place) else {
+            return Ok(());
+        };
+        let copy = put_into_copy(&mut self.document.tree, node, last.id)?;
         self.formatting.replace(index, &copy);
-        self.open.replace(place, &copy);
+        self.stack.replace(place, &copy);
         Ok(())
     }
 
     /// Puts the element right behind a place of the stack below the one before it, or before a
     /// table.
     fn put_below(&mut self, place: usize, foster: bool) {
-        let Some(last) = self.open.behind(place) else {
+        let Some(last) = self.stack.behind(place) else {
             return;
         };
-        let gap = gap_in(&self.document.tree, self.open.before(place), foster);
+        let gap = gap_in(&self.document.tree, self.stack.before(place), foster);
         is_forest(&self.document.tree);
         move_to(&mut self.document.tree, gap, last.id);
     }
@@ -138,17 +140,17 @@ impl GrowingTree {
         furthest_place: usize,
         bookmark: usize,
     ) -> Result<(), PageFault> {
-        let Some(formatting) = self.open.get(place) else {
+        let Some(formatting) = self.stack.get(place) else {
             return Ok(());
         };
-        let Some(furthest) = self.open.get(furthest_place) else {
+        let Some(furthest) = self.stack.get(furthest_place) else {
             return Ok(());
         };
         is_forest(&self.document.tree);
         let old = formatting.id;
         let parent = furthest.id;
         let copy = put_children_into_copy(&mut self.document.tree, formatting, parent)?;
-        self.open.insert_behind(furthest_place, &copy)?;
+        self.stack.insert_behind(furthest_place, &copy)?;
         let bookmark = match self.formatting.index_of(old) {
             Some(index) => self.remove_entry_before(index, bookmark),
             None => bookmark,

@@ -84,9 +84,8 @@ fn root_place(tree: &Tree) -> Place
 
 /// The place of the last table or template.
 fn last_table(elements: &[Open]) -> Option<usize> {
-    let mut place = elements.len();
-    for open in elements.iter().rev() {
-        place = place.saturating_sub(1);
+    for place in (0..elements.len()).rev() {
+        let open = elements.get(place)?;
         if open.is_html(Name::Table) || open.is_html(Name::Template) {
             return Some(place);
         }

@@ -6,7 +6,7 @@ use super::GrowingTree;
 use crate::fault::PageFault;
 use crate::formatting::Entry;
 use crate::name::Name;
-use crate::sets::{Scope, has_implied_end, has_implied_end_thoroughly, is_heading};
+use crate::sets::{Scope, has_implied_end};
 use crate::stack::{Ns, Open};
 use dom_nodes::node_id::NodeId;
 
@@ -15,16 +15,23 @@ impl GrowingTree {
     fn take(&mut self) -> Option<Open>
         ensures { self.new ≡ self.old }
     {
-        self.open.take()
+        self.stack.take()
     }
 
     pub fn pop(&mut self) {
         let _ = self.take();
     }
 
+    /// Takes the current node off the stack, if it is an HTML element of that name.
+    pub fn pop_if(&mut self, name: Name) {
+        if self.stack.current_is(name) {
+            self.pop();
+        }
+    }
+
     /// Keeps the first open elements alone.
     pub fn truncate(&mut self, count: usize) {
-        for _ in count..self.open.len() {
+        for _ in count..self.stack.len() {
             self.pop();
         }
     }
@@ -33,21 +40,21 @@ impl GrowingTree {
     pub fn remove_at(&mut self, place: usize)
         ensures { self.new ≡ self.old }
     {
-        self.open.remove_at(place);
+        self.stack.remove_at(place);
     }
 
     /// Takes an element off the stack.
     pub fn remove(&mut self, id: NodeId)
         ensures { self.new ≡ self.old }
     {
-        if let Some(place) = self.open.place_of(id) {
+        if let Some(place) = self.stack.place_of(id) {
             self.remove_at(place);
         }
     }
 
     /// Pops elements up to the topmost one of that name, and that too.
     pub fn pop_to(&mut self, name: Name) {
-        for _ in 0..self.open.len() {
+        for _ in 0..self.stack.len() {
             match self.take() {
                 Some(open) if open.is_html(name) => return,
                 _ => {}
@@ -55,27 +62,19 @@ impl GrowingTree {
         }
     }
 
-    pub fn pop_to_heading(&mut self) {
-        for _ in 0..self.open.len() {
-            match self.take() {
-                Some(open) if open.ns == Ns::Html && is_heading(open.name) => return,
-                _ => {}
-            }
+    /// Closes the element of that name in scope, if there is one, with all that is open in it: what
+    /// has an implied end tag too. Returns whether there was one.
+    pub fn close(&mut self, name: Name, scope: Scope) -> bool {
+        if !self.stack.in_scope(name, scope) {
+            return false;
         }
-    }
-
-    pub fn pop_to_cell(&mut self) {
-        for _ in 0..self.open.len() {
-            match self.take() {
-                Some(open) if open.is_html(Name::Td) || open.is_html(Name::Th) => return,
-                _ => {}
-            }
-        }
+        self.pop_to(name);
+        true
     }
 
     pub fn generate_implied_end_tags(&mut self, except: Option<Name>) {
-        for _ in 0..self.open.len() {
-            match self.open.current() {
+        for _ in 0..self.stack.len() {
+            match self.stack.current() {
                 Some(open)
                     if open.ns == Ns::Html
                         && has_implied_end(open.name)
@@ -87,50 +86,11 @@ impl GrowingTree {
         }
     }
 
-    pub fn generate_all_implied_end_tags(&mut self) {
-        for _ in 0..self.open.len() {
-            match self.open.current() {
-                Some(open) if open.ns == Ns::Html && has_implied_end_thoroughly(open.name) => {
-                    self.pop();
-                }
-                _ => return,
-            }
-        }
-    }
-
-    pub fn close_p(&mut self) {
-        self.generate_implied_end_tags(Some(Name::P));
-        self.pop_to(Name::P);
-    }
-
-    pub fn close_p_in_button_scope(&mut self) {
-        if self.open.in_scope(Name::P, Scope::Button) {
-            self.close_p();
-        }
-    }
-
-    pub fn clear_to_table(&mut self) {
-        for _ in 0..self.open.len() {
-            match self.open.current() {
-                Some(open) if is_table_context(&open) => return,
-                _ => self.pop(),
-            }
-        }
-    }
-
-    pub fn clear_to_table_body(&mut self) {
-        for _ in 0..self.open.len() {
-            match self.open.current() {
-                Some(open) if is_table_body_context(&open) => return,
-                _ => self.pop(),
-            }
-        }
-    }
-
-    pub fn clear_to_row(&mut self) {
-        for _ in 0..self.open.len() {
-            match self.open.current() {
-                Some(open) if is_row_context(&open) => return,
+    /// Pops elements up to one of these names, which stays.
+    pub fn clear_to(&mut self, names: &[Name]) {
+        for _ in 0..self.stack.len() {
+            match self.stack.current() {
+                Some(open) if open.ns == Ns::Html && names.contains(&open.name) => return,
                 _ => self.pop(),
             }
         }
@@ -139,7 +99,7 @@ impl GrowingTree {
     /// Adds the current node to the list. Of four that are the same since the last marker the oldest
     /// goes.
     pub fn push_formatting(&mut self) -> Result<(), PageFault> {
-        let Some(open) = self.open.current() else {
+        let Some(open) = self.stack.current() else {
             return Ok(());
         };
         if let Some(index) = self.formatting.third_same(&self.document.tree, open.id) {
@@ -150,7 +110,7 @@ impl GrowingTree {
 
     /// Adds the current node to the list.
     fn push_current(&mut self) -> Result<(), PageFault> {
-        let Some(open) = self.open.current() else {
+        let Some(open) = self.stack.current() else {
             return Ok(());
         };
         self.formatting.push(Entry::Element(open))
@@ -187,20 +147,4 @@ impl GrowingTree {
             self.remove_entry(index);
         }
     }
-}
-
-fn is_table_context(open: &Open) -> bool {
-    open.ns == Ns::Html && matches!(open.name, Name::Table | Name::Template | Name::Html)
-}
-
-fn is_table_body_context(open: &Open) -> bool {
-    open.ns == Ns::Html
-        && matches!(
-            open.name,
-            Name::Tbody | Name::Tfoot | Name::Thead | Name::Template | Name::Html
-        )
-}
-
-fn is_row_context(open: &Open) -> bool {
-    open.ns == Ns::Html && matches!(open.name, Name::Tr | Name::Template | Name::Html)
 }

@@ -27,7 +27,7 @@ impl TreeBuilder {
             Group::Body => self.start_body(tag),
             Group::Frameset => self.start_frameset(tag),
             Group::Block | Group::P => {
-                self.tree.close_p_in_button_scope();
+                self.tree.close(Name::P, Scope::Button);
                 self.insert_done(name, tag)
             }
             Group::Heading => self.start_heading(name, tag),
@@ -66,7 +66,7 @@ impl TreeBuilder {
     fn start_text(&mut self, group: Group, name: Name, tag: &Tag) -> Step {
         match group {
             Group::Plaintext => {
-                self.tree.close_p_in_button_scope();
+                self.tree.close(Name::P, Scope::Button);
                 self.switch = Some(State::Plaintext);
                 self.insert_done(name, tag)
             }
@@ -89,7 +89,7 @@ impl TreeBuilder {
     }
 
     fn start_xmp(&mut self, tag: &Tag) -> Step {
-        self.tree.close_p_in_button_scope();
+        self.tree.close(Name::P, Scope::Button);
         self.reconstruct()?;
         self.frameset_ok = false;
         self.insert_text_element(Name::Xmp, tag, State::Rawtext)
@@ -124,7 +124,7 @@ impl TreeBuilder {
     }
 
     fn start_heading(&mut self, name: Name, tag: &Tag) -> Step {
-        self.tree.close_p_in_button_scope();
+        self.tree.close(Name::P, Scope::Button);
         if let Some(open) = self.tree.open().current()
             && open.ns == Ns::Html
             && is_heading(open.name)
@@ -135,7 +135,7 @@ impl TreeBuilder {
     }
 
     fn start_pre(&mut self, name: Name, tag: &Tag) -> Step {
-        self.tree.close_p_in_button_scope();
+        self.tree.close(Name::P, Scope::Button);
         self.skip_line_feed = true;
         self.frameset_ok = false;
         self.insert_done(name, tag)
@@ -146,7 +146,7 @@ impl TreeBuilder {
         if self.tree.has_form() && !in_template {
             return Ok(Next::Done);
         }
-        self.tree.close_p_in_button_scope();
+        self.tree.close(Name::P, Scope::Button);
         self.insert(Name::Form, tag)?;
         if !in_template {
             self.tree.set_form();
@@ -158,20 +158,20 @@ impl TreeBuilder {
     fn start_item(&mut self, name: Name, tag: &Tag) -> Step {
         self.frameset_ok = false;
         if let Some(item) = self.item_before(name) {
-            self.tree.generate_implied_end_tags(Some(item));
             self.tree.pop_to(item);
         }
-        self.tree.close_p_in_button_scope();
+        self.tree.close(Name::P, Scope::Button);
         self.insert_done(name, tag)
     }
 
     /// The item that one of that name ends.
     fn item_before(&self, name: Name) -> Option<Name> {
-        for open in self.tree.open().as_slice().iter().rev() {
-            if is_item_like(open, name) {
+        for place in (0..self.tree.open().len()).rev() {
+            let open = self.tree.open().get(place)?;
+            if is_item_like(&open, name) {
                 return Some(open.name);
             }
-            if is_special(open) && !is_crossed_by_items(open) {
+            if is_special(&open) && !is_crossed_by_items(&open) {
                 return None;
             }
         }
@@ -179,10 +179,7 @@ impl TreeBuilder {
     }
 
     fn start_button(&mut self, tag: &Tag) -> Step {
-        if self.tree.open().in_scope(Name::Button, Scope::Default) {
-            self.tree.generate_implied_end_tags(None);
-            self.tree.pop_to(Name::Button);
-        }
+        self.tree.close(Name::Button, Scope::Default);
         self.frameset_ok = false;
         self.start_ordinary(Name::Button, tag)
     }
@@ -190,7 +187,7 @@ impl TreeBuilder {
     fn start_a(&mut self, tag: &Tag) -> Step {
         if let Some(open) = self.tree.formatting_named(Name::A) {
             let id = open.id;
-            self.adopt(Name::A)?;
+            self.tree.adopt(Name::A, self.placing.foster)?;
             self.tree.remove_formatting(id);
             self.tree.remove(id);
         }
@@ -200,7 +197,7 @@ impl TreeBuilder {
     fn start_nobr(&mut self, tag: &Tag) -> Step {
         self.reconstruct()?;
         if self.tree.open().in_scope(Name::Nobr, Scope::Default) {
-            self.adopt(Name::Nobr)?;
+            self.tree.adopt(Name::Nobr, self.placing.foster)?;
         }
         self.start_formatting(Name::Nobr, tag)
     }
@@ -220,7 +217,7 @@ impl TreeBuilder {
 
     fn start_table(&mut self, tag: &Tag) -> Step {
         if !self.quirks {
-            self.tree.close_p_in_button_scope();
+            self.tree.close(Name::P, Scope::Button);
         }
         self.frameset_ok = false;
         self.insert_then(Name::Table, tag, Mode::InTable)
@@ -241,7 +238,7 @@ impl TreeBuilder {
     }
 
     fn start_hr(&mut self, tag: &Tag) -> Step {
-        self.tree.close_p_in_button_scope();
+        self.tree.close(Name::P, Scope::Button);
         self.frameset_ok = false;
         self.insert_void(Name::Hr, tag)
     }
@@ -259,9 +256,7 @@ impl TreeBuilder {
     }
 
     fn start_option(&mut self, name: Name, tag: &Tag) -> Step {
-        if self.tree.open().current_is(Name::Option) {
-            self.tree.pop();
-        }
+        self.tree.pop_if(Name::Option);
         self.start_ordinary(name, tag)
     }
 

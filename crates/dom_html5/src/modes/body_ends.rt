@@ -18,14 +18,15 @@ impl TreeBuilder {
                 Ok(Next::Done)
             }
             Group::Html => self.end_html(),
-            Group::Block | Group::Button | Group::Pre => self.end_block(name),
+            Group::Block | Group::Button | Group::Pre | Group::Description => {
+                self.end_in(Scope::Default, name)
+            }
             Group::Form => self.end_form(),
             Group::P => self.end_p(),
-            Group::Li => self.end_item(name, Scope::ListItem),
-            Group::Description => self.end_item(name, Scope::Default),
+            Group::Li => self.end_in(Scope::ListItem, name),
             Group::Heading => self.end_heading(),
             Group::A | Group::Formatting | Group::Nobr => {
-                if !self.adopt(name)? {
+                if !self.tree.adopt(name, self.placing.foster)? {
                     self.any_other_end(name, tag);
                 }
                 Ok(Next::Done)
@@ -42,42 +43,28 @@ impl TreeBuilder {
         Ok(Next::Done)
     }
 
-    fn end_block(&mut self, name: Name) -> Step {
-        if self.tree.open().in_scope(name, Scope::Default) {
-            self.tree.generate_implied_end_tags(None);
-            self.tree.pop_to(name);
-        }
+    fn end_in(&mut self, scope: Scope, name: Name) -> Step {
+        self.tree.close(name, scope);
         Ok(Next::Done)
     }
 
     fn end_p(&mut self) -> Step {
-        if !self.tree.open().in_scope(Name::P, Scope::Button) {
+        if !self.tree.close(Name::P, Scope::Button) {
             self.insert_implied(Name::P, "p")?;
-        }
-        self.tree.close_p();
-        Ok(Next::Done)
-    }
-
-    fn end_item(&mut self, name: Name, scope: Scope) -> Step {
-        if self.tree.open().in_scope(name, scope) {
-            self.tree.generate_implied_end_tags(Some(name));
-            self.tree.pop_to(name);
+            self.tree.pop();
         }
         Ok(Next::Done)
     }
 
     fn end_heading(&mut self) -> Step {
-        if self.tree.open().heading_in_scope() {
-            self.tree.generate_implied_end_tags(None);
-            self.tree.pop_to_heading();
+        if let Some(name) = self.tree.open().heading_in_scope() {
+            self.tree.pop_to(name);
         }
         Ok(Next::Done)
     }
 
     fn end_object(&mut self, name: Name) -> Step {
-        if self.tree.open().in_scope(name, Scope::Default) {
-            self.tree.generate_implied_end_tags(None);
-            self.tree.pop_to(name);
+        if self.tree.close(name, Scope::Default) {
             self.tree.clear_to_marker();
         }
         Ok(Next::Done)
@@ -95,7 +82,7 @@ impl TreeBuilder {
 
     fn end_form(&mut self) -> Step {
         if self.tree.open().has(Name::Template) {
-            return self.end_block(Name::Form);
+            return self.end_in(Scope::Default, Name::Form);
         }
         self.tree.end_form();
         Ok(Next::Done)
@@ -113,13 +100,12 @@ impl TreeBuilder {
     }
 
     fn named_below_special(&self, name: Name, tag: &Tag) -> Option<usize> {
-        let mut place = self.tree.open().len();
-        for open in self.tree.open().as_slice().iter().rev() {
-            place = place.saturating_sub(1);
-            if self.is_named(open, name, tag) {
+        for place in (0..self.tree.open().len()).rev() {
+            let open = self.tree.open().get(place)?;
+            if self.is_named(&open, name, tag) {
                 return Some(place);
             }
-            if is_special(open) {
+            if is_special(&open) {
                 return None;
             }
         }

@@ -3,7 +3,7 @@
 use crate::name::Name;
 
 /// Elements that are read alike in the body.
-#[derive(Clone, Copy, PartialEq, Eq, Drop)]
+#[derive(Clone, Copy, Drop)]
 pub enum Group {
     Html,
     /// What belongs into the head.

@@ -111,14 +111,20 @@ impl TreeBuilder {
         Ok(())
     }
 
-    pub fn end_template(&mut self) -> Step {
-        if self.tree.open().has(Name::Template) {
-            self.tree.generate_all_implied_end_tags();
-            self.tree.pop_to(Name::Template);
-            self.tree.clear_to_marker();
-            let _ = self.template_modes.pop();
-            self.reset_mode();
+    /// Closes a template, if one is open, and returns whether one was.
+    pub fn close_template(&mut self) -> bool {
+        if !self.tree.open().has(Name::Template) {
+            return false;
         }
+        self.tree.pop_to(Name::Template);
+        self.tree.clear_to_marker();
+        let _ = self.template_modes.pop();
+        self.reset_mode();
+        true
+    }
+
+    pub fn end_template(&mut self) -> Step {
+        self.close_template();
         Ok(Next::Done)
     }
 

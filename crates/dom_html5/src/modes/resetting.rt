@@ -11,15 +11,15 @@ impl TreeBuilder {
     }
 
     fn mode_of_stack(&self) -> Mode {
-        let mut place = self.tree.open().len();
-        for open in self.tree.open().as_slice().iter().rev() {
-            place = place.saturating_sub(1);
+        for place in (0..self.tree.open().len()).rev() {
             let last = place == 0;
             let open = match self.tree.context() {
-                Some(context) if last => context,
-                _ => *open,
+                Some(context) if last => Some(context),
+                _ => self.tree.open().get(place),
             };
-            if let Some(mode) = self.mode_of(&open, last, place) {
+            if let Some(open) = open
+                && let Some(mode) = self.mode_of(&open, last, place)
+            {
                 return mode;
             }
         }

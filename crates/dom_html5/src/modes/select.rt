@@ -1,6 +1,6 @@
 //! Lists to choose from.
 
-use super::is_start;
+use super::{is_start, next_if};
 use crate::builder::{Next, Step, TreeBuilder};
 use crate::name::Name;
 use crate::sets::Scope;
@@ -8,12 +8,11 @@ use html5_tokens::token::Tag;
 
 impl TreeBuilder {
     fn end_select(&mut self) -> bool {
-        if !self.tree.open().in_scope(Name::Select, Scope::Select) {
-            return false;
+        let ended = self.tree.close(Name::Select, Scope::Select);
+        if ended {
+            self.reset_mode();
         }
-        self.tree.pop_to(Name::Select);
-        self.reset_mode();
-        true
+        ended
     }
 
     pub fn select_tag(&mut self, name: Name, tag: &Tag) -> Step {
@@ -30,15 +29,11 @@ impl TreeBuilder {
                         self.tree.pop();
                     }
                 }
-                if self.tree.open().current_is(Name::Optgroup) {
-                    self.tree.pop();
-                }
+                self.tree.pop_if(Name::Optgroup);
                 Ok(Next::Done)
             }
             Name::Option => {
-                if self.tree.open().current_is(Name::Option) {
-                    self.tree.pop();
-                }
+                self.tree.pop_if(Name::Option);
                 Ok(Next::Done)
             }
             Name::Select => {
@@ -53,28 +48,23 @@ impl TreeBuilder {
     fn select_start(&mut self, name: Name, tag: &Tag) -> Step {
         match name {
             Name::Html => self.add_html_attrs(tag),
-            Name::Option | Name::Optgroup | Name::Hr => {
-                if self.tree.open().current_is(Name::Option) {
-                    self.tree.pop();
+            Name::Option => {
+                self.tree.pop_if(Name::Option);
+                self.insert_done(name, tag)
+            }
+            Name::Optgroup | Name::Hr => {
+                self.tree.pop_if(Name::Option);
+                self.tree.pop_if(Name::Optgroup);
+                match name {
+                    Name::Hr => self.insert_void(name, tag),
+                    _ => self.insert_done(name, tag),
                 }
-                if name != Name::Option && self.tree.open().current_is(Name::Optgroup) {
-                    self.tree.pop();
-                }
-                self.insert(name, tag)?;
-                if name == Name::Hr {
-                    self.tree.pop();
-                }
-                Ok(Next::Done)
             }
             Name::Select => {
                 self.end_select();
                 Ok(Next::Done)
             }
-            Name::Input | Name::Keygen | Name::Textarea => Ok(if self.end_select() {
-                Next::Again
-            } else {
-                Next::Done
-            }),
+            Name::Input | Name::Keygen | Name::Textarea => next_if(self.end_select()),
             Name::Script | Name::Template => self.head_element(name, tag),
             _ => Ok(Next::Done),
         }

@@ -1,6 +1,6 @@
 //! The insertion modes of tables.
 
-use super::is_start;
+use super::{is_start, next_if};
 use crate::attributes::is_hidden;
 use crate::builder::{Mode, Next, Step, TreeBuilder};
 use crate::name::Name;
@@ -33,9 +33,19 @@ fn is_dropped_end(name: Name) -> bool {
     )
 }
 
-fn next_if(again: bool) -> Step {
-    Ok(if again { Next::Again } else { Next::Done })
-}
+/// Where the elements of a table are put: into a table, a section of one, a row; or into a template
+/// or the outermost element.
+static TABLE_CONTEXT: [Name; 3] = [Name::Table, Name::Template, Name::Html];
+
+static SECTION_CONTEXT: [Name; 5] = [
+    Name::Tbody,
+    Name::Tfoot,
+    Name::Thead,
+    Name::Template,
+    Name::Html,
+];
+
+static ROW_CONTEXT: [Name; 3] = [Name::Tr, Name::Template, Name::Html];
 
 impl TreeBuilder {
     /// A tag by the rules for "in table".
@@ -56,12 +66,11 @@ impl TreeBuilder {
 
     /// Ends a table, if there is one.
     fn end_table(&mut self) -> bool {
-        if !self.tree.open().in_scope(Name::Table, Scope::Table) {
-            return false;
+        let ended = self.tree.close(Name::Table, Scope::Table);
+        if ended {
+            self.reset_mode();
         }
-        self.tree.pop_to(Name::Table);
-        self.reset_mode();
-        true
+        ended
     }
 
     /// What doesn't belong into a table is read by the rules for "in body", with foster parenting.
@@ -73,21 +82,20 @@ impl TreeBuilder {
     }
 
     fn table_start(&mut self, name: Name, tag: &Tag) -> Step {
+        if is_table_part(name) {
+            return self.start_table_part(name, tag);
+        }
         match name {
-            Name::Table => {
-                let ended = self.end_table();
-                next_if(ended)
-            }
+            Name::Table => next_if(self.end_table()),
             Name::Style | Name::Script | Name::Template => self.head_element(name, tag),
             Name::Input if is_hidden(tag) => self.insert_void(name, tag),
             Name::Form => self.start_table_form(tag),
-            _ if is_table_part(name) => self.start_table_part(name, tag),
             _ => self.fostered(name, tag),
         }
     }
 
     fn start_table_part(&mut self, name: Name, tag: &Tag) -> Step {
-        self.tree.clear_to_table();
+        self.tree.clear_to(&TABLE_CONTEXT);
         match name {
             Name::Caption => {
                 self.tree.push_marker()?;
@@ -111,11 +119,9 @@ impl TreeBuilder {
 
     /// Ends a caption, if there is one.
     fn end_caption(&mut self) -> bool {
-        if !self.tree.open().in_scope(Name::Caption, Scope::Table) {
+        if !self.tree.close(Name::Caption, Scope::Table) {
             return false;
         }
-        self.tree.generate_implied_end_tags(None);
-        self.tree.pop_to(Name::Caption);
         self.tree.clear_to_marker();
         self.mode = Mode::InTable;
         true
@@ -124,8 +130,7 @@ impl TreeBuilder {
     pub fn caption_tag(&mut self, name: Name, tag: &Tag) -> Step {
         if is_start(tag) {
             if is_table_part(name) {
-                let ended = self.end_caption();
-                return next_if(ended);
+                return next_if(self.end_caption());
             }
             return self.body_tag(name, tag);
         }
@@ -134,10 +139,7 @@ impl TreeBuilder {
                 self.end_caption();
                 Ok(Next::Done)
             }
-            Name::Table => {
-                let ended = self.end_caption();
-                next_if(ended)
-            }
+            Name::Table => next_if(self.end_caption()),
             _ if is_dropped_end(name) || is_table_part(name) => Ok(Next::Done),
             _ => self.body_tag(name, tag),
         }
@@ -180,7 +182,7 @@ impl TreeBuilder {
     }
 
     fn end_section(&mut self) {
-        self.tree.clear_to_table_body();
+        self.tree.clear_to(&SECTION_CONTEXT);
         self.tree.pop();
         self.mode = Mode::InTable;
     }
@@ -214,11 +216,11 @@ impl TreeBuilder {
     fn table_body_start(&mut self, name: Name, tag: &Tag) -> Step {
         match name {
             Name::Tr => {
-                self.tree.clear_to_table_body();
+                self.tree.clear_to(&SECTION_CONTEXT);
                 self.insert_then(name, tag, Mode::InRow)
             }
             Name::Th | Name::Td => {
-                self.tree.clear_to_table_body();
+                self.tree.clear_to(&SECTION_CONTEXT);
                 self.imply(Name::Tr, "tr", Mode::InRow)
             }
             _ if is_table_part(name) => Ok(self.leave_section()),
@@ -231,7 +233,7 @@ impl TreeBuilder {
         if !self.tree.open().in_scope(Name::Tr, Scope::Table) {
             return Next::Done;
         }
-        self.tree.clear_to_row();
+        self.tree.clear_to(&ROW_CONTEXT);
         self.tree.pop();
         self.mode = Mode::InTableBody;
         Next::Again
@@ -269,23 +271,25 @@ impl TreeBuilder {
     }
 
     fn start_cell(&mut self, name: Name, tag: &Tag) -> Step {
-        self.tree.clear_to_row();
+        self.tree.clear_to(&ROW_CONTEXT);
         self.insert(name, tag)?;
         self.tree.push_marker()?;
         self.done_in(Mode::InCell)
     }
 
-    /// Ends the cell that is open.
-    fn close_cell(&mut self) {
-        self.tree.generate_implied_end_tags(None);
-        self.tree.pop_to_cell();
+    /// Ends a cell of that name, if there is one.
+    fn end_cell(&mut self, name: Name) -> bool {
+        if !self.tree.close(name, Scope::Table) {
+            return false;
+        }
         self.tree.clear_to_marker();
         self.mode = Mode::InRow;
+        true
     }
 
-    fn has_cell_in_scope(&self) -> bool {
-        self.tree.open().in_scope(Name::Td, Scope::Table)
-            || self.tree.open().in_scope(Name::Th, Scope::Table)
+    /// Ends the cell that is open, if there is one.
+    fn leave_cell(&mut self) -> Step {
+        next_if(self.end_cell(Name::Td) || self.end_cell(Name::Th))
     }
 
     pub fn cell_tag(&mut self, name: Name, tag: &Tag) -> Step {
@@ -293,14 +297,11 @@ impl TreeBuilder {
             if !is_table_part(name) {
                 return self.body_tag(name, tag);
             }
-            let ends = self.has_cell_in_scope();
-            if ends {
-                self.close_cell();
-            }
-            return next_if(ends);
+            return self.leave_cell();
         }
         if is_cell(name) {
-            return self.end_cell(name);
+            self.end_cell(name);
+            return Ok(Next::Done);
         }
         if is_dropped_end(name) {
             return Ok(Next::Done);
@@ -308,20 +309,9 @@ impl TreeBuilder {
         if name != Name::Table && name != Name::Tr && !is_section(name) {
             return self.body_tag(name, tag);
         }
-        let ends = self.tree.open().in_scope(name, Scope::Table);
-        if ends {
-            self.close_cell();
+        if !self.tree.open().in_scope(name, Scope::Table) {
+            return Ok(Next::Done);
         }
-        next_if(ends)
-    }
-
-    fn end_cell(&mut self, name: Name) -> Step {
-        if self.tree.open().in_scope(name, Scope::Table) {
-            self.tree.generate_implied_end_tags(None);
-            self.tree.pop_to(name);
-            self.tree.clear_to_marker();
-            self.mode = Mode::InRow;
-        }
-        Ok(Next::Done)
+        self.leave_cell()
     }
 }
