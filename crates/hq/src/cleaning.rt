@@ -141,6 +141,9 @@ static DROPPED: [&str; 25] = [
     "xmp",
 ];
 
+/// The attributes whose values are addresses.
+static ADDRESSES: [&str; 3] = ["href", "src", "cite"];
+
 /// Takes out of the document what the options name.
 pub fn clean(document: &mut Document, options: &Options<'_>) -> Result<(), Fault> {
     for selector in options.removed.as_slice() {
@@ -161,15 +164,10 @@ pub fn clean(document: &mut Document, options: &Options<'_>) -> Result<(), Fault
 
 /// Removes the addresses of other schemes than those of the web and of mail.
 fn drop_addresses(document: &mut Document) -> Result<(), Fault> {
-    drop_address(document, "href")?;
-    drop_address(document, "src")?;
-    drop_address(document, "cite")
-}
-
-/// Removes the attributes of that local name where one is such an address.
-fn drop_address(document: &mut Document, name: &str) -> Result<(), Fault> {
-    let ids = harmful(document, name)?;
-    SelectionMut::new(&mut document.tree, ids).remove_attr(name)?;
+    for name in &ADDRESSES {
+        let ids = harmful(document, name)?;
+        SelectionMut::new(&mut document.tree, ids).remove_attr(name)?;
+    }
     Ok(())
 }
 
@@ -188,10 +186,8 @@ fn harmful(document: &Document, name: &str) -> Result<Vec<NodeId>, Fault> {
 fn is_harmful(node: &NodeRef<'_>, name: &str) -> Result<bool, Fault> {
     let alloc = node.tree.allocator();
     for attr in node.attrs() {
-        if attr.name.local().as_str() == name {
-            if !is_harmless(alloc, attr.value.as_str())? {
-                return Ok(true);
-            }
+        if attr.name.local().as_str() == name && !is_harmless(alloc, attr.value.as_str())? {
+            return Ok(true);
         }
     }
     Ok(false)

@@ -8,37 +8,30 @@ const USAGE: &str = "hq [OPTIONS] SELECTOR [FILE ..]\n       hq --tree [OPTIONS]
 const AFTER: &str = "Without a FILE, or where it is -, standard input is read. \
     The status is 0 where something matched,\n1 where nothing did, and 2 for a fault.";
 
-/// The options: the name of each, what its value is called, if it takes one, and what it is for.
+/// The options: the name of each, what its value is called, if it takes one, another option that it
+/// can't stand beside, if there is one, and what it is for.
 #[rattlefmt::skip]
-const OPTIONS: [(&str, &str, &str); 15] = [
-    ("html", "", "Print each match as HTML (the default)"),
-    ("inner", "", "Print the HTML below each match"),
-    ("tree", "", "Print the whole tree, in the form of html5lib's tests"),
-    ("text", "", "Print the text of each match"),
-    ("md", "", "Print what is below each match as Markdown"),
-    ("attr", "NAME", "Print this attribute of each match that has it"),
-    ("count", "", "Print how many matches there are"),
-    ("first", "", "Take the first match of each file alone"),
-    ("json", "", "Print a line of JSON for each match"),
-    ("base", "URL", "Join the addresses that --attr prints to this one"),
-    ("remove", "SELECTOR", "Take out first what this matches; may be repeated"),
-    ("sanitize", "", "Leave only harmless elements and attributes first"),
-    ("explicit", "", "Read explicit markup, and refuse the rest"),
-    ("context", "NAME", "Read what stands in an element of this name, as tr or \"svg path\""),
-    ("scripting", "", "Read as if scripts ran"),
+static OPTIONS: [(&str, &str, &str, &str); 15] = [
+    ("html", "", "", "Print each match as HTML (the default)"),
+    ("inner", "", "", "Print the HTML below each match"),
+    ("tree", "", "", "Print the whole tree, in the form of html5lib's tests"),
+    ("text", "", "", "Print the text of each match"),
+    ("md", "", "", "Print what is below each match as Markdown"),
+    ("attr", "NAME", "", "Print this attribute of each match that has it"),
+    ("count", "", "json", "Print how many matches there are"),
+    ("first", "", "tree", "Take the first match of each file alone"),
+    ("json", "", "tree", "Print a line of JSON for each match"),
+    ("base", "URL", "", "Join the addresses that --attr prints to this one"),
+    ("remove", "SELECTOR", "", "Take out first what this matches; may be repeated"),
+    ("sanitize", "", "", "Leave only harmless elements and attributes first"),
+    ("explicit", "", "", "Read explicit markup, and refuse the rest"),
+    ("context", "NAME", "explicit",
+        "Read what stands in an element of this name, as tr or \"svg path\""),
+    ("scripting", "", "explicit", "Read as if scripts ran"),
 ];
 
 /// The options of which one says what is shown of a match.
-const SHOWS: [&str; 7] = ["html", "inner", "tree", "text", "md", "attr", "count"];
-
-/// The other options that can't stand together.
-const CONFLICTS: [(&str, &str); 5] = [
-    ("first", "tree"),
-    ("json", "tree"),
-    ("json", "count"),
-    ("context", "explicit"),
-    ("scripting", "explicit"),
-];
+static SHOWS: [&str; 7] = ["html", "inner", "tree", "text", "md", "attr", "count"];
 
 /// The command line that the program takes.
 pub fn command<'a>(alloc: Global) -> Result<Command<'a>, AllocError> {
@@ -49,8 +42,8 @@ pub fn command<'a>(alloc: Global) -> Result<Command<'a>, AllocError> {
         .after_help(AFTER)
         .arg(selector(alloc)?)?
         .arg(files(alloc))?;
-    for (name, value, help) in OPTIONS {
-        command = command.arg(option(alloc, name, value)?.help(help))?;
+    for (name, value, other, help) in &OPTIONS {
+        command = command.arg(option(alloc, name, value, other)?.help(help))?;
     }
     command.group(shows(alloc)?)
 }
@@ -70,22 +63,19 @@ fn files<'a>(alloc: Global) -> Arg<'a> {
         .help("The pages")
 }
 
-/// An option, with a value where that has a name.
-fn option<'a>(alloc: Global, name: &'a str, value: &'a str) -> Result<Arg<'a>, AllocError> {
-    let option = Arg::new(alloc, name).long(name).action(action(name, value));
-    if value.is_empty() {
-        return with_others(option, name);
+/// An option, with a value where that has a name, and another one that it can't stand beside.
+fn option<'a>(
+    alloc: Global,
+    name: &'a str,
+    value: &'a str,
+    other: &'a str,
+) -> Result<Arg<'a>, AllocError> {
+    let mut option = Arg::new(alloc, name).long(name).action(action(name, value));
+    if !value.is_empty() {
+        option = option.value_name(value);
     }
-    with_others(option.value_name(value), name)
-}
-
-/// Says which others an option needs or can't stand beside.
-fn with_others<'a>(option: Arg<'a>, name: &str) -> Result<Arg<'a>, AllocError> {
-    let mut option = option;
-    for (one, other) in CONFLICTS {
-        if one == name {
-            option = option.conflicts_with(other)?;
-        }
+    if !other.is_empty() {
+        option = option.conflicts_with(other)?;
     }
     if name == "base" {
         return option.requires_arg("attr");
@@ -107,7 +97,7 @@ fn action(name: &str, value: &str) -> ArgAction {
 /// One of these is shown.
 fn shows<'a>(alloc: Global) -> Result<ArgGroup<'a>, AllocError> {
     let mut group = ArgGroup::new(alloc, "show");
-    for name in SHOWS {
+    for name in &SHOWS {
         group = group.arg(name)?;
     }
     Ok(group)

@@ -22,14 +22,10 @@ pub enum Fault {
     Base(ParseError),
     /// A file can't be read.
     File(io::Error),
-    /// Explicit markup is refused, at this line and column.
+    /// Explicit markup is refused at this line and column; where there is no kind, it isn't UTF-8
+    /// from there on.
     Markup {
-        kind: MarkupFaultKind,
-        line: usize,
-        column: usize,
-    },
-    /// Explicit markup isn't UTF-8, from this line and column on.
-    Bytes {
+        kind: Option<MarkupFaultKind>,
         line: usize,
         column: usize,
     },
@@ -44,8 +40,11 @@ impl fmt::Display for Fault {
             Fault::Selector { place, fault } => write!(f, "{place}: {fault}"),
             Fault::Base(fault) => write!(f, "--base: {fault}"),
             Fault::File(fault) => write!(f, "{fault}"),
-            Fault::Markup { kind, .. } => write!(f, "{kind}"),
-            Fault::Bytes { .. } => f.write_str("not UTF-8"),
+            Fault::Markup {
+                kind: Some(kind),
+                ..
+            } => write!(f, "{kind}"),
+            Fault::Markup { kind: None, .. } => f.write_str("not UTF-8"),
             Fault::Output(fault) => write!(f, "write failed: {fault}"),
         }
     }
@@ -56,7 +55,7 @@ impl Fault {
     pub fn is_of_a_file(&self) -> bool {
         matches!(
             self,
-            Fault::File(_) | Fault::Markup { .. } | Fault::Bytes { .. } | Fault::TooManyNodes
+            Fault::File(_) | Fault::Markup { .. } | Fault::TooManyNodes
         )
     }
 
@@ -121,9 +120,7 @@ pub fn report(rt: &HostRuntime, fault: &Fault) {
 pub fn report_in(rt: &HostRuntime, name: &str, fault: &Fault) {
     let name = shown(name);
     let _ = match fault {
-        Fault::Markup { line, column, .. } | Fault::Bytes { line, column } => eprintln!(rt;
-            "hq: {name}:{line}:{column}: {fault}"
-        ),
+        Fault::Markup { line, column, .. } => eprintln!(rt; "hq: {name}:{line}:{column}: {fault}"),
         _ => eprintln!(rt; "hq: {name}: {fault}"),
     };
 }

@@ -12,25 +12,36 @@ pub fn string_json(alloc: Global, text: &str) -> Result<String, Fault> {
 
 /// An element's name, attributes, text and HTML as JSON.
 pub fn summary_json(alloc: Global, node: &NodeRef<'_>) -> Result<String, Fault> {
-    let name = Value::try_from_str(alloc, node.node_name().unwrap_or(""))?;
-    let attrs = attrs_value(alloc, node.attrs())?;
     let mut members = Map::new(alloc);
-    add(alloc, &mut members, "name", name)?;
-    add(alloc, &mut members, "attrs", attrs)?;
-    add(alloc, &mut members, "text", Value::String(node.text()?))?;
-    add(alloc, &mut members, "html", Value::String(node.html()?))?;
+    add_parts(alloc, node, &mut members)?;
     Ok(Value::Object(members).to_string(alloc)?)
+}
+
+fn add_parts(
+    alloc: Global,
+    node: &NodeRef<'_>,
+    members: &mut Map<String, Value>,
+) -> Result<(), Fault> {
+    let name = node.node_name().unwrap_or("");
+    add(alloc, members, "name", Value::try_from_str(alloc, name)?)?;
+    add(alloc, members, "attrs", attrs_value(alloc, node.attrs())?)?;
+    add(alloc, members, "text", Value::String(node.text()?))?;
+    add(alloc, members, "html", Value::String(node.html()?))
 }
 
 /// An object of attributes.
 fn attrs_value(alloc: Global, attrs: &[Attr]) -> Result<Value, Fault> {
     let mut members = Map::new(alloc);
     for attr in attrs {
-        let value = Value::try_from_str(alloc, attr.value.as_str())?;
-        let name = name_of(alloc, &attr.name)?;
-        add(alloc, &mut members, name.as_str(), value)?;
+        add_attr(alloc, &mut members, attr)?;
     }
     Ok(Value::Object(members))
+}
+
+fn add_attr(alloc: Global, members: &mut Map<String, Value>, attr: &Attr) -> Result<(), Fault> {
+    let value = Value::try_from_str(alloc, attr.value.as_str())?;
+    members.insert(name_of(alloc, &attr.name)?, value)?;
+    Ok(())
 }
 
 /// A name as it is written: behind its prefix, if it has one.

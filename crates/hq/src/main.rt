@@ -35,23 +35,19 @@ fn main(rt: HostRuntime) -> ExitCode {
         return ExitCode::from(FAULTY);
     };
     let Ok(words) = args.collect::<Vec<String>>(rt.alloc()) else {
-        return ExitCode::from(failed(&rt, Fault::Memory));
+        return ExitCode::from(failed(&rt, &Fault::Memory));
     };
-    ExitCode::from(obey(&rt, words.as_slice()))
+    match obey(&rt, words.as_slice()) {
+        Ok(status) => ExitCode::from(status),
+        Err(fault) => ExitCode::from(failed(&rt, &fault)),
+    }
 }
 
 /// Does what the words ask for, and gives the status.
-fn obey(rt: &HostRuntime, words: &[String]) -> u8 {
-    let read = match command(rt.alloc()) {
-        Ok(command) => command.try_get_matches_from(words),
-        Err(_) => return failed(rt, Fault::Memory),
-    };
-    match read {
-        Ok(matches) => match Options::new(rt.alloc(), &matches) {
-            Ok(options) => run(rt, &options),
-            Err(fault) => failed(rt, fault),
-        },
-        Err(refused) => show(rt, &refused),
+fn obey(rt: &HostRuntime, words: &[String]) -> Result<u8, Fault> {
+    match command(rt.alloc())?.try_get_matches_from(words) {
+        Ok(matches) => print_files(rt, &Options::new(rt.alloc(), &matches)?),
+        Err(refused) => Ok(show(rt, &refused)),
     }
 }
 
@@ -61,14 +57,6 @@ fn show(rt: &HostRuntime, refused: &Error) -> u8 {
         return FAULTY;
     }
     MATCHED
-}
-
-/// Prints what is asked for, and gives the status.
-fn run(rt: &HostRuntime, options: &Options<'_>) -> u8 {
-    match print_files(rt, options) {
-        Ok(status) => status,
-        Err(fault) => failed(rt, fault),
-    }
 }
 
 /// Prints what is asked for of each file, and gives the status.
@@ -114,10 +102,10 @@ fn print_or_report<W: Write>(
 }
 
 /// Reports a fault that ends the program, and gives the status. That nobody reads on is no fault.
-fn failed(rt: &HostRuntime, fault: Fault) -> u8 {
+fn failed(rt: &HostRuntime, fault: &Fault) -> u8 {
     if fault.is_broken_pipe() {
         return MATCHED;
     }
-    report(rt, &fault);
+    report(rt, fault);
     FAULTY
 }

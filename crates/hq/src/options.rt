@@ -53,27 +53,66 @@ pub enum Show<'a> {
 impl<'a> Options<'a> {
     /// The options that were given.
     pub fn new(alloc: Global, matches: &ArgMatches<'a>) -> Result<Options<'a>, Fault> {
-        Ok(Options {
+        let mut options = Options {
             reading: reading_of(matches),
-            removed: removed_of(alloc, matches)?,
+            removed: Vec::new(alloc),
             sanitizes: matches.get_flag("sanitize"),
-            selector: selector_of(alloc, matches)?,
+            selector: None,
             show: show_of(matches),
             first: matches.get_flag("first"),
             json: matches.get_flag("json"),
-            base: base_of(alloc, matches)?,
-            files: files_of(alloc, matches)?,
-        })
+            base: None,
+            files: Vec::new(alloc),
+        };
+        options.read_removed(alloc, matches)?;
+        options.read_selector(alloc, matches)?;
+        options.read_base(alloc, matches)?;
+        options.read_files(matches)?;
+        Ok(options)
     }
-}
 
-/// What is looked for; nothing where the whole tree is printed.
-fn selector_of(alloc: Global, matches: &ArgMatches<'_>) -> Result<Option<Matcher>, Fault> {
-    if matches.get_flag("tree") {
-        return Ok(None);
+    fn read_removed(&mut self, alloc: Global, matches: &ArgMatches<'a>) -> Result<(), Fault> {
+        if let Some(texts) = matches.get_strs("remove") {
+            for text in texts {
+                self.removed.push(matcher_of(alloc, text, "--remove")?)?;
+            }
+        }
+        Ok(())
     }
-    let text = matches.get_str("selector").unwrap_or("");
-    Ok(Some(matcher_of(alloc, text, "SELECTOR")?))
+
+    /// What is looked for; nothing where the whole tree is printed.
+    fn read_selector(&mut self, alloc: Global, matches: &ArgMatches<'a>) -> Result<(), Fault> {
+        if !matches.get_flag("tree") {
+            let text = matches.get_str("selector").unwrap_or("");
+            self.selector = Some(matcher_of(alloc, text, "SELECTOR")?);
+        }
+        Ok(())
+    }
+
+    fn read_base(&mut self, alloc: Global, matches: &ArgMatches<'a>) -> Result<(), Fault> {
+        if let Some(written) = matches.get_str("base") {
+            self.base = Some(base_of(alloc, written)?);
+        }
+        Ok(())
+    }
+
+    /// The files, or standard input where there is none.
+    fn read_files(&mut self, matches: &ArgMatches<'a>) -> Result<(), Fault> {
+        if matches.get_flag("tree")
+            && let Some(name) = matches.get_str("selector")
+        {
+            self.files.push(name)?;
+        }
+        if let Some(names) = matches.get_strs("file") {
+            for name in names {
+                self.files.push(*name)?;
+            }
+        }
+        if self.files.is_empty() {
+            self.files.push("-")?;
+        }
+        Ok(())
+    }
 }
 
 fn reading_of<'a>(matches: &ArgMatches<'a>) -> Reading<'a> {
@@ -107,16 +146,6 @@ fn matcher_of(alloc: Global, text: &str, place: &'static str) -> Result<Matcher,
     }
 }
 
-fn removed_of(alloc: Global, matches: &ArgMatches<'_>) -> Result<Vec<Matcher>, Fault> {
-    let mut removed = Vec::new(alloc);
-    if let Some(texts) = matches.get_strs("remove") {
-        for text in texts {
-            removed.push(matcher_of(alloc, text, "--remove")?)?;
-        }
-    }
-    Ok(removed)
-}
-
 fn show_of<'a>(matches: &ArgMatches<'a>) -> Show<'a> {
     if let Some(name) = matches.get_str("attr") {
         return Show::Attr(name);
@@ -139,32 +168,11 @@ fn show_of<'a>(matches: &ArgMatches<'a>) -> Show<'a> {
     Show::Html
 }
 
-fn base_of(alloc: Global, matches: &ArgMatches<'_>) -> Result<Option<Url>, Fault> {
-    let Some(written) = matches.get_str("base") else {
-        return Ok(None);
-    };
+/// The address that addresses are joined to.
+fn base_of(alloc: Global, written: &str) -> Result<Url, Fault> {
     match Url::parse(alloc, written) {
-        Ok(base) => Ok(Some(base)),
+        Ok(base) => Ok(base),
         Err(ParseError::OutOfMemory) => Err(Fault::Memory),
         Err(fault) => Err(Fault::Base(fault)),
     }
-}
-
-/// The files, or standard input where there is none.
-fn files_of<'a>(alloc: Global, matches: &ArgMatches<'a>) -> Result<Vec<&'a str>, Fault> {
-    let mut files = Vec::new(alloc);
-    if matches.get_flag("tree")
-        && let Some(name) = matches.get_str("selector")
-    {
-        files.push(name)?;
-    }
-    if let Some(names) = matches.get_strs("file") {
-        for name in names {
-            files.push(*name)?;
-        }
-    }
-    if files.is_empty() {
-        files.push("-")?;
-    }
-    Ok(files)
 }

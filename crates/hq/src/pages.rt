@@ -84,42 +84,46 @@ fn read_from<R: Read>(
                 scripting,
                 ..PageOptions::default()
             };
-            let parser = match context {
+            let mut parser = match context {
                 None => PageParser::new(alloc, options)?,
                 Some(context) => PageParser::for_fragment(alloc, context, options)?,
             };
-            read_pieces(alloc, reader, parser)
+            read_pieces(alloc, reader, &mut parser)?;
+            Ok(parser.finish()?)
         }
     }
 }
 
-/// The document of a page that is read in pieces.
+/// Reads a page in pieces.
 fn read_pieces<R: Read>(
     alloc: Global,
     reader: &mut R,
-    parser: PageParser,
-) -> Result<Document, Fault> {
-    let mut parser = parser;
+    parser: &mut PageParser,
+) -> Result<(), Fault> {
     let mut room = vec![in alloc; 0; PIECE]?;
     for _ in 0..u64::MAX {
-        let count = read_some(reader, &mut room)?;
-        let Some(piece) = room.get(..count) else {
-            break;
-        };
-        if piece.is_empty() {
+        if !read_piece(reader, &mut room, parser)? {
             break;
         }
-        parser.feed_bytes(piece)?;
     }
-    Ok(parser.finish()?)
+    Ok(())
 }
 
-/// Reads what there is, and returns how many bytes; 0 at the end.
-fn read_some<R: Read>(reader: &mut R, room: &mut [u8]) -> Result<usize, Fault> {
-    match reader.read(room) {
-        Ok(count) => Ok(count),
-        Err(fault) => Err(Fault::File(fault)),
-    }
+/// Reads what there is, and returns whether it was something.
+fn read_piece<R: Read>(
+    reader: &mut R,
+    room: &mut [u8],
+    parser: &mut PageParser,
+) -> Result<bool, Fault> {
+    let count = match reader.read(room) {
+        Ok(count) => count,
+        Err(fault) => return Err(Fault::File(fault)),
+    };
+    let Some(piece) = room.get(..count) else {
+        return Ok(false);
+    };
+    parser.feed_bytes(piece)?;
+    Ok(!piece.is_empty())
 }
 
 /// The document that explicit markup spells.
@@ -144,15 +148,23 @@ fn refused(text: &str, fault: MarkupFault) -> Fault {
     match fault.kind {
         MarkupFaultKind::Memory => Fault::Memory,
         MarkupFaultKind::TooManyNodes => Fault::TooManyNodes,
-        kind => Fault::Markup { kind, line, column },
+        kind => Fault::Markup {
+            kind: Some(kind),
+            line,
+            column,
+        },
     }
 }
 
 /// Where bytes aren't UTF-8 any more.
 fn not_utf8(bytes: &[u8], at: usize) -> Fault {
+    let front = match bytes.get(..at) {
+        Some(front) => front,
+        None => bytes,
+    };
     let mut line: usize = 1;
     let mut column: usize = 1;
-    for byte in bytes.iter().take(at) {
+    for byte in front {
         if *byte == b'\n' {
             line = line.saturating_add(1);
             column = 1;
@@ -160,5 +172,9 @@ fn not_utf8(bytes: &[u8], at: usize) -> Fault {
             column = column.saturating_add(1);
         }
     }
-    Fault::Bytes { line, column }
+    Fault::Markup {
+        kind: None,
+        line,
+        column,
+    }
 }

@@ -16,8 +16,7 @@ struct Pending {
 pub fn print_tree<W: Write>(document: &Document, top: NodeId, out: &mut W) -> Result<(), Fault> {
     let alloc = document.tree.allocator();
     let mut pending = Vec::new(alloc);
-    let top = Pending { id: top, depth: 0 };
-    push_children(document, top, &mut pending)?;
+    push_below(document, Pending { id: top, depth: 0 }, &mut pending)?;
     for _ in 0..document.tree.len() {
         let Some(Pending { id, depth }) = pending.pop() else {
             break;
@@ -31,26 +30,16 @@ pub fn print_tree<W: Write>(document: &Document, top: NodeId, out: &mut W) -> Re
     Ok(())
 }
 
-/// Adds what is below a node, at that depth: a template's contents come before its children.
+/// Adds what is below a node, at that depth: first comes what a template contains, and then the
+/// children. What comes first is added last.
 fn push_below(document: &Document, of: Pending, pending: &mut Vec<Pending>) -> Result<(), Fault> {
     let depth = of.depth;
-    push_children(document, of, pending)?;
+    for id in document.tree.child_ids_of_it(&of.id, true) {
+        pending.push(Pending { id, depth })?;
+    }
     if let Some(node) = document.tree.tree_node(&of.id)
         && let Some(id) = node.content.template_contents()
     {
-        pending.push(Pending { id, depth })?;
-    }
-    Ok(())
-}
-
-/// Adds the children of a node, at that depth, the first one last.
-fn push_children(
-    document: &Document,
-    of: Pending,
-    pending: &mut Vec<Pending>,
-) -> Result<(), Fault> {
-    let depth = of.depth;
-    for id in document.tree.child_ids_of_it(&of.id, true) {
         pending.push(Pending { id, depth })?;
     }
     Ok(())
