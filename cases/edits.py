@@ -363,13 +363,14 @@ class Trial:
 
     def not_refused(self, edits):
         """Tries the edits in rounds, and returns those that were not refused."""
-        batches = [edits] if edits else []
+        batches, over = [edits] if edits else [], None
         with tempfile.TemporaryDirectory(prefix="edits-") as kept:
             while batches:
                 batch = batches.pop()
                 now = apart(batch)
                 later = [it for it in batch if it not in now]
-                again = self.tried(now, kept)
+                # (keeping what was proved takes time, and mostly one round is all)
+                again, over = self.tried(now, over), kept
                 # what a refused function hid joins what waited for it
                 batches += [again[0] + later] if len(again) == 1 else [*again, later] if later else again
         return self.wrong
