@@ -12,9 +12,9 @@ list of pieces, each a text and how often it stands there, with {n} in it for th
 with how often it stands there. A case of cases/calls is one of the program `calls`, whose arguments are calls of the library,
 and one of cases/hq or cases/pages (html5lib's tests of tree construction) is one of `hq`.
 
-`calls 'limits space'` does each call that takes memory with ever more of it, in an address space of LIMITED bytes; refusals.py refuses
-each request for memory in turn, hostile.py has texts and nodes read that are changed in every place, and depth.py deep and wide
-trees. What the line `sanitize` leaves of random forests is compared with cases/clean.py, and what paths find with cases/paths.py.
+refusals.py refuses each request for memory in turn, and asks in ever larger address spaces; hostile.py has texts and nodes read that are changed in every place, and depth.py deep and wide
+trees. What the line `sanitize` leaves of random forests is compared with cases/clean.py, what paths find with cases/paths.py, and
+what selectors select with what they select in another way (cases/ways.py).
 Which public functions are called at all is counted by cases/coverage.py.
 
 A snippet is a block of README.md, docs/API.md, docs/SINK.md or docs/PAGES.md: one of rust stands in a file of crates/tour/src, line for line
@@ -42,11 +42,11 @@ import hostile  # noqa: E402
 import paths  # noqa: E402
 import refusals  # noqa: E402
 import streams  # noqa: E402
+import ways  # noqa: E402
 from rows import ROOT, SECONDS, built, given, words_of  # noqa: E402
 
 NO_FUNCTION = "no_function_of_this_name"
-LIMITED = 256 * 1024 * 1024
-SEED, FORESTS, PATHS = 1, 2000, 500
+SEED, FORESTS, PATHS, WAYS = 1, 2000, 500, 400
 
 
 class Clock:
@@ -164,29 +164,17 @@ def pages():
     return run_cases("cases of pages", "hq", [*(ROOT / "cases").glob("hq/*.jsonl"), *(ROOT / "cases").glob("pages/*.jsonl")])
 
 
-def limited():
-    """Runs the calls that take memory in a small address space, and returns how many calls were refused memory as they must
-    be and then done, and how many weren't."""
-    limit = lambda: resource.setrlimit(resource.RLIMIT_AS, (LIMITED, LIMITED))
-    try:
-        words = [built("calls"), "limits space"]
-        ran = subprocess.run(words, input="", capture_output=True, text=True, timeout=SECONDS, preexec_fn=limit)
-    except (OSError, subprocess.SubprocessError) as stopped:
-        print(f"limits space: {stopped}")
-        return 0, 1
-    lines = ran.stdout.splitlines()
-    wrong = [line for line in lines if not line.endswith(": refused, then done")]
-    for line in wrong:
-        print(f"limits space: {line}")
-    passed, failed = len(lines) - len(wrong), len(wrong)
-    print(f"calls that memory is refused to: {passed} passed, {failed} failed")
-    return passed, failed if passed and ran.returncode == 0 else failed + 1
-
-
 def cleaned():
     """Compares random forests that the program cleaned with a clean of our own."""
     passed, failed = clean.compared(built("dq"), SEED, FORESTS)
     print(f"forests that were cleaned: {passed} passed, {failed} failed")
+    return passed, failed
+
+
+def asked_each_way():
+    """Compares what selectors select in random forests by each way."""
+    passed, failed = ways.compared(built("calls"), SEED, WAYS)
+    print(f"selectors in random forests, each way: {passed} passed, {failed} failed")
     return passed, failed
 
 
@@ -302,9 +290,9 @@ def refused_callers():
 def main():
     clock, cases_alone = Clock(), sys.argv[1:] == ["--cases"]
     counts = [] if cases_alone else gate(clock)
-    tables = [table, calls, pages, limited, cleaned, followed, streams.streams, snippets, wrong_bodies, coverage.coverage]
+    tables = [table, calls, pages, cleaned, followed, asked_each_way, streams.streams, snippets, wrong_bodies, coverage.coverage]
     counts += clock.timed("the cases", lambda: [each() for each in tables])
-    hard = [("the hostile inputs", hostile.hostile), ("the refusals", refusals.refusals), ("deep and wide trees", depth.depth)]
+    hard = [("the hostile inputs", hostile.hostile), ("the refusals", refusals.refusals), ("small address spaces", refusals.limited), ("deep and wide trees", depth.depth)]
     counts += [clock.timed(part, each) for part, each in hard]
     counts += [clock.timed("the callers that must not compile", refused_callers)]
     clock.note("all", time.monotonic() - clock.begun, used())

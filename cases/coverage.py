@@ -10,7 +10,7 @@ import re
 import sys
 
 ROOT = pathlib.Path(__file__).resolve().parent.parent
-ROOTS = ("tests", "named_calls", "calls", "tour", "dq", "hq")
+ROOTS = ("tests", "calls", "tour", "dq", "hq")
 # Moves of nodes in an arena. Those of `Tree` call `TreeNodeOps::move_to`, as these do, which take no memory and answer nothing.
 UNCALLED = {
     "TreeNodeOps::insert_siblings_after",

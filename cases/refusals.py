@@ -3,11 +3,17 @@ of a run, and N is counted up until a run meets no refusal. A refusal is reporte
 5; what was written is then a beginning of the output, and all that was asked for is given back. Where a refusal is passed by,
 as that of a cache or of room that was asked for in advance, the answer is the right one.
 
-Where there is no `cc`, or its library can't be preloaded, this says so and counts nothing."""
+A line of the program `calls` is asked between two lines `state`, which print all that the document holds and ask for nothing.
+Where a request of that line is refused, each line that it prints says so, or is printed with ample memory too, and the
+document is as it was before, or as it is where the line is asked of the first nodes alone.
+
+Where there is no `cc`, or its library can't be preloaded, this says so and counts nothing. Lines of `calls` that are asked in ever
+larger address spaces (`limited`) need no counter."""
 import json
 import os
 import pathlib
 import re
+import resource
 import shutil
 import subprocess
 import tempfile
@@ -16,6 +22,34 @@ from rows import ROOT, SECONDS, built, given, words_of
 
 REPORTED = (b"dq: out of memory\n", b"dq: write failed\n", b"dq: read failed\n")
 MANY = 3_000
+# The line of `calls` that prints all that the document holds.
+STATE = b"state"
+# The files of cases/calls whose lines are asked.
+FILES = "memory changes documents indexes minis moves reading sanitising selections selectors sinks texts values".split()
+# What is asked in small address spaces, over so many paragraphs.
+LIMITED = [b"texts", b"print", b"clone", b"places", b"select p b", b"selection p, b", b"step b", b"find 0 p > b", b"to-fragment 0"]
+LIMITED += [b"htmls 0", b"md 0", b"walk 0", b"nodes 1,5,9 append_html " + b"<i>x</i>" * 2_000]
+PARAGRAPH, PARAGRAPHS = b"<p class='a'>text that a node keeps apart, for it is long<b>b</b></p>", 1_000
+SPACES = 3_900_000, 7_900_000, 65_536
+# Groups of calls whose second word names the call.
+NAMED = {b"move", b"make", b"change", b"copy", b"sink-make", b"sink-put", b"sink-change"}
+# A line that says that memory was refused.
+REFUSAL = re.compile(rb"out of memory|^Memory( true)?\n|: -\n|^select: refused\n|^validate: false\n|^forest true false\n|^tests: \d+\n")
+# How a line ends of which a request is refused.
+REFUSED, UNREAD, ANSWERED, DONE = "refused", "unread", "answered", "done"
+# How many lines of a call are tried for that which makes most requests, and so many leaves behind it.
+TRIED, LEAF, LEAVES = 6, b"<p></p>", 9
+# Calls that take no memory: no request is made, but for the words of the line.
+MOVES = "replace_with wrap_node remove_from_parent unwrap_node insert_siblings_before insert_siblings_after".split()
+OF_TREE = "append_child_of prepend_child_of insert_before_of insert_after_of append_children_of prepend_children_of".split()
+OF_TREE += ["remove_children_of", "reparent_children_of", *MOVES]
+OF_NODE = "append_child prepend_child insert_before insert_after append_children prepend_children remove_children".split()
+OF_NODE += ["strip_elements", "remove_attr", "remove_attrs", "retain_attrs", "remove_all_attrs", "update", *MOVES]
+OF_NODES = "remove strip_elements remove_attr remove_attrs retain_attrs remove_all_attrs".split()
+WITHOUT = {f"{group} {call}" for group, calls in (("move", OF_TREE), ("node", OF_NODE), ("nodes", OF_NODES)) for call in calls}
+WITHOUT |= {f"sink-change {call}" for call in ("reparent_children", "remove_from_parent")}
+WITHOUT |= {"change strip_elements_of", "change update_node", "sink-ask", "around", "count", "kinds", "named", "pseudos", "tokens"}
+WITHOUT |= {"fence", "mark", "faults", "position", "node-numbers", "state"}
 
 
 def library(folder):
@@ -94,18 +128,146 @@ def rows(counter):
     return passed, failed if runs else failed + 1
 
 
+def group_of(line):
+    """The call that a line of `calls` makes: its first word, and the word that names a call of that group."""
+    words = line.split(b" ")
+    at = {b"node": 2, b"nodes": 2}.get(words[0], 1 if words[0] in NAMED else 0)
+    return b" ".join(dict.fromkeys([words[0], *words[at : at + 1]])).decode()
+
+
+def asked_lines():
+    """The lines of the rows of cases/calls by their calls: each with the row's markup and the lines in front of it."""
+    lines = {}
+    for name in FILES:
+        for line in (ROOT / "cases" / "calls" / f"{name}.jsonl").read_text(encoding="utf-8").splitlines():
+            case = json.loads(line)
+            words, markup = words_of(case), given(case, "markup")
+            if len(markup) <= MANY and words[0] != b"bulk":
+                for at, word in enumerate(words):
+                    # (a line `snippet` edits each of several nodes, whatever the others answer)
+                    if not re.match(rb"snippet \d+,", word):
+                        lines.setdefault(group_of(word), []).append((markup, words[:at], word))
+    return lines
+
+
+class Asked:
+    """A line that is asked with ample memory: what is printed before it, its answer, the document after it, and the requests that
+    it makes, by their numbers."""
+
+    def __init__(self, counter, markup, before, line):
+        self.markup, self.before, self.line = markup, before, line
+        still = counts(counter, [built("calls"), *before, STATE, STATE, STATE], markup)
+        done = counts(counter, self.words(), markup)
+        self.is_well = still[0] == done[0] == 0 and still[3][2] == done[3][2] == 0
+        self.state = b"".join(still[1].splitlines(True)[-1:])
+        self.front = still[1][: -2 * len(self.state)]
+        self.answer, self.after = self.parts(done[1])
+        self.requests = range(still[3][0] + 1, done[3][0] + 1) if self.is_well else range(0)
+
+    def words(self, line=None):
+        return [built("calls"), *self.before, STATE, self.line if line is None else line, STATE]
+
+    def parts(self, output):
+        """The lines of the answer, and the document after it; None where that isn't printed."""
+        lines = output[len(self.front) :].splitlines(True)
+        return (lines[:-1], lines[-1]) if lines else ([], None)
+
+    def state_after(self, count):
+        """What the document holds where the line is asked of so many of its nodes alone."""
+        group, ids, rest = self.line.split(b" ", 2)
+        line = b" ".join([group, b",".join(ids.split(b",")[:count]), rest])
+        ran = subprocess.run(self.words(line), input=self.markup, capture_output=True, timeout=SECONDS)
+        return self.parts(ran.stdout)[1]
+
+    def ending(self, got):
+        """How a run ended in which a request of the line was refused: what is wrong, or None; and whether the line says that memory was
+        refused (REFUSED), couldn't be read for want of it (UNREAD), or is answered all the same (ANSWERED)."""
+        status, output, _, report = got
+        if not output.startswith(self.front) or len(report) != 3 or not report[1] or report[2]:
+            return f"counted {report}, {output[-300:]}", ANSWERED
+        answer, after = self.parts(output) if status == 0 else (output[len(self.front) :].splitlines(True), None)
+        said = [line for line in answer if REFUSAL.search(line)]
+        is_known = all(line in said or line in self.answer for line in answer)
+        if status == 1:
+            return (None if is_known else f"{answer}"[:600]), UNREAD
+        wanted, kind = (self.state_refused(said), REFUSED) if said else (self.after, ANSWERED)
+        is_known = is_known and (bool(said) or answer == self.answer)
+        return (None if is_known and after == wanted and status == 0 else f"{status}, {answer}"[:600]), kind
+
+    def state_refused(self, said):
+        """What the document holds where the line says that memory was refused: what it held before, or where several nodes are edited
+        in turn, what it holds with the first of them alone."""
+        done = [int(count) for line in said for count in re.findall(rb"refused after (\d+) nodes", line)]
+        return self.state_after(done[0]) if done else self.state
+
+
+def chosen_line(counter, lines):
+    """The line of a call that makes most requests, over a document that has as many more leaves as the nodes have room for."""
+    asked = [Asked(counter, *line) for line in lines[:TRIED]]
+    best = max(asked, key=lambda it: len(it.requests))
+    grown = [Asked(counter, best.markup + LEAF * count, best.before, best.line) for count in range(1, LEAVES)]
+    return max([best, *grown], key=lambda it: len(it.requests))
+
+
+def refused_line(counter, name, lines):
+    """Refuses each request of a line in turn, alone and with all behind it. Returns how many were refused, and what is wrong."""
+    asked = chosen_line(counter, lines)
+    faults, kinds = [] if asked.is_well else ["not done with ample memory"], []
+    for number in asked.requests:
+        for refuse in (str(number), f"{number}+"):
+            fault, kind = asked.ending(counts(counter, asked.words(), asked.markup, refuse))
+            kinds.append(kind)
+            faults += [f"request {refuse}: {fault}"] if fault else []
+    if set(kinds) - {UNREAD} if name in WITHOUT else REFUSED not in kinds:
+        faults.append(f"of {len(kinds)} refusals {kinds.count(REFUSED)} are reported, {kinds.count(ANSWERED)} passed by")
+    return len(kinds), faults
+
+
 def calls(counter):
-    """Has the program `calls` do each call that takes memory with each request refused; returns how many passed and failed."""
-    status, output, error, report = counts(counter, [built("calls"), "limits counted"], b"")
-    lines = output.decode(errors="replace").splitlines()
-    wrong = [line for line in lines if not re.fullmatch(r".*: (\d+ refused, then done|done without a request)", line)]
-    refusals = sum(int(found) for found in re.findall(r": (\d+) refused, then done", output.decode(errors="replace")))
-    if status or len(report) != 3 or report[2]:
-        wrong.append(f"status {status}, counted {report}, {error[:200]}")
-    for line in wrong:
-        print(f"limits counted: {line}")
-    print(f"calls with each request refused: {len(lines) - len(wrong)} passed, {len(wrong)} failed ({refusals} refusals)")
-    return len(lines) - len(wrong), len(wrong) if lines else len(wrong) + 1
+    """Refuses each request of a line of each call of `calls`; returns how many passed and failed."""
+    passed = failed = refusals = 0
+    for name, lines in asked_lines().items():
+        refused, faults = refused_line(counter, name, lines)
+        for fault in faults[:3]:
+            print(f"calls '{name}': {fault}"[:600])
+        passed, failed, refusals = passed + (not faults), failed + bool(faults), refusals + refused
+    print(f"calls with each request refused: {passed} passed, {failed} failed ({refusals} refusals)")
+    return passed, failed if passed else failed + 1
+
+
+def within(line, limit=None):
+    """How a line is answered over many paragraphs, in an address space of so many bytes."""
+    limited_to = (lambda: resource.setrlimit(resource.RLIMIT_AS, (limit, limit))) if limit else None
+    words, markup = [built("calls"), line], PARAGRAPH * PARAGRAPHS
+    return subprocess.run(words, input=markup, capture_output=True, timeout=SECONDS, preexec_fn=limited_to)
+
+
+def ending_within(ran, ample):
+    """How a line ended in a small address space: DONE, REFUSED where it says that memory was refused, UNREAD where the paragraphs couldn't be read or the
+    program not be loaded, which has the status 127; or None where it is answered in another way."""
+    answer = ran.stdout.splitlines(True)
+    said, known = [line for line in answer if REFUSAL.search(line)], set(ample.stdout.splitlines(True))
+    if ran.returncode == 0 and ran.stdout == ample.stdout:
+        return DONE
+    if ran.returncode in (1, 127) and not answer:
+        return UNREAD
+    is_refused = ran.returncode in (0, 1) and said and all(line in said or line in known for line in answer)
+    return REFUSED if is_refused else None
+
+
+def limited():
+    """Asks lines in ever larger address spaces, without any counter: each says that memory was refused, and then is answered.
+    Returns how many lines passed and failed."""
+    passed = failed = 0
+    for line in LIMITED:
+        ample = within(line)
+        endings = [ending_within(within(line, limit), ample) for limit in range(*SPACES)]
+        is_well = None not in endings and REFUSED in endings and endings[-1] == DONE
+        passed, failed = passed + is_well, failed + (not is_well)
+        if not is_well:
+            print(f"in small address spaces: {line}: {endings}"[:600])
+    print(f"lines in ever larger address spaces: {passed} passed, {failed} failed")
+    return passed, failed if passed else failed + 1
 
 
 def refusals():

@@ -1,10 +1,6 @@
 /* A counter in place of malloc, calloc, realloc and free, preloaded by cases/refusals.py. REFUSE=N refuses the Nth request
    of the process, REFUSE=N+ that and each one after it; without it none is refused. At the end it writes to the descriptor
-   REFUSE_TO how many requests there were, how many were refused, and how many blocks weren't given back.
-
-   A program steers it by requests of sizes that no machine has: COMMAND + N answers a block, and while that block isn't
-   freed the Nth request from then on is refused; ONWARD + N refuses all from the Nth on. ASKED answers a block where, while
-   such a block was there the last time, a request was refused. */
+   REFUSE_TO how many requests there were, how many were refused, and how many blocks weren't given back. */
 #include <stddef.h>
 #include <stdio.h>
 #include <stdlib.h>
@@ -14,18 +10,11 @@
 extern void *__libc_malloc(size_t), *__libc_calloc(size_t, size_t), *__libc_realloc(void *, size_t);
 extern void __libc_free(void *);
 
-#define COMMAND ((size_t)1 << 62)
-#define ONWARD (COMMAND + ((size_t)1 << 32))
-#define ASKED (COMMAND + ((size_t)1 << 33))
-
-static unsigned long seen, refused, live, first, in_all;
+static unsigned long seen, refused, live, first;
 static int onward, is_ready;
-static void *steering;
-static unsigned long before;
 
 static int refuses(void) {
     if (!is_ready) return 0;
-    in_all++;
     seen++;
     if (first == 0 || seen < first || (seen > first && !onward)) return 0;
     refused++;
@@ -37,19 +26,7 @@ static void *counted(void *block) {
     return block;
 }
 
-static void *steered(size_t size) {
-    if (size >= ASKED) return refused > before ? counted(__libc_malloc(16)) : NULL;
-    if (steering) return NULL;
-    steering = __libc_malloc(16);
-    onward = size >= ONWARD;
-    first = size - (onward ? ONWARD : COMMAND);
-    seen = 0;
-    before = refused;
-    return steering;
-}
-
 void *malloc(size_t size) {
-    if (size >= COMMAND) return steered(size);
     return refuses() ? NULL : counted(__libc_malloc(size));
 }
 
@@ -62,12 +39,7 @@ void *realloc(void *block, size_t size) {
 }
 
 void free(void *block) {
-    if (block && block == steering) {
-        steering = NULL;
-        first = 0;
-    } else if (block && is_ready) {
-        live--;
-    }
+    if (block && is_ready) live--;
     __libc_free(block);
 }
 
@@ -83,7 +55,7 @@ __attribute__((destructor)) static void end(void) {
     char line[96];
     is_ready = 0;
     if (to) {
-        int length = snprintf(line, sizeof line, "%lu %lu %ld\n", in_all, refused, (long)live);
+        int length = snprintf(line, sizeof line, "%lu %lu %ld\n", seen, refused, (long)live);
         if (write(atoi(to), line, (size_t)length) < 0) _exit(99);
     }
 }

@@ -1,25 +1,26 @@
 //! What `NodeSelect` answers of a node.
 
-use crate::printing::{show, show_flags};
+use crate::printing::show;
+use crate::words::{cut, node_of};
 use dom_query::{
     CaseSensitivity, CssLocalName, Namespace, NodeRef, NodeSelect, NonTSPseudoClass, Tree,
 };
-use named_calls::words::{cut, node_of};
 
 /// What a node is: `N`.
 pub fn show_kinds(rt: &HostRuntime, tree: &Tree, line: &str) -> Option<()> {
     let node = NodeRef::new(node_of(line)?, tree);
+    show(rt, "is_root", NodeSelect::is_root(&node));
+    show(rt, "has_only_text", node.has_only_text());
+    show(rt, "is_empty_element", node.is_empty_element());
+    show(rt, "is_link", NodeSelect::is_link(&node));
+    show(rt, "has_namespace", is_html(&node));
     let is_html = node.is_html_element_in_html_document();
-    let flags = [
-        ("is_root", NodeSelect::is_root(&node)),
-        ("has_only_text", node.has_only_text()),
-        ("is_empty_element", node.is_empty_element()),
-        ("is_link", NodeSelect::is_link(&node)),
-        ("has_namespace", node.has_namespace(&Namespace::Html)),
-        ("is_html_element_in_html_document", is_html),
-    ];
-    show_flags(rt, &flags);
+    show(rt, "is_html_element_in_html_document", is_html);
     Some(())
+}
+
+fn is_html(node: &NodeRef<'_>) -> bool {
+    node.has_namespace(&Namespace::Html)
 }
 
 /// What it has of a name, an id and a text, and whether it is of the type of the first node: `N
@@ -32,25 +33,26 @@ pub fn show_named(rt: &HostRuntime, tree: &Tree, line: &str) -> Option<()> {
     let Some(first) = tree.root().first_child() else {
         return None;
     };
-    let name = CssLocalName::new(rt.alloc(), name).ok()?;
-    let id = CssLocalName::new(rt.alloc(), value).ok()?;
-    show_names(rt, &node, &name, &id);
-    let flags = [
-        ("is_same_type", node.is_same_type(&first)),
-        ("has_text", node.has_text(text)),
-    ];
-    show_flags(rt, &flags);
+    show_name(rt, &node, name)?;
+    show_id(rt, &node, value)?;
+    show(rt, "is_same_type", node.is_same_type(&first));
+    show(rt, "has_text", node.has_text(text));
     Some(())
 }
 
-fn show_names(rt: &HostRuntime, node: &NodeRef<'_>, name: &CssLocalName, id: &CssLocalName) {
-    let is_alike = node.has_id(id, CaseSensitivity::AsciiCaseInsensitive);
-    let flags = [
-        ("has_local_name", node.has_local_name(name)),
-        ("has_id", node.has_id(id, CaseSensitivity::CaseSensitive)),
-        ("has_id without case", is_alike),
-    ];
-    show_flags(rt, &flags);
+fn show_name(rt: &HostRuntime, node: &NodeRef<'_>, word: &str) -> Option<()> {
+    let name = CssLocalName::new(rt.alloc(), word).ok()?;
+    show(rt, "has_local_name", node.has_local_name(&name));
+    Some(())
+}
+
+fn show_id(rt: &HostRuntime, node: &NodeRef<'_>, word: &str) -> Option<()> {
+    let id = CssLocalName::new(rt.alloc(), word).ok()?;
+    let is_same = node.has_id(&id, CaseSensitivity::CaseSensitive);
+    show(rt, "has_id", is_same);
+    let is_alike = node.has_id(&id, CaseSensitivity::AsciiCaseInsensitive);
+    show(rt, "has_id without case", is_alike);
+    Some(())
 }
 
 /// What it answers to pseudo-classes: `N`.

@@ -1,7 +1,8 @@
 //! What a sanitiser leaves of the document.
 
+use crate::printing::show;
+use crate::words::words_of;
 use dom_query::{Allow, Document, sanitize};
-use named_calls::words::words_of;
 
 /// Cleans the document by three lists of names: `ELEMENTS;ATTRIBUTES;DROPPED`.
 pub fn clean(rt: &HostRuntime, document: &mut Document, line: &str) -> Option<()> {
@@ -10,19 +11,23 @@ pub fn clean(rt: &HostRuntime, document: &mut Document, line: &str) -> Option<()
     let elements = words_of(rt.alloc(), elements)?;
     let attrs = words_of(rt.alloc(), attrs)?;
     let dropped = words_of(rt.alloc(), dropped)?;
-    clean_by(document, &elements, &attrs, &dropped)
+    clean_by(rt, document, &elements, &attrs, &dropped);
+    Some(())
 }
 
 fn clean_by(
+    rt: &HostRuntime,
     document: &mut Document,
     elements: &[&str],
     attrs: &[&str],
     drop: &[&str],
-) -> Option<()> {
+) {
     let allow = Allow {
         elements,
         attrs,
         drop,
     };
-    sanitize(document, &allow).ok()
+    if let Err(fault) = sanitize(document, &allow) {
+        show(rt, "sanitize", fault);
+    }
 }

@@ -63,7 +63,12 @@ fn print_matcher(rt: &HostRuntime, matcher: &Matcher) {
 }
 
 /// Whether a copy is the same as a value.
-fn show_same<T: PartialEq>(rt: &HostRuntime, what: &str, value: &T, copy: &Result<T, OutOfMemory>) {
+pub fn show_same<T: PartialEq>(
+    rt: &HostRuntime,
+    what: &str,
+    value: &T,
+    copy: &Result<T, OutOfMemory>,
+) {
     match copy {
         Ok(copy) => show(rt, what, *copy == *value),
         Err(fault) => show(rt, what, *fault),

@@ -1,9 +1,9 @@
 //! Calls of `TreeIndex`.
 
 use crate::printing::{begin, end, show, show_next, show_some};
+use crate::words::{cut, node_of};
 use dom_links::indexes::IndexKind;
 use dom_query::{NodeId, Tree, TreeIndex};
-use named_calls::words::{cut, node_of};
 
 /// What an index answers of two nodes: `N M`.
 pub fn ask(rt: &HostRuntime, tree: &Tree, line: &str) -> Option<()> {

@@ -7,10 +7,11 @@ mod asking;
 mod bulk;
 mod cleaning;
 mod css;
+mod faults;
 mod indexes;
-mod limits;
 mod many;
 mod minis;
+mod node_calls;
 mod pages;
 mod printing;
 mod reading;
@@ -19,10 +20,12 @@ mod selections;
 mod sinks;
 mod texts;
 mod trees;
+mod values;
 mod walking;
+mod words;
 
+use crate::words::cut;
 use dom_query::{Document, Tree};
-use named_calls::words::cut;
 use std::env;
 use std::io::Read;
 use std::process::ExitCode;
@@ -63,6 +66,8 @@ fn read(rt: &HostRuntime, document: &Document, group: &str, line: &str) -> Optio
         "texts" => pages::print_texts(rt, document),
         "html" => pages::print_html(rt, document),
         "clone" => pages::print_copy(rt, document),
+        "state" => values::print_state(rt, document),
+        "copies" => values::print_copies(rt, &document.tree),
         "places" => indexes::show_places(rt, &document.tree),
         "tests" => selecting::count_tests(rt, &document.tree, line),
         "chosen" => selecting::count_chosen_tests(rt, &document.tree, line),
@@ -130,6 +135,7 @@ fn write(rt: &HostRuntime, group: &str, line: &str) -> Option<()> {
         "escape" => texts::escape_value(rt, line),
         "fence" => texts::measure_fence(rt, line),
         "mark" => texts::read_mark(rt, line),
+        "faults" => faults::print_all(rt),
         _ => return make(rt, group, line),
     }
     Some(())
@@ -144,7 +150,9 @@ fn make(rt: &HostRuntime, group: &str, line: &str) -> Option<()> {
         "cell" => texts::escape_cell(rt, line),
         "list" => texts::number_list(rt, line),
         "raw" => bulk::batch::check_line(rt, line),
-        "limits" => limits::do_all(rt, line),
+        "qual-names" => values::compare_names(rt, line),
+        "node-numbers" => values::compare_numbers(rt, line),
+        "position" => faults::find_position(rt, line),
         _ => None,
     }
 }

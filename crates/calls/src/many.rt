@@ -1,8 +1,8 @@
 //! Calls of `SelectionMut`, which change several nodes.
 
 use crate::printing::show_edit;
+use crate::words::{cut, nodes_of, words_of};
 use dom_query::{NodeId, SelectionFault, SelectionMut, Tree};
-use named_calls::words::{cut, nodes_of, words_of};
 
 /// A call at nodes: `N,M CALL WORDS`; nodes that are given are written `N,M` too.
 pub fn call(rt: &HostRuntime, tree: &mut Tree, line: &str) -> Option<()> {

@@ -1,11 +1,11 @@
 //! Mini selectors and paths of them.
 
 use crate::printing::{show, show_ids_read, show_nodes_read, show_read, show_some};
+use crate::words::{cut, node_of, words_of};
 use dom_query::{
     Document, MatchNode, MiniFault, MiniSelect, MiniSelector, NodeId, NodeRef, Traversal, Tree,
     parse_mini_selector, parse_selector_list,
 };
-use named_calls::words::{cut, node_of, words_of};
 
 /// Follows a path, and prints the id of each node that it finds, in order, or `-` where a node has
 /// none: `PATH`.

@@ -1,11 +1,11 @@
 //! Calls of `Document` and of the whole `Tree`.
 
 use crate::printing::{show, show_edit, show_node, show_read, show_some};
+use crate::words::{cut, node_of, nodes_of, words_of};
 use dom_query::{
     Document, DocumentMd, MarkupFault, NodeFragment, NodeId, NodeMarkup, NodeRef, Place, Snippet,
     Tree,
 };
-use named_calls::words::{cut, node_of, nodes_of, words_of};
 
 /// What a document answers of all of it.
 pub fn read(rt: &HostRuntime, document: &Document) {

@@ -1,8 +1,8 @@
 //! What `NodeRef` reads of a node.
 
 use crate::printing::{show, show_flags, show_node, show_read, show_some};
+use crate::words::{cut, node_of};
 use dom_query::{NodeRef, Tree};
-use named_calls::words::{cut, node_of};
 
 /// What a node is, has and says: `N`, or `N WORD` for the attribute, class or name of that word.
 pub fn read(rt: &HostRuntime, tree: &Tree, line: &str) -> Option<()> {
@@ -84,21 +84,25 @@ fn read_texts(rt: &HostRuntime, node: &NodeRef<'_>) {
 /// The nodes around a node, and the elements: `N`.
 pub fn look_around(rt: &HostRuntime, tree: &Tree, line: &str) -> Option<()> {
     let node = tree.get_unchecked(&node_of(line)?);
-    for (name, found) in &[
-        ("parent", node.parent()),
-        ("first_child", node.first_child()),
-        ("last_child", node.last_child()),
-        ("next_sibling", node.next_sibling()),
-        ("prev_sibling", node.prev_sibling()),
-        ("last_sibling", node.last_sibling()),
-        ("parent_element", node.parent_element()),
-        ("next_element_sibling", node.next_element_sibling()),
-        ("next_sibling_element", node.next_sibling_element()),
-        ("prev_element_sibling", node.prev_element_sibling()),
-        ("prev_sibling_element", node.prev_sibling_element()),
-        ("first_element_child", node.first_element_child()),
-    ] {
-        show_node(rt, name, found);
-    }
+    show_nodes_around(rt, &node);
+    show_elements_around(rt, &node);
     Some(())
+}
+
+fn show_nodes_around(rt: &HostRuntime, node: &NodeRef<'_>) {
+    show_node(rt, "parent", &node.parent());
+    show_node(rt, "first_child", &node.first_child());
+    show_node(rt, "last_child", &node.last_child());
+    show_node(rt, "next_sibling", &node.next_sibling());
+    show_node(rt, "prev_sibling", &node.prev_sibling());
+    show_node(rt, "last_sibling", &node.last_sibling());
+}
+
+fn show_elements_around(rt: &HostRuntime, node: &NodeRef<'_>) {
+    show_node(rt, "parent_element", &node.parent_element());
+    show_node(rt, "next_element_sibling", &node.next_element_sibling());
+    show_node(rt, "next_sibling_element", &node.next_sibling_element());
+    show_node(rt, "prev_element_sibling", &node.prev_element_sibling());
+    show_node(rt, "prev_sibling_element", &node.prev_sibling_element());
+    show_node(rt, "first_element_child", &node.first_element_child());
 }

@@ -1,6 +1,7 @@
 //! Selectors: what they select in a document, and what nodes answer to them.
 
 use crate::printing::{begin, end, show, show_ids_read, show_next, show_nodes_read, show_read};
+use crate::words::{cut, node_of, nodes_of};
 use dom_index::selecting::select_nodes;
 use dom_query::{
     DescendantMatches, Document, MatchNode, Matcher, MatcherIter, NodeId, NodeRef, NodeSelect,
@@ -8,7 +9,6 @@ use dom_query::{
 };
 use dom_select::matcher::descendants::select_below;
 use dom_select::matcher::several::select_below_all;
-use named_calls::words::{cut, node_of, nodes_of};
 
 /// The matcher of a text; where it is no selector, why is printed.
 pub fn matcher_of(rt: &HostRuntime, text: &str) -> Option<Matcher> {

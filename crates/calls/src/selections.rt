@@ -5,11 +5,11 @@ use crate::printing::{
     show_some_read,
 };
 use crate::selecting::matcher_of;
+use crate::words::cut;
 use dom_query::{
     Document, DocumentSelect, Matcher, MatcherIter, OutOfMemory, Selection, SelectionMd,
     SelectorFault,
 };
-use named_calls::words::cut;
 use std::fmt::Display;
 
 /// Prints the nodes of a selection, or the fault in its place.

@@ -1,11 +1,11 @@
 //! Calls of `TreeSink` on a `Document`.
 
 use crate::printing::{show, show_edit, show_read, show_some};
+use crate::words::{cut, node_of};
 use dom_query::{
     Attr, Attrs, Document, EditFault, ElementFlags, LocalName, NameParts, Namespace, NodeId,
     NodeOrText, QualName, QuirksMode, Text, TreeSink,
 };
-use named_calls::words::{cut, node_of};
 use std::alloc::Global;
 
 /// A call that makes a node: `CALL WORDS`.
@@ -31,24 +31,28 @@ fn element(document: &mut Document, name: &str, attrs: &str) -> Option<Result<No
         template: name == "template",
         mathml_annotation_xml_integration_point: name == "mathml:annotation-xml",
     };
-    let name = named(alloc, namespace_of(name, Namespace::Html), local_of(name))?;
+    let ns = namespace_of(name).unwrap_or(Namespace::Html);
+    let name = named(alloc, ns, local_of(name))?;
     Some(document.create_element(name, attrs, flags))
 }
 
-/// The namespace that is written before a colon, or else the other one.
-fn namespace_of(written: &str, other: Namespace) -> Namespace {
-    match written.split_once(':') {
-        Some(("svg", _)) => Namespace::Svg,
-        Some(("mathml", _)) => Namespace::MathMl,
-        Some(("xlink", _)) => Namespace::XLink,
-        Some(("xml", _)) => Namespace::Xml,
-        Some(("xmlns", _)) => Namespace::XmlNs,
-        _ => other,
-    }
+/// The namespace that is written before a colon, if there is one.
+pub fn namespace_of(written: &str) -> Option<Namespace> {
+    let (prefix, _) = written.split_once(':')?;
+    Some(match prefix {
+        "none" => Namespace::None,
+        "html" => Namespace::Html,
+        "svg" => Namespace::Svg,
+        "mathml" => Namespace::MathMl,
+        "xlink" => Namespace::XLink,
+        "xml" => Namespace::Xml,
+        "xmlns" => Namespace::XmlNs,
+        _ => return None,
+    })
 }
 
 /// What is written behind the colon, or all of it.
-fn local_of(written: &str) -> &str {
+pub fn local_of(written: &str) -> &str {
     match written.split_once(':') {
         Some((_, local)) => local,
         None => written,
@@ -75,7 +79,8 @@ fn attributes(alloc: Global, written: &str) -> Option<Attrs> {
 
 fn attribute(alloc: Global, written: &str) -> Option<Attr> {
     let (key, value) = written.split_once('=')?;
-    let name = named(alloc, namespace_of(key, Namespace::None), local_of(key))?;
+    let ns = namespace_of(key).unwrap_or(Namespace::None);
+    let name = named(alloc, ns, local_of(key))?;
     let value = Text::new(alloc, value).ok()?;
     Some(Attr { name, value })
 }

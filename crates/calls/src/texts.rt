@@ -1,12 +1,12 @@
 //! Markdown and its pieces, and the tokens of a text.
 
 use crate::printing::{show, show_read};
+use crate::words::{cut, node_of, words_of};
 use dom_md::formatting::formatted_node;
 use dom_query::{
     EmphasisScope, FormatOpts, ListContext, ListKind, MDSerializer, NodeMd, NodeRef, Token, Tokens,
     Tree, escape_table_cell_inplace, fence_len, html_escape, push_escaped_chunk, serialize_md,
 };
-use named_calls::words::{cut, node_of, words_of};
 
 /// The Markdown of a node, by each call: `N`.
 pub fn write_node(rt: &HostRuntime, tree: &Tree, line: &str) -> Option<()> {
@@ -46,16 +46,20 @@ pub fn format(rt: &HostRuntime, tree: &Tree, line: &str) -> Option<()> {
 /// A chunk of text, escaped: `TEXT`.
 pub fn escape_chunk(rt: &HostRuntime, text: &str) -> Option<()> {
     let mut chunk = String::from_str(rt.alloc(), "x").ok()?;
-    push_escaped_chunk(&mut chunk, text, true, true).ok()?;
-    show(rt, "push_escaped_chunk", chunk.as_str());
+    match push_escaped_chunk(&mut chunk, text, true, true) {
+        Ok(()) => show(rt, "push_escaped_chunk", chunk.as_str()),
+        Err(fault) => show(rt, "push_escaped_chunk", fault),
+    }
     Some(())
 }
 
 /// A cell of a table, escaped: `TEXT`.
 pub fn escape_cell(rt: &HostRuntime, text: &str) -> Option<()> {
     let mut cell = String::from_str(rt.alloc(), text).ok()?;
-    escape_table_cell_inplace(&mut cell).ok()?;
-    show(rt, "escape_table_cell_inplace", cell.as_str());
+    match escape_table_cell_inplace(&mut cell) {
+        Ok(()) => show(rt, "escape_table_cell_inplace", cell.as_str()),
+        Err(fault) => show(rt, "escape_table_cell_inplace", fault),
+    }
     Some(())
 }
 

@@ -1,10 +1,9 @@
 //! Calls of `Tree` that change it: moves, new nodes, texts and copies.
 
+use crate::node_calls::edited;
 use crate::printing::{show_edit, show_ids_read, show_read};
-use dom_query::{EditFault, NodeEdit, NodeId, Place, Text, Tree};
-use named_calls::node_calls::edited;
-use named_calls::tree_calls::{cut_out, made, moved};
-use named_calls::words::{cut, node_of, nodes_of, words_of};
+use crate::words::{cut, node_of, nodes_of, words_of};
+use dom_query::{EditFault, LocalName, NodeData, NodeEdit, NodeId, Place, QualName, Text, Tree};
 
 /// A move: `CALL N M`, or `CALL N`.
 pub fn move_nodes(rt: &HostRuntime, tree: &mut Tree, line: &str) -> Option<()> {
@@ -17,6 +16,41 @@ pub fn move_nodes(rt: &HostRuntime, tree: &mut Tree, line: &str) -> Option<()> {
     };
     show_edit(rt, call, edit);
     Some(())
+}
+
+/// Moves two nodes; None, where no call of two nodes has this name.
+fn moved(
+    tree: &mut Tree,
+    call: &str,
+    id: &NodeId,
+    other: &NodeId,
+) -> Option<Result<(), EditFault>> {
+    Some(match call {
+        "append_child_of" => tree.append_child_of(id, other),
+        "prepend_child_of" => tree.prepend_child_of(id, other),
+        "insert_before_of" => tree.insert_before_of(id, other),
+        "insert_after_of" => tree.insert_after_of(id, other),
+        "append_children_of" => tree.append_children_of(id, other),
+        "prepend_children_of" => tree.prepend_children_of(id, other),
+        "insert_siblings_before" => tree.insert_siblings_before(id, other),
+        "insert_siblings_after" => tree.insert_siblings_after(id, other),
+        "reparent_children_of" => tree.reparent_children_of(id, Some(*other)),
+        "replace_with" => tree.replace_with(id, other),
+        "wrap_node" => tree.wrap_node(id, other),
+        _ => return None,
+    })
+}
+
+/// Moves or joins nodes by a call that names one node; None, where none has this name.
+fn cut_out(tree: &mut Tree, call: &str, id: &NodeId) -> Option<Result<(), EditFault>> {
+    Some(match call {
+        "remove_from_parent" => tree.remove_from_parent(id),
+        "remove_children_of" => tree.remove_children_of(id),
+        "reparent_children_of" => tree.reparent_children_of(id, None),
+        "unwrap_node" => tree.unwrap_node(id),
+        "normalize_of" => tree.normalize_of(id),
+        _ => return None,
+    })
 }
 
 /// A call at a node that is lent: `N CALL WORDS`.
@@ -33,6 +67,21 @@ pub fn make_node(rt: &HostRuntime, tree: &mut Tree, line: &str) -> Option<()> {
     let made = made(tree, call, text)?;
     show_read(rt, call, made.map(NodeId::value));
     Some(())
+}
+
+/// Makes a node of that text; None, where no call that makes nodes has this name.
+fn made(tree: &mut Tree, call: &str, text: &str) -> Option<Result<NodeId, EditFault>> {
+    Some(match call {
+        "new_element" => tree.new_element(text),
+        "new_element_qualname" => {
+            let local = LocalName::new(tree.allocator(), text).ok()?;
+            tree.new_element_qualname(QualName::html(local))
+        }
+        "new_text" => tree.new_text(text),
+        "new_comment" => tree.new_comment(text),
+        "new_fragment" => tree.create_node(NodeData::Fragment),
+        _ => return None,
+    })
 }
 
 /// A change of a node: `CALL N TEXT`.

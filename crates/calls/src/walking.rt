@@ -1,10 +1,10 @@
 //! Lists of nodes, and calls of `Tree` that read nodes by their numbers.
 
 use crate::printing::{show, show_ids_read, show_node, show_nodes_read, show_some};
+use crate::words::{node_of, nodes_of};
 use dom_query::{
     NodeId, NodeRef, Tree, TreeNodeOps, ancestor_nodes, child_nodes, descendant_nodes,
 };
-use named_calls::words::{node_of, nodes_of};
 
 /// The lists of nodes above and below a node, and beside it by number: `N`.
 pub fn walk(rt: &HostRuntime, tree: &Tree, line: &str) -> Option<()> {

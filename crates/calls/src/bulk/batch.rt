@@ -2,11 +2,11 @@
 //! input, and prints one answer a line. `bulk raw` reads nodes with their links in that way, and
 //! the line `raw` those of its words.
 
+use crate::words::cut;
 use dom_query::{
     Attrs, Document, Element, Link, LocalName, Matcher, NodeData, NodeId, QualName, Text, Tree,
     TreeNode, ValidateFault, parse_selector_list, run,
 };
-use named_calls::words::cut;
 use std::alloc::Global;
 use std::io::Read;
 use std::str;
@@ -122,16 +122,20 @@ fn data_of(alloc: Global, word: &str) -> Option<NodeData> {
     match word {
         "document" => Some(NodeData::Document),
         "fragment" => Some(NodeData::Fragment),
-        "text" => {
-            let contents = Text::new(alloc, "x").ok()?;
-            Some(NodeData::Text { contents })
-        }
-        _ => {
-            let name = QualName::html(LocalName::new(alloc, "b").ok()?);
-            let attrs = Attrs::new(alloc);
-            Some(NodeData::Element(Element::new(name, attrs, named(word), false)))
-        }
+        "text" => text(alloc),
+        _ => element(alloc, named(word)),
     }
+}
+
+fn text(alloc: Global) -> Option<NodeData> {
+    let contents = Text::new(alloc, "x").ok()?;
+    Some(NodeData::Text { contents })
+}
+
+/// An element with these contents.
+fn element(alloc: Global, contents: Option<NodeId>) -> Option<NodeData> {
+    let name = QualName::html(LocalName::new(alloc, "b").ok()?);
+    Some(NodeData::Element(Element::new(name, Attrs::new(alloc), contents, false)))
 }
 
 /// The node of this number: `KIND PARENT PREV NEXT FIRST LAST`.

@@ -2,13 +2,13 @@
 //! SELECTOR` prints the best of so many runs in nanoseconds and what the call counted. `bulk time`
 //! does each call once and prints its count alone.
 
+use crate::words::{named, words_of};
 use dom_query::{
     Allow, Document, DocumentMd, DocumentSelect, EditFault, Matcher, MiniSelect, NodeId,
     NodeMarkup, NodeMd, Options, OutOfMemory, Place, Snippet, Tokens, Tree, TreeIndex, parse_page,
     sanitize,
 };
 use dom_select::matcher::descendants::select_below;
-use named_calls::words::named;
 use std::alloc::Global;
 use std::io::Read;
 use std::time::{Duration, Instant};
@@ -68,38 +68,10 @@ const CALLS: [(&str, Call); 23] = [
 ];
 
 /// What of a page stays where it is cleaned.
-const ELEMENTS: [&str; 25] = [
-    "a",
-    "b",
-    "blockquote",
-    "br",
-    "code",
-    "dd",
-    "div",
-    "dl",
-    "dt",
-    "em",
-    "h1",
-    "h2",
-    "h3",
-    "i",
-    "img",
-    "li",
-    "ol",
-    "p",
-    "pre",
-    "span",
-    "strong",
-    "table",
-    "td",
-    "tr",
-    "ul",
-];
+const ELEMENTS: &str = "a b blockquote br code dd div dl dt em h1 h2 h3 i img li ol p pre span \
+    strong table td tr ul";
 
-const ATTRS: [&str; 12] = [
-    "alt", "class", "colspan", "dir", "height", "href", "id", "lang", "rowspan", "src", "title",
-    "width",
-];
+const ATTRS: &str = "alt class colspan dir height href id lang rowspan src title width";
 
 /// A run of a call: how long it took, and what it counted.
 #[derive(Clone, Copy)]
@@ -188,13 +160,20 @@ fn run_change(
 
 /// Cleans a document, and counts what is left below its root.
 fn run_cleaning(rt: &HostRuntime, document: &mut Document) -> Option<Run> {
+    let elements = words_of(rt.alloc(), ELEMENTS)?;
+    let attrs = words_of(rt.alloc(), ATTRS)?;
+    let drop = words_of(rt.alloc(), "script style")?;
     let allow = Allow {
-        elements: &ELEMENTS,
-        attrs: &ATTRS,
-        drop: &["script", "style"],
+        elements: &elements,
+        attrs: &attrs,
+        drop: &drop,
     };
+    clean(rt, document, &allow)
+}
+
+fn clean(rt: &HostRuntime, document: &mut Document, allow: &Allow<'_>) -> Option<Run> {
     let start = Instant::now(rt).ok()?;
-    sanitize(document, &allow).ok()?;
+    sanitize(document, allow).ok()?;
     let took = start.elapsed(rt).ok()?;
     let count = document.root().descendants_it().count();
     Some(Run { took, count })
@@ -202,25 +181,34 @@ fn run_cleaning(rt: &HostRuntime, document: &mut Document) -> Option<Run> {
 
 /// Changes a document, and counts the nodes that it then has, or those that moved.
 fn changed(page: &Page<'_>, document: &mut Document, call: Call) -> Option<usize> {
+    match call {
+        Call::Edits => return Some(move_all(&mut document.tree)),
+        Call::Copy | Call::Merge => copy_all(page, &mut document.tree, call)?,
+        Call::Normalize => document.normalize().ok()?,
+        Call::Strip => document.tree.strip_elements_of(&NodeId::root(), &["b"]),
+        _ => strip_all(document)?,
+    }
+    Some(document.tree.len())
+}
+
+/// Copies all nodes of the tree, or of one that is the same.
+fn copy_all(page: &Page<'_>, tree: &mut Tree, call: Call) -> Option<()> {
+    let ids = page.document.tree.child_ids_of(&NodeId::root()).ok()?;
+    let copied = match call {
+        Call::Copy => tree.copy_nodes(&ids),
+        _ => tree.merge(&page.document.tree, &ids),
+    };
+    copied.is_ok().then_some(())
+}
+
+/// Leaves one kind of element.
+fn strip_all(document: &mut Document) -> Option<()> {
     let allow = Allow {
         elements: &["i"],
         attrs: &[],
         drop: &[],
     };
-    let ids = page.document.tree.child_ids_of(&NodeId::root()).ok()?;
-    match call {
-        Call::Edits => return Some(move_all(&mut document.tree)),
-        Call::Copy => {
-            document.tree.copy_nodes(&ids).ok()?;
-        }
-        Call::Merge => {
-            document.tree.merge(&page.document.tree, &ids).ok()?;
-        }
-        Call::Normalize => document.normalize().ok()?,
-        Call::Strip => document.tree.strip_elements_of(&NodeId::root(), &["b"]),
-        _ => sanitize(document, &allow).ok()?,
-    }
-    Some(document.tree.len())
+    sanitize(document, &allow).ok()
 }
 
 /// Moves each node to the end of the first node's children, where it may go there; answers how many
@@ -302,7 +290,7 @@ fn count_found(page: &Page<'_>, call: Call) -> Option<usize> {
     let document = &page.document;
     match call {
         Call::Index | Call::Tables => match TreeIndex::new(&document.tree) {
-            Ok(index) => count_indexed(index, &page.matcher, call),
+            Ok(mut index) => count_indexed(&mut index, &page.matcher, call),
             Err(OutOfMemory) => None,
         },
         Call::Find => match document.root().find_descendants(page.selector) {
@@ -317,13 +305,13 @@ fn count_found(page: &Page<'_>, call: Call) -> Option<usize> {
 }
 
 /// What an index counts below the root, or selects there by tables.
-fn count_indexed(mut index: TreeIndex<'_>, matcher: &Matcher, call: Call) -> Option<usize> {
-    if call == Call::Index {
-        return index.last_below(&NodeId::root());
-    }
-    match index.select_by_tables(matcher, &[NodeId::root()]) {
-        Ok(found) => Some(found.len()),
-        Err(OutOfMemory) => None,
+fn count_indexed(index: &mut TreeIndex<'_>, matcher: &Matcher, call: Call) -> Option<usize> {
+    match call {
+        Call::Index => index.last_below(&NodeId::root()),
+        _ => match index.select_by_tables(matcher, &[NodeId::root()]) {
+            Ok(found) => Some(found.len()),
+            Err(OutOfMemory) => None,
+        },
     }
 }
 
@@ -332,11 +320,16 @@ fn count_indexed(mut index: TreeIndex<'_>, matcher: &Matcher, call: Call) -> Opt
 fn append_to_all(page: &Page<'_>) -> Option<usize> {
     let mut document = page.document.try_clone().ok()?;
     let found = select_below(&document.tree, &NodeId::root(), &page.matcher).ok()?;
-    let snippet = Snippet::read(document.tree.allocator(), "<i>x</i>").ok()?;
-    for id in &found {
-        snippet.put_at(&mut document.tree, id, Place::AtEnd).ok()?;
-    }
+    append_at_each(&mut document.tree, &found)?;
     Some(found.len())
+}
+
+fn append_at_each(tree: &mut Tree, ids: &[NodeId]) -> Option<()> {
+    let snippet = Snippet::read(tree.allocator(), "<i>x</i>").ok()?;
+    for id in ids {
+        snippet.put_at(tree, id, Place::AtEnd).ok()?;
+    }
+    Some(())
 }
 
 /// Where the last token ends.

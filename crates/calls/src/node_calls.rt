@@ -1,33 +1,37 @@
 //! Calls of a node that is lent to be changed: `NodeMut` and `NodeMutMarkup`.
 
 use crate::words::{cut, named, node_of, words_of};
-use dom_markup::setters::NodeMutMarkup;
-use dom_nodes::fault::EditFault;
-use dom_nodes::node_data::NodeEdit;
-use dom_nodes::node_id::NodeId;
-use dom_nodes::text::Text;
-use dom_trees::node_mut::NodeMut;
-use dom_trees::tree::Tree;
+use dom_query::{EditFault, NodeEdit, NodeId, NodeMut, NodeMutMarkup, Text, Tree};
 
 /// Makes the call of a line `N CALL WORDS`; None, where no call has this name.
 pub fn edited(tree: &mut Tree, line: &str) -> Option<Result<(), EditFault>> {
     let (word, rest) = cut(line);
     let id = node_of(word)?;
-    let (call, words) = cut(rest);
     let mut node = tree.node_mut(&NodeId::root())?;
     // A number that the tree doesn't have is refused by the calls.
     node.id = id;
-    if let Some(other) = node_of(words) {
-        return Some(moved(&mut node, named(&MOVES, call)?, &other));
+    called(&mut node, rest)
+}
+
+/// Makes the call of a line `CALL WORDS`.
+fn called(node: &mut NodeMut<'_>, line: &str) -> Option<Result<(), EditFault>> {
+    let (call, words) = cut(line);
+    match node_of(words) {
+        Some(other) => Some(moved(node, named(&MOVES, call)?, &other)),
+        None => put_or_changed(node, call, words),
     }
-    if let Some(putting) = named(&PUTS, call) {
-        return Some(put(&mut node, putting, words));
+}
+
+fn put_or_changed(
+    node: &mut NodeMut<'_>,
+    call: &str,
+    words: &str,
+) -> Option<Result<(), EditFault>> {
+    match (named(&PUTS, call), named(&CHANGES, call)) {
+        (Some(putting), _) => Some(put(node, putting, words)),
+        (None, Some(changing)) => Some(changed(node, changing, words)),
+        (None, None) => changed_always(node, named(&CUTS, call)?, words).map(Ok),
     }
-    if let Some(changing) = named(&CHANGES, call) {
-        return Some(changed(&mut node, changing, words));
-    }
-    changed_always(&mut node, named(&CUTS, call)?, words)?;
-    Some(Ok(()))
 }
 
 /// A call that moves the node or another.

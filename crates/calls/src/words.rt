@@ -1,6 +1,6 @@
 //! The words of a line.
 
-use dom_nodes::node_id::NodeId;
+use dom_query::NodeId;
 use std::alloc::Global;
 
 /// The first word of a line, and what stands behind it.
