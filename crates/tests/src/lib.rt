@@ -7,13 +7,13 @@ mod failing;
 #[cfg(test)]
 mod html5;
 #[cfg(test)]
-mod index;
-#[cfg(test)]
 mod markup;
 #[cfg(test)]
 mod nodes;
 #[cfg(test)]
 mod query;
+#[cfg(test)]
+mod random;
 #[cfg(test)]
 mod select;
 #[cfg(test)]

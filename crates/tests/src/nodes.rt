@@ -1,4 +1,3 @@
 //! Tests of `dom_nodes`.
 
 mod changes;
-mod values;

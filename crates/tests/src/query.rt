@@ -1,4 +1,3 @@
 //! Tests of `dom_query`.
 
 mod streams;
-mod texts;

@@ -2,5 +2,4 @@
 
 mod closures;
 mod counted;
-mod paths;
 mod roots;

@@ -2,7 +2,7 @@
 //! pieces: the pieces are always read by tree construction.
 
 use super::{OPTIONS, in_pieces};
-use crate::index::random::{Dice, add, close};
+use crate::random::{Dice, add, close};
 use dom_html5::{PageFault, parse_page};
 use dom_query::Document;
 use std::alloc::Global;

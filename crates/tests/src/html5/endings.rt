@@ -2,7 +2,7 @@
 //! as the same page by both ways of reading tags.
 
 use super::OPTIONS;
-use crate::index::random::add;
+use crate::random::add;
 use dom_html5::{Options, parse_page};
 use std::alloc::Global;
 use std::test::Fail;

@@ -1,3 +1,0 @@
-//! Tests of `dom_index`.
-
-pub(crate) mod random;
