@@ -28,7 +28,8 @@ impl Open {
 }
 
 impl Open {
-    /// Whether what stands in the element is read by the rules for foreign content, but for some tags.
+    /// Whether what stands in the element is read by the rules for foreign content, but for some
+    /// tags.
     pub fn holds_foreign(&self) -> bool {
         self.ns != Ns::Html && !self.is_text_point() && !self.is_html_point()
     }

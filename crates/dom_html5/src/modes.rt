@@ -35,8 +35,8 @@ impl TreeBuilder {
         self.process(Token::Tag(name, tag))
     }
 
-    /// Reads a token. If it is reprocessed more often than any stack of open elements asks for, it is
-    /// read in the body at last.
+    /// Reads a token. If it is reprocessed more often than any stack of open elements asks for, it
+    /// is read in the body at last.
     pub fn process(&mut self, token: Token<'_>) -> Result<(), PageFault> {
         for _ in 0..self.turns() {
             if self.step(token)? == Next::Done {
