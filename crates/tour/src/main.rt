@@ -2,7 +2,6 @@
 //! small whole programs over the library. `check` compares the documents with these files.
 #![tactic(auto)]
 
-mod addresses;
 mod article;
 mod changing;
 mod comments;
@@ -14,7 +13,6 @@ mod pages;
 mod parens;
 mod reading;
 mod rewriting;
-mod walking;
 mod writing;
 
 use fault::TourFault;
@@ -26,7 +24,6 @@ fn print_snippets<W: Write>(alloc: Global, out: &mut W) -> Result<(), TourFault>
     links::print_links(alloc, links::PAGE, out)?;
     reading::print_page(alloc, out)?;
     finding::print_found(alloc, out)?;
-    walking::print_list(alloc, out)?;
     changing::print_changed(alloc, out)?;
     many::print_marked(alloc, out)?;
     writing::print_written(alloc, out)
@@ -35,7 +32,6 @@ fn print_snippets<W: Write>(alloc: Global, out: &mut W) -> Result<(), TourFault>
 /// Prints what the small programs print.
 fn print_programs<W: Write>(alloc: Global, out: &mut W) -> Result<(), TourFault> {
     parens::print_read(alloc, out)?;
-    addresses::print_links(alloc, addresses::PAGE, out)?;
     rewriting::print_rewritten(alloc, rewriting::PAGE, out)?;
     article::print_article(alloc, article::PAGE, out)?;
     comments::print_comments(alloc, &comments::COMMENTS, out)?;

@@ -1,7 +1,8 @@
 //! Rewriting a page.
 
+use crate::comments::select;
 use crate::fault::TourFault;
-use dom_query::{Document, DocumentSelect, NodeMarkup, SelectionMut};
+use dom_query::{Document, DocumentSelect, NodeMarkup};
 use std::alloc::Global;
 use std::io::Write;
 
@@ -24,12 +25,6 @@ fn rewrite(document: &mut Document) -> Result<(), TourFault> {
     load_late(document)?;
     dress(document)?;
     gather_notes(document)
-}
-
-/// The nodes that the selectors select, to be changed.
-fn select<'a>(document: &'a mut Document, selectors: &str) -> Result<SelectionMut<'a>, TourFault> {
-    let ids = document.select(selectors)?.ids()?;
-    Ok(SelectionMut::new(&mut document.tree, ids))
 }
 
 /// Takes scripts away.
