@@ -11,8 +11,8 @@ use dom_nodes::fault::OutOfMemory;
 use dom_selectors::syntax::{Combinator, Compound, Selector, Step};
 use dom_trees::tree::Tree;
 
-/// A selector whose combinators lead to ancestors or to earlier siblings, with a test for each of its
-/// compounds.
+/// A selector whose combinators all lead to ancestors or all to earlier siblings, with a test for
+/// each of its compounds.
 #[derive(Drop)]
 pub(crate) struct Chain<'s> {
     pub(crate) first: &'s Compound,

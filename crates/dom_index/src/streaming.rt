@@ -30,9 +30,9 @@ use dom_select::matcher::several::nodes_below;
 use dom_selectors::syntax::{Combinator, Selector};
 use dom_trees::tree::Tree;
 
-/// Rows of flags, one for each node by its number: the flags of a selector's steps at those nodes
-/// that it is the next one to the left of, its children or its next sibling. Those that `filled` has
-/// are filled. `none` is the row at a node that has no node to its left.
+/// Rows of flags, one for each node by its number: the flags of a selector's steps at the nodes that
+/// it is the next one to the left of, which are its children or its next sibling. Those that
+/// `filled` has are filled. `none` is the row at a node that has no node to its left.
 #[derive(Drop)]
 struct Rows {
     none: Vec<bool>,
