@@ -21,8 +21,9 @@ use dom_trees::tree::Tree;
 /// The numbers of the elements below the roots that match one of the matcher's selectors, each
 /// once, in the order of the traversals. How they are found depends on the structure of the list
 /// alone. Where a candidate has one node for each compound at most, each candidate is asked. Where
-/// the combinators are whitespace and `>`, flags of the ancestors of one traversal state which
-/// compounds are reached. For other lists an index is made.
+/// the combinators of each selector are whitespace and `>`, or are `+` and `~`, flags of the next
+/// node to the left, in one traversal, state which compounds are reached. For other lists an index
+/// is made.
 pub fn select_ids(
     tree: &Tree,
     roots: &[NodeId],

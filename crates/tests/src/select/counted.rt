@@ -23,7 +23,9 @@ fn selections_count_their_tests(rt: HostRuntime) -> Result<(), Fail> {
     assert!(rt; counted(&document.tree, &each) == Some((2, 118)));
     let along = Matcher::new(rt.alloc(), "div a, b b")?;
     assert!(rt; counted(&document.tree, &along) == Some((2, 118)));
-    let tables = Matcher::new(rt.alloc(), "b ~ a")?;
-    assert!(rt; counted(&document.tree, &tables) == Some((1, 107)));
+    let beside = Matcher::new(rt.alloc(), "b ~ a")?;
+    assert!(rt; counted(&document.tree, &beside) == Some((1, 108)));
+    let tables = Matcher::new(rt.alloc(), "p > b ~ a")?;
+    assert!(rt; counted(&document.tree, &tables) == Some((1, 110)));
     Ok(())
 }
