@@ -1,5 +1,6 @@
 //! Tests of `dom_select`.
 
+mod caches;
 mod closures;
 mod counted;
 mod roots;
