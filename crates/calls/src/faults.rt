@@ -18,13 +18,10 @@ const RUNS: [RunFault; 6] = [
 
 const WRITES: [WriteFault; 2] = [WriteFault::Write, WriteFault::Memory];
 
+#[rattlefmt::skip]
 const SELECTORS: [SelectorFault; 6] = [
-    SelectorFault::Syntax,
-    SelectorFault::UnknownPseudoClass,
-    SelectorFault::Number,
-    SelectorFault::NestedHas,
-    SelectorFault::TooDeep,
-    SelectorFault::Memory,
+    SelectorFault::Syntax, SelectorFault::UnknownPseudoClass, SelectorFault::Number,
+    SelectorFault::NestedHas, SelectorFault::TooDeep, SelectorFault::Memory,
 ];
 
 const MINIS: [MiniFault; 3] = [
@@ -70,19 +67,12 @@ const STOPPED: SelectionFault = SelectionFault {
 
 const PAGES: [PageFault; 2] = [PageFault::Memory, PageFault::TooManyNodes];
 
+#[rattlefmt::skip]
 const RAW: [ValidateFault; 13] = [
-    ValidateFault::NoRoot,
-    ValidateFault::RootPlaced,
-    ValidateFault::BadId,
-    ValidateFault::UnknownLink,
-    ValidateFault::BadLink,
-    ValidateFault::Cycle,
-    ValidateFault::NotLinked,
-    ValidateFault::SiblingCycle,
-    ValidateFault::NoChildrenHere,
-    ValidateFault::PlacedFragment,
-    ValidateFault::BadContents,
-    ValidateFault::TooManyNodes,
+    ValidateFault::NoRoot, ValidateFault::RootPlaced, ValidateFault::BadId,
+    ValidateFault::UnknownLink, ValidateFault::BadLink, ValidateFault::Cycle,
+    ValidateFault::NotLinked, ValidateFault::SiblingCycle, ValidateFault::NoChildrenHere,
+    ValidateFault::PlacedFragment, ValidateFault::BadContents, ValidateFault::TooManyNodes,
     ValidateFault::Memory,
 ];
 

@@ -49,16 +49,13 @@ enum Moving {
     WrapNode,
 }
 
+#[rattlefmt::skip]
 const MOVES: [(&str, Moving); 10] = [
-    ("append_child", Moving::AppendChild),
-    ("prepend_child", Moving::PrependChild),
-    ("insert_before", Moving::InsertBefore),
-    ("insert_after", Moving::InsertAfter),
-    ("append_children", Moving::AppendChildren),
-    ("prepend_children", Moving::PrependChildren),
+    ("append_child", Moving::AppendChild), ("prepend_child", Moving::PrependChild),
+    ("insert_before", Moving::InsertBefore), ("insert_after", Moving::InsertAfter),
+    ("append_children", Moving::AppendChildren), ("prepend_children", Moving::PrependChildren),
     ("insert_siblings_before", Moving::InsertSiblingsBefore),
-    ("insert_siblings_after", Moving::InsertSiblingsAfter),
-    ("replace_with", Moving::ReplaceWith),
+    ("insert_siblings_after", Moving::InsertSiblingsAfter), ("replace_with", Moving::ReplaceWith),
     ("wrap_node", Moving::WrapNode),
 ];
 
@@ -89,16 +86,6 @@ enum Putting {
     Wrap,
 }
 
-const PUTS: [(&str, Putting); 7] = [
-    ("set_html", Putting::Set),
-    ("append_html", Putting::Append),
-    ("prepend_html", Putting::Prepend),
-    ("before_html", Putting::Before),
-    ("after_html", Putting::After),
-    ("replace_with_html", Putting::ReplaceWith),
-    ("wrap_html", Putting::Wrap),
-];
-
 fn put(node: &mut NodeMut<'_>, putting: Putting, html: &str) -> Result<(), EditFault> {
     match putting {
         Putting::Set => node.set_html(html),
@@ -110,6 +97,14 @@ fn put(node: &mut NodeMut<'_>, putting: Putting, html: &str) -> Result<(), EditF
         Putting::Wrap => node.wrap_html(html),
     }
 }
+
+#[rattlefmt::skip]
+const PUTS: [(&str, Putting); 7] = [
+    ("set_html", Putting::Set), ("append_html", Putting::Append),
+    ("prepend_html", Putting::Prepend), ("before_html", Putting::Before),
+    ("after_html", Putting::After), ("replace_with_html", Putting::ReplaceWith),
+    ("wrap_html", Putting::Wrap),
+];
 
 /// A change that may be refused.
 #[derive(Clone, Copy, Drop)]
@@ -125,16 +120,13 @@ enum Changing {
     RemoveClass,
 }
 
+#[rattlefmt::skip]
 const CHANGES: [(&str, Changing); 9] = [
     ("remove_from_parent", Changing::RemoveFromParent),
-    ("remove_children", Changing::RemoveChildren),
-    ("unwrap_node", Changing::UnwrapNode),
-    ("set_text", Changing::SetText),
-    ("normalize", Changing::Normalize),
-    ("set_attr", Changing::SetAttr),
-    ("rename", Changing::Rename),
-    ("add_class", Changing::AddClass),
-    ("remove_class", Changing::RemoveClass),
+    ("remove_children", Changing::RemoveChildren), ("unwrap_node", Changing::UnwrapNode),
+    ("set_text", Changing::SetText), ("normalize", Changing::Normalize),
+    ("set_attr", Changing::SetAttr), ("rename", Changing::Rename),
+    ("add_class", Changing::AddClass), ("remove_class", Changing::RemoveClass),
 ];
 
 fn changed(node: &mut NodeMut<'_>, changing: Changing, words: &str) -> Result<(), EditFault> {
@@ -163,13 +155,11 @@ enum Cutting {
     Update,
 }
 
+#[rattlefmt::skip]
 const CUTS: [(&str, Cutting); 6] = [
-    ("strip_elements", Cutting::StripElements),
-    ("remove_attr", Cutting::RemoveAttr),
-    ("remove_attrs", Cutting::RemoveAttrs),
-    ("retain_attrs", Cutting::RetainAttrs),
-    ("remove_all_attrs", Cutting::RemoveAllAttrs),
-    ("update", Cutting::Update),
+    ("strip_elements", Cutting::StripElements), ("remove_attr", Cutting::RemoveAttr),
+    ("remove_attrs", Cutting::RemoveAttrs), ("retain_attrs", Cutting::RetainAttrs),
+    ("remove_all_attrs", Cutting::RemoveAllAttrs), ("update", Cutting::Update),
 ];
 
 fn changed_always(node: &mut NodeMut<'_>, cutting: Cutting, words: &str) -> Option<()> {

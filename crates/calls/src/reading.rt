@@ -84,25 +84,17 @@ fn read_texts(rt: &HostRuntime, node: &NodeRef<'_>) {
 /// The nodes around a node, and the elements: `N`.
 pub fn look_around(rt: &HostRuntime, tree: &Tree, line: &str) -> Option<()> {
     let node = tree.get_unchecked(&node_of(line)?);
-    show_nodes_around(rt, &node);
-    show_elements_around(rt, &node);
-    Some(())
-}
-
-fn show_nodes_around(rt: &HostRuntime, node: &NodeRef<'_>) {
     show_node(rt, "parent", &node.parent());
     show_node(rt, "first_child", &node.first_child());
     show_node(rt, "last_child", &node.last_child());
     show_node(rt, "next_sibling", &node.next_sibling());
     show_node(rt, "prev_sibling", &node.prev_sibling());
     show_node(rt, "last_sibling", &node.last_sibling());
-}
-
-fn show_elements_around(rt: &HostRuntime, node: &NodeRef<'_>) {
     show_node(rt, "parent_element", &node.parent_element());
     show_node(rt, "next_element_sibling", &node.next_element_sibling());
     show_node(rt, "next_sibling_element", &node.next_sibling_element());
     show_node(rt, "prev_element_sibling", &node.prev_element_sibling());
     show_node(rt, "prev_sibling_element", &node.prev_sibling_element());
     show_node(rt, "first_element_child", &node.first_element_child());
+    Some(())
 }

@@ -83,25 +83,18 @@ pub fn select_below_several(rt: &HostRuntime, tree: &Tree, line: &str) -> Option
     Some(())
 }
 
-/// How many nodes tables select below the root, and how many tests that takes: `SELECTOR`.
-pub fn count_tests(rt: &HostRuntime, tree: &Tree, line: &str) {
+/// How many nodes an index selects below the root, by tables or as the list asks, and how many
+/// tests that takes: `SELECTOR`.
+pub fn count_tests(rt: &HostRuntime, tree: &Tree, line: &str, by_tables: bool) {
     if let Some(matcher) = matcher_of(rt, line) {
         match TreeIndex::new(tree) {
             Ok(mut index) => {
-                let found = index.select_by_tables(&matcher, &[NodeId::root()]);
-                show_tests(rt, found, index.tests());
-            }
-            Err(fault) => show(rt, "TreeIndex::new", fault),
-        }
-    }
-}
-
-/// The same of an index that chooses how to select: `SELECTOR`.
-pub fn count_chosen_tests(rt: &HostRuntime, tree: &Tree, line: &str) {
-    if let Some(matcher) = matcher_of(rt, line) {
-        match TreeIndex::new(tree) {
-            Ok(mut index) => {
-                let found = index.select(&matcher, &[NodeId::root()]);
+                let roots = [NodeId::root()];
+                let found = if by_tables {
+                    index.select_by_tables(&matcher, &roots)
+                } else {
+                    index.select(&matcher, &roots)
+                };
                 show_tests(rt, found, index.tests());
             }
             Err(fault) => show(rt, "TreeIndex::new", fault),

@@ -66,14 +66,11 @@ enum Way {
     Clone,
 }
 
+#[rattlefmt::skip]
 const WAYS: [(&str, Way); 7] = [
-    ("parent", Way::Parent),
-    ("children", Way::Children),
-    ("ancestors", Way::Ancestors),
-    ("ancestors 1", Way::AncestorsTo(1)),
-    ("next_sibling", Way::Next),
-    ("prev_sibling", Way::Prev),
-    ("try_clone", Way::Clone),
+    ("parent", Way::Parent), ("children", Way::Children), ("ancestors", Way::Ancestors),
+    ("ancestors 1", Way::AncestorsTo(1)), ("next_sibling", Way::Next),
+    ("prev_sibling", Way::Prev), ("try_clone", Way::Clone),
 ];
 
 fn stepped<'a>(all: &Selection<'a>, way: Way) -> Result<Selection<'a>, OutOfMemory> {
@@ -129,12 +126,10 @@ enum Choice {
     Add,
 }
 
+#[rattlefmt::skip]
 const CHOICES: [(&str, Choice); 5] = [
-    ("select", Choice::Select),
-    ("nip", Choice::Nip),
-    ("select_single", Choice::Single),
-    ("filter", Choice::Filter),
-    ("add", Choice::Add),
+    ("select", Choice::Select), ("nip", Choice::Nip), ("select_single", Choice::Single),
+    ("filter", Choice::Filter), ("add", Choice::Add),
 ];
 
 fn chosen<'a>(

@@ -41,29 +41,15 @@ enum Call {
     Sanitize,
 }
 
+#[rattlefmt::skip]
 const CALLS: [(&str, Call); 23] = [
-    ("parse", Call::Parse),
-    ("page", Call::Page),
-    ("drop", Call::Drop),
-    ("tokens", Call::Tokens),
-    ("walk", Call::Walk),
-    ("html", Call::Html),
-    ("text", Call::Text),
-    ("formatted", Call::Formatted),
-    ("md", Call::Md),
-    ("select", Call::Select),
-    ("index", Call::Index),
-    ("tables", Call::Tables),
-    ("find", Call::Find),
-    ("edits", Call::Edits),
-    ("clone", Call::Clone),
-    ("append", Call::Append),
-    ("clean", Call::Clean),
-    ("validate", Call::Validate),
-    ("copy", Call::Copy),
-    ("merge", Call::Merge),
-    ("normalize", Call::Normalize),
-    ("strip", Call::Strip),
+    ("parse", Call::Parse), ("page", Call::Page), ("drop", Call::Drop), ("tokens", Call::Tokens),
+    ("walk", Call::Walk), ("html", Call::Html), ("text", Call::Text),
+    ("formatted", Call::Formatted), ("md", Call::Md), ("select", Call::Select),
+    ("index", Call::Index), ("tables", Call::Tables), ("find", Call::Find),
+    ("edits", Call::Edits), ("clone", Call::Clone), ("append", Call::Append),
+    ("clean", Call::Clean), ("validate", Call::Validate), ("copy", Call::Copy),
+    ("merge", Call::Merge), ("normalize", Call::Normalize), ("strip", Call::Strip),
     ("sanitize", Call::Sanitize),
 ];
 
