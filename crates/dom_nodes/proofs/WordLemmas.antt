@@ -1,7 +1,9 @@
 -- The words of a text that is cut after its first word.
-use Rattle.std.proofs.Common.{◌≡◌, ℕ, suc, ◌<◌, ◌≤◌, List, [], ◌∷◌, ◌++◌, length, true, false, ◌||◌, cond, get_or, refl, ap, ◌∙◌, inl, inr, arith}
+use Rattle.std.proofs.Common.{◌≡◌, ℕ, suc, ◌<◌, ◌≤◌, List, [], ◌∷◌, ◌++◌, length, true, false, ◌||◌, cond, get_or, take, refl, sym, subst, ap, ◌∙◌, inl, inr, arith}
 use Rattle.std.proofs.lemmas.Bool.{cases_lt}
 use Rattle.std.proofs.lemmas.Bool.Decides.{nat_tests}
+use Rattle.std.proofs.lemmas.List.{take_all}
+use Rattle.std.proofs.lemmas.Slice.Eq.{bytes_eq-Decides}
 use Rattle.std.proofs.lemmas.Str.{NoCharPasses-byte}
 use Rattle.std.specs.Char.{is_ascii_whitespace}
 use Rattle.std.specs.List.{AllPass, filter}
@@ -67,3 +69,8 @@ among-here text word words e = ap (λ b. b || is_among text words) e
 
 pub among-later : (text word : List ℕ) (words : List (List ℕ)) → bytes_eq word text ≡ false → is_among text (word ∷ words) ≡ is_among text words
 among-later text word words e = ap (λ b. b || is_among text words) e
+
+-- Texts of one length whose first i bytes are the same, i being no less than that length
+pub same_taken : (xs ys : List ℕ) (i : ℕ) → length xs ≡ length ys → length xs ≤ i → take i xs ≡ take i ys → true ≡ bytes_eq xs ys
+same_taken xs ys i e m h =
+    sym ((bytes_eq-Decides xs ys).1 (sym (take_all i xs m) ∙ h ∙ take_all i ys (subst (λ n. n ≤ i) e m)))

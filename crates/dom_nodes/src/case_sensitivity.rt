@@ -2,6 +2,8 @@
 
 ghost use Rattle.std.specs.Prelude.{◌≡◌};
 
+use crate::words::is_same_word;
+
 /// How two names are compared.
 #[derive(Clone, Copy, PartialEq, Eq, Debug, Drop)]
 pub enum CaseSensitivity {
@@ -19,7 +21,7 @@ impl CaseSensitivity {
         ensures { result ≡ same_bytes self name.now other.now }
     {
         match self {
-            CaseSensitivity::CaseSensitive => name == other,
+            CaseSensitivity::CaseSensitive => is_same_word(name, other),
             CaseSensitivity::AsciiCaseInsensitive => name.eq_ignore_ascii_case(other),
         }
     }

@@ -270,7 +270,7 @@ fn doctype(name: &Text, public_id: &RareText, system_id: &RareText) -> Result<No
     })
 }
 
-fn instruction(target: &Text, contents: &Text) -> Result<NodeData, OutOfMemory>
+fn instruction(target: &RareText, contents: &Text) -> Result<NodeData, OutOfMemory>
     ensures { IfOk result (λ made. made ≡ NodeData.ProcessingInstruction target.now contents.now) }
 {
     let target = target.try_clone()?;

@@ -15,7 +15,7 @@ use crate::link::Link;
 use crate::name::{Attr, QualName};
 use crate::node_id::NodeId;
 use crate::text::{RareText, Text};
-use crate::words::has_word;
+use crate::words::{has_word, is_same_word};
 pub use changing::Change;
 pub use node_edit::NodeEdit;
 use std::alloc::Global;
@@ -156,7 +156,7 @@ impl Element {
         self.attrs
             .as_slice()
             .iter()
-            .find(|attr| attr.name.local().as_str() == name)
+            .find(|attr| is_same_word(attr.name.local().as_str().as_bytes(), name.as_bytes()))
             .map(|attr| attr.value.as_str())
     }
 
@@ -210,7 +210,7 @@ pub enum NodeData {
     },
     Element(Element),
     ProcessingInstruction {
-        target: Text,
+        target: RareText,
         contents: Text,
     },
 }

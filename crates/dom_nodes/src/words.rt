@@ -1,6 +1,7 @@
 //! Texts as words, and tests of texts.
 
 ghost use Rattle.std.specs.Prelude.{◌≡◌, map};
+ghost use Rattle.std.specs.Str.{bytes_eq};
 ghost use Rattle.dom_nodes.specs.Classes.{is_among_by, is_blank};
 ghost use Rattle.dom_nodes.specs.Words.{is_among, words_of};
 
@@ -42,4 +43,21 @@ pub fn is_one_of(text: &str, names: &[&str]) -> bool
         }
     }
     false
+}
+
+/// Whether two words are the same. They are compared a byte after the other, which for the few
+/// letters of most names takes less time than a call that compares texts of any length.
+#[inline(always)]
+pub fn is_same_word(word: &[u8], other: &[u8]) -> bool
+    ensures { result ≡ bytes_eq word.now other.now }
+{
+    if word.len() != other.len() {
+        return false;
+    }
+    for i in 0..word.len() {
+        if word[i] != other[i] {
+            return false;
+        }
+    }
+    true
 }

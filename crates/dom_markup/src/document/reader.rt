@@ -23,6 +23,7 @@ use dom_nodes::name::{LocalName, QualName};
 use dom_nodes::node_data::{Attrs, Element, NodeData};
 use dom_nodes::node_id::NodeId;
 use dom_nodes::text::{RareText, Text};
+use dom_nodes::words::is_same_word;
 use dom_trees::tree::Tree;
 use std::alloc::Global;
 
@@ -262,7 +263,7 @@ impl<'a> Reader<'a> {
         let Some(innermost) = self.stack.pop() else {
             return Err(MarkupFaultKind::StrayEnd);
         };
-        if innermost.name == name {
+        if is_same_word(innermost.name.as_bytes(), name.as_bytes()) {
             return Ok(());
         }
         if !innermost.name.eq_ignore_ascii_case(name) {

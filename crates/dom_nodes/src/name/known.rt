@@ -4,6 +4,7 @@ ghost use Rattle.std.specs.Prelude.{◌≡◌, ◌<◌, ℕ, MatchOption};
 ghost use Rattle.std.specs.Str.{bytes_eq};
 ghost use Rattle.dom_nodes.specs.KnownNames.{known_name, slot, HasNumber, IsUnknown};
 
+use crate::words::is_same_word;
 use std::str::from_utf8_unchecked;
 
 /// The number of the empty name.
@@ -99,7 +100,7 @@ pub(crate) fn number_of(name: &str) -> Option<u8>
         bytes[length / 2] as usize,
         bytes[length - 1] as usize,
     )];
-    if number < 247 && name_of(number) == name {
+    if number < 247 && is_same_word(name_of(number).as_bytes(), bytes) {
         return Some(number);
     }
     None

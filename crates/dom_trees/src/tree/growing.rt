@@ -62,7 +62,7 @@ impl Tree {
             (making (instruction_node target.now contents.now)) }
     {
         check_room(&self.nodes)?;
-        let target = owned_text(self.allocator(), target)?;
+        let target = rare_text(self.allocator(), target)?;
         let contents = owned_text(self.allocator(), contents)?;
         self.create_node(NodeData::ProcessingInstruction { target, contents })
     }

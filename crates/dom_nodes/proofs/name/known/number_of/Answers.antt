@@ -3,7 +3,7 @@ use Rattle.std.proofs.lemmas.List.{nil_from_length}
 use Rattle.dom_nodes.specs.declared.name.known.TheConstants.{PLACES}
 use Rattle.dom_nodes.specs.KnownNames.{HasNumber}
 use Rattle.dom_nodes.proofs.KnownLemmas.{known_empty, slot_in, unknown}
-use Rattle.dom_nodes.proofs.name.known.number_of.Goals.{else-number-lt247-via-then-number-lt247+else-eq, else-number-lt247-via-else-number-lt247}
+use Rattle.dom_nodes.proofs.name.known.number_of.Goals.{else-number-lt247-via-then-number-lt247+else-is_same_word, else-number-lt247-via-else-number-lt247}
 use Rattle.dom_nodes.proofs.name.known.number_of.Goals as goal
 
 pub returns-then-length-eq0 : goal.returns-then-length-eq0
@@ -17,6 +17,6 @@ returns c =
     unknown c.args.name.now (λ e. search (rules, e)) (λ h.
     let here = subst (λ i. HasNumber c.args.name.now (get_or PLACES i 0)) (sym at) h in
     elim c.else-number-lt247.branch [
-      | else-number-lt247-via-then-number-lt247+else-eq w ↦ search (rules, here)
+      | else-number-lt247-via-then-number-lt247+else-is_same_word w ↦ search (rules, here)
       | else-number-lt247-via-else-number-lt247 w ↦ search (rules, here)
     ])
