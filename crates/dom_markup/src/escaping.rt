@@ -7,10 +7,11 @@ ghost use Rattle.dom_nodes.specs.Escaping.{escaped_value, value_char};
 ghost use Rattle.dom_markup.specs.Escaping.{escaped_text, spaced, text_char};
 ghost use Rattle.dom_markup.specs.Writing.{Writes};
 
+use crate::find::find_byte;
 use crate::writing::PutText;
 pub use dom_nodes::escaping::html_escape;
 use memchr::memmem::Finder;
-use memchr::{memchr, memchr2, memchr3};
+use memchr::{memchr2, memchr3};
 
 /// Writes escaped texts. It holds the search for a no-break space, which is made once for all
 /// texts.
@@ -77,7 +78,7 @@ impl Escaper {
         ensures { Cuts spaced (λ plain. plain) text.now result }
     {
         let bytes = text.as_bytes();
-        memchr(0xC2, bytes)?;
+        find_byte(0xC2, bytes)?;
         let at = self.space.find(bytes)?;
         Some(Named {
             before: &text[..at],

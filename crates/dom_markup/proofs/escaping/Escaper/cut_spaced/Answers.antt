@@ -4,9 +4,9 @@ use Rattle.dom_markup.specs.Escaping.{spaced}
 use Rattle.dom_markup.proofs.html.EscapeLemmas.{no_space, no_space_byte, first_space, space_before, space_after, cut_parts, cut_shorter}
 use Rattle.dom_markup.proofs.escaping.Escaper.cut_spaced.Goals as goal
 
-pub returns-in_err-memchr : goal.returns-in_err-memchr
-returns-in_err-memchr c =
-    let none = rw c.as_bytes-bytes.ensures.value at c.in_err-memchr.ensures in
+pub returns-in_err-find_byte : goal.returns-in_err-find_byte
+returns-in_err-find_byte c =
+    let none = rw c.as_bytes-bytes.ensures.value at c.in_err-find_byte.ensures in
     rw c.from_residual.ensures (no_space c.args.text.now c.utf8.text (no_space_byte c.args.text.now none))
 
 pub returns-in_err-at : goal.returns-in_err-at

@@ -34,11 +34,11 @@ returns c = λ items h.
     let same : folded c.in-Some.innermost.name.now ≡ folded c.args.name.now = c.if-not-eq_ignore_ascii_case.ensures.test.0 refl in
     subst (λ (n : List ℕ). HasRead (items ++ end_tag n ∷ []) (c.args.self.now.tree) stack) same (reads_end items _ stack (opened_by c.in-Some.innermost) before)
 
-pub returns-then-eq : goal.returns-then-eq
-returns-then-eq c = λ items h.
+pub returns-then-is_same_word : goal.returns-then-is_same_word
+returns-then-is_same_word c = λ items h.
     let stack = map opened_by c.pop.new.self.items in
     let shown : map opened_by c.args.self.now.stack.items ≡ stack ++ opened_by c.in-Some.innermost ∷ [] =
     ap (map opened_by) c.in-Some.ensures.items ∙ map-append opened_by c.pop.new.self.items _ in
     let before = subst (λ (os : List Opened). HasRead items (c.args.self.now.tree) os) shown h in
-    let same : folded c.in-Some.innermost.name.now ≡ folded c.args.name.now = ap folded ((bytes_eq-Decides _ _).0 (sym c.eq.ensures ∙ c.if-eq.true)) in
+    let same : folded c.in-Some.innermost.name.now ≡ folded c.args.name.now = ap folded (sym c.as_bytes.ensures.value ∙ (bytes_eq-Decides _ _).0 (sym c.is_same_word.ensures ∙ c.if-is_same_word.true) ∙ c.as_bytes-2.ensures.value) in
     subst (λ (n : List ℕ). HasRead (items ++ end_tag n ∷ []) (c.args.self.now.tree) stack) same (reads_end items _ stack (opened_by c.in-Some.innermost) before)
