@@ -1,5 +1,5 @@
 -- Selectors that are a type and nothing else.
-use Rattle.std.proofs.Common.{◌≡◌, ◌↔◌, ◌<◌, ◌≤◌, ℕ, Bool, true, false, List, [], ◌∷◌, Option, None, Some, IfSome, length, map, slice_get, get_or, sym, ap, ◌∙◌, refl, subst, inl, inr, not, true≢false, arith}
+use Rattle.std.proofs.Common.{◌≡◌, ◌↔◌, ◌<◌, ◌≤◌, ℕ, Bool, true, false, List, [], ◌∷◌, Option, None, Some, IfSome, length, map, slice_get, get_or, sym, ap, ◌∙◌, refl, subst, inl, inr, true≢false, arith}
 use Rattle.std.specs.Borrow.{Bor}
 use Rattle.std.specs.Option.{option_map_or}
 use Rattle.std.specs.Prelude.{◌==◌, IsTrue}
@@ -34,10 +34,10 @@ means_type name s e f forest n =
     ((λ h. elim h [ inl x ↦ subst (λ m. PartsHold (Part.«Type» name ∷ []) forest m) x.2 x.1.0 | inr none ↦ absurd none ]), λ held. inl (n, (held, tt), refl)) in
     subst (λ l. Means l forest n ↔ PartsHold (Part.«Type» name ∷ []) forest n) (sym is) there
 
-list_of_one : (selectors : List Selector) (s : Selector) → 1 ≤ length selectors → length selectors < 2 → s ≡ get_or selectors 0 s → selectors ≡ s ∷ []
-list_of_one [] s low high is = absurd (omega arith)
-list_of_one (x ∷ []) s low high is = ap (λ y. y ∷ []) (sym is)
-list_of_one (x ∷ y ∷ more) s low high is = absurd (omega arith)
+pub list_of_one : {A : Type 0} (xs : List A) (x : A) → 1 ≤ length xs → length xs < 2 → x ≡ get_or xs 0 x → xs ≡ x ∷ []
+list_of_one [] x low high is = absurd (omega arith)
+list_of_one (y ∷ []) x low high is = ap (λ z. z ∷ []) (sym is)
+list_of_one (y ∷ z ∷ more) x low high is = absurd (omega arith)
 
 pub type_of_one : (found : Option (Bor (List ℕ))) (selectors : List Selector) (s : Selector) → 1 ≤ length selectors → length selectors < 2 → s ≡ get_or selectors 0 s → (length (out-Selector s).rest.items == 0) ≡ true →
     IfSome found (λ name. read_compound (out-Selector s).first ≡ compound (Part.«Type» name.now ∷ []) no_lists) → IfSome found (λ name. MeansType name.now (read_list selectors))

@@ -1,7 +1,7 @@
 use Rattle.std.proofs.Common.{◌≡◌, ◌↔◌, ◌∷◌, IsTrue, Some, false, true≢false, refl, inl, ◌<◌, ◌≤◌, ℕ, inr, length, ap, map, sym, ◌∙◌, subst, arith}
 use Rattle.dom_links.specs.Lists.{stands_in}
 use Rattle.dom_selectors.specs.ListsAsTrees.{steps_of}
-use Rattle.dom_selectors.specs.ValuesAsTrees.{read_compound, read_list, read_step}
+use Rattle.dom_selectors.specs.ValuesAsTrees.{read_compound, read_step}
 use Rattle.dom_select.specs.Chains.{BeginsChain, binding_level}
 use Rattle.dom_select.specs.Has.{Begins, CompoundsMatch, CompoundsMatchFrom, right_row, row_combinator, search_roots_from}
 use Rattle.dom_select.specs.declared.matcher.has.Start.TheVariants.{Relative}
