@@ -229,3 +229,7 @@ module _ (forest : Forest) (good : IsForest forest) (lines : AreLines forest) (f
     step_tested off fit reached c at b answer =
         let both = both_ways b (Holds c forest n) answer in
         off_right b off ((λ e. (fit, (compound_reached j c at).0 (reached, both.0 e))), λ x. both.1 ((compound_reached j c at).1 x.1).1)
+
+-- what was asked of the combinator that was read of a step is so of the step's
+pub asked_of_step : (steps : List Step) (i : ℕ) (x : Step) (Q : Combinator → Bool) (b : Bool) → i < length steps → x ≡ get_or steps i x → b ≡ Q (get_or steps i x).combinator → (s : Combinator × CompoundSelector) → slice_get (map read_step steps) i ≡ Some s → Q s.0 ≡ b
+asked_of_step steps i x Q b inside is h s at = sym (h ∙ (ap (λ (y : Step). Q y.combinator) (sym is) ∙ ap Q (step_combinator steps i x inside is s at)))

@@ -255,3 +255,7 @@ pub one_item : (xs : List ℕ) (x : ℕ) → 1 ≤ length xs → length xs < 2 �
 one_item [] x least below is = absurd (omega (arith, least))
 one_item (y ∷ []) x least below is = ap (λ (z : ℕ). z ∷ []) (sym is)
 one_item (y ∷ z ∷ zs) x least below is = absurd (omega (arith, below))
+
+-- the test that was read is that of the compound of its number
+pub test_at : (chain : Chain) → IsPrepared chain → (i : ℕ) (test : NodeTest) → i ≤ length chain.steps.now → test ≡ get_or chain.tests.items i test → IsReady test × (compound_at (first_in chain) (steps_in chain) i ≡ Some (read_compound test.compound.now))
+test_at chain prepared i test inside is = prepared.tests i test (read_there chain.tests.items i test (let count = prepared.count in omega (arith, count, inside)) is)

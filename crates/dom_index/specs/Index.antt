@@ -1,5 +1,5 @@
 -- The contents of an index of a tree's nodes.
-use Rattle.std.specs.Prelude.{ℕ, ◌≡◌, ◌<◌, ◌≤◌, ◌⊎◌, true, List, Option, Some, MatchOption, Result, IfOk, length}
+use Rattle.std.specs.Prelude.{ℕ, ◌≡◌, ◌<◌, ◌≤◌, ◌*◌, ◌⊎◌, true, List, Option, Some, MatchOption, Result, IfOk, length}
 use Rattle.std.specs.Global.{Vec}
 use Rattle.std.specs.Borrow.{Bor}
 use Rattle.dom_links.specs.Forest.{Forest}
@@ -11,6 +11,7 @@ use Rattle.dom_trees.specs.declared.node_ref.NodeRef.{NodeRef}
 use Rattle.dom_trees.specs.Views.{refs_to}
 use Rattle.dom_selectors.specs.Syntax.{SelectorList}
 use Rattle.dom_select.specs.Selected.{Selected}
+use Rattle.dom_index.specs.CompoundCounts.{selectors_count}
 use Rattle.dom_index.specs.Preorder.{position}
 
 -- the tree that is indexed, and the number of tests of the last selection
@@ -25,6 +26,12 @@ Finds tree roots selector found = (ids : List ℕ) × Selected tree.now roots se
 -- What a call that may leave a selection to tables returns: nothing, and then no tests were made, or what the selector selects below the roots
 abbrev pub SelectsOrLeaves : {E : Type 0} → Result (Option (Vec ℕ)) E → Forest → List ℕ → SelectorList → ℕ → ℕ → Type 0
 SelectsOrLeaves result forest roots selector old new = IfOk result (λ found. MatchOption found (new ≡ old) (λ ids. Selected forest roots selector ids.items))
+
+-- What a call that selects by an index returns, and the index after it: the nodes that the selector selects below the roots; a
+-- test for each compound at each node at most; the same tree
+abbrev pub SelectsByIndex : {E : Type 0} → Result (Vec NodeRef) E → List ℕ → SelectorList → Indexed → Indexed → Type 0
+SelectsByIndex result roots selector old new =
+    IfOk result (λ found. Finds old.tree roots selector found.items) × (new.tests ≤ selectors_count selector * length old.tree.now.content) × (new.tree ≡ old.tree)
 
 -- m is n or a descendant of it
 abbrev pub IsAtOrBelow : Forest → ℕ → ℕ → Type 0

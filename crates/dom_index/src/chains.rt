@@ -6,7 +6,7 @@ ghost use Rattle.dom_index.specs.Tracks.{AreChainsOf, IsPrepared};
 
 use crate::counting::count_compound;
 use crate::node_tests::NodeTest;
-use crate::ways::has_has;
+use crate::ways::has_has_before;
 use dom_nodes::fault::OutOfMemory;
 use dom_selectors::syntax::{Combinator, Compound, Selector, Step};
 use dom_trees::tree::Tree;
@@ -44,7 +44,7 @@ impl<'s> Chain<'s> {
             row_tests = row_tests.saturating_add(subject_tests);
             subject_tests = count_compound(&steps[i].compound);
         }
-        if rows_have_has(first, steps) {
+        if has_has_before(first, steps) {
             subject_tests = subject_tests.saturating_add(row_tests);
             row_tests = 0;
         }
@@ -66,14 +66,6 @@ pub(crate) fn way_of(steps: &[Step]) -> Combinator
     match steps.first() {
         Some(step) => step.combinator,
         None => Combinator::Descendant,
-    }
-}
-
-/// Whether a compound but the last has `:has`.
-fn rows_have_has(first: &Compound, steps: &[Step]) -> bool {
-    match steps.split_last() {
-        None => false,
-        Some((_, front)) => has_has(first) || front.iter().any(|step| has_has(&step.compound)),
     }
 }
 

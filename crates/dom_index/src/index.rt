@@ -7,7 +7,7 @@ ghost use Rattle.dom_links.specs.Trees.{walk_below};
 ghost use Rattle.dom_select.specs.Selected.{Selected};
 ghost use Rattle.dom_index.specs.TestCounts.{Counts, SelectionTests};
 ghost use Rattle.dom_index.specs.CompoundCounts.{selectors_count};
-ghost use Rattle.dom_index.specs.Index.{Finds, GivesIndex, GivesLastBelow};
+ghost use Rattle.dom_index.specs.Index.{GivesIndex, GivesLastBelow, SelectsByIndex};
 ghost use Rattle.dom_index.specs.Preorder.{position};
 
 use crate::collect::{collect_matches, walk_laws};
@@ -72,11 +72,7 @@ impl<'a> TreeIndex<'a> {
         matcher: &Matcher,
         roots: &[NodeId],
     ) -> Result<Vec<NodeRef<'a>>, OutOfMemory>
-        ensures found { IfOk result (λ found.
-            Finds self.old.tree roots.now matcher.now found.items) }
-        ensures tests { self.new.tests
-            ≤ selectors_count matcher.now * length self.old.tree.now.content }
-        ensures kept { self.new.tree ≡ self.old.tree }
+        ensures { SelectsByIndex result roots.now matcher.now self.old self.new }
     {
         let tree = self.preorder.tree;
         self.tests = 0;
@@ -95,12 +91,8 @@ impl<'a> TreeIndex<'a> {
         matcher: &Matcher,
         roots: &[NodeId],
     ) -> Result<Vec<NodeRef<'a>>, OutOfMemory>
-        ensures found { IfOk result (λ found.
-            Finds self.old.tree roots.now matcher.now found.items) }
+        ensures selects { SelectsByIndex result roots.now matcher.now self.old self.new }
         ensures asked { Counts result 0 self.new.tests (SelectionTests matcher.now self.old.tree.now) }
-        ensures tests { self.new.tests
-            ≤ selectors_count matcher.now * length self.old.tree.now.content }
-        ensures kept { self.new.tree ≡ self.old.tree }
     {
         let ids = self.ids_by_tables(matcher, roots)?;
         nodes_of(self.preorder.tree, &ids)

@@ -10,7 +10,7 @@ ghost use Rattle.dom_trees.specs.Views.{refs_to};
 use crate::counting::count_compounds;
 use crate::index::TreeIndex;
 use crate::streaming::select_plain;
-use crate::ways::{are_tight, are_traversed};
+use crate::ways::{are_asked_each, are_traversed};
 use dom_nodes::fault::OutOfMemory;
 use dom_nodes::node_id::NodeId;
 use dom_select::matcher::Matcher;
@@ -20,10 +20,10 @@ use dom_trees::tree::Tree;
 
 /// The numbers of the elements below the roots that match one of the matcher's selectors, each
 /// once, in the order of the traversals. How they are found depends on the structure of the list
-/// alone. Where a candidate has one node for each compound at most, each candidate is asked. Where
-/// the combinators of each selector are whitespace and `>`, or are `+` and `~`, flags of the next
-/// node to the left, in one traversal, state which compounds are reached. For other lists an index
-/// is made.
+/// and on what is below the roots. Each candidate is asked where it has one node for each compound
+/// at most, or its ancestors, and few of these are below or above the roots. Else flags of the next
+/// node to the left, in one traversal, state which compounds are reached, where the combinators of
+/// each selector are whitespace and `>`, or are `+` and `~`. For other lists an index is made.
 pub fn select_ids(
     tree: &Tree,
     roots: &[NodeId],
@@ -48,10 +48,13 @@ pub fn select_counted(
     ensures tests { tests.new
         ≤ tests.old + selectors_count matcher.now * length tree.now.content }
 {
-    match select_by_walk(tree, roots, matcher, tests)? {
-        Some(ids) => Ok(ids),
-        None => select_by_index(tree, roots, matcher, tests),
+    if let Some(ids) = select_by_walk(tree, roots, matcher, tests)? {
+        return Ok(ids);
     }
+    let mut index = TreeIndex::new(tree)?;
+    let found = index.ids_by_tables(matcher, roots);
+    *tests = tests.saturating_add(index.tests());
+    found
 }
 
 /// The same, or None where the list needs tables; nothing is counted then.
@@ -66,28 +69,14 @@ pub(crate) fn select_by_walk(
         ≤ tests.old + selectors_count matcher.now * length tree.now.content }
 {
     let selectors = matcher.selectors();
-    if are_tight(selectors) {
-        return Ok(Some(select_each(tree, roots, matcher, tests)?));
+    if are_asked_each(tree, roots, selectors) {
+        *tests = tests.saturating_add(tests_of_each(tree, matcher));
+        return Ok(Some(select_below_all(tree, roots, matcher)?));
     }
     if !are_traversed(selectors) {
         return Ok(None);
     }
     Ok(Some(select_plain(tree, roots, selectors, tests)?))
-}
-
-/// The same by asking each candidate, which tests each compound at one node at most.
-fn select_each(
-    tree: &Tree,
-    roots: &[NodeId],
-    matcher: &Matcher,
-    tests: &mut u128,
-) -> Result<Vec<NodeId>, OutOfMemory>
-    ensures found { IfOk result (λ ids. Selected tree.now roots.now matcher.now ids.items) }
-    ensures tests { tests.new
-        ≤ tests.old + selectors_count matcher.now * length tree.now.content }
-{
-    *tests = tests.saturating_add(tests_of_each(tree, matcher));
-    select_below_all(tree, roots, matcher)
 }
 
 /// One test of each compound at each node.
@@ -106,25 +95,9 @@ pub fn select_nodes<'a>(
 ) -> Result<Vec<NodeRef<'a>>, OutOfMemory>
     ensures { IfOk result (λ found. Finds tree.entry roots.now matcher.now found.items) }
 {
-    let ids = select_ids(tree, roots, matcher)?;
+    let mut tests = 0;
+    let ids = select_counted(tree, roots, matcher, &mut tests)?;
     nodes_of(tree, &ids)
-}
-
-/// The same as `select_counted`, by an index of the tree.
-fn select_by_index(
-    tree: &Tree,
-    roots: &[NodeId],
-    matcher: &Matcher,
-    tests: &mut u128,
-) -> Result<Vec<NodeId>, OutOfMemory>
-    ensures found { IfOk result (λ ids. Selected tree.now roots.now matcher.now ids.items) }
-    ensures tests { tests.new
-        ≤ tests.old + selectors_count matcher.now * length tree.now.content }
-{
-    let mut index = TreeIndex::new(tree)?;
-    let found = index.ids_by_tables(matcher, roots);
-    *tests = tests.saturating_add(index.tests());
-    found
 }
 
 /// The nodes of these numbers.

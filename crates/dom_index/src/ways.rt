@@ -7,36 +7,63 @@ ghost use Rattle.dom_index.specs.NodeTests.{ArePlain, IsPlain};
 
 use crate::chains::way_of;
 use crate::counting::count_outer;
+use dom_nodes::node_id::NodeId;
 use dom_selectors::syntax::{Combinator, Compound, Nested, Selector, Step};
+use dom_trees::tree::Tree;
 
 /// How many compounds a list may have to be selected in one traversal, which keeps for each node a
 /// flag for each selector and one for each combinator.
 const MOST_COMPOUNDS: u64 = 32;
 
-/// Whether the combinators are `>` and `+`, nested lists have no others and no lists of their own,
-/// and `:has` is near and stands in last compounds alone: others are tested at one node for several
-/// candidates.
-pub(crate) fn are_tight(selectors: &[Selector]) -> bool {
-    selectors
-        .iter()
-        .all(|selector| is_tight(&selector.first, &selector.rest))
+/// One node of so many is few.
+const FEW: usize = 8;
+
+/// Whether each candidate is asked. Nested lists are near and `:has` stands in last compounds
+/// alone, since others are tested at one node for several candidates. The combinators are `>` and
+/// `+`, or `>` and whitespace where few nodes are to be asked: a candidate tests no compound twice
+/// at one of its ancestors, so fewer tests are made than at all nodes.
+pub(crate) fn are_asked_each(tree: &Tree, roots: &[NodeId], selectors: &[Selector]) -> bool {
+    if !selectors.iter().all(is_askable) {
+        return false;
+    }
+    selectors.iter().all(is_tight)
+        || (selectors.iter().all(leads_up) && have_few_above(tree, roots))
 }
 
-fn is_tight(first: &Compound, steps: &[Step]) -> bool {
-    match steps.split_last() {
-        None => is_near(first),
-        Some((last, front)) => {
-            is_bound(last.combinator)
-                && is_near(&last.compound)
-                && is_near(first)
-                && !has_has(first)
-                && front.iter().all(is_tight_step)
+fn is_askable(selector: &Selector) -> bool {
+    has_near_lists(selector) && !has_has_before(&selector.first, &selector.rest)
+}
+
+/// Whether left operands are one node at most.
+fn is_tight(selector: &Selector) -> bool {
+    selector.rest.iter().all(|step| is_bound(step.combinator))
+}
+
+/// Whether left operands are ancestors.
+fn leads_up(selector: &Selector) -> bool {
+    selector
+        .rest
+        .iter()
+        .all(|step| !is_sideways(step.combinator))
+}
+
+/// Whether the nodes below the roots have few ancestors beside the nodes of the tree: each is
+/// counted once for each node below it, and none where that are more. No clause: nothing but time
+/// depends on it.
+fn have_few_above(tree: &Tree, roots: &[NodeId]) -> bool {
+    let mut left = tree.len() / FEW;
+    for root in roots {
+        for id in tree.descendant_ids_of_it(root) {
+            let above = tree
+                .ancestor_ids_of_it(&id, Some(left.saturating_add(1)))
+                .count();
+            if above > left {
+                return false;
+            }
+            left -= above;
         }
     }
-}
-
-fn is_tight_step(step: &Step) -> bool {
-    is_bound(step.combinator) && is_near(&step.compound) && !has_has(&step.compound)
+    true
 }
 
 /// Whether left operands are one node at most: of `>` and `+`.
@@ -45,11 +72,19 @@ fn is_bound(combinator: Combinator) -> bool {
 }
 
 /// Whether the compound has a list `:has`.
-pub(crate) fn has_has(compound: &Compound) -> bool {
+fn has_has(compound: &Compound) -> bool {
     compound
         .nested
         .iter()
         .any(|list| matches!(list, Nested::Has(_)))
+}
+
+/// Whether a compound but the last has a list `:has`.
+pub(crate) fn has_has_before(first: &Compound, steps: &[Step]) -> bool {
+    match steps.split_last() {
+        None => false,
+        Some((_, front)) => has_has(first) || front.iter().any(|step| has_has(&step.compound)),
+    }
 }
 
 /// Whether the compound's nested lists test each of their compounds, where it is tested at each
@@ -63,9 +98,9 @@ fn is_near(compound: &Compound) -> bool {
 
 /// Whether the combinators of selectors without nested lists are `>` and `+`.
 fn are_bound(selectors: &[Selector]) -> bool {
-    selectors.iter().all(|selector| {
-        has_no_lists(selector) && selector.rest.iter().all(|step| is_bound(step.combinator))
-    })
+    selectors
+        .iter()
+        .all(|selector| has_no_lists(selector) && is_tight(selector))
 }
 
 fn has_no_lists(selector: &Selector) -> bool {
@@ -100,16 +135,15 @@ pub(crate) fn are_traversed(selectors: &[Selector]) -> bool
     if count_outer(selectors) > MOST_COMPOUNDS {
         return false;
     }
-    if !lists_are_near(selectors) {
+    if !selectors.iter().all(has_near_lists) {
         return false;
     }
     are_plain(selectors)
 }
 
-fn lists_are_near(selectors: &[Selector]) -> bool {
-    selectors.iter().all(|selector| {
-        is_near(&selector.first) && selector.rest.iter().all(|step| is_near(&step.compound))
-    })
+/// Whether nested lists are near.
+fn has_near_lists(selector: &Selector) -> bool {
+    is_near(&selector.first) && selector.rest.iter().all(|step| is_near(&step.compound))
 }
 
 /// Whether the combinators of each selector are whitespace and `>`, or are `+` and `~`.

@@ -4,6 +4,7 @@ use Rattle.std.proofs.Common.{◌≡◌, ◌⊎◌, ◌↔◌, ℕ, suc, List, [
 use Rattle.std.specs.Prelude.{◌==◌, if◌then◌else◌}
 use Rattle.std.proofs.lemmas.List.{drop_more}
 use Rattle.std.proofs.lemmas.Bool.{eqb-true, eq-eqb, or_left, or_right, or_cases}
+use Rattle.dom_selectors.specs.declared.syntax.Compound.{Compound}
 use Rattle.dom_selectors.specs.declared.syntax.Selector.{Selector, out-Selector}
 use Rattle.dom_selectors.specs.declared.syntax.Step.{Step}
 use Rattle.dom_selectors.specs.ListsAsTrees.{steps_of}
@@ -24,8 +25,8 @@ use Rattle.dom_select.specs.Leftward.{earlier, ends_at, left_of, line}
 use Rattle.dom_select.specs.Meaning.{IsJoined, StepsMatch, HasHolds, RelativeMatches, MayBeOperand, ChainMatches, CombinatorHolds, Holds, Means}
 use Rattle.dom_selectors.specs.Syntax.{CompoundSelector, Steps, no_steps, step, alternative}
 use Rattle.dom_select.specs.Chains.{Precedes}
-use Rattle.dom_select.specs.Has.{Begins, SelectorMatches, MatchesWithin, is_sideways, may_be_subject, search_roots, search_roots_from}
-use Rattle.dom_select.proofs.FollowLemmas.{apart, precedes_then, stands_precedes, stands_on_line}
+use Rattle.dom_select.specs.Has.{Begins, CompoundsMatch, SelectorMatches, MatchesWithin, is_sideways, may_be_subject, search_roots, search_roots_from}
+use Rattle.dom_select.proofs.FollowLemmas.{apart, chain_alone, is_nil, precedes_then, stands_precedes, stands_on_line}
 use Rattle.dom_select.proofs.ReachLemmas.{SomeOnLine, left_ends, left_farther, left_here, left_nowhere, line_some, to_line}
 use Rattle.dom_select.proofs.RowLemmas.{first_stands, on_above, on_earlier, same_above, stands_farther}
 
@@ -174,6 +175,10 @@ pub ends_if : (start : Start) (first : CompoundSelector) (steps : Steps) (forest
     → (IsTrue b ↔ ChainMatches (Begins start first forest) steps forest n n) → IsTrue b ↔ SelectorMatches start first steps forest n
 ends_if Absolute first steps forest n b may (to, back) = ((λ t. let r = to t in (r.0, r.1, r.2)), λ r. back (r.0, r.1, r.2))
 ends_if (Relative k x) first steps forest n b may fact = ((λ t. (may, fact.0 t)), λ r. fact.1 r.1)
+
+pub alone_matches : (first : Compound) (steps : List Step) (forest : Forest) (n : ℕ) (b : Bool) → (length steps == 0) ≡ true → (IsTrue b ↔ Holds (read_compound first) forest n) → IsTrue b ↔ CompoundsMatch Absolute first steps forest n
+alone_matches first steps forest n b none fact =
+    ends_if Absolute (read_compound first) (steps_of (map read_step steps)) forest n b refl (chain_alone forest n (Begins Absolute (read_compound first) forest) (map read_step steps) n b (ap (map read_step) (is_nil steps none)) fact)
 
 pub never_ends : (start : Start) (first : CompoundSelector) (steps : Steps) (forest : Forest) (n : ℕ) → may_be_subject start forest n ≡ false → SelectorMatches start first steps forest n → ⊥
 never_ends Absolute first steps forest n never r = true≢false never

@@ -1,5 +1,5 @@
 -- Names that nodes bear which a selector reaches or means.
-use Rattle.std.specs.Prelude.{◌≡◌, ℕ, List, Some, map, slice_get}
+use Rattle.std.specs.Prelude.{◌≡◌, ◌↔◌, ℕ, Bool, IsTrue, List, Some, map, slice_get}
 use Rattle.dom_nodes.specs.declared.node_data.NodeData.{NodeData}
 use Rattle.dom_links.specs.Forest.{Forest}
 use Rattle.dom_selectors.specs.declared.syntax.Combinator.{Combinator}
@@ -25,6 +25,6 @@ SubjectImpliesType name first steps = (start : Start) (forest : Forest) (exempt 
 abbrev pub IsSubjectType : Compound → List Step → List ℕ → Type 0
 IsSubjectType first steps name = SubjectImpliesType name (read_compound first) (map read_step steps)
 
--- the compounds don't match what is such a node
-abbrev pub AreRuledOut : Compound → List Step → NodeData → Type 0
-AreRuledOut first steps node = (forest : Forest) (n : ℕ) → slice_get forest.content n ≡ Some node → CompoundsMatch Absolute first steps forest n → ⊥
+-- this states whether the compounds match what is such a node
+abbrev pub AreDecided : Compound → List Step → NodeData → Bool → Type 0
+AreDecided first steps node answer = (forest : Forest) (n : ℕ) → slice_get forest.content n ≡ Some node → IsTrue answer ↔ CompoundsMatch Absolute first steps forest n

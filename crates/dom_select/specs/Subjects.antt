@@ -1,8 +1,9 @@
 -- Types of the elements that selectors match, by the numbers of their names.
-use Rattle.std.specs.Prelude.{◌≡◌, ℕ, List, Bool, true, false, Some, slice_get, slice_index_or}
+use Rattle.std.specs.Prelude.{◌≡◌, ℕ, List, Bool, true, false, Option, Some, IfSome, slice_get, slice_index_or}
 use Rattle.dom_nodes.specs.declared.node_data.NodeData.{NodeData}
 use Rattle.dom_nodes.specs.declared.node_data.NodeData.TheVariants.{Element}
 use Rattle.dom_nodes.specs.declared.name.Namespace.TheVariants.{Html}
+use Rattle.dom_nodes.specs.Kinds.{is_element}
 use Rattle.dom_nodes.specs.KnownNames.{HasNumber}
 use Rattle.dom_links.specs.Forest.{Forest}
 use Rattle.dom_selectors.specs.Syntax.{SelectorList}
@@ -17,6 +18,6 @@ MayBear types _ = ⊥
 abbrev pub SubjectIsAmong : List Bool → SelectorList → Type 0
 SubjectIsAmong types list = (forest : Forest) (n : ℕ) (node : NodeData) → slice_get forest.content n ≡ Some node → Means list forest n → MayBear types node
 
--- n isn't matched by selectors that match only such elements
-abbrev pub IsOther : List Bool → Forest → ℕ → Type 0
-IsOther types forest n = (list : SelectorList) → SubjectIsAmong types list → Means list forest n → ⊥
+-- the node is an element, and where types are given it may bear one of them
+abbrev pub MayBeSubject : Option (List Bool) → NodeData → Type 0
+MayBeSubject types node = (is_element node ≡ true) × IfSome types (λ types. MayBear types node)

@@ -1,24 +1,30 @@
 -- Types of the elements that selectors match, by the numbers of their names.
-use Rattle.std.proofs.Common.{◌≡◌, ◌⊎◌, ◌<◌, ◌≤◌, ◌+◌, ℕ, List, ◌∷◌, Bool, true, false, true≢false, Some, length, set, map, drop, get_or, slice_get, inl, inr, sym, ap, ◌∙◌, subst}
+use Rattle.std.proofs.Common.{◌≡◌, ◌⊎◌, ◌<◌, ◌≤◌, ◌+◌, ℕ, List, ◌∷◌, Bool, true, false, true≢false, Option, None, Some, IfSome, IsTrue, ◌↔◌, length, set, map, drop, get_or, slice_get, inl, inr, sym, ap, ◌∙◌, subst}
 use Rattle.std.specs.Prelude.{slice_index_or}
+use Rattle.std.specs.Option.{option_map_or}
 use Rattle.std.proofs.lemmas.Bool.{cases_eq, eqb-true}
 use Rattle.std.proofs.lemmas.List.{drop_all, drop_more, get_or-set_same, get_or-set_other}
 use Rattle.std.proofs.lemmas.Slice.Eq.{bytes_eq-Decides}
 use Rattle.dom_nodes.specs.declared.node_data.NodeData.{NodeData}
 use Rattle.dom_nodes.specs.declared.node_data.NodeData.TheVariants.{Comment, Doctype, Document, Element as AnElement, Fragment, ProcessingInstruction, Text}
 use Rattle.dom_nodes.specs.declared.name.Namespace.TheVariants.{Html}
+use Rattle.dom_nodes.specs.Kinds.{is_element}
 use Rattle.dom_nodes.specs.KnownNames.{HasNumber, known_name}
 use Rattle.dom_nodes.proofs.KnownLemmas.{known-same}
 use Rattle.dom_links.specs.Forest.{Forest}
 use Rattle.dom_selectors.specs.declared.syntax.Part.{Part}
 use Rattle.dom_selectors.specs.declared.syntax.Selector.{Selector, out-Selector}
+use Rattle.dom_selectors.specs.Spelling.{Decides}
+use Rattle.dom_selectors.specs.Syntax.{SelectorList}
 use Rattle.dom_selectors.specs.ValuesAsTrees.{read_compound, read_list, read_step}
 use Rattle.dom_select.specs.declared.matcher.has.Start.TheVariants.{Absolute}
+use Rattle.dom_select.specs.Descendants.{IsMatch}
 use Rattle.dom_select.specs.Ends.{SubjectImpliesType}
 use Rattle.dom_select.specs.Meaning.{Means}
 use Rattle.dom_select.specs.Parts.{name_within, node_passes}
-use Rattle.dom_select.specs.Subjects.{MayBear, SubjectIsAmong}
+use Rattle.dom_select.specs.Subjects.{MayBear, MayBeSubject, SubjectIsAmong}
 use Rattle.dom_select.proofs.EndLemmas.{means_one}
+use Rattle.dom_select.proofs.MeaningLemmas.{decides}
 use Rattle.dom_select.proofs.types.TypeLemmas.{type_known}
 
 known_once : (n m : ℕ) → n < 247 → m < 247 → known_name n ≡ known_name m → n ≡ m
@@ -78,3 +84,16 @@ module _ (selectors : List Selector) (i : ℕ) (types : List Bool) where
     | inl had ↦ had
     | inr more ↦ absurd (subst (λ l. Means (read_list l) forest n) (drop_all i selectors past) more)
   ]
+
+-- a node that was looked up
+
+module _ (list : SelectorList) (forest : Forest) (n : ℕ) (node : NodeData) (e : slice_get forest.content n ≡ Some node) where
+  pub match_may_be : (types : Option (List Bool)) → IfSome types (λ types. SubjectIsAmong types list) → IsMatch list forest n → MayBeSubject types node
+  match_may_be types among match = (sym (ap (λ found. option_map_or is_element found false) e) ∙ match.0, bears types among)
+    where
+      bears : (o : Option (List Bool)) → IfSome o (λ types. SubjectIsAmong types list) → IfSome o (λ types. MayBear types node)
+      bears None none = tt
+      bears (Some types) h = h forest n node e match.1
+
+  pub match_decided : (b : Bool) → is_element node ≡ true → (IsTrue b ↔ Means list forest n) → Decides b (IsMatch list forest n)
+  match_decided b element fact = decides b (IsMatch list forest n) ((λ t. (ap (λ found. option_map_or is_element found false) e ∙ element, fact.0 t)), λ match. fact.1 match.1)

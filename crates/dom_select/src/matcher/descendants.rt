@@ -12,9 +12,10 @@ ghost use Rattle.dom_selectors.specs.Spelling.{Decides};
 
 use crate::matcher::Matcher;
 use crate::matcher::caches::SelectorCaches;
-use crate::matcher::matches::has_type;
+use crate::matcher::matches::{has_type, means_node};
 use crate::matcher::parts::element_at;
-use crate::matcher::subjects::may_be_subject_of;
+use crate::matcher::several::select_below_all;
+use crate::matcher::subjects::may_be_subject;
 use dom_links::iters::DescendantNodes;
 use dom_nodes::fault::OutOfMemory;
 use dom_nodes::node_id::NodeId;
@@ -99,14 +100,11 @@ pub fn select_below(
 ) -> Result<Vec<NodeId>, OutOfMemory>
     ensures { IfOk result (λ ids. Selected tree.now (root.now ∷ []) matcher.now ids.items) }
 {
-    if let Some(name) = matcher.sole_type() {
-        return named_below(tree, root, matcher, name);
-    }
-    collect_matches(tree, tree.descendant_ids_of_it(root), matcher)
+    select_below_all(tree, &[*root], matcher)
 }
 
 /// The elements below the root that bear the name, which is all that the selector asks.
-fn named_below(
+pub(crate) fn named_below(
     tree: &Tree,
     root: &NodeId,
     matcher: &Matcher,
@@ -160,12 +158,13 @@ pub(crate) fn is_match_of_types(
     ensures is { Decides result (IsMatch matcher.now caches.old id) }
     ensures same { caches.new ≡ caches.old }
 {
-    if let Some(types) = types {
-        if !may_be_subject_of(types, caches.tree(), &id) {
-            return false;
-        }
+    let Some(found) = caches.tree().tree_node(&id) else {
+        return false;
+    };
+    if !may_be_subject(types, &found.content) {
+        return false;
     }
-    is_selected_with(matcher, caches, id)
+    means_node(matcher.selectors(), caches, id, &found.content)
 }
 
 /// Whether the node is an element that the selector means.
@@ -176,16 +175,4 @@ pub(crate) fn is_selected(tree: &Tree, id: NodeId, matcher: &Matcher) -> bool
         return false;
     }
     matcher.match_element(&NodeRef::new(id, tree))
-}
-
-/// The same, asked with caches of the tree.
-fn is_selected_with(matcher: &Matcher, caches: &mut SelectorCaches<'_>, id: NodeId) -> bool
-    ensures is { Decides result (IsMatch matcher.now caches.old id) }
-    ensures same { caches.new ≡ caches.old }
-{
-    let tree = caches.tree();
-    if !element_at(tree, &id) {
-        return false;
-    }
-    matcher.match_element_with_caches(&NodeRef::new(id, tree), caches)
 }

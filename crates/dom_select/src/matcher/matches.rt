@@ -4,18 +4,19 @@
 //! left of a farther one stands on the left of that one too.
 
 ghost use Rattle.std.specs.Prelude.{◌≡◌, ◌↔◌, ◌∷◌, ◌<◌, [], IfSome, IsTrue, Some, map};
+ghost use Rattle.std.specs.Prelude.{slice_get};
 ghost use Rattle.dom_selectors.specs.declared.syntax.Combinator.TheVariants.{Descendant};
-ghost use Rattle.dom_selectors.specs.ListsAsTrees.{lists_of};
 ghost use Rattle.dom_selectors.specs.Spelling.{Decides};
 ghost use Rattle.dom_selectors.specs.ValuesAsTrees.{read_compound, read_list, read_nested};
 ghost use Rattle.dom_select.specs.Chains.{BeginsChain, EndsChain, FollowsCandidate, FollowsChain};
 ghost use Rattle.dom_select.specs.Chains.{IsCandidate, IsOrPrecedes, binding_level};
-ghost use Rattle.dom_select.specs.Ends.{AreRuledOut, ImpliesType, IsSubjectType};
+ghost use Rattle.dom_select.specs.Ends.{AreDecided, ImpliesType, IsSubjectType};
+ghost use Rattle.dom_select.specs.declared.matcher.has.Start.TheVariants.{Absolute};
 ghost use Rattle.dom_select.specs.Has.{CompoundsMatch, CompoundsMatchFrom, CompoundsMatchWithin};
 ghost use Rattle.dom_select.specs.Has.{IsElementThat, IsInRow, may_be_subject};
 ghost use Rattle.dom_select.specs.Leftward.{ends_at};
 ghost use Rattle.dom_select.specs.Meaning.{HasHolds, HasType, Holds, IsTypeAlone, ListHolds};
-ghost use Rattle.dom_select.specs.Meaning.{ListsHold, Means, MeansType};
+ghost use Rattle.dom_select.specs.Meaning.{Means, MeansType};
 
 use crate::matcher::caches::SelectorCaches;
 use crate::matcher::chains::{binding_level, ends_at, left_of, line_laws, may_be_operand};
@@ -23,7 +24,7 @@ use crate::matcher::has::{
     Start, first_right, first_search_root, is_in_row, is_joined, is_near, may_be_subject,
     next_right, next_search_root, row_combinator,
 };
-use crate::matcher::parts::{element_at, is_named_node, parts_hold};
+use crate::matcher::parts::{each_holds, element_at, is_named_node};
 use dom_nodes::node_data::NodeData;
 use dom_nodes::node_id::NodeId;
 use dom_selectors::selector_name::SelectorName;
@@ -93,77 +94,128 @@ pub(crate) fn has_type(tree: &Tree, id: &NodeId, name: &SelectorName) -> bool
     }
 }
 
-/// Whether the last of the compounds begins with a type that the node doesn't bear.
+/// Whether the compounds match the node, where its type decides that: they are a type alone, or the
+/// last of them begins with a type that the node doesn't bear.
 #[inline(always)]
-fn lacks_subject_type(first: &Compound, steps: &[Step], node: &NodeData) -> bool
-    ensures { IsTrue result → AreRuledOut first.now steps.now node.now }
+fn decided_by_type(first: &Compound, steps: &[Step], node: &NodeData) -> Option<bool>
+    ensures { IfSome result (AreDecided first.now steps.now node.now) }
 {
-    match subject_type(first, steps) {
-        Some(name) => !is_named_node(node, name),
-        None => false,
+    if steps.is_empty() {
+        if let Some(name) = sole_type_selector(first) {
+            return Some(is_named_node(node, name));
+        }
     }
+    let name = subject_type(first, steps)?;
+    if is_named_node(node, name) {
+        return None;
+    }
+    Some(false)
 }
 
-/// Whether the compound holds of the node. Of a type alone nothing else is looked at.
+/// Whether the compound holds of the node.
 #[cycle(matching)]
 pub(crate) fn holds(compound: &Compound, caches: &mut SelectorCaches<'_>, id: NodeId) -> bool
     ensures is { IsTrue result ↔ Holds (read_compound compound.now) caches.old id }
     ensures kept { caches.new ≡ caches.old }
 {
-    if let Some(name) = sole_type_selector(compound) {
-        return has_type(caches.tree(), &id, name);
+    match caches.tree().tree_node(&id) {
+        Some(found) => holds_of(compound, caches, id, &found.content),
+        None => false,
     }
-    if !parts_hold(&compound.parts, caches, &id) {
-        return false;
-    }
-    lists_hold(&compound.nested, caches, id)
 }
 
-/// Whether each of the lists in a compound holds of the node.
+/// The same of a node that was looked up. Of a type alone nothing else is looked at.
 #[cycle(matching)]
-fn lists_hold(lists: &[Nested], caches: &mut SelectorCaches<'_>, id: NodeId) -> bool
-    ensures is { IsTrue result ↔ ListsHold (lists_of (map read_nested lists.now)) caches.old id }
+fn holds_of(
+    compound: &Compound,
+    caches: &mut SelectorCaches<'_>,
+    id: NodeId,
+    node: &NodeData,
+) -> bool
+    requires { slice_get caches.old.content id ≡ Some node.now }
+    ensures is { IsTrue result ↔ Holds (read_compound compound.now) caches.old id }
     ensures kept { caches.new ≡ caches.old }
 {
-    for list in lists {
-        if !list_holds(list, caches, id) {
+    if let Some(name) = sole_type_selector(compound) {
+        return is_named_node(node, name);
+    }
+    if !each_holds(&compound.parts, caches, &id, node) {
+        return false;
+    }
+    for list in &compound.nested {
+        if !list_holds(list, caches, id, node) {
             return false;
         }
     }
     true
 }
 
+/// Whether a nested list holds of a node that was looked up.
 #[cycle(matching)]
-fn list_holds(list: &Nested, caches: &mut SelectorCaches<'_>, id: NodeId) -> bool
+fn list_holds(list: &Nested, caches: &mut SelectorCaches<'_>, id: NodeId, node: &NodeData) -> bool
+    requires { slice_get caches.old.content id ≡ Some node.now }
     ensures is { IsTrue result ↔ ListHolds (read_nested list.now) caches.old id }
     ensures kept { caches.new ≡ caches.old }
 {
     match list {
-        Nested::Is(selectors) => means(selectors, caches, id),
-        Nested::Not(selectors) => !means(selectors, caches, id),
+        Nested::Is(selectors) => means_node(selectors, caches, id, node),
+        Nested::Not(selectors) => !means_node(selectors, caches, id, node),
         Nested::Has(selectors) => has_holds(selectors, caches, id),
     }
 }
 
 /// Whether one of the selectors means the node.
-#[cycle(matching)]
 pub(crate) fn means(selectors: &[Selector], caches: &mut SelectorCaches<'_>, id: NodeId) -> bool
     ensures is { IsTrue result ↔ Means (read_list selectors.now) caches.old id }
     ensures kept { caches.new ≡ caches.old }
 {
-    let Some(node) = caches.tree().tree_node(&id) else {
-        return false;
-    };
-    let start = Start::Absolute;
+    match caches.tree().tree_node(&id) {
+        Some(found) => means_node(selectors, caches, id, &found.content),
+        None => false,
+    }
+}
+
+/// The same of a node that was looked up.
+#[cycle(matching)]
+pub(crate) fn means_node(
+    selectors: &[Selector],
+    caches: &mut SelectorCaches<'_>,
+    id: NodeId,
+    node: &NodeData,
+) -> bool
+    requires { slice_get caches.old.content id ≡ Some node.now }
+    ensures is { IsTrue result ↔ Means (read_list selectors.now) caches.old id }
+    ensures kept { caches.new ≡ caches.old }
+{
     for selector in selectors {
-        if lacks_subject_type(&selector.first, &selector.rest, &node.content) {
-            continue;
-        }
-        if chain_matches(&start, &selector.first, &selector.rest, caches, id) {
+        if compounds_match(&selector.first, &selector.rest, caches, id, node) {
             return true;
         }
     }
     false
+}
+
+/// Whether the compounds match a node that was looked up. Of one compound nothing is followed.
+#[cycle(matching)]
+fn compounds_match(
+    first: &Compound,
+    steps: &[Step],
+    caches: &mut SelectorCaches<'_>,
+    id: NodeId,
+    node: &NodeData,
+) -> bool
+    requires { slice_get caches.old.content id ≡ Some node.now }
+    ensures is { IsTrue result ↔ CompoundsMatch Absolute first.now steps.now caches.old id }
+    ensures kept { caches.new ≡ caches.old }
+{
+    if let Some(answer) = decided_by_type(first, steps, node) {
+        return answer;
+    }
+    if steps.is_empty() {
+        return holds_of(first, caches, id, node);
+    }
+    let start = Start::Absolute;
+    chain_matches(&start, first, steps, caches, id)
 }
 
 /// Whether one of the selectors leads from the node to an element.

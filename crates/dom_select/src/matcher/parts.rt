@@ -56,7 +56,12 @@ pub(crate) fn element_at(tree: &Tree, id: &NodeId) -> bool
 }
 
 /// Whether each part holds of the node, which is the tree's of that number.
-fn each_holds(parts: &[Part], caches: &mut SelectorCaches<'_>, id: &NodeId, node: &NodeData) -> bool
+pub(crate) fn each_holds(
+    parts: &[Part],
+    caches: &mut SelectorCaches<'_>,
+    id: &NodeId,
+    node: &NodeData,
+) -> bool
     requires { slice_get caches.old.content id.now ≡ Some node.now }
     ensures is { IsTrue result ↔ EachHolds parts.now caches.old id.now }
     ensures kept { caches.new ≡ caches.old }

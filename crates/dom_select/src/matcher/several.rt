@@ -11,7 +11,7 @@ ghost use Rattle.dom_selectors.specs.Spelling.{same};
 
 use crate::matcher::Matcher;
 use crate::matcher::caches::SelectorCaches;
-use crate::matcher::descendants::{collect_matches, is_match_of_types, select_below};
+use crate::matcher::descendants::{collect_matches, is_match_of_types, named_below};
 use crate::matcher::roots::{Roots, take_first};
 use dom_links::iters::DescendantNodes;
 use dom_links::laws::trees_of_a_forest;
@@ -233,7 +233,10 @@ pub fn select_below_all(
     ensures { IfOk result (λ ids. Selected tree.now roots.now matcher.now ids.items) }
 {
     if let [root] = roots {
-        return select_below(tree, root, matcher);
+        if let Some(name) = matcher.sole_type() {
+            return named_below(tree, root, matcher, name);
+        }
+        return collect_matches(tree, tree.descendant_ids_of_it(root), matcher);
     }
     let ids = nodes_below(tree, roots)?;
     collect_matches(tree, ids, matcher)

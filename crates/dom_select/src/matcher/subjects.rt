@@ -1,15 +1,14 @@
 //! The types of the nodes that selectors can match, by the numbers of names.
 
-ghost use Rattle.std.specs.Prelude.{◌≡◌, false, IfSome};
+ghost use Rattle.std.specs.Prelude.{◌≡◌, false, true, IfSome, MatchBool};
+ghost use Rattle.dom_nodes.specs.Kinds.{is_element};
 ghost use Rattle.dom_selectors.specs.ValuesAsTrees.{read_list};
-ghost use Rattle.dom_select.specs.Subjects.{IsOther, MayBear, SubjectIsAmong};
+ghost use Rattle.dom_select.specs.Subjects.{MayBeSubject, MayBear, SubjectIsAmong};
 
 use crate::matcher::matches::subject_type;
 use dom_nodes::name::NamespaceRef;
 use dom_nodes::node_data::NodeData;
-use dom_nodes::node_id::NodeId;
 use dom_selectors::syntax::Selector;
-use dom_trees::tree::Tree;
 
 /// The types of the subjects, a flag for each number of a name: an HTML element that a selector
 /// matches has one of these types. None where a subject has no type, or one whose name has no
@@ -26,15 +25,18 @@ pub(crate) fn subject_types(selectors: &[Selector]) -> Option<[bool; 256]>
     Some(types)
 }
 
-/// Whether the number is a node's that may have one of the types: it is an element whose name has
-/// one of the numbers, or none, or that is no HTML element.
+/// Whether the node is an element that may have one of the types, if any are given: its name has
+/// one of the numbers, or none, or it is no HTML element.
 #[inline(always)]
-pub(crate) fn may_be_subject_of(types: &[bool; 256], tree: &Tree, id: &NodeId) -> bool
-    ensures { result ≡ false → IsOther types.now tree.now id.now }
+pub(crate) fn may_be_subject(types: &Option<[bool; 256]>, node: &NodeData) -> bool
+    ensures { MatchBool result (is_element node.now ≡ true) (MayBeSubject types.now node.now → ⊥) }
 {
-    match tree.tree_node(id) {
-        Some(found) => may_bear(types, &found.content),
-        None => false,
+    if !node.is_element() {
+        return false;
+    }
+    match types {
+        Some(types) => may_bear(types, node),
+        None => true,
     }
 }
 

@@ -1,5 +1,7 @@
-use Rattle.std.proofs.Common.{◌≤◌, ◌+◌, ◌*◌, length, map, drop}
+use Rattle.std.proofs.Common.{◌≤◌, ◌+◌, ◌*◌, ℕ, List, length, map, drop}
+use Rattle.dom_selectors.specs.declared.syntax.Selector.{Selector}
 use Rattle.dom_selectors.specs.ListsAsTrees.{lists_of, steps_of}
+use Rattle.dom_selectors.specs.Syntax.{SelectorList}
 use Rattle.dom_select.specs.Meaning.{HasHolds, Means}
 use Rattle.dom_selectors.specs.ValuesAsTrees.{read_compound, read_list, read_nested, read_step}
 use Rattle.dom_index.specs.TestCounts.{HasTests, ListsTests, SelectorTests, SelectorsTests}
@@ -35,29 +37,29 @@ decreases-rest_set l = 1 + steps_weight (steps_of (map read_step l.steps.now))
 abbrev pub decreases-selector_set : goal.decreases-selector_set
 decreases-selector_set l = 8 + compound_weight (read_compound l.first.now) + steps_weight (steps_of (map read_step l.steps.now))
 
-abbrev pub invariant-list_set-loop-selector : goal.invariant-list_set-loop-selector
-invariant-list_set-loop-selector l =
-    let all = read_list l.selectors in
-    let left = read_list (drop l.selector-index l.selectors) in
-    let count = length l.preorder.tree.now.content in
+-- the set of the selectors that were met, and the tests of those that are left
+abbrev Unfinished : (SelectorList → SelectorList → Type 0) → (SelectorList → SelectorList → Type 0) → List Selector → ℕ → ℕ → ℕ → ℕ → Type 0
+Unfinished Table Asks selectors i count before tests =
+    let all = read_list selectors in
+    let left = read_list (drop i selectors) in
     record {
-      table : Widened (Wanted l.wanted) count l.table.items (Means all l.preorder.tree.now) (Means left l.preorder.tree.now);
-      asking : Asking l.fn.tests l.tests (SelectorsTests all l.preorder.tree.now l.wanted) (SelectorsTests left l.preorder.tree.now l.wanted);
-      tests : l.tests + selectors_count left * count ≤ l.fn.tests + selectors_count all * count;
+      table : Table all left;
+      asking : Asks all left;
+      tests : tests + selectors_count left * count ≤ before + selectors_count all * count;
       light : selectors_weight left ≤ selectors_weight all;
     }
 
+abbrev pub invariant-list_set-loop-selector : goal.invariant-list_set-loop-selector
+invariant-list_set-loop-selector l =
+    let forest = l.preorder.tree.now in
+    let count = length forest.content in
+    Unfinished (λ all left. Widened (Wanted l.wanted) count l.table.items (Means all forest) (Means left forest)) (λ all left. Asking l.fn.tests l.tests (SelectorsTests all forest l.wanted) (SelectorsTests left forest l.wanted)) l.selectors l.selector-index count l.fn.tests l.tests
+
 abbrev pub invariant-has_set-loop-selector : goal.invariant-has_set-loop-selector
 invariant-has_set-loop-selector l =
-    let all = read_list l.selectors in
-    let left = read_list (drop l.selector-index l.selectors) in
-    let count = length l.preorder.tree.now.content in
-    record {
-      table : Widened Anywhere count l.table.items (HasHolds all l.preorder.tree.now) (HasHolds left l.preorder.tree.now);
-      asking : Asking l.fn.tests l.tests (HasTests all l.preorder.tree.now) (HasTests left l.preorder.tree.now);
-      tests : l.tests + selectors_count left * count ≤ l.fn.tests + selectors_count all * count;
-      light : selectors_weight left ≤ selectors_weight all;
-    }
+    let forest = l.preorder.tree.now in
+    let count = length forest.content in
+    Unfinished (λ all left. Widened Anywhere count l.table.items (HasHolds all forest) (HasHolds left forest)) (λ all left. Asking l.fn.tests l.tests (HasTests all forest) (HasTests left forest)) l.selectors l.selector-index count l.fn.tests l.tests
 
 -- the steps that are left, and the set of those after them
 abbrev pub invariant-rest_set-loop-step : goal.invariant-rest_set-loop-step

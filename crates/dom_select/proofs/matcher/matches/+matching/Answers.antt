@@ -1,7 +1,7 @@
 use Rattle.std.proofs.Common.{◌≡◌, ◌↔◌, ◌∷◌, IsTrue, Some, false, true≢false, refl, inl, ◌<◌, ◌≤◌, ℕ, inr, length, ap, map, sym, ◌∙◌, subst, arith}
 use Rattle.dom_links.specs.Lists.{stands_in}
 use Rattle.dom_selectors.specs.ListsAsTrees.{steps_of}
-use Rattle.dom_selectors.specs.ValuesAsTrees.{read_compound, read_list, read_step}
+use Rattle.dom_selectors.specs.ValuesAsTrees.{read_compound, read_step}
 use Rattle.dom_select.specs.Chains.{BeginsChain, binding_level}
 use Rattle.dom_select.specs.Has.{Begins, CompoundsMatch, CompoundsMatchFrom, right_row, row_combinator, search_roots_from}
 use Rattle.dom_select.specs.declared.matcher.has.Start.TheVariants.{Relative}
@@ -9,8 +9,9 @@ use Rattle.std.proofs.lemmas.Bool.Decides.{when_true}
 use Rattle.dom_select.proofs.ChildRowLemmas.{shorter}
 use Rattle.dom_select.proofs.EndLemmas.{not_reached}
 use Rattle.dom_select.proofs.ReachLemmas.{IsMeant, left_ends, left_farther, left_nowhere, line_some, to_line}
-use Rattle.dom_select.proofs.HasLemmas.{ends_if, means_later, steps_here, steps_later, led_to, list_lighter, reached_from, stands_first, stands_on}
-use Rattle.dom_select.proofs.MeaningLemmas.{means_unknown}
+use Rattle.dom_select.proofs.HasLemmas.{alone_matches, ends_if, steps_here, steps_later, led_to, list_lighter, reached_from, stands_first, stands_on}
+use Rattle.dom_select.proofs.MeaningLemmas.{holds_known, holds_unknown, next_list, no_list_left}
+use Rattle.dom_select.proofs.types.TypeLemmas.{type_alone_known}
 use Rattle.dom_select.proofs.RightLemmas.{leads_beside, reached_in_row, row_ends, row_goes_near, row_here, row_later}
 use Rattle.dom_select.proofs.StepLemmas.{read_front_and_last, weight_front_and_last}
 use Rattle.dom_select.proofs.FollowLemmas.{ends_here, ends_match, followed_all, followed_nearest, followed_so_far, following_at, following_none, following_more, following_not, is_nil, line_back, next_precedes, chain_alone, chain_end, some_where, weight_cut}
@@ -295,15 +296,37 @@ matches_in_row-returns-clause-is t c = (
       absurd (true≢false (sym there ∙ none)),
 )
 
-pub means-returns-in_default-clause-is : goal.means-returns-in_default-clause-is
-means-returns-in_default-clause-is t c =
-    (λ e. absurd (true≢false (sym e)), λ m. absurd (means_unknown (read_list c.args.selectors.now) c.args.caches.now c.args.id (rw c.tree.ensures at c.in_default.ensures) m))
+pub holds-returns-in-None-clause-is : goal.holds-returns-in-None-clause-is
+holds-returns-in-None-clause-is t c =
+    (λ e. absurd (true≢false (sym e)), λ h. absurd (holds_unknown (read_compound c.args.compound.now) c.args.caches.now c.args.id (rw c.tree.ensures at c.in-None.ensures) h))
 
-pub means-loop-selector-preserved-then-lacks_subject_type : goal.means-loop-selector-preserved-then-lacks_subject_type
-means-loop-selector-preserved-then-lacks_subject_type t c =
-    let node = rw c.tree.ensures at c.in-Some.ensures.content_is in
-    let other = c.lacks_subject_type.ensures c.if-lacks_subject_type.true c.args.caches.now c.args.id node in
-    let same = means_later c.args.selectors.now c.loop-selector.selector-index c.selector-item.result c.deref.result.now c.args.caches.now c.args.id false (omega (arith, c.loop-selector-test.true)) c.selector-item.is c.deref.ensures.value (λ e. absurd (true≢false (sym e)), λ h. absurd (other h)) refl in
-    let less = list_lighter c.args.selectors.now c.loop-selector.selector-index c.selector-item.result (omega (arith, c.loop-selector-test.true)) c.selector-item.is in
-    let light = c.loop-selector.invariant.light in
-    record { kept = c.loop-selector.invariant.kept; same = (λ h. c.loop-selector.invariant.same.0 (same.0 h), λ h. same.1 (c.loop-selector.invariant.same.1 h)); light = omega arith }
+pub holds_of-returns-in-Some-clause-is : goal.holds_of-returns-in-Some-clause-is
+holds_of-returns-in-Some-clause-is t c =
+    type_alone_known c.in-Some.name.now (read_compound c.args.compound.now) c.args.caches.now c.args.id c.args.node.now c.is_named_node.result c.in-Some.ensures c.requires c.is_named_node.ensures
+
+pub holds_of-returns-then-not-each_holds-clause-is : goal.holds_of-returns-then-not-each_holds-clause-is
+holds_of-returns-then-not-each_holds-clause-is t c =
+    let known = holds_known c.args.compound.now c.args.caches.now c.args.id c.args.node.now c.requires in
+    let refused = rw c.deref.ensures.value at c.if-not-each_holds.ensures.is in
+    (λ e. absurd (true≢false (sym e)), λ h. refused.1 (known.0 h).0)
+
+pub holds_of-returns-then-not-list_holds-clause-is : goal.holds_of-returns-then-not-list_holds-clause-is
+holds_of-returns-then-not-list_holds-clause-is t c =
+    let known = holds_known c.args.compound.now c.args.caches.now c.args.id c.args.node.now c.requires in
+    let refused = rw c.loop-list.invariant.kept at c.if-not-list_holds.ensures.is in
+    let next = rw c.deref-list-items.ensures.value at (next_list c.deref-list-items.result.now c.loop-list.list-index c.list-item.result c.args.caches.now c.args.id (omega (arith, c.loop-list-test.true)) c.list-item.is) in
+    (λ e. absurd (true≢false (sym e)), λ h. refused.1 (next (c.loop-list.invariant.same.1 (known.0 h).1)))
+
+pub holds_of-returns-clause-is : goal.holds_of-returns-clause-is
+holds_of-returns-clause-is t c =
+    let known = holds_known c.args.compound.now c.args.caches.now c.args.id c.args.node.now c.requires in
+    let each = rw c.deref.ensures.value at c.if-not-each_holds.ensures.is in
+    let none = rw c.deref-list-items.ensures.value at (no_list_left c.deref-list-items.result.now c.loop-list.list-index c.args.caches.now c.args.id (omega (arith, c.loop-list-test.false))) in
+    (λ e. known.1 (each.0 refl, c.loop-list.invariant.same.0 none), λ h. refl)
+
+pub compounds_match-returns-in-Some-clause-is : goal.compounds_match-returns-in-Some-clause-is
+compounds_match-returns-in-Some-clause-is t c = c.in-Some.ensures c.args.caches.now c.args.id c.requires
+
+pub compounds_match-returns-then-is_empty-clause-is : goal.compounds_match-returns-then-is_empty-clause-is
+compounds_match-returns-then-is_empty-clause-is t c =
+    alone_matches c.args.first.now c.args.steps.now c.args.caches.now c.args.id c.holds_of.result (sym c.is_empty.ensures ∙ c.if-is_empty.true) c.holds_of.ensures.is

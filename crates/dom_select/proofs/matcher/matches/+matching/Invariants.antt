@@ -18,14 +18,17 @@ use Rattle.dom_select.proofs.matcher.matches.+matching.Given as goal
 abbrev pub decreases-holds : goal.decreases-holds
 decreases-holds l = compound_weight (read_compound l.compound.now)
 
-abbrev pub decreases-lists_hold : goal.decreases-lists_hold
-decreases-lists_hold l = lists_weight (lists_of (map read_nested l.lists.now))
+abbrev pub decreases-holds_of : goal.decreases-holds_of
+decreases-holds_of l = lists_weight (lists_of (map read_nested l.compound.now.nested.items))
 
 abbrev pub decreases-list_holds : goal.decreases-list_holds
 decreases-list_holds l = list_weight (read_nested l.list.now)
 
-abbrev pub decreases-means : goal.decreases-means
-decreases-means l = selectors_weight (read_list l.selectors.now)
+abbrev pub decreases-means_node : goal.decreases-means_node
+decreases-means_node l = selectors_weight (read_list l.selectors.now)
+
+abbrev pub decreases-compounds_match : goal.decreases-compounds_match
+decreases-compounds_match l = 10 + compound_weight (read_compound l.first.now) + steps_weight (steps_of (map read_step l.steps.now))
 
 abbrev pub decreases-chain_matches : goal.decreases-chain_matches
 decreases-chain_matches l = 9 + compound_weight (read_compound l.first.now) + steps_weight (steps_of (map read_step l.steps.now))
@@ -40,10 +43,11 @@ abbrev pub decreases-match_from_candidates : goal.decreases-match_from_candidate
 decreases-match_from_candidates l = 4 + compound_weight (read_compound l.chain.now.first.now) + steps_weight (steps_of (map read_step l.steps.now)) + binding_level l.combinator
 
 -- the lists that are left decide
-abbrev pub invariant-lists_hold-loop-list : goal.invariant-lists_hold-loop-list
-invariant-lists_hold-loop-list l =
-    let all = lists_of (map read_nested l.lists) in
-    let left = lists_of (map read_nested (drop l.list-index l.lists)) in
+abbrev pub invariant-holds_of-loop-list : goal.invariant-holds_of-loop-list
+invariant-holds_of-loop-list l =
+    let lists = l.compound.nested.items in
+    let all = lists_of (map read_nested lists) in
+    let left = lists_of (map read_nested (drop l.list-index lists)) in
     record {
       kept : l.caches ≡ l.fn.caches;
       same : ListsHold left l.fn.caches l.id ↔ ListsHold all l.fn.caches l.id;
@@ -51,8 +55,8 @@ invariant-lists_hold-loop-list l =
     }
 
 -- the selectors that are left decide
-abbrev pub invariant-means-loop-selector : goal.invariant-means-loop-selector
-invariant-means-loop-selector l =
+abbrev pub invariant-means_node-loop-selector : goal.invariant-means_node-loop-selector
+invariant-means_node-loop-selector l =
     let all = read_list l.selectors in
     let left = read_list (drop l.selector-index l.selectors) in
     record {
