@@ -16,7 +16,7 @@ use dom_trees::tree::Tree;
 const MOST_COMPOUNDS: u64 = 32;
 
 /// One node of so many is few.
-const FEW: usize = 8;
+const FEW: usize = 32;
 
 /// Whether each candidate is asked. Nested lists are near and `:has` stands in last compounds
 /// alone, since others are tested at one node for several candidates. The combinators are `>` and

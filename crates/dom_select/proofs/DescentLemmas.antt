@@ -205,6 +205,9 @@ module _ (forest : Forest) (minis : List Mini) where
   known_split [] n k known = (tt, known.0.0, known.0.1)
   known_split (w ∷ ws) n k known = let rest = known_split ws n k known.1 in ((known.0, rest.0), rest.1, rest.2)
 
+  pub known_at : (ws : List (ℕ × ℕ)) (next : Option ℕ) (n k : ℕ) → next ≡ Some n → AreWaiting forest steps (ws ++ waiting next k) → AreWaiting forest steps ws × (n < length forest.content) × (k < steps)
+  known_at ws next n k is known = known_split ws n k (subst (λ o. AreWaiting forest steps (ws ++ waiting o k)) is known)
+
   joined : (found one below beside rest : List ℕ) → (found ++ one) ++ (below ++ (beside ++ rest)) ≡ found ++ ((one ++ (below ++ beside)) ++ rest)
   joined found one below beside rest =
       append_assoc found one (below ++ (beside ++ rest))

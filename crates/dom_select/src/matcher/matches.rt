@@ -95,15 +95,14 @@ pub(crate) fn has_type(tree: &Tree, id: &NodeId, name: &SelectorName) -> bool
 }
 
 /// Whether the compounds match the node, where its type decides that: they are a type alone, or the
-/// last of them begins with a type that the node doesn't bear.
+/// last of several begins with a type that the node doesn't bear.
 #[inline(always)]
 fn decided_by_type(first: &Compound, steps: &[Step], node: &NodeData) -> Option<bool>
     ensures { IfSome result (AreDecided first.now steps.now node.now) }
 {
     if steps.is_empty() {
-        if let Some(name) = sole_type_selector(first) {
-            return Some(is_named_node(node, name));
-        }
+        let name = sole_type_selector(first)?;
+        return Some(is_named_node(node, name));
     }
     let name = subject_type(first, steps)?;
     if is_named_node(node, name) {
@@ -112,19 +111,22 @@ fn decided_by_type(first: &Compound, steps: &[Step], node: &NodeData) -> Option<
     Some(false)
 }
 
-/// Whether the compound holds of the node.
+/// Whether the compound holds of the node. Of a type alone nothing else is looked at.
 #[cycle(matching)]
 pub(crate) fn holds(compound: &Compound, caches: &mut SelectorCaches<'_>, id: NodeId) -> bool
     ensures is { IsTrue result ↔ Holds (read_compound compound.now) caches.old id }
     ensures kept { caches.new ≡ caches.old }
 {
-    match caches.tree().tree_node(&id) {
-        Some(found) => holds_of(compound, caches, id, &found.content),
-        None => false,
+    let Some(found) = caches.tree().tree_node(&id) else {
+        return false;
+    };
+    if let Some(name) = sole_type_selector(compound) {
+        return is_named_node(&found.content, name);
     }
+    holds_of(compound, caches, id, &found.content)
 }
 
-/// The same of a node that was looked up. Of a type alone nothing else is looked at.
+/// The same of a node that was looked up.
 #[cycle(matching)]
 fn holds_of(
     compound: &Compound,
@@ -136,9 +138,6 @@ fn holds_of(
     ensures is { IsTrue result ↔ Holds (read_compound compound.now) caches.old id }
     ensures kept { caches.new ≡ caches.old }
 {
-    if let Some(name) = sole_type_selector(compound) {
-        return is_named_node(node, name);
-    }
     if !each_holds(&compound.parts, caches, &id, node) {
         return false;
     }

@@ -296,13 +296,14 @@ matches_in_row-returns-clause-is t c = (
       absurd (true≢false (sym there ∙ none)),
 )
 
-pub holds-returns-in-None-clause-is : goal.holds-returns-in-None-clause-is
-holds-returns-in-None-clause-is t c =
-    (λ e. absurd (true≢false (sym e)), λ h. absurd (holds_unknown (read_compound c.args.compound.now) c.args.caches.now c.args.id (rw c.tree.ensures at c.in-None.ensures) h))
+pub holds-returns-in_default-clause-is : goal.holds-returns-in_default-clause-is
+holds-returns-in_default-clause-is t c =
+    (λ e. absurd (true≢false (sym e)), λ h. absurd (holds_unknown (read_compound c.args.compound.now) c.args.caches.now c.args.id (rw c.tree.ensures at c.in_default.ensures) h))
 
-pub holds_of-returns-in-Some-clause-is : goal.holds_of-returns-in-Some-clause-is
-holds_of-returns-in-Some-clause-is t c =
-    type_alone_known c.in-Some.name.now (read_compound c.args.compound.now) c.args.caches.now c.args.id c.args.node.now c.is_named_node.result c.in-Some.ensures c.requires c.is_named_node.ensures
+pub holds-returns-in-Some-sole_type_selector-clause-is : goal.holds-returns-in-Some-sole_type_selector-clause-is
+holds-returns-in-Some-sole_type_selector-clause-is t c =
+    let node = rw c.tree.ensures at c.in-Some.ensures.content_is in
+    type_alone_known c.in-Some-sole_type_selector.name.now (read_compound c.args.compound.now) c.args.caches.now c.args.id c.in-Some.found.now.content c.is_named_node.result c.in-Some-sole_type_selector.ensures node c.is_named_node.ensures
 
 pub holds_of-returns-then-not-each_holds-clause-is : goal.holds_of-returns-then-not-each_holds-clause-is
 holds_of-returns-then-not-each_holds-clause-is t c =

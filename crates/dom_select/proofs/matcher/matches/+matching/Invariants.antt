@@ -1,7 +1,9 @@
-use Rattle.std.proofs.Common.{ℕ, true, ◌⊎◌, ◌≡◌, ◌+◌, ◌≤◌, map, drop, length, ◌↔◌}
+use Rattle.std.proofs.Common.{ℕ, List, true, ◌⊎◌, ◌≡◌, ◌+◌, ◌≤◌, map, drop, length, ◌↔◌}
+use Rattle.dom_links.specs.Forest.{Forest}
 use Rattle.dom_links.specs.Lists.{stands_in}
 use Rattle.dom_links.specs.Trees.{walk_below}
 use Rattle.dom_select.specs.declared.matcher.has.Start.TheVariants.{Relative}
+use Rattle.dom_selectors.specs.declared.syntax.Selector.{Selector}
 use Rattle.dom_selectors.specs.ListsAsTrees.{lists_of, steps_of}
 use Rattle.dom_select.specs.Leftward.{line, ends_at}
 use Rattle.dom_select.specs.Meaning.{HasHolds, ListsHold, Means, RelativeMatches}
@@ -12,8 +14,19 @@ use Rattle.dom_select.specs.Chains.{BeginsChain, binding_level}
 use Rattle.dom_select.specs.Has.{SelectorMatches, MatchesWithin, right_row, row_combinator, search_roots, search_roots_from}
 use Rattle.dom_select.proofs.FollowLemmas.{Following}
 use Rattle.dom_select.proofs.RightLemmas.{SomeOfRow}
-use Rattle.dom_selectors.specs.Syntax.{no_steps}
+use Rattle.dom_selectors.specs.Syntax.{SelectorList, no_steps}
 use Rattle.dom_select.proofs.matcher.matches.+matching.Given as goal
+
+-- the selectors that are left decide
+abbrev LeftDecide : (SelectorList → Type 0) → List Selector → ℕ → Forest → Forest → Type 0
+LeftDecide P selectors i before caches =
+    let all = read_list selectors in
+    let left = read_list (drop i selectors) in
+    record {
+      kept : caches ≡ before;
+      same : P left ↔ P all;
+      light : selectors_weight left ≤ selectors_weight all;
+    }
 
 abbrev pub decreases-holds : goal.decreases-holds
 decreases-holds l = compound_weight (read_compound l.compound.now)
@@ -54,16 +67,8 @@ invariant-holds_of-loop-list l =
       light : lists_weight left ≤ lists_weight all;
     }
 
--- the selectors that are left decide
 abbrev pub invariant-means_node-loop-selector : goal.invariant-means_node-loop-selector
-invariant-means_node-loop-selector l =
-    let all = read_list l.selectors in
-    let left = read_list (drop l.selector-index l.selectors) in
-    record {
-      kept : l.caches ≡ l.fn.caches;
-      same : Means left l.fn.caches l.id ↔ Means all l.fn.caches l.id;
-      light : selectors_weight left ≤ selectors_weight all;
-    }
+invariant-means_node-loop-selector l = LeftDecide (λ list. Means list l.fn.caches l.id) l.selectors l.selector-index l.fn.caches l.caches
 
 -- the steps are followed so far
 abbrev pub invariant-match_suffix-loop-last : goal.invariant-match_suffix-loop-last
@@ -101,16 +106,8 @@ decreases-relative_matches l = 11 + compound_weight (read_compound l.first.now) 
 abbrev pub decreases-matches_within : goal.decreases-matches_within
 decreases-matches_within l = 10 + compound_weight (read_compound l.first.now) + steps_weight (steps_of (map read_step l.steps.now))
 
--- the selectors that are left decide
 abbrev pub invariant-has_holds-loop-selector : goal.invariant-has_holds-loop-selector
-invariant-has_holds-loop-selector l =
-    let all = read_list l.selectors in
-    let left = read_list (drop l.selector-index l.selectors) in
-    record {
-      kept : l.caches ≡ l.fn.caches;
-      same : HasHolds left l.fn.caches l.id ↔ HasHolds all l.fn.caches l.id;
-      light : selectors_weight left ≤ selectors_weight all;
-    }
+invariant-has_holds-loop-selector l = LeftDecide (λ list. HasHolds list l.fn.caches l.id) l.selectors l.selector-index l.fn.caches l.caches
 
 -- what is led to lies at or below a node that is left
 abbrev pub invariant-relative_matches-loop-top : goal.invariant-relative_matches-loop-top

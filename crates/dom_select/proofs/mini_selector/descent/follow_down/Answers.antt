@@ -1,11 +1,11 @@
-use Rattle.std.proofs.Common.{◌≡◌, ◌∙◌, ◌++◌, ap, false, length, subst, sym}
+use Rattle.std.proofs.Common.{◌≡◌, ◌∙◌, ◌++◌, ap, false, subst, sym}
 use Rattle.std.proofs.lemmas.Option.{slice_get_within}
 use Rattle.dom_links.specs.Forest.{children_of, forest_of}
 use Rattle.dom_links.specs.Lists.{first}
-use Rattle.dom_select.specs.Descents.{AreWaiting, IsDescent, IsPassed, flags_after, still_found, waiting}
+use Rattle.dom_select.specs.Descents.{IsDescent, IsPassed, flags_after, still_found, waiting}
 use Rattle.dom_select.specs.MiniPaths.{IsFound}
 use Rattle.dom_select.specs.PathFlags.{data_at, is_led, one_if}
-use Rattle.dom_select.proofs.DescentLemmas.{begun, behind, ended, fewer, from_start, known_split, step_of, visited}
+use Rattle.dom_select.proofs.DescentLemmas.{begun, behind, ended, fewer, from_start, known_at, step_of, visited}
 use Rattle.dom_select.proofs.PathLemmas.{found_none, found_right}
 use Rattle.dom_select.proofs.SearchLemmas.{data_is}
 use Rattle.dom_select.proofs.mini_selector.descent.follow_down.Goals as goal
@@ -29,17 +29,11 @@ loop-next-init c =
 
 pub node_at-node-requires-clause-known : goal.node_at-node-requires-clause-known
 node_at-node-requires-clause-known c =
-    let forest = forest_of c.args.nodes.now in
-    let pending = c.loop-next.pending.items in
-    let at = subst (λ o. AreWaiting forest (length c.args.path.now) (pending ++ waiting o c.loop-next.passed)) c.in-Some-next.is c.loop-next.invariant.search.known in
-    (known_split forest c.args.path.now pending c.in-Some-next.id c.loop-next.passed at).1
+    (known_at (forest_of c.args.nodes.now) c.args.path.now c.loop-next.pending.items c.loop-next.next c.in-Some-next.id c.loop-next.passed c.in-Some-next.is c.loop-next.invariant.search.known).1
 
 pub count_passed-requires-clause-few : goal.count_passed-requires-clause-few
 count_passed-requires-clause-few c =
-    let forest = forest_of c.args.nodes.now in
-    let pending = c.loop-next.pending.items in
-    let at = subst (λ o. AreWaiting forest (length c.args.path.now) (pending ++ waiting o c.loop-next.passed)) c.in-Some-next.is c.loop-next.invariant.search.known in
-    (known_split forest c.args.path.now pending c.in-Some-next.id c.loop-next.passed at).2
+    (known_at (forest_of c.args.nodes.now) c.args.path.now c.loop-next.pending.items c.loop-next.next c.in-Some-next.id c.loop-next.passed c.in-Some-next.is c.loop-next.invariant.search.known).2
 
 -- what waits behind the node
 waits : (c : goal.After-predict_next-next) →
@@ -54,10 +48,9 @@ loop-next-smaller c =
     let path = c.args.path.now in
     let pending = c.loop-next.pending.items in
     let id = c.in-Some-next.id in
-    let at = subst (λ o. AreWaiting forest (length c.args.path.now) (pending ++ waiting o c.loop-next.passed)) c.in-Some-next.is c.loop-next.invariant.search.known in
     rw c.in-Some-next.is
     (fewer forest path (c.trees_of_a_forest.ensures forest good) (c.lines_of_a_forest.ensures forest good) c.requires.down pending _ id c.loop-next.passed c.in_ok-below.below
-    (known_split forest path pending id c.loop-next.passed at).1 (waits c))
+    (known_at forest path pending c.loop-next.next id c.loop-next.passed c.in-Some-next.is c.loop-next.invariant.search.known).1 (waits c))
 
 pub loop-next-preserved : goal.loop-next-preserved
 loop-next-preserved c =
