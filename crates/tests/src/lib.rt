@@ -7,6 +7,8 @@ mod failing;
 #[cfg(test)]
 mod html5;
 #[cfg(test)]
+mod links;
+#[cfg(test)]
 mod markup;
 #[cfg(test)]
 mod nodes;
