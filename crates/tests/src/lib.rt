@@ -11,6 +11,8 @@ mod links;
 #[cfg(test)]
 mod markup;
 #[cfg(test)]
+mod md;
+#[cfg(test)]
 mod nodes;
 #[cfg(test)]
 mod query;
@@ -18,5 +20,7 @@ mod query;
 mod random;
 #[cfg(test)]
 mod select;
+#[cfg(test)]
+mod selection;
 #[cfg(test)]
 mod trees;

@@ -1,0 +1,58 @@
+//! Nodes that are selected below others, and the first children of a name.
+
+use dom_markup::document::Document;
+use dom_nodes::node_id::NodeId;
+use dom_select::matcher::Matcher;
+use dom_select::matcher::matcher_iter::MatcherIter;
+use dom_select::matcher::several::Matches;
+use dom_select::node_select::NodeSelect;
+use dom_select::traversal::Traversal;
+use dom_selectors::mini_selector::selector::MiniSelector;
+use dom_trees::node_ref::NodeRef;
+use dom_trees::tree::Tree;
+use std::alloc::Global;
+use std::test::Fail;
+
+const PAGE: &str = "<div><p><b></b></p></div><p>t</p><b></b>";
+
+/// What each way selects below 2 and 1, where 3 alone is a match, by how many steps.
+fn below(tree: &Tree, matcher: &Matcher) -> Option<[Option<NodeId>; 4]> {
+    let ids = [NodeId::new(2)?, NodeId::new(1)?];
+    let nodes = [NodeRef::new(ids[0], tree), NodeRef::new(ids[1], tree)];
+    let mut by_ids = Matches::new(tree, &ids, matcher).ok()?;
+    let mut by_nodes = Matches::below_nodes(tree, &nodes, matcher).ok()?;
+    let mut one_by_one = MatcherIter::below_nodes(tree, &nodes, matcher).ok()?;
+    Some([
+        by_ids.next().map(|node| node.id),
+        by_nodes.next().map(|node| node.id),
+        one_by_one.next().map(|node| node.id),
+        one_by_one.next().map(|node| node.id),
+    ])
+}
+
+/// The first child of the root of that name.
+fn child(tree: &Tree, name: &str) -> Option<NodeId> {
+    Traversal::find_child_element_by_name(tree.nodes(), NodeId::root(), name)
+}
+
+/// Whether the node is of that name, by its data alone.
+fn is_named(alloc: Global, node: &NodeRef<'_>, name: &str) -> bool {
+    match node.tree.nodes().get(node.id.value()) {
+        Some(node) => MiniSelector::named(alloc, name).match_data(&node.content),
+        None => false,
+    }
+}
+
+#[test]
+fn nodes_below_others(rt: HostRuntime) -> Result<(), Fail> {
+    let document = Document::parse(rt.alloc(), PAGE)?;
+    let tree = &document.tree;
+    let matcher = Matcher::new(rt.alloc(), "b")?;
+    let found = Some(NodeId::new(3).ok_or("id")?);
+    assert!(rt; below(tree, &matcher) == Some([found, found, found, None]));
+    assert!(rt; child(tree, "p") == NodeId::new(4) && child(tree, "i").is_none());
+    let last = NodeRef::new(NodeId::new(6).ok_or("id")?, tree);
+    assert!(rt; is_named(rt.alloc(), &last, "b") && !is_named(rt.alloc(), &last, "p"));
+    assert!(rt; NodeSelect::is_empty(&last) && !NodeSelect::is_empty(&tree.root()));
+    Ok(())
+}
