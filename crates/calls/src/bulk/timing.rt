@@ -6,7 +6,7 @@ use crate::words::{named, words_of};
 use dom_query::{
     Allow, Document, DocumentMd, DocumentSelect, EditFault, Matcher, MiniSelect, NodeId,
     NodeMarkup, NodeMd, Options, OutOfMemory, Place, Snippet, Tokens, Tree, TreeIndex, parse_page,
-    sanitize,
+    sanitize, sanitize_tree,
 };
 use dom_select::matcher::descendants::select_below;
 use std::alloc::Global;
@@ -194,7 +194,7 @@ fn strip_all(document: &mut Document) -> Option<()> {
         attrs: &[],
         drop: &[],
     };
-    sanitize(document, &allow).ok()
+    sanitize_tree(&mut document.tree, &allow).ok()
 }
 
 /// Moves each node to the end of the first node's children, where it may go there; answers how many

@@ -1,6 +1,6 @@
 //! Calls of `TreeNodeOps` on nodes that stand in no tree: copies of a tree's.
 
-ghost use Rattle.std.specs.Prelude.{◌≡◌, ◌<◌, IfOk, length, true};
+ghost use Rattle.std.specs.Prelude.{◌≡◌, IfSome, true};
 ghost use Rattle.dom_links.specs.ListMoves.{CanMove, moving_id};
 ghost use Rattle.dom_links.specs.Sound.{IsSoundArena, target};
 
@@ -62,7 +62,10 @@ const CALLS: [(Call, &str); 14] = [
         "<div>a</div><p>x</p><b>t</b><i></i>",
     ),
     (Call::RemoveFromParent, "<div>a<i></i></div><p>x</p>"),
-    (Call::ReparentChildrenOf, "<div>a<b></b><i></i></div><p>x</p>"),
+    (
+        Call::ReparentChildrenOf,
+        "<div>a<b></b><i></i></div><p>x</p>",
+    ),
     (Call::SetText, "<div>a<b>t</b><i></i></div><p>z</p>"),
     (Call::StripElements, "<div>at<i></i></div><p>x</p>"),
     (
@@ -88,21 +91,20 @@ fn may_move(nodes: &[TreeNode], gap: Gap, t: NodeId, moving: Moving, x: NodeId) 
 fn move_node(nodes: &mut [TreeNode], call: Call, t: NodeId, x: NodeId)
     requires { IsSoundArena nodes.old }
 {
-    let node = Moving::Node(x);
     match call {
-        Call::MoveTo if may_move(nodes, Gap::FrontOf(t), t, node, x) => {
-            TreeNodeOps::move_to(nodes, Gap::FrontOf(t), node)
+        Call::MoveTo if may_move(nodes, Gap::FrontOf(t), t, Moving::Node(x), x) => {
+            TreeNodeOps::move_to(nodes, Gap::FrontOf(t), Moving::Node(x))
         }
-        Call::AppendChildOf if may_move(nodes, Gap::EndOf(t), t, node, x) => {
+        Call::AppendChildOf if may_move(nodes, Gap::EndOf(t), t, Moving::Node(x), x) => {
             TreeNodeOps::append_child_of(nodes, t, x)
         }
-        Call::PrependChildOf if may_move(nodes, Gap::FrontOf(t), t, node, x) => {
+        Call::PrependChildOf if may_move(nodes, Gap::FrontOf(t), t, Moving::Node(x), x) => {
             TreeNodeOps::prepend_child_of(nodes, t, x)
         }
-        Call::InsertBeforeOf if may_move(nodes, Gap::Before(t), t, node, x) => {
+        Call::InsertBeforeOf if may_move(nodes, Gap::Before(t), t, Moving::Node(x), x) => {
             TreeNodeOps::insert_before_of(nodes, t, x)
         }
-        Call::InsertAfterOf if may_move(nodes, Gap::After(t), t, node, x) => {
+        Call::InsertAfterOf if may_move(nodes, Gap::After(t), t, Moving::Node(x), x) => {
             TreeNodeOps::insert_after_of(nodes, t, x)
         }
         _ => move_nodes(nodes, call, t, x),
@@ -113,18 +115,16 @@ fn move_node(nodes: &mut [TreeNode], call: Call, t: NodeId, x: NodeId)
 fn move_nodes(nodes: &mut [TreeNode], call: Call, t: NodeId, x: NodeId)
     requires { IsSoundArena nodes.old }
 {
-    let later = Moving::WithLater(x);
     match call {
-        Call::AppendChildrenOf if may_move(nodes, Gap::EndOf(t), t, later, x) => {
+        Call::AppendChildrenOf if may_move(nodes, Gap::EndOf(t), t, Moving::WithLater(x), x) => {
             TreeNodeOps::append_children_of(nodes, t, x)
         }
         Call::PrependChildrenOf if may_move(nodes, Gap::FrontOf(t), t, Moving::WholeList(x), x) => {
             TreeNodeOps::prepend_children_of(nodes, t, x)
         }
-        Call::InsertSiblingsBefore if may_move(nodes, Gap::Before(t), t, later, x) => {
-            TreeNodeOps::insert_siblings_before(nodes, t, x)
-        }
-        Call::InsertSiblingsAfter if may_move(nodes, Gap::After(t), t, later, x) => {
+        Call::InsertSiblingsBefore if may_move(nodes, Gap::Before(t), t, Moving::WithLater(x), x) =>
+            { TreeNodeOps::insert_siblings_before(nodes, t, x) }
+        Call::InsertSiblingsAfter if may_move(nodes, Gap::After(t), t, Moving::WithLater(x), x) => {
             TreeNodeOps::insert_siblings_after(nodes, t, x)
         }
         _ => {}

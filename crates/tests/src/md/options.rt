@@ -42,7 +42,9 @@ fn is_set_alone(number: usize) -> bool {
 /// Whether emphasis is added to none.
 fn is_added() -> bool {
     let none = EmphasisScope::none();
-    let both = none.insert(EmphasisScope::BOLD).insert(EmphasisScope::ITALIC);
+    let both = none
+        .insert(EmphasisScope::BOLD)
+        .insert(EmphasisScope::ITALIC);
     both.contains(EmphasisScope::ITALIC) && !none.contains(EmphasisScope::ITALIC)
 }
 
