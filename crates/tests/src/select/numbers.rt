@@ -15,19 +15,17 @@ use std::test::Fail;
 
 const PAGE: &str = "<div><p><b></b></p></div><p>t</p><b></b>";
 
-/// What each way selects below 2 and 1, where 3 alone is a match, by how many steps.
-fn below(tree: &Tree, matcher: &Matcher) -> Option<[Option<NodeId>; 4]> {
-    let ids = [NodeId::new(2)?, NodeId::new(1)?];
-    let nodes = [NodeRef::new(ids[0], tree), NodeRef::new(ids[1], tree)];
-    let mut by_ids = Matches::new(tree, &ids, matcher).ok()?;
-    let mut by_nodes = Matches::below_nodes(tree, &nodes, matcher).ok()?;
-    let mut one_by_one = MatcherIter::below_nodes(tree, &nodes, matcher).ok()?;
-    Some([
-        by_ids.next().map(|node| node.id),
-        by_nodes.next().map(|node| node.id),
-        one_by_one.next().map(|node| node.id),
-        one_by_one.next().map(|node| node.id),
-    ])
+/// How many nodes each way selects below all nodes but the root, by their numbers and by
+/// references.
+fn counts(tree: &Tree, matcher: &Matcher) -> Option<[usize; 3]> {
+    let ids = tree.descendant_ids_of(&NodeId::root()).ok()?;
+    let nodes = tree.root().descendants().ok()?;
+    let by_ids = Matches::new(tree, &ids, matcher).ok()?.count();
+    let by_nodes = Matches::below_nodes(tree, &nodes, matcher).ok()?.count();
+    let one_by_one = MatcherIter::below_nodes(tree, &nodes, matcher)
+        .ok()?
+        .count();
+    Some([by_ids, by_nodes, one_by_one])
 }
 
 /// The first child of the root of that name.
@@ -48,8 +46,7 @@ fn nodes_below_others(rt: HostRuntime) -> Result<(), Fail> {
     let document = Document::parse(rt.alloc(), PAGE)?;
     let tree = &document.tree;
     let matcher = Matcher::new(rt.alloc(), "b")?;
-    let found = Some(NodeId::new(3).ok_or("id")?);
-    assert!(rt; below(tree, &matcher) == Some([found, found, found, None]));
+    assert!(rt; counts(tree, &matcher) == Some([1, 1, 1]));
     assert!(rt; child(tree, "p") == NodeId::new(4) && child(tree, "i").is_none());
     let last = NodeRef::new(NodeId::new(6).ok_or("id")?, tree);
     assert!(rt; is_named(rt.alloc(), &last, "b") && !is_named(rt.alloc(), &last, "p"));
