@@ -15,17 +15,30 @@ use std::test::Fail;
 
 const PAGE: &str = "<div><p><b></b></p></div><p>t</p><b></b>";
 
-/// How many nodes each way selects below all nodes but the root, by their numbers and by
-/// references.
-fn counts(tree: &Tree, matcher: &Matcher) -> Option<[usize; 3]> {
+fn last_of_matches(matches: Matches<'_, '_, '_>) -> Option<NodeId> {
+    let mut last = None;
+    for node in matches {
+        last = Some(node.id);
+    }
+    last
+}
+
+fn last_of(matches: MatcherIter<'_, '_, '_>) -> Option<NodeId> {
+    let mut last = None;
+    for node in matches {
+        last = Some(node.id);
+    }
+    last
+}
+
+/// What each way selects last below some nodes.
+fn last(tree: &Tree, nodes: &[NodeRef<'_>], matcher: &Matcher) -> Option<[Option<NodeId>; 3]> {
     let ids = tree.descendant_ids_of(&NodeId::root()).ok()?;
-    let nodes = tree.root().descendants().ok()?;
-    let by_ids = Matches::new(tree, &ids, matcher).ok()?.count();
-    let by_nodes = Matches::below_nodes(tree, &nodes, matcher).ok()?.count();
-    let one_by_one = MatcherIter::below_nodes(tree, &nodes, matcher)
-        .ok()?
-        .count();
-    Some([by_ids, by_nodes, one_by_one])
+    Some([
+        last_of_matches(Matches::new(tree, &ids, matcher).ok()?),
+        last_of_matches(Matches::below_nodes(tree, nodes, matcher).ok()?),
+        last_of(MatcherIter::below_nodes(tree, nodes, matcher).ok()?),
+    ])
 }
 
 /// The first child of the root of that name.
@@ -46,7 +59,9 @@ fn nodes_below_others(rt: HostRuntime) -> Result<(), Fail> {
     let document = Document::parse(rt.alloc(), PAGE)?;
     let tree = &document.tree;
     let matcher = Matcher::new(rt.alloc(), "b")?;
-    assert!(rt; counts(tree, &matcher) == Some([1, 1, 1]));
+    let found = Some(NodeId::new(3).ok_or("id")?);
+    let nodes = tree.root().descendants()?;
+    assert!(rt; last(tree, &nodes, &matcher) == Some([found, found, found]));
     assert!(rt; child(tree, "p") == NodeId::new(4) && child(tree, "i").is_none());
     let last = NodeRef::new(NodeId::new(6).ok_or("id")?, tree);
     assert!(rt; is_named(rt.alloc(), &last, "b") && !is_named(rt.alloc(), &last, "p"));
