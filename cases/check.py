@@ -15,7 +15,7 @@ and one of cases/hq or cases/pages (html5lib's tests of tree construction) is on
 refusals.py refuses each request for memory in turn, and asks in ever larger address spaces; hostile.py has texts and nodes read that are changed in every place, and depth.py deep and wide
 trees. What the line `sanitize` leaves of random forests is compared with cases/clean.py, what paths find with cases/paths.py, and
 what selectors select with what they select in another way (cases/ways.py).
-Which public functions are called at all is counted by cases/coverage.py.
+Which public functions the tests and programs call themselves is counted by cases/coverage.py.
 
 A snippet is a block of README.md, docs/API.md, docs/SINK.md or docs/PAGES.md: one of rust stands in a file of crates/tour/src, line for line
 but for its indentation, and one of text in its stdout, which the gate compares with what it prints.

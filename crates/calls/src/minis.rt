@@ -76,17 +76,13 @@ pub fn find(rt: &HostRuntime, tree: &Tree, line: &str) -> Option<()> {
 /// What names, each of a step, find below a node: `N NAME NAME`.
 pub fn find_names(rt: &HostRuntime, tree: &Tree, line: &str) -> Option<()> {
     let (word, words) = cut(line);
-    let id = node_of(word)?;
-    find_path(rt, tree, id, &words_of(rt.alloc(), words)?);
-    Some(())
-}
-
-fn find_path(rt: &HostRuntime, tree: &Tree, id: NodeId, names: &[&str]) {
-    show_nodes_read(rt, "find", NodeRef::new(id, tree).find(names));
-    let one = Traversal::find_descendant_element(tree.nodes(), id, names);
+    let (id, names) = (node_of(word)?, words_of(rt.alloc(), words)?);
+    show_nodes_read(rt, "find", NodeRef::new(id, tree).find(&names));
+    let one = Traversal::find_descendant_element(tree.nodes(), id, &names);
     show_some(rt, "find_descendant_element", one.map(NodeId::value));
-    let all = Traversal::find_descendant_elements(rt.alloc(), tree.nodes(), id, names);
+    let all = Traversal::find_descendant_elements(rt.alloc(), tree.nodes(), id, &names);
     show_ids_read(rt, "find_descendant_elements", all);
+    Some(())
 }
 
 /// Whether a text is a mini selector that means a node: `N TEXT`.

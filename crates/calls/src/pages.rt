@@ -2,32 +2,22 @@
 
 use crate::printing::{show, show_edit, show_node, show_read, show_some};
 use crate::words::{cut, node_of, nodes_of, words_of};
-use dom_query::{
-    Document, DocumentMd, MarkupFault, NodeFragment, NodeId, NodeMarkup, NodeRef, Place, Snippet,
-    Tree,
-};
+use dom_query::{Document, DocumentMd, NodeFragment, NodeId, NodeMarkup, Place, Snippet, Tree};
 
-/// What a document answers of all of it.
+/// What a document answers of all of it, and its tree.
 pub fn read(rt: &HostRuntime, document: &Document) {
-    show(rt, "len", document.tree.len());
+    let tree = &document.tree;
+    show(rt, "len", tree.len());
     show(rt, "root", document.root().id.value());
     show_node(rt, "html_root", &document.html_root());
     show_node(rt, "head", &document.head());
     show_node(rt, "body", &document.body());
     show_some(rt, "base_uri", document.base_uri());
-    read_texts(rt, document);
-    read_tree(rt, &document.tree);
-}
-
-fn read_texts(rt: &HostRuntime, document: &Document) {
     show_read(rt, "text", document.text());
     show_read(rt, "html", document.html());
     show_read(rt, "inner_html", document.inner_html());
     show_some(rt, "try_html", document.try_html());
     show_some(rt, "try_inner_html", document.try_inner_html());
-}
-
-fn read_tree(rt: &HostRuntime, tree: &Tree) {
     show_node(rt, "html_root", &tree.html_root());
     show_node(rt, "head", &tree.head());
     show_node(rt, "body", &tree.body());
@@ -103,13 +93,11 @@ pub fn read_fragment(rt: &HostRuntime, markup: &str) {
 pub fn read_document(rt: &HostRuntime, markup: &str) {
     match Document::parse(rt.alloc(), markup) {
         Ok(document) => print_page(rt, &document),
-        Err(fault) => show_fault(rt, fault),
+        Err(fault) => {
+            let (kind, at) = (fault.kind, fault.at);
+            println!(rt; "{fault}: {kind:?} at {at}").ok();
+        }
     }
-}
-
-fn show_fault(rt: &HostRuntime, fault: MarkupFault) {
-    let (kind, at) = (fault.kind, fault.at);
-    println!(rt; "{fault}: {kind:?} at {at}").ok();
 }
 
 /// The fragment of a node: `N`.
@@ -140,13 +128,10 @@ fn put_at_each(rt: &HostRuntime, tree: &mut Tree, snippet: &Snippet, ids: &[Node
 
 /// The HTML of a node, and of what is below it, by each call: `N`.
 pub fn write_html(rt: &HostRuntime, tree: &Tree, line: &str) -> Option<()> {
-    show_html(rt, &tree.get_unchecked(&node_of(line)?));
-    Some(())
-}
-
-fn show_html(rt: &HostRuntime, node: &NodeRef<'_>) {
+    let node = tree.get_unchecked(&node_of(line)?);
     show_read(rt, "html", node.html());
     show_read(rt, "inner_html", node.inner_html());
     show_some(rt, "try_html", node.try_html());
     show_some(rt, "try_inner_html", node.try_inner_html());
+    Some(())
 }

@@ -8,18 +8,16 @@ use dom_query::{NodeRef, Tree};
 pub fn read(rt: &HostRuntime, tree: &Tree, line: &str) -> Option<()> {
     let (number, word) = cut(line);
     let node = tree.get_unchecked(&node_of(number)?);
-    if !word.is_empty() {
+    if word.is_empty() {
+        read_kind(rt, &node);
+        read_element(rt, &node);
+    } else {
         read_named(rt, &node, word);
-        return Some(());
     }
-    read_kind(rt, &node);
-    query(rt, &node);
-    read_element(rt, &node);
-    read_texts(rt, &node);
     Some(())
 }
 
-/// Which kind of node it is.
+/// Which kind of node it is, and what closures answer of it.
 fn read_kind(rt: &HostRuntime, node: &NodeRef<'_>) {
     let flags = [
         ("is_document", node.is_document()),
@@ -34,31 +32,28 @@ fn read_kind(rt: &HostRuntime, node: &NodeRef<'_>) {
         ("is_nonempty_text", node.is_nonempty_text()),
     ];
     show_flags(rt, &flags);
-}
-
-/// What closures answer of it.
-fn query(rt: &HostRuntime, node: &NodeRef<'_>) {
     show_some(rt, "query", node.query(|it| it.is_text()));
     show(rt, "query_or", node.query_or(false, |it| it.is_text()));
 }
 
-/// What it has as an element.
+/// What it has as an element, and its texts.
 fn read_element(rt: &HostRuntime, node: &NodeRef<'_>) {
     show_some(rt, "node_name", node.node_name());
-    show_some(
-        rt,
-        "element_ref",
-        node.element_ref().map(|it| it.node_name()),
-    );
-    show_some(
-        rt,
-        "qual_name_ref",
-        node.qual_name_ref().map(|name| name.local().as_str()),
-    );
+    match node.element_ref() {
+        Some(element) => show(rt, "element_ref", element.node_name()),
+        None => show(rt, "element_ref", "-"),
+    }
+    match node.qual_name_ref() {
+        Some(name) => show(rt, "qual_name_ref", name.local().as_str()),
+        None => show(rt, "qual_name_ref", "-"),
+    }
     show(rt, "attrs", node.attrs().len());
     show_some(rt, "class", node.class());
     show_some(rt, "id_attr", node.id_attr());
     show_some(rt, "base_uri", node.base_uri());
+    show_read(rt, "text", node.text());
+    show_read(rt, "immediate_text", node.immediate_text());
+    show(rt, "normalized_char_count", node.normalized_char_count());
 }
 
 /// What it has of a name.
@@ -72,13 +67,6 @@ fn read_named(rt: &HostRuntime, node: &NodeRef<'_>, word: &str) {
     show_some(rt, "attr", node.attr(word));
     let value = node.attr_or("id", "default");
     println!(rt; "attr_or: {value}").ok();
-}
-
-/// The texts that are read of it.
-fn read_texts(rt: &HostRuntime, node: &NodeRef<'_>) {
-    show_read(rt, "text", node.text());
-    show_read(rt, "immediate_text", node.immediate_text());
-    show(rt, "normalized_char_count", node.normalized_char_count());
 }
 
 /// The nodes around a node, and the elements: `N`.

@@ -85,17 +85,13 @@ fn stepped<'a>(all: &Selection<'a>, way: Way) -> Result<Selection<'a>, OutOfMemo
     }
 }
 
+/// Where each way leads, and the nodes as a list.
 fn step_from(rt: &HostRuntime, all: &Selection<'_>) {
     for (name, way) in &WAYS {
         show_found(rt, name, stepped(all, *way));
     }
     show_nodes(rt, "first", all.first().nodes());
     show_nodes(rt, "last", all.last().nodes());
-    list(rt, all);
-}
-
-/// The nodes of a selection as a list.
-fn list(rt: &HostRuntime, all: &Selection<'_>) {
     show(rt, "length", all.length());
     show(rt, "size", all.size());
     let flags = [("exists", all.exists()), ("is_empty", all.is_empty())];
@@ -202,15 +198,12 @@ fn show_both<'a>(rt: &HostRuntime, all: &Selection<'a>, other: &Selection<'a>) {
 pub fn read(rt: &HostRuntime, document: &Document, line: &str) {
     let (name, text) = cut(line);
     match document.select(text) {
-        Ok(all) => {
-            read_first(rt, &all, name);
-            read_texts(rt, &all);
-        }
+        Ok(all) => read_nodes(rt, &all, name),
         Err(fault) => show(rt, "select", fault),
     }
 }
 
-fn read_first(rt: &HostRuntime, all: &Selection<'_>, name: &str) {
+fn read_nodes(rt: &HostRuntime, all: &Selection<'_>, name: &str) {
     show(rt, "attrs", all.attrs().len());
     show_some(rt, "attr", all.attr(name));
     let value = all.attr_or("id", "default");
@@ -222,9 +215,6 @@ fn read_first(rt: &HostRuntime, all: &Selection<'_>, name: &str) {
         ("has_class", all.has_class(name)),
     ];
     show_flags(rt, &flags);
-}
-
-fn read_texts(rt: &HostRuntime, all: &Selection<'_>) {
     show_read(rt, "text", all.text());
     show_read(rt, "immediate_text", all.immediate_text());
     show_read(rt, "formatted_text", all.formatted_text());

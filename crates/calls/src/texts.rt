@@ -24,15 +24,13 @@ pub fn write_node(rt: &HostRuntime, tree: &Tree, line: &str) -> Option<()> {
 pub fn write_without(rt: &HostRuntime, tree: &Tree, line: &str) -> Option<()> {
     let (word, names) = cut(line);
     let node = NodeRef::new(node_of(word)?, tree);
-    show_without(rt, &node, &words_of(rt.alloc(), names)?);
-    Some(())
-}
-
-fn show_without(rt: &HostRuntime, node: &NodeRef<'_>, names: &[&str]) {
-    show_read(rt, "md", node.md(Some(names)));
-    show_read(rt, "serialize_md", serialize_md(node, false, Some(names)));
-    let serializer = MDSerializer::new(node, Some(names));
+    let names = words_of(rt.alloc(), names)?;
+    let without = Some(names.as_slice());
+    show_read(rt, "md", node.md(without));
+    show_read(rt, "serialize_md", serialize_md(&node, false, without));
+    let serializer = MDSerializer::new(&node, without);
     show_read(rt, "MDSerializer", serializer.serialize(false));
+    Some(())
 }
 
 /// The formatted text of a node: `N`.

@@ -9,11 +9,9 @@ use dom_query::{
 /// The lists of nodes above and below a node, and beside it by number: `N`.
 pub fn walk(rt: &HostRuntime, tree: &Tree, line: &str) -> Option<()> {
     let id = node_of(line)?;
-    list_numbers(rt, tree, &id);
-    list_nodes(rt, &NodeRef::new(id, tree));
-    list_by_number(rt, tree, &id);
+    list(rt, &NodeRef::new(id, tree));
     count_steps(rt, tree, &id);
-    begin(rt, tree, &id);
+    begin(rt, &NodeRef::new(id, tree));
     ask(rt, tree, &id);
     Some(())
 }
@@ -26,25 +24,18 @@ pub fn list_children(rt: &HostRuntime, tree: &Tree, line: &str) -> Option<()> {
     Some(())
 }
 
-/// Numbers of nodes.
-fn list_numbers(rt: &HostRuntime, tree: &Tree, id: &NodeId) {
+/// Nodes by their numbers, by references, and beside it.
+fn list(rt: &HostRuntime, node: &NodeRef<'_>) {
+    let (id, tree) = (&node.id, node.tree);
     show_ids_read(rt, "child_ids_of", tree.child_ids_of(id));
     show_ids_read(rt, "ancestor_ids_of", tree.ancestor_ids_of(id, None));
     show_ids_read(rt, "ancestor_ids_of 1", tree.ancestor_ids_of(id, Some(1)));
     show_ids_read(rt, "descendant_ids_of", tree.descendant_ids_of(id));
-}
-
-/// References to nodes.
-fn list_nodes(rt: &HostRuntime, node: &NodeRef<'_>) {
     show_nodes_read(rt, "children", node.children());
     show_nodes_read(rt, "element_children", node.element_children());
     show_nodes_read(rt, "ancestors", node.ancestors(None));
     show_nodes_read(rt, "ancestors 1", node.ancestors(Some(1)));
     show_nodes_read(rt, "descendants", node.descendants());
-}
-
-/// The same by the node's number, and the nodes beside it.
-fn list_by_number(rt: &HostRuntime, tree: &Tree, id: &NodeId) {
     show_nodes_read(rt, "children_of", tree.children_of(id));
     show_nodes_read(rt, "ancestors_of", tree.ancestors_of(id, None));
     show_node(rt, "parent_of", &tree.parent_of(id));
@@ -79,14 +70,10 @@ fn count_steps(rt: &HostRuntime, tree: &Tree, id: &NodeId) {
 }
 
 /// The nodes that the walks begin with.
-fn begin(rt: &HostRuntime, tree: &Tree, id: &NodeId) {
-    let node = NodeRef::new(*id, tree);
+fn begin(rt: &HostRuntime, node: &NodeRef<'_>) {
     show_node(rt, "children_it", &node.children_it(false).next());
-    show_node(
-        rt,
-        "children_it from the end",
-        &node.children_it(true).next(),
-    );
+    let last = node.children_it(true).next();
+    show_node(rt, "children_it from the end", &last);
     show_node(rt, "ancestors_it", &node.ancestors_it(None).next());
     show_node(rt, "descendants_it", &node.descendants_it().next());
 }
@@ -102,11 +89,10 @@ fn ask(rt: &HostRuntime, tree: &Tree, id: &NodeId) {
     );
     let alike = tree.compare_node(id, &root, |a, b| a.is_text() == b.is_text());
     show_some(rt, "compare_node", alike);
-    show_some(
-        rt,
-        "get_name",
-        tree.get_name(id).map(|name| name.local().as_str()),
-    );
+    match tree.get_name(id) {
+        Some(name) => show(rt, "get_name", name.local().as_str()),
+        None => show(rt, "get_name", "-"),
+    }
     show(rt, "get", tree.get(id).is_some());
     let is_valid = TreeNodeOps::is_valid_node_id(tree.nodes(), id);
     show(rt, "is_valid_node_id", is_valid);

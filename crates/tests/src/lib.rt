@@ -7,7 +7,11 @@ mod failing;
 #[cfg(test)]
 mod html5;
 #[cfg(test)]
+mod links;
+#[cfg(test)]
 mod markup;
+#[cfg(test)]
+mod md;
 #[cfg(test)]
 mod nodes;
 #[cfg(test)]
@@ -16,5 +20,7 @@ mod query;
 mod random;
 #[cfg(test)]
 mod select;
+#[cfg(test)]
+mod selection;
 #[cfg(test)]
 mod trees;

@@ -1,3 +1,5 @@
 //! Tests of `dom_nodes`.
 
 mod changes;
+mod elements;
+mod names;

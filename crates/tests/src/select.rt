@@ -3,4 +3,5 @@
 mod caches;
 mod closures;
 mod counted;
+mod numbers;
 mod roots;

@@ -47,7 +47,7 @@ fn clean(document: &mut Document) -> Result<(), TourFault> {
 }
 
 /// The nodes that the selectors select, to be changed.
-pub fn select<'a>(
+fn select<'a>(
     document: &'a mut Document,
     selectors: &str,
 ) -> Result<SelectionMut<'a>, TourFault> {

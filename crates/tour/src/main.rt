@@ -12,7 +12,6 @@ mod many;
 mod pages;
 mod parens;
 mod reading;
-mod rewriting;
 mod writing;
 
 use fault::TourFault;
@@ -32,7 +31,6 @@ fn print_snippets<W: Write>(alloc: Global, out: &mut W) -> Result<(), TourFault>
 /// Prints what the small programs print.
 fn print_programs<W: Write>(alloc: Global, out: &mut W) -> Result<(), TourFault> {
     parens::print_read(alloc, out)?;
-    rewriting::print_rewritten(alloc, rewriting::PAGE, out)?;
     article::print_article(alloc, article::PAGE, out)?;
     comments::print_comments(alloc, &comments::COMMENTS, out)?;
     pages::print_page(alloc, pages::PAGE, out)

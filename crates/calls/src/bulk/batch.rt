@@ -2,7 +2,7 @@
 //! input, and prints one answer a line. `bulk raw` reads nodes with their links in that way, and
 //! the line `raw` those of its words.
 
-use crate::words::cut;
+use crate::words::{cut, node_of};
 use dom_query::{
     Attrs, Document, Element, Link, LocalName, Matcher, NodeData, NodeId, QualName, Text, Tree,
     TreeNode, ValidateFault, parse_selector_list, run,
@@ -112,18 +112,13 @@ pub fn answer_all(rt: &HostRuntime, kind: &str) -> Option<()> {
     Some(())
 }
 
-/// The node of the number that a word spells; none, where it is `-`.
-fn named(word: &str) -> Option<NodeId> {
-    NodeId::new(word.parse::<usize>().ok()?)
-}
-
 /// What a node is: `document`, `fragment`, `text`, `element`, or an element with these contents.
 fn data_of(alloc: Global, word: &str) -> Option<NodeData> {
     match word {
         "document" => Some(NodeData::Document),
         "fragment" => Some(NodeData::Fragment),
         "text" => text(alloc),
-        _ => element(alloc, named(word)),
+        _ => element(alloc, node_of(word)),
     }
 }
 
@@ -139,7 +134,7 @@ fn element(alloc: Global, contents: Option<NodeId>) -> Option<NodeData> {
 }
 
 /// The node of this number: `KIND PARENT PREV NEXT FIRST LAST`.
-fn node_of(alloc: Global, number: usize, line: &str) -> Option<TreeNode> {
+fn raw_node(alloc: Global, number: usize, line: &str) -> Option<TreeNode> {
     let (kind, links) = cut(line);
     let (parent, siblings) = cut(links);
     let (prev, behind) = cut(siblings);
@@ -147,11 +142,11 @@ fn node_of(alloc: Global, number: usize, line: &str) -> Option<TreeNode> {
     let (first, last) = cut(children);
     Some(TreeNode {
         id: NodeId::new(number)?,
-        parent: Link::new(named(parent)),
-        prev_sibling: Link::new(named(prev)),
-        next_sibling: Link::new(named(next)),
-        first_child: Link::new(named(first)),
-        last_child: Link::new(named(last)),
+        parent: Link::new(node_of(parent)),
+        prev_sibling: Link::new(node_of(prev)),
+        next_sibling: Link::new(node_of(next)),
+        first_child: Link::new(node_of(first)),
+        last_child: Link::new(node_of(last)),
         content: data_of(alloc, kind)?,
     })
 }
@@ -160,7 +155,7 @@ fn nodes_of(alloc: Global, line: &str) -> Option<Vec<TreeNode>> {
     let mut nodes = Vec::new(alloc);
     for node in line.split(';') {
         let number = nodes.len();
-        nodes.push(node_of(alloc, number, node)?).ok()?;
+        nodes.push(raw_node(alloc, number, node)?).ok()?;
     }
     Some(nodes)
 }

@@ -6,7 +6,7 @@ use crate::words::{named, words_of};
 use dom_query::{
     Allow, Document, DocumentMd, DocumentSelect, EditFault, Matcher, MiniSelect, NodeId,
     NodeMarkup, NodeMd, Options, OutOfMemory, Place, Snippet, Tokens, Tree, TreeIndex, parse_page,
-    sanitize,
+    sanitize, sanitize_tree,
 };
 use dom_select::matcher::descendants::select_below;
 use std::alloc::Global;
@@ -90,7 +90,7 @@ impl<'a> Page<'a> {
     }
 }
 
-/// Does a call once.
+/// Does a call once; one that changes a document on one of its own, whose reading isn't timed.
 fn run_once(rt: &HostRuntime, page: &Page<'_>, call: Call) -> Option<Run> {
     match call {
         Call::Drop | Call::Edits | Call::Clean | Call::Copy | Call::Merge => run_fresh(
@@ -106,19 +106,11 @@ fn run_once(rt: &HostRuntime, page: &Page<'_>, call: Call) -> Option<Run> {
     }
 }
 
-/// Does a call on a document of its own, whose reading isn't timed.
 fn run_fresh(rt: &HostRuntime, page: &Page<'_>, call: Call) -> Option<Run> {
-    match Document::parse(rt.alloc(), page.source.as_str()) {
-        Ok(document) => run_on(rt, page, document, call),
-        Err(_) => None,
-    }
-}
-
-fn run_on(rt: &HostRuntime, page: &Page<'_>, mut document: Document, call: Call) -> Option<Run> {
-    match call {
-        Call::Drop => run_drop(rt, document),
-        Call::Clean => run_cleaning(rt, &mut document),
-        _ => run_change(rt, page, &mut document, call),
+    match (Document::parse(rt.alloc(), page.source.as_str()), call) {
+        (Ok(document), Call::Drop) => run_drop(rt, document),
+        (Ok(mut document), _) => run_change(rt, page, &mut document, call),
+        (Err(_), _) => None,
     }
 }
 
@@ -131,7 +123,7 @@ fn run_drop(rt: &HostRuntime, document: Document) -> Option<Run> {
     Some(Run { took, count })
 }
 
-/// Changes a document.
+/// Changes a document. Where it is cleaned, what is left below its root is counted afterwards.
 fn run_change(
     rt: &HostRuntime,
     page: &Page<'_>,
@@ -139,36 +131,32 @@ fn run_change(
     call: Call,
 ) -> Option<Run> {
     let start = Instant::now(rt).ok()?;
-    let count = changed(page, document, call)?;
+    let mut count = changed(page, document, call)?;
     let took = start.elapsed(rt).ok()?;
+    if let Call::Clean = call {
+        count = document.root().descendants_it().count();
+    }
     Some(Run { took, count })
 }
 
-/// Cleans a document, and counts what is left below its root.
-fn run_cleaning(rt: &HostRuntime, document: &mut Document) -> Option<Run> {
-    let elements = words_of(rt.alloc(), ELEMENTS)?;
-    let attrs = words_of(rt.alloc(), ATTRS)?;
-    let drop = words_of(rt.alloc(), "script style")?;
+/// Cleans a document by lists of names.
+fn clean(document: &mut Document) -> Option<()> {
+    let alloc = document.tree.allocator();
+    let elements = words_of(alloc, ELEMENTS)?;
+    let attrs = words_of(alloc, ATTRS)?;
     let allow = Allow {
         elements: &elements,
         attrs: &attrs,
-        drop: &drop,
+        drop: &["script", "style"],
     };
-    clean(rt, document, &allow)
-}
-
-fn clean(rt: &HostRuntime, document: &mut Document, allow: &Allow<'_>) -> Option<Run> {
-    let start = Instant::now(rt).ok()?;
-    sanitize(document, allow).ok()?;
-    let took = start.elapsed(rt).ok()?;
-    let count = document.root().descendants_it().count();
-    Some(Run { took, count })
+    sanitize(document, &allow).ok()
 }
 
 /// Changes a document, and counts the nodes that it then has, or those that moved.
 fn changed(page: &Page<'_>, document: &mut Document, call: Call) -> Option<usize> {
     match call {
         Call::Edits => return Some(move_all(&mut document.tree)),
+        Call::Clean => clean(document)?,
         Call::Copy | Call::Merge => copy_all(page, &mut document.tree, call)?,
         Call::Normalize => document.normalize().ok()?,
         Call::Strip => document.tree.strip_elements_of(&NodeId::root(), &["b"]),
@@ -194,7 +182,7 @@ fn strip_all(document: &mut Document) -> Option<()> {
         attrs: &[],
         drop: &[],
     };
-    sanitize(document, &allow).ok()
+    sanitize_tree(&mut document.tree, &allow).ok()
 }
 
 /// Moves each node to the end of the first node's children, where it may go there; answers how many

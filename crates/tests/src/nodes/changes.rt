@@ -3,7 +3,7 @@
 use dom_nodes::case_sensitivity::CaseSensitivity;
 use dom_nodes::link::Link;
 use dom_nodes::name::{Attr, LocalName, QualName};
-use dom_nodes::node_data::{Attrs, Element, NodeData, NodeEdit, TreeNode};
+use dom_nodes::node_data::{Attrs, Change, Element, NodeData, NodeEdit, TreeNode};
 use dom_nodes::node_id::NodeId;
 use dom_nodes::text::Text;
 use std::alloc::Global;
@@ -55,7 +55,8 @@ fn replace(alloc: Global, node: &mut TreeNode) -> Option<()> {
     node.remove_all_attrs();
     node.add_attrs_if_missing(attrs(alloc, "y", "2")?).ok()?;
     node.as_element_mut()?.remove_attr("none");
-    Some(())
+    let (name, value) = ("y", "3");
+    node.change(Change::SetAttr { name, value }).ok()
 }
 
 /// Whether the class `l` is there in other letters.
@@ -87,7 +88,7 @@ const CHANGED: &str = "Element(Element { name: QualName { prefix: None, ns: Html
 /// What the replaced node holds.
 const REPLACED: &str = "Element(Element { name: QualName { prefix: None, ns: Html, local: \"i\" }, \
     attrs: Attrs { items: [Attr { name: QualName { prefix: None, ns: Html, local: \"y\" }, \
-    value: \"2\" }] }, template_contents: None, mathml_annotation_xml_integration_point: false })";
+    value: \"3\" }] }, template_contents: None, mathml_annotation_xml_integration_point: false })";
 
 /// Whether a node holds what prints this.
 fn holds(alloc: Global, node: &TreeNode, wanted: &str) -> bool {

@@ -1,0 +1,3 @@
+//! Tests of `dom_md`.
+
+mod options;

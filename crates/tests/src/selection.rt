@@ -1,0 +1,3 @@
+//! Tests of `dom_selection`.
+
+mod numbers;
