@@ -45,8 +45,8 @@ impl Tokenizer {
         }
     }
 
-    /// Notes a parse error at the character that is being read. Where memory is refused for it, that
-    /// is kept.
+    /// Notes a parse error at the character that is being read. That memory is refused for it is
+    /// kept.
     pub(super) fn error(&mut self, error: ParseError)
         ensures { self.old.errors ≡ None → self.new ≡ self.old }
     {
