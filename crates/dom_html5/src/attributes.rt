@@ -7,6 +7,7 @@ use crate::stack::Ns;
 use dom_nodes::name::{Attr, LocalName, NameParts, Namespace, QualName};
 use dom_nodes::node_data::Attrs;
 use dom_nodes::text::{RareText, Text};
+use dom_nodes::words::is_one_of;
 use html5_tokens::token::{Tag, TagAttr};
 use std::alloc::Global;
 
@@ -37,23 +38,20 @@ pub fn element_name(alloc: Global, ns: Ns, name: Name, tag: &Tag) -> Result<Qual
     Ok(name)
 }
 
-/// Prefix, local name and namespace of an attribute that foreign content has in a namespace.
-fn foreign_parts(name: &str) -> Option<(&'static str, &'static str, Namespace)> {
-    match name {
-        "xlink:actuate" => Some(("xlink", "actuate", Namespace::XLink)),
-        "xlink:arcrole" => Some(("xlink", "arcrole", Namespace::XLink)),
-        "xlink:href" => Some(("xlink", "href", Namespace::XLink)),
-        "xlink:role" => Some(("xlink", "role", Namespace::XLink)),
-        "xlink:show" => Some(("xlink", "show", Namespace::XLink)),
-        "xlink:title" => Some(("xlink", "title", Namespace::XLink)),
-        "xlink:type" => Some(("xlink", "type", Namespace::XLink)),
-        "xml:lang" => Some(("xml", "lang", Namespace::Xml)),
-        "xml:space" => Some(("xml", "space", Namespace::Xml)),
-        "xmlns" => Some(("", "xmlns", Namespace::XmlNs)),
-        "xmlns:xlink" => Some(("xmlns", "xlink", Namespace::XmlNs)),
-        _ => None,
-    }
-}
+/// The attributes that foreign content has in a namespace, as they are written.
+static NAMESPACED: [&str; 11] = [
+    "xlink:actuate",
+    "xlink:arcrole",
+    "xlink:href",
+    "xlink:role",
+    "xlink:show",
+    "xlink:title",
+    "xlink:type",
+    "xml:lang",
+    "xml:space",
+    "xmlns",
+    "xmlns:xlink",
+];
 
 fn prefix_of(alloc: Global, prefix: &str) -> Result<Option<RareText>, PageFault> {
     if prefix.is_empty() {
@@ -63,25 +61,37 @@ fn prefix_of(alloc: Global, prefix: &str) -> Result<Option<RareText>, PageFault>
     Ok(Some(prefix))
 }
 
-fn qualified(
-    alloc: Global,
-    prefix: &str,
-    local: &str,
-    ns: Namespace,
-) -> Result<QualName, PageFault> {
+/// What stands before the colon of a name, and what behind it.
+fn parts_of(name: &str) -> (&str, &str) {
+    match name.split_once(':') {
+        Some(parts) => parts,
+        None => ("", name),
+    }
+}
+
+fn namespace_of(name: &str) -> Namespace {
+    if name.starts_with("xlink:") {
+        Namespace::XLink
+    } else if name.starts_with("xml:") {
+        Namespace::Xml
+    } else {
+        Namespace::XmlNs
+    }
+}
+
+/// The name of an attribute in a namespace: prefix, colon and local name, or `xmlns`.
+fn qualified(alloc: Global, name: &str) -> Result<QualName, PageFault> {
+    let (prefix, local) = parts_of(name);
     let prefix = prefix_of(alloc, prefix)?;
     let local = LocalName::new(alloc, local)?;
+    let ns = namespace_of(name);
     Ok(QualName::new(alloc, NameParts { prefix, ns, local })?)
 }
 
 fn attr_name(alloc: Global, ns: Ns, name: &str) -> Result<QualName, PageFault> {
-    if ns != Ns::Html
-        && let Some((prefix, local, ns)) = foreign_parts(name)
-    {
-        return qualified(alloc, prefix, local, ns);
-    }
     let adjusted = match ns {
         Ns::Html => name,
+        _ if is_one_of(name, &NAMESPACED) => return qualified(alloc, name),
         Ns::Svg => svg_attr(name),
         Ns::MathMl => mathml_attr(name),
     };

@@ -3,7 +3,6 @@
 use crate::fault::PageFault;
 use crate::growing::{GrowingTree, Placing};
 use crate::reading::Options;
-use crate::stack::Open;
 use html5_tokens::tokenizer::State;
 use std::alloc::Global;
 
@@ -42,9 +41,6 @@ pub enum Next {
     Again,
 }
 
-/// What a rule comes to.
-pub type Step = Result<Next, PageFault>;
-
 /// The least bound on depth: `html`, `body`, and one more.
 const LEAST_DEPTH: usize = 3;
 
@@ -69,6 +65,8 @@ pub struct TreeBuilder {
     pub table_text_has_letters: bool,
     /// How the tokenizer reads what comes next, where that changes.
     pub switch: Option<State>,
+    /// The first fault. The rules go on to the end of the token; then nothing more is read.
+    pub fault: Option<PageFault>,
 }
 
 impl TreeBuilder {
@@ -91,25 +89,35 @@ impl TreeBuilder {
             table_text: String::new(alloc),
             table_text_has_letters: false,
             switch: None,
+            fault: None,
         }
     }
 
-    pub fn done_in(&mut self, mode: Mode) -> Step {
-        self.mode = mode;
-        Ok(Next::Done)
-    }
-
-    pub fn again_in(&mut self, mode: Mode) -> Step {
-        self.mode = mode;
-        Ok(Next::Again)
-    }
-
-    /// The adjusted current node.
-    pub fn adjusted_current(&self) -> Option<Open> {
-        match self.tree.context() {
-            Some(context) if self.tree.open().len() == 1 => Some(context),
-            _ => self.tree.open().current(),
+    /// Keeps the fault of an edit, if it is the first one.
+    pub fn keep(&mut self, done: Result<(), PageFault>) {
+        if let Err(fault) = done
+            && self.fault.is_none()
+        {
+            self.fault = Some(fault);
         }
+    }
+
+    /// The fault with which reading ended.
+    pub fn settled(&self) -> Result<(), PageFault> {
+        match self.fault {
+            Some(fault) => Err(fault),
+            None => Ok(()),
+        }
+    }
+
+    pub fn done_in(&mut self, mode: Mode) -> Next {
+        self.mode = mode;
+        Next::Done
+    }
+
+    pub fn again_in(&mut self, mode: Mode) -> Next {
+        self.mode = mode;
+        Next::Again
     }
 
     /// How often a token is reprocessed at most, before the rules for "in body" take it.

@@ -25,6 +25,17 @@ impl Waiting {
         }
     }
 
+    /// Has bytes wait behind the others.
+    fn wait(&mut self, bytes: &[u8]) -> Result<(), PageFault> {
+        self.bytes.extend_from_slice(bytes)?;
+        Ok(())
+    }
+
+    /// Takes the bytes that wait.
+    fn take(&mut self, alloc: Global) -> Vec<u8> {
+        mem::replace(&mut self.bytes, Vec::new(alloc))
+    }
+
     /// The bytes without a byte order mark, if they are the first ones.
     fn without_mark<'b>(&mut self, bytes: &'b [u8]) -> &'b [u8] {
         if self.is_begun || bytes.is_empty() {
@@ -79,47 +90,45 @@ fn whole_len(bytes: &[u8]) -> usize
 impl PageReader {
     /// Reads the next bytes of a page.
     pub fn feed_bytes(&mut self, piece: &[u8]) -> Result<(), PageFault> {
-        self.fault_before()?;
-        let read = self.read_bytes(piece);
-        self.noted(read)
+        self.builder.settled()?;
+        self.read_bytes(piece);
+        self.builder.settled()
     }
 
-    fn read_bytes(&mut self, piece: &[u8]) -> Result<(), PageFault> {
+    fn read_bytes(&mut self, piece: &[u8]) {
         if self.waiting.bytes.is_empty() {
             return self.read_whole(piece);
         }
-        self.waiting.bytes.extend_from_slice(piece)?;
-        let bytes = self.take_waiting();
-        self.read_whole(&bytes)
+        let waited = self.waiting.wait(piece);
+        self.builder.keep(waited);
+        let bytes = self.waiting.take(self.builder.alloc);
+        self.read_whole(&bytes);
     }
 
     /// Reads the whole characters, and has the others wait.
-    fn read_whole(&mut self, bytes: &[u8]) -> Result<(), PageFault> {
+    fn read_whole(&mut self, bytes: &[u8]) {
         let (whole, rest) = bytes.split_at(whole_len(bytes));
         let whole = self.waiting.without_mark(whole);
-        self.read_decoded(whole)?;
-        self.waiting.bytes.extend_from_slice(rest)?;
-        Ok(())
+        self.read_decoded(whole);
+        let waited = self.waiting.wait(rest);
+        self.builder.keep(waited);
     }
 
     /// Reads the bytes that are still waiting, since no more come.
-    pub fn read_waiting(&mut self) -> Result<(), PageFault> {
-        if self.waiting.bytes.is_empty() {
-            return Ok(());
+    pub fn read_waiting(&mut self) {
+        if !self.waiting.bytes.is_empty() {
+            let bytes = self.waiting.take(self.builder.alloc);
+            self.read_decoded(&bytes);
         }
-        let bytes = self.take_waiting();
-        self.read_decoded(&bytes)
     }
 
-    fn take_waiting(&mut self) -> Vec<u8> {
-        mem::replace(&mut self.waiting.bytes, Vec::new(self.builder.alloc))
-    }
-
-    fn read_decoded(&mut self, bytes: &[u8]) -> Result<(), PageFault> {
+    fn read_decoded(&mut self, bytes: &[u8]) {
         if let Ok(text) = str::from_utf8(bytes) {
             return self.read(text);
         }
-        let text = String::from_utf8_lossy(self.builder.alloc, bytes)?;
-        self.read(text.as_str())
+        match String::from_utf8_lossy(self.builder.alloc, bytes) {
+            Ok(text) => self.read(text.as_str()),
+            Err(_) => self.builder.keep(Err(PageFault::Memory)),
+        }
     }
 }

@@ -1,10 +1,11 @@
 //! Character tokens.
 
-use crate::builder::{Mode, Next, Step, TreeBuilder};
+use crate::builder::{Mode, Next, TreeBuilder};
 use crate::fault::PageFault;
+use crate::growing::is_foster_target;
 use crate::modes::Token;
 use crate::name::Name;
-use crate::stack::Ns;
+use crate::stack::Open;
 use std::mem;
 use std::simd::prelude::*;
 
@@ -51,97 +52,101 @@ pub enum Run {
     Letters,
 }
 
+/// Whether white space goes where the letters behind it go, and does nothing else.
+fn joins_spaces(mode: Mode) -> bool {
+    matches!(
+        mode,
+        Mode::InBody | Mode::InCaption | Mode::InCell | Mode::InTemplate
+    )
+}
+
+/// Whether the mode may drop letters but keep the white space between them.
+fn drops_letters(mode: Mode) -> bool {
+    matches!(
+        mode,
+        Mode::InColumnGroup | Mode::InFrameset | Mode::AfterFrameset | Mode::AfterAfterFrameset
+    )
+}
+
+/// Whether characters in that element are table characters.
+fn holds_table_text(open: &Open) -> bool {
+    open.is_html(Name::Template) || is_foster_target(open)
+}
+
 impl TreeBuilder {
     /// Reads the characters between two tokens.
-    pub fn characters(&mut self, text: &str) -> Result<(), PageFault> {
+    pub fn characters(&mut self, text: &str) {
         let mut text = text;
         if self.skip_line_feed && !text.is_empty() {
             self.skip_line_feed = false;
             text = text.strip_prefix('\n').unwrap_or(text);
         }
         if text.is_empty() {
-            return Ok(());
+            return;
         }
         if self.mode == Mode::Text {
-            return self.tree.put_text(self.placing, text);
+            return self.put_text(text);
         }
         if !has_null(text) {
             return self.stretch(text);
         }
         for stretch in text.split_inclusive('\0') {
-            self.stretch_to_null(stretch)?;
+            self.stretch_to_null(stretch);
         }
-        Ok(())
     }
 
     /// Reads characters of which none but the last may be null.
-    fn stretch_to_null(&mut self, text: &str) -> Result<(), PageFault> {
+    fn stretch_to_null(&mut self, text: &str) {
         let Some(front) = text.strip_suffix('\0') else {
             return self.stretch(text);
         };
-        self.stretch(front)?;
+        self.stretch(front);
         self.run(Run::Nulls, "\0")
     }
 
     /// Reads characters of which none is null: white space first, and then the others; in one run
     /// where the mode reads them alike.
-    fn stretch(&mut self, text: &str) -> Result<(), PageFault> {
+    fn stretch(&mut self, text: &str) {
         let rest = behind_spaces(text);
-        if !rest.is_empty() && self.joins_spaces() {
+        if !rest.is_empty() && joins_spaces(self.mode) {
             return self.run(Run::Letters, text);
         }
         let spaces = text
             .get(..text.len().saturating_sub(rest.len()))
             .unwrap_or("");
-        self.run(Run::Spaces, spaces)?;
-        if self.drops_letters() {
+        self.run(Run::Spaces, spaces);
+        if drops_letters(self.mode) {
             return self.words(rest);
         }
         self.run(Run::Letters, rest)
     }
 
-    /// Whether white space goes where the letters behind it go, and does nothing else.
-    fn joins_spaces(&self) -> bool {
-        matches!(
-            self.mode,
-            Mode::InBody | Mode::InCaption | Mode::InCell | Mode::InTemplate
-        )
-    }
-
-    /// Whether the mode may drop letters but keep the white space between them.
-    fn drops_letters(&self) -> bool {
-        matches!(
-            self.mode,
-            Mode::InColumnGroup | Mode::InFrameset | Mode::AfterFrameset | Mode::AfterAfterFrameset
-        )
-    }
-
     /// Reads words and the white space between them one by one.
-    fn words(&mut self, text: &str) -> Result<(), PageFault> {
+    fn words(&mut self, text: &str) {
         for piece in text.split_inclusive(SPACES) {
-            self.word(piece)?;
+            self.word(piece);
         }
-        Ok(())
     }
 
     /// Reads a word and the white space behind it.
-    fn word(&mut self, piece: &str) -> Result<(), PageFault> {
+    fn word(&mut self, piece: &str) {
         let word = piece.trim_end_matches(SPACES);
-        self.run(Run::Letters, word)?;
+        self.run(Run::Letters, word);
         self.run(Run::Spaces, piece.get(word.len()..).unwrap_or(""))
     }
 
     /// Reads a run of characters, if there are any.
-    fn run(&mut self, kind: Run, text: &str) -> Result<(), PageFault> {
-        if text.is_empty() {
-            return Ok(());
+    fn run(&mut self, kind: Run, text: &str) {
+        if !text.is_empty() {
+            self.process(Token::Run(kind, text));
         }
-        self.process(Token::Run(kind, text))
     }
 
     /// Reads a run by the rules that now hold.
-    pub fn run_step(&mut self, kind: Run, text: &str) -> Step {
-        if self.is_in_foreign() {
+    pub fn run_step(&mut self, kind: Run, text: &str) -> Next {
+        if let Some(open) = self.tree.adjusted_current()
+            && open.holds_foreign()
+        {
             return self.foreign_run(kind, text);
         }
         match kind {
@@ -151,14 +156,7 @@ impl TreeBuilder {
         }
     }
 
-    fn is_in_foreign(&self) -> bool {
-        match self.adjusted_current() {
-            Some(open) => open.holds_foreign(),
-            None => false,
-        }
-    }
-
-    fn foreign_run(&mut self, kind: Run, text: &str) -> Step {
+    fn foreign_run(&mut self, kind: Run, text: &str) -> Next {
         match kind {
             Run::Nulls => self.put_run("\u{fffd}"),
             Run::Spaces => self.put_run(text),
@@ -169,9 +167,9 @@ impl TreeBuilder {
         }
     }
 
-    fn spaces(&mut self, text: &str) -> Step {
+    fn spaces(&mut self, text: &str) -> Next {
         match self.mode {
-            Mode::Initial | Mode::BeforeHtml | Mode::BeforeHead => Ok(Next::Done),
+            Mode::Initial | Mode::BeforeHtml | Mode::BeforeHead => Next::Done,
             Mode::InBody
             | Mode::InCaption
             | Mode::InCell
@@ -185,7 +183,7 @@ impl TreeBuilder {
         }
     }
 
-    fn letters(&mut self, text: &str) -> Step {
+    fn letters(&mut self, text: &str) -> Next {
         match self.mode {
             Mode::InBody | Mode::InCaption | Mode::InCell | Mode::InTemplate => {
                 self.body_run(Run::Letters, text)
@@ -193,11 +191,11 @@ impl TreeBuilder {
             Mode::Text | Mode::InSelect | Mode::InSelectInTable => self.put_run(text),
             Mode::InTable | Mode::InTableBody | Mode::InRow => self.table_run(Run::Letters, text),
             Mode::InTableText => self.pending_run(Run::Letters, text),
-            _ => self.leave_by_letters(),
+            _ => self.leave_mode(),
         }
     }
 
-    fn nulls(&mut self, text: &str) -> Step {
+    fn nulls(&mut self, text: &str) -> Next {
         match self.mode {
             Mode::InBody
             | Mode::InCaption
@@ -205,58 +203,49 @@ impl TreeBuilder {
             | Mode::InTemplate
             | Mode::InTableText
             | Mode::InSelect
-            | Mode::InSelectInTable => Ok(Next::Done),
+            | Mode::InSelectInTable => Next::Done,
             Mode::InTable | Mode::InTableBody | Mode::InRow => self.table_run(Run::Nulls, text),
-            _ => self.leave_by_letters(),
+            _ => self.leave_mode(),
         }
     }
 
-    /// Characters in a mode that has no place for them.
-    fn leave_by_letters(&mut self) -> Step {
+    /// Leaves a mode that has no place for what comes.
+    pub fn leave_mode(&mut self) -> Next {
         match self.mode {
             Mode::Initial => self.leave_initial(),
             Mode::BeforeHtml => self.imply_html(),
             Mode::BeforeHead => self.imply_head(),
-            Mode::InHead => self.leave_head(),
-            Mode::InHeadNoscript => self.leave_noscript(),
+            Mode::InHead => self.leave_for(Mode::AfterHead),
+            Mode::InHeadNoscript => self.leave_for(Mode::InHead),
             Mode::AfterHead => self.imply_body(),
-            Mode::InColumnGroup => Ok(self.leave_column_group()),
+            Mode::InColumnGroup => self.leave_column_group(),
             Mode::AfterBody | Mode::AfterAfterBody => self.again_in(Mode::InBody),
-            _ => Ok(Next::Done),
+            _ => Next::Done,
         }
     }
 
-    fn put_run(&mut self, text: &str) -> Step {
-        self.tree.put_text(self.placing, text)?;
-        Ok(Next::Done)
+    fn put_run(&mut self, text: &str) -> Next {
+        self.put_text(text);
+        Next::Done
     }
 
     /// Characters by the rules for "in body".
-    pub fn body_run(&mut self, kind: Run, text: &str) -> Step {
+    pub fn body_run(&mut self, kind: Run, text: &str) -> Next {
         if kind == Run::Nulls {
-            return Ok(Next::Done);
+            return Next::Done;
         }
-        self.reconstruct()?;
-        self.tree.put_text(self.placing, text)?;
+        self.reconstruct();
+        self.put_text(text);
         if kind == Run::Letters {
             self.frameset_ok = false;
         }
-        Ok(Next::Done)
+        Next::Done
     }
 
-    fn is_in_table(&self) -> bool {
-        let Some(open) = self.tree.open().current() else {
-            return false;
-        };
-        open.ns == Ns::Html
-            && matches!(
-                open.name,
-                Name::Table | Name::Tbody | Name::Template | Name::Tfoot | Name::Thead | Name::Tr
-            )
-    }
-
-    fn table_run(&mut self, kind: Run, text: &str) -> Step {
-        if self.is_in_table() {
+    fn table_run(&mut self, kind: Run, text: &str) -> Next {
+        if let Some(open) = self.tree.open().current()
+            && holds_table_text(&open)
+        {
             self.table_text.clear();
             self.table_text_has_letters = false;
             self.original = self.mode;
@@ -266,7 +255,7 @@ impl TreeBuilder {
     }
 
     /// Characters by the rules for "in body", with foster parenting.
-    fn fostered_run(&mut self, kind: Run, text: &str) -> Step {
+    fn fostered_run(&mut self, kind: Run, text: &str) -> Next {
         self.placing.foster = true;
         let step = self.body_run(kind, text);
         self.placing.foster = false;
@@ -274,18 +263,20 @@ impl TreeBuilder {
     }
 
     /// Adds to the pending table characters.
-    fn pending_run(&mut self, kind: Run, text: &str) -> Step {
+    fn pending_run(&mut self, kind: Run, text: &str) -> Next {
         if kind == Run::Letters {
             self.table_text_has_letters = true;
         }
-        self.table_text.push_str(text)?;
-        Ok(Next::Done)
+        if self.table_text.push_str(text).is_err() {
+            self.keep(Err(PageFault::Memory));
+        }
+        Next::Done
     }
 
     /// Another token ends the pending table characters.
-    pub fn flush_table_text(&mut self) -> Result<(), PageFault> {
+    pub fn flush_table_text(&mut self) {
         if self.mode != Mode::InTableText {
-            return Ok(());
+            return;
         }
         self.mode = self.original;
         let text = mem::replace(&mut self.table_text, String::new(self.alloc));
@@ -293,14 +284,13 @@ impl TreeBuilder {
     }
 
     /// Puts table characters into the table if they are white space, and else before it.
-    fn put_table_text(&mut self, text: &str) -> Result<(), PageFault> {
+    fn put_table_text(&mut self, text: &str) {
         if text.is_empty() {
-            return Ok(());
+            return;
         }
         if !self.table_text_has_letters {
-            return self.tree.put_text(self.placing, text);
+            return self.put_text(text);
         }
-        self.fostered_run(Run::Letters, text)?;
-        Ok(())
+        self.fostered_run(Run::Letters, text);
     }
 }

@@ -1,7 +1,8 @@
 //! SVG and MathML.
 
 use crate::attributes::value_of;
-use crate::builder::{Next, Step, TreeBuilder};
+use crate::builder::{Next, TreeBuilder};
+use crate::growing::ForeignEnd;
 use crate::name::Name;
 use crate::sets::breaks_out;
 use crate::stack::{Ns, Open};
@@ -38,7 +39,7 @@ impl Open {
 impl TreeBuilder {
     /// Whether a tag is read by the rules for foreign content.
     pub fn is_tag_foreign(&self, kind: TagKind, name: Name) -> bool {
-        let Some(open) = self.adjusted_current() else {
+        let Some(open) = self.tree.adjusted_current() else {
             return false;
         };
         if open.ns == Ns::Html {
@@ -59,66 +60,48 @@ impl TreeBuilder {
     /// Whether the adjusted current node is foreign. A comment then stands in it, and a CDATA section
     /// may begin.
     pub fn is_current_foreign(&self) -> bool {
-        match self.adjusted_current() {
+        match self.tree.adjusted_current() {
             Some(open) => open.ns != Ns::Html,
             None => false,
         }
     }
 
-    pub fn foreign_tag(&mut self, name: Name, tag: &Tag) -> Step {
+    pub fn foreign_tag(&mut self, name: Name, tag: &Tag) -> Next {
         match tag.kind {
             TagKind::Start => self.foreign_start(name, tag),
             TagKind::End => self.foreign_end(name, tag),
         }
     }
 
-    fn foreign_start(&mut self, name: Name, tag: &Tag) -> Step {
+    fn foreign_start(&mut self, name: Name, tag: &Tag) -> Next {
         let breaks = breaks_out(name)
             || (name == Name::Font
                 && (value_of(tag, "color").is_some()
                     || value_of(tag, "face").is_some()
                     || value_of(tag, "size").is_some()));
         if breaks {
-            self.pop_foreign();
+            self.tree.pop_foreign();
             return self.html_tag(name, tag);
         }
-        let ns = match self.adjusted_current() {
+        let ns = match self.tree.adjusted_current() {
             Some(open) => open.ns,
             None => Ns::Html,
         };
         self.insert_foreign(ns, name, tag)
     }
 
-    fn pop_foreign(&mut self) {
-        for _ in 0..self.tree.open().len() {
-            match self.tree.open().current() {
-                Some(open) if open.holds_foreign() => self.tree.pop(),
-                _ => return,
-            }
-        }
-    }
-
-    fn foreign_end(&mut self, name: Name, tag: &Tag) -> Step {
+    fn foreign_end(&mut self, name: Name, tag: &Tag) -> Next {
         if matches!(name, Name::Br | Name::P) {
-            self.pop_foreign();
+            self.tree.pop_foreign();
             return self.html_tag(name, tag);
         }
-        let count = self.tree.open().len();
-        for place in (0..count).rev() {
-            let Some(open) = self.tree.open().get(place) else {
-                return Ok(Next::Done);
-            };
-            if open.ns == Ns::Html && place.saturating_add(1) < count {
-                return self.html_tag(name, tag);
-            }
-            if place == 0 {
-                return Ok(Next::Done);
-            }
-            if self.tree.has_name(&open, tag.name.as_str()) {
+        match self.tree.foreign_end(tag.name.as_str()) {
+            ForeignEnd::At(place) => {
                 self.tree.truncate(place);
-                return Ok(Next::Done);
+                Next::Done
             }
+            ForeignEnd::Html => self.html_tag(name, tag),
+            ForeignEnd::Nowhere => Next::Done,
         }
-        Ok(Next::Done)
     }
 }

@@ -21,8 +21,9 @@ use dom_markup::document::{Document, QuirksMode};
 use dom_nodes::node_id::NodeId;
 use edits::{add_attrs, cut_out, put_comment, put_copy, put_doctype, put_element, put_text};
 use html5_tokens::token::Tag;
-pub use placing::Placing;
 use placing::gap;
+pub use placing::{Placing, is_foster_target};
+pub use popping::ForeignEnd;
 use std::alloc::Global;
 use std::marker::Model;
 
@@ -94,8 +95,35 @@ impl GrowingTree {
         !self.form.is_none()
     }
 
+    /// Whether what is read is a fragment.
+    pub fn is_fragment(&self) -> bool {
+        self.context.is_some()
+    }
+
+    /// Whether no form may begin in a table.
+    pub fn bars_form(&self) -> bool {
+        self.has_form() || self.stack.has(Name::Template)
+    }
+
     pub fn context(&self) -> Option<Open> {
         self.context
+    }
+
+    /// The element at a place of the stack; in a fragment the context element stands for the
+    /// outermost one.
+    pub fn adjusted(&self, place: usize) -> Option<Open> {
+        match self.context {
+            Some(context) if place == 0 => Some(context),
+            _ => self.stack.get(place),
+        }
+    }
+
+    /// The adjusted current node.
+    pub fn adjusted_current(&self) -> Option<Open> {
+        match self.stack.len() {
+            0 => None,
+            count => self.adjusted(count - 1),
+        }
     }
 
     /// The last formatting element of that name since the last marker.

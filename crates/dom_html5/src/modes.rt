@@ -10,7 +10,7 @@ mod select;
 mod tables;
 mod template;
 
-use crate::builder::{Mode, Next, Step, TreeBuilder};
+use crate::builder::{Mode, Next, TreeBuilder};
 use crate::chars::Run;
 use crate::fault::PageFault;
 use crate::name::Name;
@@ -24,39 +24,43 @@ use html5_tokens::tokenizer::State;
 pub enum Token<'a> {
     Tag(Name, &'a Tag),
     Run(Run, &'a str),
+    /// The end of the text.
+    End,
 }
 
 impl TreeBuilder {
     /// Reads a tag.
-    pub fn tag(&mut self, tag: &Tag) -> Result<(), PageFault> {
+    pub fn tag(&mut self, tag: &Tag) {
         self.skip_line_feed = false;
-        let name = Name::of(&LocalName::new(self.alloc, tag.name.as_str())?);
-        self.flush_table_text()?;
-        self.process(Token::Tag(name, tag))
+        self.flush_table_text();
+        match LocalName::new(self.alloc, tag.name.as_str()) {
+            Ok(local) => self.process(Token::Tag(Name::of(&local), tag)),
+            Err(_) => self.keep(Err(PageFault::Memory)),
+        }
     }
 
     /// Reads a token. If it is reprocessed more often than any stack of open elements asks for, it
     /// is read in the body at last.
-    pub fn process(&mut self, token: Token<'_>) -> Result<(), PageFault> {
+    pub fn process(&mut self, token: Token<'_>) {
         for _ in 0..self.turns() {
-            if self.step(token)? == Next::Done {
-                return Ok(());
+            if self.step(token) == Next::Done {
+                return;
             }
         }
         self.mode = Mode::InBody;
-        self.step(token)?;
-        Ok(())
+        self.step(token);
     }
 
     /// Reads a token by the rules that now hold.
-    fn step(&mut self, token: Token<'_>) -> Step {
+    fn step(&mut self, token: Token<'_>) -> Next {
         match token {
             Token::Tag(name, tag) => self.tag_step(name, tag),
             Token::Run(kind, text) => self.run_step(kind, text),
+            Token::End => self.end_step(),
         }
     }
 
-    fn tag_step(&mut self, name: Name, tag: &Tag) -> Step {
+    fn tag_step(&mut self, name: Name, tag: &Tag) -> Next {
         if self.is_tag_foreign(tag.kind, name) {
             self.foreign_tag(name, tag)
         } else {
@@ -64,10 +68,10 @@ impl TreeBuilder {
         }
     }
 
-    pub fn html_tag(&mut self, name: Name, tag: &Tag) -> Step {
+    pub fn html_tag(&mut self, name: Name, tag: &Tag) -> Next {
         match self.mode {
             Mode::InBody => self.body_tag(name, tag),
-            Mode::Text => self.text_tag(),
+            Mode::Text => self.end_in_mode(self.original),
             Mode::InTable | Mode::InTableText => self.table_tag(name, tag),
             Mode::InCaption => self.caption_tag(name, tag),
             Mode::InColumnGroup => self.column_group_tag(name, tag),
@@ -82,7 +86,7 @@ impl TreeBuilder {
     }
 
     /// A tag before the body or behind it.
-    fn outer_tag(&mut self, name: Name, tag: &Tag) -> Step {
+    fn outer_tag(&mut self, name: Name, tag: &Tag) -> Next {
         match self.mode {
             Mode::BeforeHtml => self.before_html_tag(name, tag),
             Mode::BeforeHead => self.before_head_tag(name, tag),
@@ -98,40 +102,33 @@ impl TreeBuilder {
         }
     }
 
-    /// The end tag of an element whose text ends.
-    fn text_tag(&mut self) -> Step {
-        self.tree.pop();
-        self.done_in(self.original)
-    }
-
     /// An element whose characters are read up to its end tag.
-    pub fn insert_text_element(&mut self, name: Name, tag: &Tag, state: State) -> Step {
-        self.insert(name, tag)?;
+    pub fn insert_text_element(&mut self, name: Name, tag: &Tag, state: State) -> Next {
+        self.insert(name, tag);
         self.switch = Some(state);
         self.original = self.mode;
         self.done_in(Mode::Text)
     }
 
-    pub fn comment(&mut self, text: &str) -> Result<(), PageFault> {
+    pub fn comment(&mut self, text: &str) {
         self.skip_line_feed = false;
-        self.flush_table_text()?;
-        if self.is_current_foreign() {
-            return self.tree.put_comment(self.placing, text);
-        }
-        match self.mode {
+        self.flush_table_text();
+        let put = match self.mode {
+            _ if self.is_current_foreign() => self.tree.put_comment(self.placing, text),
             Mode::Initial | Mode::BeforeHtml | Mode::AfterAfterBody | Mode::AfterAfterFrameset => {
                 self.tree.put_comment_at_top(text)
             }
             Mode::AfterBody => self.tree.put_comment_in_html(text),
             _ => self.tree.put_comment(self.placing, text),
-        }
+        };
+        self.keep(put);
     }
 
-    pub fn doctype(&mut self, doctype: &Doctype) -> Result<(), PageFault> {
+    pub fn doctype(&mut self, doctype: &Doctype) {
         self.skip_line_feed = false;
-        self.flush_table_text()?;
+        self.flush_table_text();
         if self.mode != Mode::Initial {
-            return Ok(());
+            return;
         }
         let mode = crate::quirks::mode_of(doctype);
         self.tree.set_quirks_mode(mode);
@@ -140,40 +137,33 @@ impl TreeBuilder {
         let public_id = text_of(&doctype.public_id);
         let system_id = text_of(&doctype.system_id);
         self.mode = Mode::BeforeHtml;
-        self.tree.put_doctype([name, public_id, system_id])
+        let put = self.tree.put_doctype([name, public_id, system_id]);
+        self.keep(put);
     }
 
     /// Reads the end of the text.
-    pub fn end(&mut self) -> Result<(), PageFault> {
-        self.flush_table_text()?;
-        for _ in 0..self.turns() {
-            if self.end_step()? == Next::Done {
-                return Ok(());
-            }
-        }
-        Ok(())
+    pub fn end(&mut self) {
+        self.flush_table_text();
+        self.process(Token::End);
     }
 
-    fn end_step(&mut self) -> Step {
+    fn end_step(&mut self) -> Next {
         match self.mode {
-            Mode::Initial => self.leave_initial(),
-            Mode::BeforeHtml => self.imply_html(),
-            Mode::BeforeHead => self.imply_head(),
-            Mode::InHead => self.leave_head(),
-            Mode::InHeadNoscript => self.leave_noscript(),
-            Mode::AfterHead => self.imply_body(),
-            Mode::Text => {
-                self.tree.pop();
-                self.again_in(self.original)
-            }
+            Mode::Initial
+            | Mode::BeforeHtml
+            | Mode::BeforeHead
+            | Mode::InHead
+            | Mode::InHeadNoscript
+            | Mode::AfterHead => self.leave_mode(),
+            Mode::Text => self.leave_for(self.original),
             Mode::AfterBody
             | Mode::AfterAfterBody
             | Mode::AfterAfterFrameset
             | Mode::InFrameset
-            | Mode::AfterFrameset => Ok(Next::Done),
+            | Mode::AfterFrameset => Next::Done,
             _ if !self.template_modes.is_empty() => next_if(self.close_template()),
-            Mode::InColumnGroup => Ok(self.leave_column_group()),
-            _ => Ok(Next::Done),
+            Mode::InColumnGroup => self.leave_column_group(),
+            _ => Next::Done,
         }
     }
 }
@@ -186,8 +176,8 @@ fn text_of(text: &Option<String>) -> &str {
 }
 
 /// Reads a token again, or is done with it.
-fn next_if(again: bool) -> Step {
-    Ok(if again { Next::Again } else { Next::Done })
+fn next_if(again: bool) -> Next {
+    if again { Next::Again } else { Next::Done }
 }
 
 pub fn is_start(tag: &Tag) -> bool {

@@ -69,7 +69,6 @@ pub(crate) struct PageReader {
     pub builder: TreeBuilder,
     tokens: Tokenizer,
     pub waiting: Waiting,
-    fault: Option<PageFault>,
 }
 
 /// The document that a page stands for. Every text is a page: the standard says what is made of
@@ -171,7 +170,8 @@ impl PageParser {
     ) -> Result<PageParser, PageFault> {
         let tree = GrowingTree::fragment(alloc)?;
         let mut reader = PageReader::new(alloc, tree, options);
-        reader.begin_fragment(context)?;
+        reader.begin_fragment(context);
+        reader.builder.settled()?;
         Ok(PageParser {
             reader,
             is_fragment: true,
@@ -217,7 +217,6 @@ impl PageReader {
             builder: TreeBuilder::new(alloc, tree, options),
             tokens,
             waiting: Waiting::new(alloc),
-            fault: None,
         }
     }
 
@@ -226,96 +225,85 @@ impl PageReader {
     }
 
     /// Begins the contents of an element.
-    fn begin_fragment(&mut self, context: Context<'_>) -> Result<(), PageFault> {
-        self.builder.begin_fragment(context)?;
+    fn begin_fragment(&mut self, context: Context<'_>) {
+        self.builder.begin_fragment(context);
         self.tokens.switch_to(self.builder.first_state());
         self.tokens
             .set_in_foreign(self.builder.is_current_foreign());
-        Ok(())
     }
 
     /// Reads a piece of the text behind the bytes that are still waiting.
     fn feed(&mut self, piece: &str) -> Result<(), PageFault> {
-        self.fault_before()?;
-        let read = self.read_text(piece);
-        self.noted(read)
-    }
-
-    /// The fault that reading ended with before.
-    pub fn fault_before(&self) -> Result<(), PageFault> {
-        match self.fault {
-            Some(fault) => Err(fault),
-            None => Ok(()),
-        }
-    }
-
-    /// What reading came to; a fault ends it.
-    pub fn noted(&mut self, read: Result<(), PageFault>) -> Result<(), PageFault> {
-        if let Err(fault) = read {
-            self.fault = Some(fault);
-        }
-        read
-    }
-
-    fn read_text(&mut self, piece: &str) -> Result<(), PageFault> {
-        self.read_waiting()?;
-        self.read(piece)
+        self.builder.settled()?;
+        self.read_waiting();
+        self.read(piece);
+        self.builder.settled()
     }
 
     /// Reads the end of the text.
     fn read_end(&mut self) -> Result<(), PageFault> {
-        self.fault_before()?;
-        self.read_waiting()?;
-        let kind = self.tokens.end_kind()?;
-        if let Some(kind) = kind {
-            self.token(kind)?;
+        self.builder.settled()?;
+        self.read_waiting();
+        if let Some(kind) = self.tokens.end_kind()? {
+            self.token(kind);
         }
-        self.builder.characters(self.tokens.text())?;
-        self.builder.end()?;
-        self.builder.note_errors(&self.tokens.take_errors())
+        self.builder.characters(self.tokens.text());
+        self.builder.end();
+        self.builder.note_errors(&self.tokens.take_errors());
+        self.builder.settled()
     }
 
-    pub fn read(&mut self, piece: &str) -> Result<(), PageFault> {
+    pub fn read(&mut self, piece: &str) {
         let mut rest = piece;
         for _ in 0..piece.len() {
-            rest = self.read_token(rest)?;
+            rest = self.read_token(rest);
             if rest.is_empty() {
                 break;
             }
         }
-        Ok(())
     }
 
-    /// Reads up to the end of a token, and returns what follows it.
-    fn read_token<'a>(&mut self, text: &'a str) -> Result<&'a str, PageFault> {
+    /// Reads up to the end of a token, and returns what follows it; nothing does after a fault.
+    fn read_token<'a>(&mut self, text: &'a str) -> &'a str {
         let mut kind = None;
-        let rest = self.tokens.read_kind(text, &mut kind)?;
-        if let Some(kind) = kind {
-            self.token(kind)?;
+        let read = self.tokens.read_kind(text, &mut kind);
+        match (read, kind) {
+            (Ok(rest), Some(kind)) => {
+                self.token(kind);
+                if self.builder.fault.is_some() {
+                    ""
+                } else {
+                    rest
+                }
+            }
+            (Ok(rest), None) => rest,
+            (Err(_), _) => {
+                self.builder.keep(Err(PageFault::Memory));
+                ""
+            }
         }
-        Ok(rest)
     }
 
     /// Reads the token that ended, and the characters before it.
-    fn token(&mut self, kind: TokenKind) -> Result<(), PageFault> {
-        self.builder.characters(self.tokens.text())?;
+    fn token(&mut self, kind: TokenKind) {
+        self.builder.characters(self.tokens.text());
         self.tokens.clear_text();
-        self.build(kind)?;
+        self.build(kind);
         if let Some(state) = self.builder.switch.take() {
             self.tokens.switch_to(state);
         }
         self.tokens
             .set_in_foreign(self.builder.is_current_foreign());
-        Ok(())
     }
 
     /// Puts what the token stands for into the tree.
-    fn build(&mut self, kind: TokenKind) -> Result<(), PageFault> {
+    fn build(&mut self, kind: TokenKind) {
         match kind {
-            TokenKind::Tag => match self.tokens.tag() {
-                Some(tag) => self.builder.tag(tag),
-                None => Ok(()),
-            },
+            TokenKind::Tag => {
+                if let Some(tag) = self.tokens.tag() {
+                    self.builder.tag(tag);
+                }
+            }
             TokenKind::Comment => self.builder.comment(self.tokens.comment()),
             TokenKind::Doctype => self.builder.doctype(self.tokens.doctype()),
         }
@@ -343,11 +331,11 @@ impl TreeBuilder {
     }
 
     /// Notes parse errors in the document.
-    fn note_errors(&mut self, errors: &[ErrorAt]) -> Result<(), PageFault> {
+    fn note_errors(&mut self, errors: &[ErrorAt]) {
         for ErrorAt { offset, error } in errors {
-            self.note_error(*offset, *error)?;
+            let noted = self.note_error(*offset, *error);
+            self.keep(noted);
         }
-        Ok(())
     }
 
     fn note_error(&mut self, offset: usize, error: ParseError) -> Result<(), PageFault> {
@@ -356,22 +344,28 @@ impl TreeBuilder {
     }
 
     /// Opens the element `html` of a fragment, and sets what its context element asks for.
-    fn begin_fragment(&mut self, context: Context<'_>) -> Result<(), PageFault> {
-        self.insert_implied_html()?;
+    fn begin_fragment(&mut self, context: Context<'_>) {
+        self.insert_implied(Name::Html, "html");
         let (ns, written) = match context {
             Context::Html(name) => (Ns::Html, name),
             Context::Svg(name) => (Ns::Svg, name),
             Context::MathMl(name) => (Ns::MathMl, name),
         };
-        let name = Name::of(&LocalName::folded(self.alloc, written)?);
+        match LocalName::folded(self.alloc, written) {
+            Ok(local) => self.begin_in(ns, Name::of(&local)),
+            Err(_) => self.keep(Err(PageFault::Memory)),
+        }
+    }
+
+    /// Sets what a context element of that name asks for.
+    fn begin_in(&mut self, ns: Ns, name: Name) {
         self.tree.set_context(ns, name);
         if ns == Ns::Html && name == Name::Template {
-            self.push_template_mode(Mode::InTemplate)?;
+            self.push_template_mode(Mode::InTemplate);
         }
         self.reset_mode();
         if ns == Ns::Html && name == Name::Form {
             self.tree.set_context_form();
         }
-        Ok(())
     }
 }

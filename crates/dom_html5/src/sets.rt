@@ -89,6 +89,19 @@ fn is_special_name(name: Name) -> bool {
     )
 }
 
+/// Whether a tag of that name ends the element, an item of a list.
+pub fn is_item_like(open: &Open, name: Name) -> bool {
+    match name {
+        Name::Li => open.is_html(Name::Li),
+        _ => open.is_html(Name::Dd) || open.is_html(Name::Dt),
+    }
+}
+
+/// Whether an item of a list may end one beyond that element, which is special.
+pub fn is_crossed_by_items(open: &Open) -> bool {
+    open.is_html(Name::Address) || open.is_html(Name::Div) || open.is_html(Name::P)
+}
+
 /// Elements whose end tags are implied.
 pub fn has_implied_end(name: Name) -> bool {
     matches!(

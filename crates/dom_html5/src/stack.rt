@@ -6,7 +6,7 @@ ghost use Rattle.std.specs.Option.{option_to_list};
 
 use crate::fault::PageFault;
 use crate::name::{COUNT, Name};
-use crate::sets::{Scope, is_heading, is_special};
+use crate::sets::{Scope, is_crossed_by_items, is_heading, is_item_like, is_special};
 use dom_nodes::node_id::NodeId;
 use std::alloc::Global;
 
@@ -248,6 +248,20 @@ impl OpenElements {
             }
         }
         false
+    }
+
+    /// The item of a list that one of that name ends.
+    pub fn item_before(&self, name: Name) -> Option<Name> {
+        for place in (0..self.elements.len()).rev() {
+            let open = self.get(place)?;
+            if is_item_like(&open, name) {
+                return Some(open.name);
+            }
+            if is_special(&open) && !is_crossed_by_items(&open) {
+                return None;
+            }
+        }
+        None
     }
 
     /// Where the special element nearest above a place of the stack stands.

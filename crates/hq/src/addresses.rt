@@ -37,15 +37,20 @@ pub fn base_of(document: &Document, options: &Options<'_>) -> Result<Option<Url>
     joined(given, "")
 }
 
-/// The value of an attribute joined to a base, where there is one and the value is an address.
-pub fn joined_value(base: &Option<Url>, name: &str, value: &str) -> Result<Option<Url>, Fault> {
-    if !is_address(name) {
-        return Ok(None);
+/// The value of an attribute, joined to a base where there is one and the value is an address.
+pub fn joined_value(
+    alloc: Global,
+    base: &Option<Url>,
+    name: &str,
+    value: &str,
+) -> Result<String, Fault> {
+    if let Some(base) = base
+        && is_address(name)
+        && let Some(url) = joined(base, value)?
+    {
+        return Ok(String::from_str(alloc, url.as_str())?);
     }
-    match base {
-        Some(base) => joined(base, value),
-        None => Ok(None),
-    }
+    Ok(String::from_str(alloc, value)?)
 }
 
 /// An address joined to a base, if it is one.

@@ -64,11 +64,16 @@ impl<'a> Options<'a> {
             base: None,
             files: Vec::new(alloc),
         };
-        options.read_removed(alloc, matches)?;
-        options.read_selector(alloc, matches)?;
-        options.read_base(alloc, matches)?;
-        options.read_files(matches)?;
+        options.read(alloc, matches)?;
         Ok(options)
+    }
+
+    /// Reads the options that take memory.
+    fn read(&mut self, alloc: Global, matches: &ArgMatches<'a>) -> Result<(), Fault> {
+        self.read_removed(alloc, matches)?;
+        self.read_selector(alloc, matches)?;
+        self.read_base(alloc, matches)?;
+        self.read_files(matches)
     }
 
     fn read_removed(&mut self, alloc: Global, matches: &ArgMatches<'a>) -> Result<(), Fault> {

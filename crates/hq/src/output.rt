@@ -25,7 +25,9 @@ pub fn print_matches<W: Write>(
     }
     let base = base_of(document, options)?;
     for node in found.nodes() {
-        print_match(node, options, &base, out)?;
+        if let Some(line) = line_of(node, options, &base)? {
+            print_line(line.as_str(), out)?;
+        }
     }
     Ok(found.exists())
 }
@@ -56,22 +58,18 @@ fn print_count<W: Write>(
     Ok(())
 }
 
-/// Prints what is to be shown of a match.
-fn print_match<W: Write>(
+/// The line that shows a match, if there is one.
+fn line_of(
     node: &NodeRef<'_>,
     options: &Options<'_>,
     base: &Option<Url>,
-    out: &mut W,
-) -> Result<(), Fault> {
+) -> Result<Option<String>, Fault> {
     let alloc = node.tree.allocator();
-    if let Show::Attr(name) = options.show {
-        return print_attr(node, name, options, base, out);
+    match options.show {
+        Show::Attr(name) => attr_line(node, name, options, base),
+        Show::All => Ok(Some(summary_json(alloc, node)?)),
+        show => Ok(Some(shown_as(alloc, text_of(node, show)?, options.json)?)),
     }
-    if let Show::All = options.show {
-        return print_line(&summary_json(alloc, node)?, out);
-    }
-    let shown = text_of(node, options.show)?;
-    print_text(alloc, shown.as_str(), options.json, out)
 }
 
 /// A text that shows a match.
@@ -84,34 +82,30 @@ fn text_of(node: &NodeRef<'_>, show: Show<'_>) -> Result<String, Fault> {
     }
 }
 
-/// Prints an attribute of a match, if it has it. Of JSON there is a line for each match.
-fn print_attr<W: Write>(
+/// An attribute of a match, if it has it. Of JSON there is a line for each match.
+fn attr_line(
     node: &NodeRef<'_>,
     name: &str,
     options: &Options<'_>,
     base: &Option<Url>,
-    out: &mut W,
-) -> Result<(), Fault> {
+) -> Result<Option<String>, Fault> {
     let alloc = node.tree.allocator();
-    let Some(value) = node.attr(name) else {
-        return if options.json {
-            print_line("null", out)
-        } else {
-            Ok(())
-        };
-    };
-    match joined_value(base, name, value)? {
-        Some(url) => print_text(alloc, url.as_str(), options.json, out),
-        None => print_text(alloc, value, options.json, out),
+    if let Some(value) = node.attr(name) {
+        let text = joined_value(alloc, base, name, value)?;
+        return Ok(Some(shown_as(alloc, text, options.json)?));
     }
+    if !options.json {
+        return Ok(None);
+    }
+    Ok(Some(String::from_str(alloc, "null")?))
 }
 
-/// Prints a text as it is, or as JSON.
-fn print_text<W: Write>(alloc: Global, text: &str, json: bool, out: &mut W) -> Result<(), Fault> {
+/// A text as it is, or as JSON.
+fn shown_as(alloc: Global, text: String, json: bool) -> Result<String, Fault> {
     if json {
-        return print_line(&string_json(alloc, text)?, out);
+        return string_json(alloc, text.as_str());
     }
-    print_line(text, out)
+    Ok(text)
 }
 
 fn print_line<W: Write>(line: &str, out: &mut W) -> Result<(), Fault> {

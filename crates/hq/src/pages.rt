@@ -4,9 +4,9 @@ use crate::cleaning::clean;
 use crate::faults::Fault;
 use crate::options::{Options, Reading};
 use crate::output::print_matches;
-use crate::tree::print_tree;
+use crate::tree::tree_text;
 use dom_query::{
-    Document, MarkupFault, MarkupFaultKind, NodeId, Options as PageOptions, PageParser,
+    Context, Document, MarkupFault, MarkupFaultKind, NodeId, Options as PageOptions, PageParser,
 };
 use std::alloc::Global;
 use std::fs;
@@ -32,7 +32,8 @@ pub fn print_file<W: Write>(
     match &options.selector {
         Some(selector) => print_matches(&page, selector, options, out),
         None => {
-            print_tree(&page.document, top_of(&page.document, options.reading), out)?;
+            let text = tree_text(&page.document, top_of(&page.document, options.reading))?;
+            out.write_all(text.as_bytes())?;
             Ok(true)
         }
     }
@@ -80,17 +81,26 @@ fn read_from<R: Read>(
     match reading {
         Reading::Explicit => read_explicit(alloc, reader),
         Reading::Page { context, scripting } => {
-            let options = PageOptions {
-                scripting,
-                ..PageOptions::default()
-            };
-            let mut parser = match context {
-                None => PageParser::new(alloc, options)?,
-                Some(context) => PageParser::for_fragment(alloc, context, options)?,
-            };
+            let mut parser = parser_of(alloc, context, scripting)?;
             read_pieces(alloc, reader, &mut parser)?;
             Ok(parser.finish()?)
         }
+    }
+}
+
+/// What reads a page, or a fragment in that context.
+fn parser_of(
+    alloc: Global,
+    context: Option<Context<'_>>,
+    scripting: bool,
+) -> Result<PageParser, Fault> {
+    let options = PageOptions {
+        scripting,
+        ..PageOptions::default()
+    };
+    match context {
+        None => Ok(PageParser::new(alloc, options)?),
+        Some(context) => Ok(PageParser::for_fragment(alloc, context, options)?),
     }
 }
 

@@ -2,32 +2,30 @@
 
 use crate::faults::Fault;
 use dom_query::{Document, Element, NamespaceRef, NodeData, NodeId, QualName};
-use std::alloc::Global;
-use std::io::Write;
+use std::alloc::{AllocError, Global};
 
-/// A node that is still to be printed, and how many nodes it lies in.
+/// A node that is still to be written, and how many nodes it lies in.
 #[derive(Clone, Copy, Drop)]
 struct Pending {
     id: NodeId,
     depth: usize,
 }
 
-/// Prints the nodes below one, each on a line of its own, or on several where a text has several.
-pub fn print_tree<W: Write>(document: &Document, top: NodeId, out: &mut W) -> Result<(), Fault> {
+/// The nodes below one, each on a line of its own, or on several where a text has several.
+pub fn tree_text(document: &Document, top: NodeId) -> Result<String, Fault> {
     let alloc = document.tree.allocator();
+    let mut text = String::new(alloc);
     let mut pending = Vec::new(alloc);
     push_below(document, Pending { id: top, depth: 0 }, &mut pending)?;
     for _ in 0..document.tree.len() {
         let Some(Pending { id, depth }) = pending.pop() else {
             break;
         };
-        if let Some(node) = document.tree.tree_node(&id) {
-            print_node(alloc, &node.content, depth, out)?;
-        }
+        add_node(document, id, depth, &mut text)?;
         let depth = depth.saturating_add(1);
         push_below(document, Pending { id, depth }, &mut pending)?;
     }
-    Ok(())
+    Ok(text)
 }
 
 /// Adds what is below a node, at that depth: first comes what a template contains, and then the
@@ -45,67 +43,63 @@ fn push_below(document: &Document, of: Pending, pending: &mut Vec<Pending>) -> R
     Ok(())
 }
 
-/// Prints what a node is.
-fn print_node<W: Write>(
-    alloc: Global,
-    node: &NodeData,
-    depth: usize,
-    out: &mut W,
-) -> Result<(), Fault> {
+/// Writes what a node is.
+fn add_node(document: &Document, id: NodeId, depth: usize, text: &mut String) -> Result<(), Fault> {
+    let Some(node) = document.tree.tree_node(&id) else {
+        return Ok(());
+    };
+    match &node.content {
+        NodeData::Element(element) => {
+            add_element(document.tree.allocator(), element, depth, text)
+        }
+        content => Ok(add_line(text, depth, pieces_of(content))?),
+    }
+}
+
+/// The pieces of the line of a node that is no element.
+fn pieces_of(node: &NodeData) -> [&str; 7] {
     match node {
-        NodeData::Element(element) => print_element(alloc, element, depth, out),
+        NodeData::Text { contents } => ["\"", contents.as_str(), "\"", "", "", "", ""],
+        NodeData::Comment { contents } => ["<!-- ", contents.as_str(), " -->", "", "", "", ""],
+        NodeData::ProcessingInstruction { target, .. } => {
+            ["<?", target.as_str(), ">", "", "", "", ""]
+        }
         NodeData::Doctype {
             name,
             public_id,
             system_id,
-        } => {
-            let ids = ids_of(alloc, public_id.as_str(), system_id.as_str())?;
-            print_line(depth, ["<!DOCTYPE ", name.as_str(), ids.as_str(), ">"], out)
-        }
-        _ => print_line(depth, pieces_of(node), out),
+        } => doctype_pieces(name.as_str(), public_id.as_str(), system_id.as_str()),
+        _ => ["content", "", "", "", "", "", ""],
     }
 }
 
-/// The pieces of the line of a node that is neither an element nor a doctype.
-fn pieces_of(node: &NodeData) -> [&str; 4] {
-    match node {
-        NodeData::Text { contents } => ["\"", contents.as_str(), "\"", ""],
-        NodeData::Comment { contents } => ["<!-- ", contents.as_str(), " -->", ""],
-        NodeData::ProcessingInstruction { target, .. } => ["<?", target.as_str(), ">", ""],
-        _ => ["content", "", "", ""],
-    }
-}
-
-/// The ids of a doctype, if it has some.
-fn ids_of(alloc: Global, public: &str, system: &str) -> Result<String, Fault> {
+/// The pieces of the line of a doctype, with its ids if it has some.
+fn doctype_pieces<'a>(name: &'a str, public: &'a str, system: &'a str) -> [&'a str; 7] {
     if public.is_empty() && system.is_empty() {
-        return Ok(String::new(alloc));
+        return ["<!DOCTYPE ", name, ">", "", "", "", ""];
     }
-    Ok(format!(in alloc; " \"{public}\" \"{system}\"")?)
+    ["<!DOCTYPE ", name, " \"", public, "\" \"", system, "\">"]
 }
 
-/// Prints the tag of an element, and its attributes in the order of their names.
-fn print_element<W: Write>(
+/// Writes the tag of an element, and its attributes in the order of their names.
+fn add_element(
     alloc: Global,
     element: &Element,
     depth: usize,
-    out: &mut W,
+    text: &mut String,
 ) -> Result<(), Fault> {
     let name = &element.name;
-    print_line(
-        depth,
-        ["<", prefix_of(name), name.local().as_str(), ">"],
-        out,
-    )?;
+    let tag = ["<", prefix_of(name), name.local().as_str(), ">", "", "", ""];
+    add_line(text, depth, tag)?;
     let depth = depth.saturating_add(1);
     for (name, value) in attrs_of(alloc, element)?.as_slice() {
-        print_attr(depth, name.as_str(), value, out)?;
+        add_attr(text, depth, name.as_str(), value)?;
     }
     Ok(())
 }
 
-fn print_attr<W: Write>(depth: usize, name: &str, value: &str, out: &mut W) -> Result<(), Fault> {
-    print_line(depth, [name, "=\"", value, "\""], out)
+fn add_attr(text: &mut String, depth: usize, name: &str, value: &str) -> Result<(), AllocError> {
+    add_line(text, depth, [name, "=\"", value, "\"", "", "", ""])
 }
 
 /// The whole names and the values of an element's attributes, in the order of the names.
@@ -136,15 +130,15 @@ fn prefix_of(name: &QualName) -> &str {
     }
 }
 
-/// Prints the pieces of a line at a depth, one behind the other.
-fn print_line<W: Write>(depth: usize, pieces: [&str; 4], out: &mut W) -> Result<(), Fault> {
-    out.write_all(b"| ")?;
+/// Writes the pieces of a line at a depth, one behind the other.
+fn add_line(text: &mut String, depth: usize, pieces: [&str; 7]) -> Result<(), AllocError> {
+    text.push_str("| ")?;
     for _ in 0..depth {
-        out.write_all(b"  ")?;
+        text.push_str("  ")?;
     }
     for piece in pieces {
-        out.write_all(piece.as_bytes())?;
+        text.push_str(piece)?;
     }
-    out.write_all(b"\n")?;
+    text.push('\n')?;
     Ok(())
 }

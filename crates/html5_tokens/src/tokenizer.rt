@@ -25,7 +25,7 @@ use draft::TagDraft;
 use references::Reference;
 pub use runs::MARKS;
 pub use state::State;
-use state::{Raw, ScriptState};
+use state::{Place, Raw, ScriptState};
 use std::alloc::{AllocError, Global};
 use std::mem;
 
@@ -57,6 +57,8 @@ pub struct Tokenizer {
     offset: usize,
     /// The parse errors, where they are collected.
     errors: Option<Vec<ErrorAt>>,
+    /// Whether memory was refused for what a character came to.
+    refused: bool,
 }
 
 /// The token that ends at a character, if one does. Errors where memory is refused.
@@ -118,6 +120,7 @@ impl Tokenizer {
             behind: String::new(alloc),
             offset: 0,
             errors: None,
+            refused: false,
         }
     }
 
@@ -219,7 +222,7 @@ impl Tokenizer {
             return Ok(None);
         }
         let c = if letter == '\r' { '\n' } else { letter };
-        if self.is_in_reference() && self.reference(c)? {
+        if self.is_in_reference() && self.reference(c) {
             return Ok(None);
         }
         self.read(c)
@@ -232,7 +235,7 @@ impl Tokenizer {
             State::Rcdata => self.in_rcdata(c),
             State::Rawtext => self.in_raw(Raw::Rawtext, c),
             State::Script => self.in_raw(Raw::Script, c),
-            State::Plaintext => self.text_letter(c),
+            State::Plaintext => self.letter(Place::Text, c),
             State::Cdata(state) => self.in_cdata(state, c),
             State::Tag(state) => self.in_tag(state, c),
             State::EndTag(raw, state) => self.in_end_tag(raw, state, c),

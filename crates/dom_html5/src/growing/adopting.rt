@@ -10,6 +10,39 @@ use crate::fault::PageFault;
 use crate::formatting::Entry;
 use crate::name::Name;
 use crate::stack::Open;
+use dom_nodes::node_id::NodeId;
+
+/// Where in the list the copy of the formatting element goes.
+#[derive(Clone, Copy, Drop)]
+struct Bookmark {
+    index: usize,
+    /// Whether it is behind an element that was renewed.
+    renewed: bool,
+}
+
+impl Bookmark {
+    /// Behind the first entry that was renewed.
+    fn behind(self, index: usize) -> Bookmark {
+        if self.renewed {
+            return self;
+        }
+        Bookmark {
+            index: index.saturating_add(1),
+            renewed: true,
+        }
+    }
+
+    /// Where it is once an entry is gone.
+    fn without(self, index: usize) -> Bookmark {
+        if index >= self.index {
+            return self;
+        }
+        Bookmark {
+            index: self.index.saturating_sub(1),
+            renewed: self.renewed,
+        }
+    }
+}
 
 impl GrowingTree {
     /// Reconstructs the active formatting elements: opens those again that aren't open.
@@ -76,34 +109,44 @@ impl GrowingTree {
         let Some(furthest) = self.stack.get(furthest_place) else {
             return Ok(());
         };
-        let mut bookmark = self.formatting.index_of(formatting.id).unwrap_or(0);
-        let mut renewed = false;
+        let mut bookmark = Bookmark {
+            index: self.formatting.index_of(formatting.id).unwrap_or(0),
+            renewed: false,
+        };
         let mut round: usize = 0;
         for node_place in (place.saturating_add(1)..furthest_place).rev() {
             round = round.saturating_add(1);
-            let Some(node) = self.stack.get(node_place) else {
-                break;
-            };
-            match self.formatting.index_of(node.id) {
-                Some(index) if round <= 3 => {
-                    if !renewed {
-                        bookmark = index.saturating_add(1);
-                        renewed = true;
-                    }
-                    self.renew(node_place, index)?;
-                }
-                Some(index) => {
-                    bookmark = self.remove_entry_before(index, bookmark);
-                    self.remove_at(node_place);
-                }
-                None => self.remove_at(node_place),
-            }
+            bookmark = self.pass(node_place, round <= 3, bookmark)?;
         }
         self.put_below(place, foster);
         match self.stack.place_of(furthest.id) {
             Some(furthest_place) => self.adopt_children(place, furthest_place, bookmark),
             None => Ok(()),
         }
+    }
+
+    /// The inner loop at a place between the two: what stands there is renewed, where it is in the
+    /// list and among the first three, or leaves the stack, and the list too.
+    fn pass(
+        &mut self,
+        place: usize,
+        is_near: bool,
+        bookmark: Bookmark,
+    ) -> Result<Bookmark, PageFault> {
+        let Some(node) = self.stack.get(place) else {
+            return Ok(bookmark);
+        };
+        let Some(index) = self.formatting.index_of(node.id) else {
+            self.remove_at(place);
+            return Ok(bookmark);
+        };
+        if is_near {
+            self.renew(place, index)?;
+            return Ok(bookmark.behind(index));
+        }
+        self.remove_at(place);
+        self.remove_entry(index);
+        Ok(bookmark.without(index))
     }
 
     /// A copy of an element takes its place on the stack and in the list; the element right behind
@@ -138,7 +181,7 @@ impl GrowingTree {
         &mut self,
         place: usize,
         furthest_place: usize,
-        bookmark: usize,
+        bookmark: Bookmark,
     ) -> Result<(), PageFault> {
         let Some(formatting) = self.stack.get(place) else {
             return Ok(());
@@ -151,11 +194,24 @@ impl GrowingTree {
         let parent = furthest.id;
         let copy = put_children_into_copy(&mut self.document.tree, formatting, parent)?;
         self.stack.insert_behind(furthest_place, &copy)?;
-        let bookmark = match self.formatting.index_of(old) {
-            Some(index) => self.remove_entry_before(index, bookmark),
-            None => bookmark,
-        };
-        self.insert_entry(bookmark, &copy)?;
+        self.put_in_place(old, bookmark, &copy)
+    }
+
+    /// A copy takes the place of an element in the list, and that leaves the stack.
+    fn put_in_place(
+        &mut self,
+        old: NodeId,
+        bookmark: Bookmark,
+        copy: &Open,
+    ) -> Result<(), PageFault>
+        requires { IsElement self.old copy.now.id }
+    {
+        let mut index = bookmark.index;
+        if let Some(gone) = self.formatting.index_of(old) {
+            self.remove_entry(gone);
+            index = bookmark.without(gone).index;
+        }
+        self.insert_entry(index, copy)?;
         self.remove(old);
         Ok(())
     }
@@ -166,22 +222,5 @@ impl GrowingTree {
         ensures { self.new ≡ self.old }
     {
         self.formatting.insert(index, element)
-    }
-
-    /// Removes an entry; returns where a bookmark then is.
-    fn remove_entry_before(&mut self, index: usize, bookmark: usize) -> usize
-        ensures { self.new ≡ self.old }
-    {
-        self.remove_entry(index);
-        moved_bookmark(index, bookmark)
-    }
-}
-
-/// Where a bookmark is once an entry is gone.
-fn moved_bookmark(index: usize, bookmark: usize) -> usize {
-    if index < bookmark {
-        bookmark.saturating_sub(1)
-    } else {
-        bookmark
     }
 }

@@ -34,7 +34,7 @@ pub enum Place {
 }
 
 /// Whether foster parenting moves what is put into that element.
-fn is_foster_target(target: &Open) -> bool {
+pub fn is_foster_target(target: &Open) -> bool {
     target.ns == Ns::Html
         && matches!(
             target.name,

@@ -6,9 +6,19 @@ use super::GrowingTree;
 use crate::fault::PageFault;
 use crate::formatting::Entry;
 use crate::name::Name;
-use crate::sets::{Scope, has_implied_end};
+use crate::sets::{Scope, has_implied_end, is_special};
 use crate::stack::{Ns, Open};
 use dom_nodes::node_id::NodeId;
+
+/// What an end tag in foreign content comes to.
+#[derive(Clone, Copy, Drop)]
+pub enum ForeignEnd {
+    /// It ends the element at a place of the stack.
+    At(usize),
+    /// An HTML element is met first, whose rules read the tag.
+    Html,
+    Nowhere,
+}
 
 impl GrowingTree {
     /// Takes the current node off the stack.
@@ -27,6 +37,40 @@ impl GrowingTree {
         if self.stack.current_is(name) {
             self.pop();
         }
+    }
+
+    /// Ends the option and the group of options that are open in a list.
+    pub fn pop_options(&mut self) {
+        self.pop_if(Name::Option);
+        self.pop_if(Name::Optgroup);
+    }
+
+    /// Ends a group of options, and the option in it, if the current node is one of both.
+    pub fn end_optgroup(&mut self) {
+        if self.stack.current_is(Name::Option)
+            && let Some(open) = self.stack.get(self.stack.len().saturating_sub(2))
+            && open.is_html(Name::Optgroup)
+        {
+            self.pop();
+        }
+        self.pop_if(Name::Optgroup);
+    }
+
+    /// Where an end tag in foreign content ends an element.
+    pub fn foreign_end(&self, written: &str) -> ForeignEnd {
+        let count = self.stack.len();
+        for place in (0..count).rev() {
+            match self.stack.get(place) {
+                Some(open) if open.ns == Ns::Html && place.saturating_add(1) < count => {
+                    return ForeignEnd::Html;
+                }
+                Some(open) if place > 0 && self.has_name(&open, written) => {
+                    return ForeignEnd::At(place);
+                }
+                _ => {}
+            }
+        }
+        ForeignEnd::Nowhere
     }
 
     /// Keeps the first open elements alone.
@@ -70,6 +114,40 @@ impl GrowingTree {
         }
         self.pop_to(name);
         true
+    }
+
+    /// Any other end tag: what is open up to an element of that name is closed, unless a special
+    /// one lies between.
+    pub fn close_named(&mut self, name: Name, written: &str) {
+        if !self.stack.has(name) {
+            return;
+        }
+        if let Some(place) = self.named_below_special(name, written) {
+            self.truncate(place);
+        }
+    }
+
+    fn named_below_special(&self, name: Name, written: &str) -> Option<usize> {
+        for place in (0..self.stack.len()).rev() {
+            let open = self.stack.get(place)?;
+            if open.is_html(name) && (name != Name::Other || self.has_name(&open, written)) {
+                return Some(place);
+            }
+            if is_special(&open) {
+                return None;
+            }
+        }
+        None
+    }
+
+    /// Leaves foreign content: pops elements up to one whose contents are read as HTML.
+    pub fn pop_foreign(&mut self) {
+        for _ in 0..self.stack.len() {
+            match self.stack.current() {
+                Some(open) if open.holds_foreign() => self.pop(),
+                _ => return,
+            }
+        }
     }
 
     pub fn generate_implied_end_tags(&mut self, except: Option<Name>) {

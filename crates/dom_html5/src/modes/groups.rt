@@ -48,6 +48,57 @@ pub enum Group {
     Ordinary,
 }
 
+impl Group {
+    /// Whether such an element ends a `p` that is open.
+    pub fn ends_paragraph(self) -> bool {
+        matches!(
+            self,
+            Group::Block
+                | Group::P
+                | Group::Heading
+                | Group::Pre
+                | Group::Plaintext
+                | Group::Hr
+                | Group::Xmp
+        )
+    }
+
+    /// Whether no frameset may take the place of the body behind such an element.
+    pub fn fills_body(self) -> bool {
+        matches!(
+            self,
+            Group::Pre
+                | Group::Li
+                | Group::Description
+                | Group::Button
+                | Group::Object
+                | Group::Table
+                | Group::Void
+                | Group::Image
+                | Group::Hr
+                | Group::Textarea
+                | Group::Xmp
+                | Group::Iframe
+                | Group::Select
+        )
+    }
+
+    /// Whether the active formatting elements are opened again before such an element.
+    pub fn continues_formatting(self) -> bool {
+        matches!(
+            self,
+            Group::Object
+                | Group::Void
+                | Group::Image
+                | Group::Input
+                | Group::Xmp
+                | Group::Select
+                | Group::Math
+                | Group::Svg
+        )
+    }
+}
+
 /// The group of a name.
 #[rattlefmt::skip]
 pub fn group_of(name: Name) -> Group {

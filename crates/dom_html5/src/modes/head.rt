@@ -2,7 +2,7 @@
 
 use super::groups::is_metadata;
 use super::is_start;
-use crate::builder::{Mode, Next, Step, TreeBuilder};
+use crate::builder::{Mode, Next, TreeBuilder};
 use crate::fault::PageFault;
 use crate::name::Name;
 use dom_markup::document::QuirksMode;
@@ -10,44 +10,37 @@ use html5_tokens::token::Tag;
 use html5_tokens::tokenizer::State;
 
 impl TreeBuilder {
-    pub fn leave_initial(&mut self) -> Step {
+    pub fn leave_initial(&mut self) -> Next {
         self.tree.set_quirks_mode(QuirksMode::Quirks);
         self.quirks = true;
         self.again_in(Mode::BeforeHtml)
     }
 
-    pub fn imply_html(&mut self) -> Step {
-        self.insert_implied_html()?;
-        self.again_in(Mode::BeforeHead)
+    pub fn imply_html(&mut self) -> Next {
+        self.imply(Name::Html, "html", Mode::BeforeHead)
     }
 
-    /// Puts an element `html` that no tag wrote at the top, and opens it.
-    pub fn insert_implied_html(&mut self) -> Result<(), PageFault> {
-        let tag = self.bare_tag("html")?;
-        self.tree.insert_html(&tag)
-    }
-
-    pub fn before_html_tag(&mut self, name: Name, tag: &Tag) -> Step {
+    pub fn before_html_tag(&mut self, name: Name, tag: &Tag) -> Next {
         if is_start(tag) {
             if name == Name::Html {
-                self.tree.insert_html(tag)?;
+                self.insert_html(tag);
                 return self.done_in(Mode::BeforeHead);
             }
             return self.imply_html();
         }
         match name {
             Name::Head | Name::Body | Name::Html | Name::Br => self.imply_html(),
-            _ => Ok(Next::Done),
+            _ => Next::Done,
         }
     }
 
-    pub fn imply_head(&mut self) -> Step {
-        self.insert_implied(Name::Head, "head")?;
+    pub fn imply_head(&mut self) -> Next {
+        self.insert_implied(Name::Head, "head");
         self.tree.set_head();
         self.again_in(Mode::InHead)
     }
 
-    pub fn before_head_tag(&mut self, name: Name, tag: &Tag) -> Step {
+    pub fn before_head_tag(&mut self, name: Name, tag: &Tag) -> Next {
         if is_start(tag) {
             return match name {
                 Name::Html => self.add_html_attrs(tag),
@@ -57,36 +50,38 @@ impl TreeBuilder {
         }
         match name {
             Name::Head | Name::Body | Name::Html | Name::Br => self.imply_head(),
-            _ => Ok(Next::Done),
+            _ => Next::Done,
         }
     }
 
-    fn start_head(&mut self, tag: &Tag) -> Step {
-        self.insert(Name::Head, tag)?;
+    fn start_head(&mut self, tag: &Tag) -> Next {
+        self.insert(Name::Head, tag);
         self.tree.set_head();
         self.done_in(Mode::InHead)
     }
 
     /// A start tag `html` inside the document.
-    pub fn add_html_attrs(&mut self, tag: &Tag) -> Step {
+    pub fn add_html_attrs(&mut self, tag: &Tag) -> Next {
         if !self.tree.open().has(Name::Template) {
-            self.tree.add_attrs(0, tag)?;
+            self.add_attrs(0, tag);
         }
-        Ok(Next::Done)
+        Next::Done
     }
 
-    pub fn leave_head(&mut self) -> Step {
+    /// Takes the current node off the stack, and reads the token again in that mode.
+    pub fn leave_for(&mut self, mode: Mode) -> Next {
         self.tree.pop();
-        self.again_in(Mode::AfterHead)
+        self.again_in(mode)
     }
 
-    pub fn leave_noscript(&mut self) -> Step {
+    /// The end tag of the current node, behind which that mode holds.
+    pub fn end_in_mode(&mut self, mode: Mode) -> Next {
         self.tree.pop();
-        self.again_in(Mode::InHead)
+        self.done_in(mode)
     }
 
     /// A start tag that belongs into the head, wherever it stands.
-    pub fn head_element(&mut self, name: Name, tag: &Tag) -> Step {
+    pub fn head_element(&mut self, name: Name, tag: &Tag) -> Next {
         match name {
             Name::Title => self.insert_text_element(name, tag, State::Rcdata),
             Name::Noframes | Name::Style | Name::Noscript => {
@@ -98,17 +93,18 @@ impl TreeBuilder {
         }
     }
 
-    fn start_template(&mut self, tag: &Tag) -> Step {
-        self.insert(Name::Template, tag)?;
-        self.tree.push_marker()?;
+    fn start_template(&mut self, tag: &Tag) -> Next {
+        self.insert(Name::Template, tag);
+        self.push_marker();
         self.frameset_ok = false;
-        self.push_template_mode(Mode::InTemplate)?;
+        self.push_template_mode(Mode::InTemplate);
         self.done_in(Mode::InTemplate)
     }
 
-    pub fn push_template_mode(&mut self, mode: Mode) -> Result<(), PageFault> {
-        self.template_modes.push(mode)?;
-        Ok(())
+    pub fn push_template_mode(&mut self, mode: Mode) {
+        if self.template_modes.push(mode).is_err() {
+            self.keep(Err(PageFault::Memory));
+        }
     }
 
     /// Closes a template, if one is open, and returns whether one was.
@@ -123,12 +119,12 @@ impl TreeBuilder {
         true
     }
 
-    pub fn end_template(&mut self) -> Step {
+    pub fn end_template(&mut self) -> Next {
         self.close_template();
-        Ok(Next::Done)
+        Next::Done
     }
 
-    pub fn head_tag(&mut self, name: Name, tag: &Tag) -> Step {
+    pub fn head_tag(&mut self, name: Name, tag: &Tag) -> Next {
         if is_start(tag) {
             return match name {
                 Name::Html => self.add_html_attrs(tag),
@@ -137,22 +133,19 @@ impl TreeBuilder {
                 }
                 Name::Noscript => self.head_element(name, tag),
                 _ if is_metadata(name) => self.head_element(name, tag),
-                Name::Head => Ok(Next::Done),
-                _ => self.leave_head(),
+                Name::Head => Next::Done,
+                _ => self.leave_for(Mode::AfterHead),
             };
         }
         match name {
-            Name::Head => {
-                self.tree.pop();
-                self.done_in(Mode::AfterHead)
-            }
-            Name::Body | Name::Html | Name::Br => self.leave_head(),
+            Name::Head => self.end_in_mode(Mode::AfterHead),
+            Name::Body | Name::Html | Name::Br => self.leave_for(Mode::AfterHead),
             Name::Template => self.end_template(),
-            _ => Ok(Next::Done),
+            _ => Next::Done,
         }
     }
 
-    pub fn noscript_tag(&mut self, name: Name, tag: &Tag) -> Step {
+    pub fn noscript_tag(&mut self, name: Name, tag: &Tag) -> Next {
         if is_start(tag) {
             return match name {
                 Name::Html => self.add_html_attrs(tag),
@@ -162,25 +155,22 @@ impl TreeBuilder {
                 | Name::Meta
                 | Name::Noframes
                 | Name::Style => self.head_element(name, tag),
-                Name::Head | Name::Noscript => Ok(Next::Done),
-                _ => self.leave_noscript(),
+                Name::Head | Name::Noscript => Next::Done,
+                _ => self.leave_for(Mode::InHead),
             };
         }
         match name {
-            Name::Noscript => {
-                self.tree.pop();
-                self.done_in(Mode::InHead)
-            }
-            Name::Br => self.leave_noscript(),
-            _ => Ok(Next::Done),
+            Name::Noscript => self.end_in_mode(Mode::InHead),
+            Name::Br => self.leave_for(Mode::InHead),
+            _ => Next::Done,
         }
     }
 
-    pub fn imply_body(&mut self) -> Step {
+    pub fn imply_body(&mut self) -> Next {
         self.imply(Name::Body, "body", Mode::InBody)
     }
 
-    pub fn after_head_tag(&mut self, name: Name, tag: &Tag) -> Step {
+    pub fn after_head_tag(&mut self, name: Name, tag: &Tag) -> Next {
         if is_start(tag) {
             return match name {
                 Name::Html => self.add_html_attrs(tag),
@@ -190,25 +180,25 @@ impl TreeBuilder {
                 }
                 Name::Frameset => self.insert_then(name, tag, Mode::InFrameset),
                 _ if is_metadata(name) => self.in_head_again(name, tag),
-                Name::Head => Ok(Next::Done),
+                Name::Head => Next::Done,
                 _ => self.imply_body(),
             };
         }
         match name {
             Name::Template => self.end_template(),
             Name::Body | Name::Html | Name::Br => self.imply_body(),
-            _ => Ok(Next::Done),
+            _ => Next::Done,
         }
     }
 
     /// An element that belongs into the head, behind it.
-    fn in_head_again(&mut self, name: Name, tag: &Tag) -> Step {
+    fn in_head_again(&mut self, name: Name, tag: &Tag) -> Next {
         if !self.tree.has_head() {
-            return Ok(Next::Done);
+            return Next::Done;
         }
         self.placing.in_head = true;
-        let step = self.head_element(name, tag)?;
+        let next = self.head_element(name, tag);
         self.placing.in_head = false;
-        Ok(step)
+        next
     }
 }

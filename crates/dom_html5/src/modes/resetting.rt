@@ -2,7 +2,7 @@
 
 use crate::builder::{Mode, TreeBuilder};
 use crate::name::Name;
-use crate::stack::{Ns, Open};
+use crate::stack::Ns;
 
 impl TreeBuilder {
     /// Resets the insertion mode to what the stack of open elements asks for.
@@ -12,22 +12,17 @@ impl TreeBuilder {
 
     fn mode_of_stack(&self) -> Mode {
         for place in (0..self.tree.open().len()).rev() {
-            let last = place == 0;
-            let open = match self.tree.context() {
-                Some(context) if last => Some(context),
-                _ => self.tree.open().get(place),
-            };
-            if let Some(open) = open
-                && let Some(mode) = self.mode_of(&open, last, place)
-            {
+            if let Some(mode) = self.mode_at(place) {
                 return mode;
             }
         }
         Mode::InBody
     }
 
-    /// The mode that an element asks for, if it asks for one.
-    fn mode_of(&self, open: &Open, last: bool, place: usize) -> Option<Mode> {
+    /// The mode that the element at a place of the stack asks for, if it asks for one.
+    fn mode_at(&self, place: usize) -> Option<Mode> {
+        let last = place == 0;
+        let open = self.tree.adjusted(place)?;
         if open.ns != Ns::Html {
             return if last { Some(Mode::InBody) } else { None };
         }

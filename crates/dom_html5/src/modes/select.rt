@@ -1,10 +1,25 @@
 //! Lists to choose from.
 
 use super::{is_start, next_if};
-use crate::builder::{Next, Step, TreeBuilder};
+use crate::builder::{Next, TreeBuilder};
 use crate::name::Name;
 use crate::sets::Scope;
 use html5_tokens::token::Tag;
+
+/// Whether a tag of that name ends a list in a table.
+fn leaves_select(name: Name) -> bool {
+    matches!(
+        name,
+        Name::Caption
+            | Name::Table
+            | Name::Tbody
+            | Name::Tfoot
+            | Name::Thead
+            | Name::Tr
+            | Name::Td
+            | Name::Th
+    )
+}
 
 impl TreeBuilder {
     fn end_select(&mut self) -> bool {
@@ -15,80 +30,62 @@ impl TreeBuilder {
         ended
     }
 
-    pub fn select_tag(&mut self, name: Name, tag: &Tag) -> Step {
+    pub fn select_tag(&mut self, name: Name, tag: &Tag) -> Next {
         if is_start(tag) {
             return self.select_start(name, tag);
         }
         match name {
             Name::Optgroup => {
-                if self.tree.open().current_is(Name::Option) {
-                    let count = self.tree.open().len();
-                    if let Some(open) = self.tree.open().get(count.saturating_sub(2))
-                        && open.is_html(Name::Optgroup)
-                    {
-                        self.tree.pop();
-                    }
-                }
-                self.tree.pop_if(Name::Optgroup);
-                Ok(Next::Done)
+                self.tree.end_optgroup();
+                Next::Done
             }
             Name::Option => {
                 self.tree.pop_if(Name::Option);
-                Ok(Next::Done)
+                Next::Done
             }
             Name::Select => {
                 self.end_select();
-                Ok(Next::Done)
+                Next::Done
             }
             Name::Template => self.end_template(),
-            _ => Ok(Next::Done),
+            _ => Next::Done,
         }
     }
 
-    fn select_start(&mut self, name: Name, tag: &Tag) -> Step {
+    fn select_start(&mut self, name: Name, tag: &Tag) -> Next {
         match name {
             Name::Html => self.add_html_attrs(tag),
             Name::Option => {
                 self.tree.pop_if(Name::Option);
                 self.insert_done(name, tag)
             }
-            Name::Optgroup | Name::Hr => {
-                self.tree.pop_if(Name::Option);
-                self.tree.pop_if(Name::Optgroup);
-                match name {
-                    Name::Hr => self.insert_void(name, tag),
-                    _ => self.insert_done(name, tag),
-                }
+            Name::Optgroup => {
+                self.tree.pop_options();
+                self.insert_done(name, tag)
+            }
+            Name::Hr => {
+                self.tree.pop_options();
+                self.insert_void(name, tag)
             }
             Name::Select => {
                 self.end_select();
-                Ok(Next::Done)
+                Next::Done
             }
             Name::Input | Name::Keygen | Name::Textarea => next_if(self.end_select()),
             Name::Script | Name::Template => self.head_element(name, tag),
-            _ => Ok(Next::Done),
+            _ => Next::Done,
         }
     }
 
-    pub fn select_in_table_tag(&mut self, name: Name, tag: &Tag) -> Step {
-        if !matches!(
-            name,
-            Name::Caption
-                | Name::Table
-                | Name::Tbody
-                | Name::Tfoot
-                | Name::Thead
-                | Name::Tr
-                | Name::Td
-                | Name::Th
-        ) {
+    pub fn select_in_table_tag(&mut self, name: Name, tag: &Tag) -> Next {
+        if !leaves_select(name) {
             return self.select_tag(name, tag);
         }
         if is_start(tag) || self.tree.open().in_scope(name, Scope::Table) {
             self.tree.pop_to(Name::Select);
             self.reset_mode();
-            return Ok(Next::Again);
+            return Next::Again;
         }
-        Ok(Next::Done)
+        Next::Done
     }
 }

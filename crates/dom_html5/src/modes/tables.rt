@@ -2,7 +2,7 @@
 
 use super::{is_start, next_if};
 use crate::attributes::is_hidden;
-use crate::builder::{Mode, Next, Step, TreeBuilder};
+use crate::builder::{Mode, Next, TreeBuilder};
 use crate::name::Name;
 use crate::sets::Scope;
 use html5_tokens::token::Tag;
@@ -49,17 +49,17 @@ static ROW_CONTEXT: [Name; 3] = [Name::Tr, Name::Template, Name::Html];
 
 impl TreeBuilder {
     /// A tag by the rules for "in table".
-    pub fn table_tag(&mut self, name: Name, tag: &Tag) -> Step {
+    pub fn table_tag(&mut self, name: Name, tag: &Tag) -> Next {
         if is_start(tag) {
             return self.table_start(name, tag);
         }
         match name {
             Name::Table => {
                 self.end_table();
-                Ok(Next::Done)
+                Next::Done
             }
             Name::Template => self.end_template(),
-            _ if is_dropped_end(name) || is_table_part(name) => Ok(Next::Done),
+            _ if is_dropped_end(name) || is_table_part(name) => Next::Done,
             _ => self.fostered(name, tag),
         }
     }
@@ -74,14 +74,14 @@ impl TreeBuilder {
     }
 
     /// What doesn't belong into a table is read by the rules for "in body", with foster parenting.
-    fn fostered(&mut self, name: Name, tag: &Tag) -> Step {
+    fn fostered(&mut self, name: Name, tag: &Tag) -> Next {
         self.placing.foster = true;
         let step = self.body_tag(name, tag);
         self.placing.foster = false;
         step
     }
 
-    fn table_start(&mut self, name: Name, tag: &Tag) -> Step {
+    fn table_start(&mut self, name: Name, tag: &Tag) -> Next {
         if is_table_part(name) {
             return self.start_table_part(name, tag);
         }
@@ -94,11 +94,11 @@ impl TreeBuilder {
         }
     }
 
-    fn start_table_part(&mut self, name: Name, tag: &Tag) -> Step {
+    fn start_table_part(&mut self, name: Name, tag: &Tag) -> Next {
         self.tree.clear_to(&TABLE_CONTEXT);
         match name {
             Name::Caption => {
-                self.tree.push_marker()?;
+                self.push_marker();
                 self.insert_then(name, tag, Mode::InCaption)
             }
             Name::Colgroup => self.insert_then(name, tag, Mode::InColumnGroup),
@@ -108,13 +108,13 @@ impl TreeBuilder {
         }
     }
 
-    fn start_table_form(&mut self, tag: &Tag) -> Step {
-        if !self.tree.open().has(Name::Template) && !self.tree.has_form() {
-            self.insert(Name::Form, tag)?;
+    fn start_table_form(&mut self, tag: &Tag) -> Next {
+        if !self.tree.bars_form() {
+            self.insert(Name::Form, tag);
             self.tree.set_form();
             self.tree.pop();
         }
-        Ok(Next::Done)
+        Next::Done
     }
 
     /// Ends a caption, if there is one.
@@ -127,7 +127,7 @@ impl TreeBuilder {
         true
     }
 
-    pub fn caption_tag(&mut self, name: Name, tag: &Tag) -> Step {
+    pub fn caption_tag(&mut self, name: Name, tag: &Tag) -> Next {
         if is_start(tag) {
             if is_table_part(name) {
                 return next_if(self.end_caption());
@@ -137,10 +137,10 @@ impl TreeBuilder {
         match name {
             Name::Caption => {
                 self.end_caption();
-                Ok(Next::Done)
+                Next::Done
             }
             Name::Table => next_if(self.end_caption()),
-            _ if is_dropped_end(name) || is_table_part(name) => Ok(Next::Done),
+            _ if is_dropped_end(name) || is_table_part(name) => Next::Done,
             _ => self.body_tag(name, tag),
         }
     }
@@ -155,23 +155,23 @@ impl TreeBuilder {
         Next::Again
     }
 
-    pub fn column_group_tag(&mut self, name: Name, tag: &Tag) -> Step {
+    pub fn column_group_tag(&mut self, name: Name, tag: &Tag) -> Next {
         if is_start(tag) {
             return match name {
                 Name::Html => self.add_html_attrs(tag),
                 Name::Col => self.insert_void(name, tag),
                 Name::Template => self.head_element(name, tag),
-                _ => Ok(self.leave_column_group()),
+                _ => self.leave_column_group(),
             };
         }
         match name {
             Name::Colgroup => {
                 self.leave_column_group();
-                Ok(Next::Done)
+                Next::Done
             }
-            Name::Col => Ok(Next::Done),
+            Name::Col => Next::Done,
             Name::Template => self.end_template(),
-            _ => Ok(self.leave_column_group()),
+            _ => self.leave_column_group(),
         }
     }
 
@@ -196,24 +196,24 @@ impl TreeBuilder {
         Next::Again
     }
 
-    pub fn table_body_tag(&mut self, name: Name, tag: &Tag) -> Step {
+    pub fn table_body_tag(&mut self, name: Name, tag: &Tag) -> Next {
         if is_start(tag) {
             return self.table_body_start(name, tag);
         }
         match name {
-            Name::Table => Ok(self.leave_section()),
+            Name::Table => self.leave_section(),
             _ if is_section(name) => {
                 if self.tree.open().in_scope(name, Scope::Table) {
                     self.end_section();
                 }
-                Ok(Next::Done)
+                Next::Done
             }
-            _ if is_dropped_end(name) || is_table_part(name) => Ok(Next::Done),
+            _ if is_dropped_end(name) || is_table_part(name) => Next::Done,
             _ => self.table_tag(name, tag),
         }
     }
 
-    fn table_body_start(&mut self, name: Name, tag: &Tag) -> Step {
+    fn table_body_start(&mut self, name: Name, tag: &Tag) -> Next {
         match name {
             Name::Tr => {
                 self.tree.clear_to(&SECTION_CONTEXT);
@@ -223,7 +223,7 @@ impl TreeBuilder {
                 self.tree.clear_to(&SECTION_CONTEXT);
                 self.imply(Name::Tr, "tr", Mode::InRow)
             }
-            _ if is_table_part(name) => Ok(self.leave_section()),
+            _ if is_table_part(name) => self.leave_section(),
             _ => self.table_tag(name, tag),
         }
     }
@@ -239,41 +239,41 @@ impl TreeBuilder {
         Next::Again
     }
 
-    pub fn row_tag(&mut self, name: Name, tag: &Tag) -> Step {
+    pub fn row_tag(&mut self, name: Name, tag: &Tag) -> Next {
         if is_start(tag) {
             return self.row_start(name, tag);
         }
         match name {
             Name::Tr => {
                 self.leave_row();
-                Ok(Next::Done)
+                Next::Done
             }
-            Name::Table => Ok(self.leave_row()),
+            Name::Table => self.leave_row(),
             _ if is_section(name) => {
                 if self.tree.open().in_scope(name, Scope::Table) {
-                    return Ok(self.leave_row());
+                    return self.leave_row();
                 }
-                Ok(Next::Done)
+                Next::Done
             }
-            _ if is_dropped_end(name) || is_cell(name) => Ok(Next::Done),
+            _ if is_dropped_end(name) || is_cell(name) => Next::Done,
             _ => self.table_tag(name, tag),
         }
     }
 
-    fn row_start(&mut self, name: Name, tag: &Tag) -> Step {
+    fn row_start(&mut self, name: Name, tag: &Tag) -> Next {
         if is_cell(name) {
             return self.start_cell(name, tag);
         }
         if is_table_part(name) {
-            return Ok(self.leave_row());
+            return self.leave_row();
         }
         self.table_tag(name, tag)
     }
 
-    fn start_cell(&mut self, name: Name, tag: &Tag) -> Step {
+    fn start_cell(&mut self, name: Name, tag: &Tag) -> Next {
         self.tree.clear_to(&ROW_CONTEXT);
-        self.insert(name, tag)?;
-        self.tree.push_marker()?;
+        self.insert(name, tag);
+        self.push_marker();
         self.done_in(Mode::InCell)
     }
 
@@ -288,11 +288,11 @@ impl TreeBuilder {
     }
 
     /// Ends the cell that is open, if there is one.
-    fn leave_cell(&mut self) -> Step {
+    fn leave_cell(&mut self) -> Next {
         next_if(self.end_cell(Name::Td) || self.end_cell(Name::Th))
     }
 
-    pub fn cell_tag(&mut self, name: Name, tag: &Tag) -> Step {
+    pub fn cell_tag(&mut self, name: Name, tag: &Tag) -> Next {
         if is_start(tag) {
             if !is_table_part(name) {
                 return self.body_tag(name, tag);
@@ -301,16 +301,16 @@ impl TreeBuilder {
         }
         if is_cell(name) {
             self.end_cell(name);
-            return Ok(Next::Done);
+            return Next::Done;
         }
         if is_dropped_end(name) {
-            return Ok(Next::Done);
+            return Next::Done;
         }
         if name != Name::Table && name != Name::Tr && !is_section(name) {
             return self.body_tag(name, tag);
         }
         if !self.tree.open().in_scope(name, Scope::Table) {
-            return Ok(Next::Done);
+            return Next::Done;
         }
         self.leave_cell()
     }

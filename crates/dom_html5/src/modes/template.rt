@@ -2,16 +2,16 @@
 
 use super::groups::is_metadata;
 use super::is_start;
-use crate::builder::{Mode, Next, Step, TreeBuilder};
+use crate::builder::{Mode, Next, TreeBuilder};
 use crate::name::Name;
 use html5_tokens::token::Tag;
 
 impl TreeBuilder {
-    pub fn template_tag(&mut self, name: Name, tag: &Tag) -> Step {
+    pub fn template_tag(&mut self, name: Name, tag: &Tag) -> Next {
         if !is_start(tag) {
             return match name {
                 Name::Template => self.end_template(),
-                _ => Ok(Next::Done),
+                _ => Next::Done,
             };
         }
         let mode = match name {
@@ -24,7 +24,7 @@ impl TreeBuilder {
             _ => Mode::InBody,
         };
         let _ = self.template_modes.pop();
-        self.push_template_mode(mode)?;
+        self.push_template_mode(mode);
         self.again_in(mode)
     }
 }

@@ -2,8 +2,8 @@
 
 ghost use Rattle.std.specs.Prelude.{◌≡◌, [], string_bytes};
 
-use super::state::{AttrState, Quote, TagState};
-use super::{Progress, State, Tokenizer, is_space, push};
+use super::state::{AttrState, Place, Quote, TagState};
+use super::{Progress, State, Tokenizer, is_space};
 use crate::parse_error::ParseError;
 use std::alloc::AllocError;
 
@@ -24,9 +24,9 @@ impl Tokenizer {
         match c {
             '/' | '>' => self.after_attr_name(c),
             '=' => {
-                self.error(ParseError::UnexpectedEqualsSignBeforeAttributeName)?;
+                self.error(ParseError::UnexpectedEqualsSignBeforeAttributeName);
                 self.begin_attr()?;
-                self.attr_letter(c)
+                self.letter(Place::AttrName, c)
             }
             _ if is_space(c) => Ok(None),
             _ => self.begin_attr_name(c),
@@ -43,11 +43,11 @@ impl Tokenizer {
         match c {
             '/' | '>' | '=' => self.attr_name_ends(c),
             '"' | '\'' | '<' => {
-                self.error(ParseError::UnexpectedCharacterInAttributeName)?;
-                self.attr_letter(c)
+                self.error(ParseError::UnexpectedCharacterInAttributeName);
+                self.letter(Place::AttrName, c)
             }
             _ if is_space(c) => self.attr_name_ends(c),
-            _ => self.attr_letter(c),
+            _ => self.letter(Place::AttrName, c),
         }
     }
 
@@ -66,7 +66,7 @@ impl Tokenizer {
     /// Notes an attribute whose name an earlier one has, where errors are collected.
     fn note_repeated_name(&mut self) -> Result<(), AllocError> {
         if self.errors.is_some() && self.tag.repeats_name(self.alloc)? {
-            self.error(ParseError::DuplicateAttribute)?;
+            self.error(ParseError::DuplicateAttribute);
         }
         Ok(())
     }
@@ -86,7 +86,7 @@ impl Tokenizer {
             '"' => self.then(State::Attribute(AttrState::Quoted(Quote::Double))),
             '\'' => self.then(State::Attribute(AttrState::Quoted(Quote::Single))),
             '>' => {
-                self.error(ParseError::MissingAttributeValue)?;
+                self.error(ParseError::MissingAttributeValue);
                 self.emit_tag()
             }
             _ if is_space(c) => Ok(None),
@@ -103,7 +103,7 @@ impl Tokenizer {
         }
         match c {
             '&' => self.begin_reference(),
-            _ => self.value_letter(c),
+            _ => self.letter(Place::AttrValue, c),
         }
     }
 
@@ -112,11 +112,11 @@ impl Tokenizer {
             '&' => self.begin_reference(),
             '>' => self.emit_tag(),
             '"' | '\'' | '<' | '=' | '`' => {
-                self.error(ParseError::UnexpectedCharacterInUnquotedAttributeValue)?;
-                self.value_letter(c)
+                self.error(ParseError::UnexpectedCharacterInUnquotedAttributeValue);
+                self.letter(Place::AttrValue, c)
             }
             _ if is_space(c) => self.then(State::Attribute(AttrState::BeforeName)),
-            _ => self.value_letter(c),
+            _ => self.letter(Place::AttrValue, c),
         }
     }
 
@@ -126,22 +126,11 @@ impl Tokenizer {
             '>' => self.emit_tag(),
             _ if is_space(c) => self.then(State::Attribute(AttrState::BeforeName)),
             _ => {
-                self.error(ParseError::MissingWhitespaceBetweenAttributes)?;
+                self.error(ParseError::MissingWhitespaceBetweenAttributes);
                 self.state = State::Attribute(AttrState::BeforeName);
                 self.before_attr_name(c)
             }
         }
-    }
-
-    fn attr_letter(&mut self, c: char) -> Progress {
-        let shown = self.shown(c)?;
-        push(&mut self.tag.attr_name, shown)
-    }
-
-    /// A character of a value; a null is replaced.
-    fn value_letter(&mut self, c: char) -> Progress {
-        let shown = self.shown(c)?;
-        push(&mut self.tag.attr_value, shown)
     }
 
     fn begin_attr(&mut self) -> Result<(), AllocError> {

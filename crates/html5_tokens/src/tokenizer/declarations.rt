@@ -13,44 +13,47 @@ pub fn goes_on(word: &[u8], count: usize, letter: char) -> bool {
     }
 }
 
-/// What was read with one more character, where that goes on with a word.
-fn seen_with(seen: Seen, c: char) -> Option<Seen> {
-    match seen {
-        Seen::Nothing => match c {
-            '-' => Some(Seen::Dash),
-            'd' | 'D' => Some(Seen::Doctype(1)),
-            '[' => Some(Seen::Cdata(1)),
-            _ => None,
+/// The state behind what was read and one more character.
+fn state_behind(seen: Seen, c: char) -> State {
+    match (seen, c) {
+        (Seen::Nothing, '-') => State::Declaration(Seen::Dash),
+        (Seen::Nothing, 'd' | 'D') => State::Declaration(Seen::Doctype(1)),
+        (Seen::Nothing, '[') => State::Declaration(Seen::Cdata(1)),
+        (Seen::Dash, '-') => State::Comment(CommentState::Start),
+        (Seen::Doctype(count), _) if goes_on(b"doctype", count, c.to_ascii_lowercase()) => {
+            match count {
+                6 => State::Doctype(DoctypeState::Begin),
+                _ => State::Declaration(Seen::Doctype(count.saturating_add(1))),
+            }
+        }
+        (Seen::Cdata(count), _) if goes_on(b"[CDATA[", count, c) => match count {
+            6 => State::Cdata(CdataState::Section),
+            _ => State::Declaration(Seen::Cdata(count.saturating_add(1))),
         },
-        Seen::Doctype(count) if goes_on(b"doctype", count, c.to_ascii_lowercase()) => {
-            Some(Seen::Doctype(count.saturating_add(1)))
-        }
-        Seen::Cdata(count) if goes_on(b"[CDATA[", count, c) => {
-            Some(Seen::Cdata(count.saturating_add(1)))
-        }
-        _ => None,
+        _ => State::Comment(CommentState::Bogus),
     }
 }
 
 impl Tokenizer {
     pub(super) fn in_declaration(&mut self, seen: Seen, c: char) -> Progress {
-        if let (Seen::Dash, '-') = (seen, c) {
-            self.comment.clear();
-            return self.then(State::Comment(CommentState::Start));
-        }
-        match seen_with(seen, c) {
-            Some(Seen::Doctype(7)) => {
-                self.doctype = Doctype::new();
-                self.then(State::Doctype(DoctypeState::Begin))
-            }
-            Some(Seen::Cdata(7)) => self.cdata_begins(c),
-            Some(more) => {
-                self.state = State::Declaration(more);
+        let state = state_behind(seen, c);
+        match state {
+            State::Declaration(_) => {
+                self.state = state;
                 push(&mut self.comment, c)
             }
-            None => {
-                self.error(ParseError::IncorrectlyOpenedComment)?;
-                self.state = State::Comment(CommentState::Bogus);
+            State::Comment(CommentState::Start) => {
+                self.comment.clear();
+                self.then(state)
+            }
+            State::Doctype(_) => {
+                self.doctype = Doctype::new();
+                self.then(state)
+            }
+            State::Cdata(_) => self.cdata_begins(c),
+            _ => {
+                self.error(ParseError::IncorrectlyOpenedComment);
+                self.state = state;
                 self.in_comment(CommentState::Bogus, c)
             }
         }
@@ -61,7 +64,7 @@ impl Tokenizer {
         if self.in_foreign {
             return self.then(State::Cdata(CdataState::Section));
         }
-        self.error(ParseError::CdataInHtmlContent)?;
+        self.error(ParseError::CdataInHtmlContent);
         self.state = State::Comment(CommentState::Bogus);
         push(&mut self.comment, c)
     }

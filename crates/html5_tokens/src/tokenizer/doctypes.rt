@@ -44,80 +44,137 @@ impl Id {
     }
 }
 
+/// The parse error that a character in a doctype is.
+fn doctype_error(state: DoctypeState, c: char) -> Option<ParseError> {
+    match state {
+        DoctypeState::Keyword(id, count) if !goes_on(keyword(id), count, c.to_ascii_lowercase()) =>
+            { Some(ParseError::InvalidCharacterSequenceAfterDoctypeName) }
+        DoctypeState::Quoted(id, _) if c == '>' => Some(id.errors().abrupt),
+        DoctypeState::Keyword(_, _) | DoctypeState::Quoted(_, _) | DoctypeState::Name => None,
+        _ if is_space(c) => None,
+        _ if c == '>' => error_before_end(state),
+        _ => error_outside(state, c),
+    }
+}
+
+/// The parse error that the end of a doctype is.
+fn error_before_end(state: DoctypeState) -> Option<ParseError> {
+    match state {
+        DoctypeState::Begin | DoctypeState::BeforeName => Some(ParseError::MissingDoctypeName),
+        DoctypeState::AfterKeyword(id) | DoctypeState::BeforeId(id) => Some(id.errors().missing),
+        _ => None,
+    }
+}
+
+/// The parse error that a character between the parts of a doctype is, which is no space.
+fn error_outside(state: DoctypeState, c: char) -> Option<ParseError> {
+    match state {
+        DoctypeState::Begin => Some(ParseError::MissingWhitespaceBeforeDoctypeName),
+        DoctypeState::AfterName if !matches!(c, 'p' | 'P' | 's' | 'S') => {
+            Some(ParseError::InvalidCharacterSequenceAfterDoctypeName)
+        }
+        DoctypeState::AfterKeyword(id) if is_quote(c) => Some(id.errors().missing_whitespace),
+        DoctypeState::AfterId(Id::Public) if is_quote(c) => {
+            Some(ParseError::MissingWhitespaceBetweenDoctypePublicAndSystemIdentifiers)
+        }
+        DoctypeState::AfterKeyword(id) | DoctypeState::BeforeId(id) if !is_quote(c) => {
+            Some(id.errors().missing_quote)
+        }
+        DoctypeState::AfterId(Id::Public) | DoctypeState::BetweenIds if !is_quote(c) => {
+            Some(SYSTEM_ERRORS.missing_quote)
+        }
+        DoctypeState::AfterId(Id::System) => {
+            Some(ParseError::UnexpectedCharacterAfterDoctypeSystemIdentifier)
+        }
+        _ => None,
+    }
+}
+
+fn is_quote(c: char) -> bool {
+    matches!(c, '"' | '\'')
+}
+
+/// The word that stands before an identifier.
+fn keyword(id: Id) -> &'static [u8] {
+    match id {
+        Id::Public => b"public",
+        Id::System => b"system",
+    }
+}
+
+/// Whether a doctype that ends here has the document in quirks mode.
+fn breaks(state: DoctypeState) -> bool {
+    matches!(
+        state,
+        DoctypeState::Begin
+            | DoctypeState::BeforeName
+            | DoctypeState::AfterKeyword(_)
+            | DoctypeState::BeforeId(_)
+    )
+}
+
+/// The state behind white space.
+fn behind_space(state: DoctypeState) -> DoctypeState {
+    match state {
+        DoctypeState::Begin => DoctypeState::BeforeName,
+        DoctypeState::Name => DoctypeState::AfterName,
+        DoctypeState::AfterKeyword(id) => DoctypeState::BeforeId(id),
+        DoctypeState::AfterId(Id::Public) => DoctypeState::BetweenIds,
+        _ => state,
+    }
+}
+
 impl Tokenizer {
     pub(super) fn in_doctype(&mut self, state: DoctypeState, c: char) -> Progress {
+        if let Some(error) = doctype_error(state, c) {
+            self.error(error);
+        }
         match state {
-            DoctypeState::Begin => self.doctype_begins(c),
-            DoctypeState::BeforeName => self.before_doctype_name(c),
-            DoctypeState::Name => self.doctype_name(c),
-            DoctypeState::AfterName => self.after_doctype_name(c),
             DoctypeState::Keyword(id, count) => self.doctype_keyword(id, count, c),
-            DoctypeState::AfterKeyword(id) => self.after_keyword(id, c),
-            DoctypeState::BeforeId(id) => self.before_id(id, c),
             DoctypeState::Quoted(id, quote) => self.quoted_id(id, quote, c),
-            DoctypeState::AfterId(Id::Public) => self.after_public_id(c),
-            DoctypeState::AfterId(Id::System) => self.after_system_id(c),
-            DoctypeState::BetweenIds => self.between_ids(c),
-            DoctypeState::Bogus => self.bogus_doctype(c),
+            _ if c == '>' => self.emit_doctype(breaks(state)),
+            _ if is_space(c) => self.then(State::Doctype(behind_space(state))),
+            _ => self.doctype_goes_on(state, c),
         }
     }
 
-    fn doctype_begins(&mut self, c: char) -> Progress {
-        if is_space(c) {
-            return self.then(State::Doctype(DoctypeState::BeforeName));
-        }
-        if c != '>' {
-            self.error(ParseError::MissingWhitespaceBeforeDoctypeName)?;
-        }
-        self.before_doctype_name(c)
-    }
-
-    fn before_doctype_name(&mut self, c: char) -> Progress {
-        if is_space(c) {
-            return Ok(None);
-        }
-        if c == '>' {
-            self.error(ParseError::MissingDoctypeName)?;
-            return self.emit_quirks_doctype();
-        }
-        self.doctype.name = Some(String::new(self.alloc));
-        self.state = State::Doctype(DoctypeState::Name);
-        self.doctype_name(c)
-    }
-
-    fn doctype_name(&mut self, c: char) -> Progress {
-        match c {
-            '>' => self.emit_doctype(),
-            _ if is_space(c) => self.then(State::Doctype(DoctypeState::AfterName)),
-            _ => self.doctype_letter(c.to_ascii_lowercase()),
+    /// A character between the parts of a doctype, or of its name.
+    fn doctype_goes_on(&mut self, state: DoctypeState, c: char) -> Progress {
+        match (state, c) {
+            (DoctypeState::Begin | DoctypeState::BeforeName, _) => {
+                self.doctype.name = Some(String::new(self.alloc));
+                self.state = State::Doctype(DoctypeState::Name);
+                self.doctype_letter(c)
+            }
+            (DoctypeState::Name, _) => self.doctype_letter(c),
+            (DoctypeState::AfterName, 'p' | 'P') => {
+                self.then(State::Doctype(DoctypeState::Keyword(Id::Public, 1)))
+            }
+            (DoctypeState::AfterName, 's' | 'S') => {
+                self.then(State::Doctype(DoctypeState::Keyword(Id::System, 1)))
+            }
+            (DoctypeState::AfterKeyword(id) | DoctypeState::BeforeId(id), _) => {
+                self.begin_id(id, c)
+            }
+            (DoctypeState::AfterId(Id::Public) | DoctypeState::BetweenIds, _) => {
+                self.begin_id(Id::System, c)
+            }
+            (DoctypeState::AfterName, _) => self.bogus_doctype(c, true),
+            _ => self.bogus_doctype(c, false),
         }
     }
 
     fn doctype_letter(&mut self, c: char) -> Progress {
-        let shown = self.shown(c)?;
+        let shown = self.shown(c.to_ascii_lowercase());
         match &mut self.doctype.name {
             Some(name) => push(name, shown),
             None => Ok(None),
         }
     }
 
-    fn after_doctype_name(&mut self, c: char) -> Progress {
-        match c {
-            '>' => self.emit_doctype(),
-            'p' | 'P' => self.then(State::Doctype(DoctypeState::Keyword(Id::Public, 1))),
-            's' | 'S' => self.then(State::Doctype(DoctypeState::Keyword(Id::System, 1))),
-            _ if is_space(c) => Ok(None),
-            _ => self.bogus_from(ParseError::InvalidCharacterSequenceAfterDoctypeName, c),
-        }
-    }
-
     fn doctype_keyword(&mut self, id: Id, count: usize, c: char) -> Progress {
-        let word = match id {
-            Id::Public => b"public",
-            Id::System => b"system",
-        };
-        if !goes_on(word, count, c.to_ascii_lowercase()) {
-            return self.bogus_from(ParseError::InvalidCharacterSequenceAfterDoctypeName, c);
+        if !goes_on(keyword(id), count, c.to_ascii_lowercase()) {
+            return self.bogus_doctype(c, true);
         }
         let state = match count {
             5 => DoctypeState::AfterKeyword(id),
@@ -126,31 +183,13 @@ impl Tokenizer {
         self.then(State::Doctype(state))
     }
 
-    fn after_keyword(&mut self, id: Id, c: char) -> Progress {
-        match c {
-            '"' | '\'' => {
-                self.error(id.errors().missing_whitespace)?;
-                self.before_id(id, c)
-            }
-            _ if is_space(c) => self.then(State::Doctype(DoctypeState::BeforeId(id))),
-            _ => self.before_id(id, c),
-        }
-    }
-
-    fn before_id(&mut self, id: Id, c: char) -> Progress {
-        match c {
-            '"' => self.begin_id(id, Quote::Double),
-            '\'' => self.begin_id(id, Quote::Single),
-            '>' => {
-                self.error(id.errors().missing)?;
-                self.emit_quirks_doctype()
-            }
-            _ if is_space(c) => Ok(None),
-            _ => self.bogus_from(id.errors().missing_quote, c),
-        }
-    }
-
-    fn begin_id(&mut self, id: Id, quote: Quote) -> Progress {
+    /// Begins an identifier with its quote.
+    fn begin_id(&mut self, id: Id, c: char) -> Progress {
+        let quote = match c {
+            '"' => Quote::Double,
+            '\'' => Quote::Single,
+            _ => return self.bogus_doctype(c, true),
+        };
         let empty = Some(String::new(self.alloc));
         match id {
             Id::Public => self.doctype.public_id = empty,
@@ -163,16 +202,11 @@ impl Tokenizer {
         if c == quote.letter() {
             return self.then(State::Doctype(DoctypeState::AfterId(id)));
         }
-        match c {
-            '>' => {
-                self.error(id.errors().abrupt)?;
-                self.emit_quirks_doctype()
-            }
-            _ => {
-                let shown = self.shown(c)?;
-                self.id_letter(id, shown)
-            }
+        if c == '>' {
+            return self.emit_doctype(true);
         }
+        let shown = self.shown(c);
+        self.id_letter(id, shown)
     }
 
     fn id_letter(&mut self, id: Id, c: char) -> Progress {
@@ -198,67 +232,23 @@ impl Tokenizer {
         }
     }
 
-    fn after_public_id(&mut self, c: char) -> Progress {
-        match c {
-            '"' | '\'' => {
-                let missing = ParseError::MissingWhitespaceBetweenDoctypePublicAndSystemIdentifiers;
-                self.error(missing)?;
-                self.between_ids(c)
-            }
-            _ if is_space(c) => self.then(State::Doctype(DoctypeState::BetweenIds)),
-            _ => self.between_ids(c),
+    /// What goes on to the `>` of the doctype, which may not be well formed.
+    fn bogus_doctype(&mut self, c: char, breaks: bool) -> Progress {
+        if c == '>' {
+            return self.emit_doctype(breaks);
         }
-    }
-
-    fn between_ids(&mut self, c: char) -> Progress {
-        match c {
-            '>' => self.emit_doctype(),
-            '"' => self.begin_id(Id::System, Quote::Double),
-            '\'' => self.begin_id(Id::System, Quote::Single),
-            _ if is_space(c) => Ok(None),
-            _ => self.bogus_from(SYSTEM_ERRORS.missing_quote, c),
+        if breaks {
+            self.doctype.force_quirks = true;
         }
+        let _ = self.shown(c);
+        self.then(State::Doctype(DoctypeState::Bogus))
     }
 
-    fn after_system_id(&mut self, c: char) -> Progress {
-        match c {
-            '>' => self.emit_doctype(),
-            _ if is_space(c) => Ok(None),
-            _ => {
-                self.error(ParseError::UnexpectedCharacterAfterDoctypeSystemIdentifier)?;
-                self.state = State::Doctype(DoctypeState::Bogus);
-                self.bogus_doctype(c)
-            }
+    /// Hands out the doctype that was read; where it breaks the document is in quirks mode.
+    fn emit_doctype(&mut self, breaks: bool) -> Progress {
+        if breaks {
+            self.doctype.force_quirks = true;
         }
-    }
-
-    fn bogus_doctype(&mut self, c: char) -> Progress {
-        match c {
-            '>' => self.emit_doctype(),
-            '\0' => {
-                self.error(ParseError::UnexpectedNullCharacter)?;
-                Ok(None)
-            }
-            _ => Ok(None),
-        }
-    }
-
-    /// The doctype isn't well formed; it goes on to its `>`.
-    fn bogus_from(&mut self, error: ParseError, c: char) -> Progress {
-        self.error(error)?;
-        self.doctype.force_quirks = true;
-        self.state = State::Doctype(DoctypeState::Bogus);
-        self.bogus_doctype(c)
-    }
-
-    /// Hands out the doctype that was read, with which the document is in quirks mode.
-    pub(super) fn emit_quirks_doctype(&mut self) -> Progress {
-        self.doctype.force_quirks = true;
-        self.emit_doctype()
-    }
-
-    /// Hands out the doctype that was read.
-    pub(super) fn emit_doctype(&mut self) -> Progress {
         self.state = State::Data;
         Ok(Some(TokenKind::Doctype))
     }

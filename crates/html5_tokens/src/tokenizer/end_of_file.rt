@@ -1,15 +1,37 @@
 //! The end of the page.
 
-ghost use Rattle.std.specs.Prelude.{◌≡◌, []};
+ghost use Rattle.std.specs.Prelude.{◌≡◌, [], None};
 ghost use Rattle.html5_tokens.specs.declared.tokenizer.state.State.TheVariants.{Data};
 
-use super::state::{
-    CdataState, CommentState, DoctypeState, EndTagState, Raw, ScriptState, TagState,
-};
-use super::{Progress, State, Step, Tokenizer, append};
+use super::state::{CommentState, DoctypeState, Raw, ScriptState, TagState};
+use super::text::brackets;
+use super::{State, Step, Tokenizer};
 use crate::parse_error::ParseError;
 use crate::token::TokenKind;
 use std::alloc::AllocError;
+
+/// The parse error that the end of the page is.
+fn error_at_end(state: State) -> Option<ParseError>
+    ensures { state ≡ Data → result ≡ None }
+{
+    match state {
+        State::Declaration(_) => Some(ParseError::IncorrectlyOpenedComment),
+        State::Comment(CommentState::Bogus) | State::Doctype(DoctypeState::Bogus) => None,
+        State::Comment(_) => Some(ParseError::EofInComment),
+        State::Doctype(DoctypeState::Keyword(_, _)) => {
+            Some(ParseError::InvalidCharacterSequenceAfterDoctypeName)
+        }
+        State::Doctype(_) => Some(ParseError::EofInDoctype),
+        State::Cdata(_) => Some(ParseError::EofInCdata),
+        State::Tag(TagState::Open | TagState::EndOpen) => Some(ParseError::EofBeforeTagName),
+        State::Tag(_) | State::Attribute(_) => Some(ParseError::EofInTag),
+        State::ScriptData(ScriptState::EscapeStart | ScriptState::EscapeStartDash) => None,
+        State::ScriptData(_) | State::EndTag(Raw::Escaped, _) => {
+            Some(ParseError::EofInScriptHtmlCommentLikeText)
+        }
+        _ => None,
+    }
+}
 
 impl Tokenizer {
     ghost use Rattle.html5_tokens.specs.Reading.{IsInText, ReadsNoToken};
@@ -27,77 +49,47 @@ impl Tokenizer {
     pub fn end_kind(&mut self) -> Result<Option<TokenKind>, AllocError>
         ensures text { IsInText self.old → ReadsNoToken self.old self.new [] result }
     {
-        self.end_reference()?;
+        self.end_reference();
+        if let Some(error) = error_at_end(self.state) {
+            self.error(error);
+        }
+        let kind = self.end_of_mark();
+        self.settled(kind)
+    }
+
+    /// The comment or the doctype that was begun ends; what was read of another mark is text.
+    fn end_of_mark(&mut self) -> Option<TokenKind>
+        ensures { self.old.state ≡ Data → (result ≡ None) × (self.new ≡ self.old) }
+    {
         match self.state {
-            State::Declaration(_) => {
-                self.error(ParseError::IncorrectlyOpenedComment)?;
-                self.emit_comment()
+            State::Declaration(_) | State::Comment(_) => {
+                self.state = State::Data;
+                Some(TokenKind::Comment)
             }
-            State::Comment(state) => self.end_comment(state),
-            State::Doctype(state) => self.end_doctype(state),
+            State::Doctype(state) => {
+                if !matches!(state, DoctypeState::Bogus) {
+                    self.doctype.force_quirks = true;
+                }
+                self.state = State::Data;
+                Some(TokenKind::Doctype)
+            }
             _ => {
-                self.end_text()?;
-                Ok(None)
+                self.end_text();
+                None
             }
         }
     }
 
     /// What was read of a mark is text, and a tag is dropped.
-    fn end_text(&mut self) -> Result<(), AllocError>
+    fn end_text(&mut self)
         ensures { self.old.state ≡ Data → self.new ≡ self.old }
     {
         match self.state {
-            State::Cdata(state) => self.end_cdata(state),
-            State::Tag(TagState::Open) => self.end_tag_begun("<"),
-            State::Tag(TagState::EndOpen) => self.end_tag_begun("</"),
-            State::Tag(_) | State::Attribute(_) => self.error(ParseError::EofInTag),
-            State::EndTag(raw, state) => self.end_raw(raw, state),
-            State::ScriptData(ScriptState::EscapeStart | ScriptState::EscapeStartDash) => Ok(()),
-            State::ScriptData(_) => self.error(ParseError::EofInScriptHtmlCommentLikeText),
-            _ => Ok(()),
+            State::Cdata(state) => self.put_text(brackets(state)),
+            State::Tag(TagState::Open) => self.put_text("<"),
+            State::Tag(TagState::EndOpen) => self.put_text("</"),
+            State::EndTag(_, state) => self.put_end_tag(state),
+            _ => {}
         }
-    }
-
-    /// What was read of a tag without a name is text.
-    fn end_tag_begun(&mut self, written: &str) -> Result<(), AllocError> {
-        self.error(ParseError::EofBeforeTagName)?;
-        append(&mut self.text, written)
-    }
-
-    fn end_cdata(&mut self, state: CdataState) -> Result<(), AllocError> {
-        self.error(ParseError::EofInCdata)?;
-        match state {
-            CdataState::Section => Ok(()),
-            CdataState::Bracket => append(&mut self.text, "]"),
-            CdataState::End => append(&mut self.text, "]]"),
-        }
-    }
-
-    /// What was read of an end tag is text.
-    fn end_raw(&mut self, raw: Raw, state: EndTagState) -> Result<(), AllocError> {
-        self.put_end_tag(state)?;
-        match raw {
-            Raw::Escaped => self.error(ParseError::EofInScriptHtmlCommentLikeText),
-            Raw::Rcdata | Raw::Rawtext | Raw::Script => Ok(()),
-        }
-    }
-
-    fn end_comment(&mut self, state: CommentState) -> Progress {
-        match state {
-            CommentState::Bogus => {}
-            _ => self.error(ParseError::EofInComment)?,
-        }
-        self.emit_comment()
-    }
-
-    fn end_doctype(&mut self, state: DoctypeState) -> Progress {
-        match state {
-            DoctypeState::Bogus => return self.emit_doctype(),
-            DoctypeState::Keyword(_, _) => {
-                self.error(ParseError::InvalidCharacterSequenceAfterDoctypeName)?;
-            }
-            _ => self.error(ParseError::EofInDoctype)?,
-        }
-        self.emit_quirks_doctype()
     }
 }

@@ -1,9 +1,10 @@
 //! Parse errors, collected only where they are asked for.
 
-ghost use Rattle.std.specs.Prelude.{◌≡◌};
+ghost use Rattle.std.specs.Prelude.{◌≡◌, IfOk};
 
-use super::Tokenizer;
+use super::{Progress, Tokenizer};
 use crate::parse_error::{ErrorAt, ParseError};
+use crate::token::TokenKind;
 use std::alloc::AllocError;
 use std::mem;
 
@@ -44,31 +45,48 @@ impl Tokenizer {
         }
     }
 
-    /// Notes a parse error at the character that is being read.
-    pub(super) fn error(&mut self, error: ParseError) -> Result<(), AllocError>
+    /// Notes a parse error at the character that is being read. That memory is refused for it is
+    /// kept.
+    pub(super) fn error(&mut self, error: ParseError)
         ensures { self.old.errors ≡ None → self.new ≡ self.old }
     {
         let offset = self.offset;
-        match &mut self.errors {
-            Some(errors) => note(errors, offset, error),
-            None => Ok(()),
+        let Some(errors) = &mut self.errors else {
+            return;
+        };
+        if note(errors, offset, error).is_err() {
+            self.refused = true;
         }
+    }
+
+    /// Keeps that memory was refused, if it was: what is being read then ends in an error.
+    pub(super) fn keep(&mut self, done: Result<(), AllocError>)
+        ensures { self.new ≡ record self.old { refused = self.new.refused } }
+    {
+        if done.is_err() {
+            self.refused = true;
+        }
+    }
+
+    /// What a character or the end of the page came to, unless memory was refused for it.
+    pub(super) fn settled(&self, made: Option<TokenKind>) -> Progress
+        ensures { IfOk result (λ kind. kind ≡ made) }
+    {
+        if self.refused {
+            return Err(AllocError);
+        }
+        Ok(made)
     }
 
     /// Notes the characters of a stretch that may not stand in a page.
     pub(super) fn check_input(&mut self, stretch: &str) -> Result<(), AllocError>
         ensures { self.new ≡ record self.old { errors = self.new.errors } }
     {
-        let Some(errors) = &mut self.errors else {
-            return Ok(());
-        };
-        for (at, c) in stretch.char_indices() {
-            if let Some(error) = input_error(c) {
-                let offset = self.offset.saturating_add(at);
-                note(errors, offset, error)?;
-            }
+        let offset = self.offset;
+        match &mut self.errors {
+            Some(errors) => note_input(errors, offset, stretch),
+            None => Ok(()),
         }
-        Ok(())
     }
 }
 
@@ -76,4 +94,20 @@ impl Tokenizer {
 fn note(errors: &mut Vec<ErrorAt>, offset: usize, error: ParseError) -> Result<(), AllocError> {
     errors.push(ErrorAt { offset, error })?;
     Ok(())
+}
+
+/// Adds the errors that the characters behind an offset are by themselves.
+fn note_input(errors: &mut Vec<ErrorAt>, offset: usize, text: &str) -> Result<(), AllocError> {
+    for (at, c) in text.char_indices() {
+        note_char(errors, offset.saturating_add(at), c)?;
+    }
+    Ok(())
+}
+
+/// Adds the error that a character is by itself, if it is one.
+fn note_char(errors: &mut Vec<ErrorAt>, offset: usize, c: char) -> Result<(), AllocError> {
+    match input_error(c) {
+        Some(error) => note(errors, offset, error),
+        None => Ok(()),
+    }
 }

@@ -3,7 +3,6 @@
 use super::state::{AttrState, EndTagState, Raw, ScriptState, TagState};
 use super::{Progress, State, Tokenizer, append, is_space, push};
 use crate::token::TagKind;
-use std::alloc::AllocError;
 
 impl Tokenizer {
     pub(super) fn in_end_tag(&mut self, raw: Raw, state: EndTagState, c: char) -> Progress {
@@ -18,17 +17,17 @@ impl Tokenizer {
         match (raw, c) {
             (_, '/') => self.then(State::EndTag(raw, EndTagState::Open)),
             (Raw::Script, '!') => {
-                append(&mut self.text, "<!")?;
+                self.put_text("<!");
                 self.then(State::ScriptData(ScriptState::EscapeStart))
             }
             (Raw::Escaped, 'a'..='z' | 'A'..='Z') => {
                 self.letters.clear();
-                append(&mut self.text, "<")?;
+                self.put_text("<");
                 self.state = State::ScriptData(ScriptState::DoubleStart);
                 self.in_script(ScriptState::DoubleStart, c)
             }
             _ => {
-                append(&mut self.text, "<")?;
+                self.put_text("<");
                 self.back_to(raw, c)
             }
         }
@@ -40,7 +39,7 @@ impl Tokenizer {
             self.state = State::EndTag(raw, EndTagState::Name);
             push(&mut self.tag.name, c)
         } else {
-            self.put_end_tag(EndTagState::Open)?;
+            self.put_end_tag(EndTagState::Open);
             self.back_to(raw, c)
         }
     }
@@ -58,18 +57,19 @@ impl Tokenizer {
                 _ => {}
             }
         }
-        self.put_end_tag(EndTagState::Name)?;
+        self.put_end_tag(EndTagState::Name);
         self.back_to(raw, c)
     }
 
     /// What was read of an end tag is text.
-    pub(super) fn put_end_tag(&mut self, state: EndTagState) -> Result<(), AllocError> {
+    pub(super) fn put_end_tag(&mut self, state: EndTagState) {
         match state {
-            EndTagState::LessThan => append(&mut self.text, "<"),
-            EndTagState::Open => append(&mut self.text, "</"),
+            EndTagState::LessThan => self.put_text("<"),
+            EndTagState::Open => self.put_text("</"),
             EndTagState::Name => {
-                append(&mut self.text, "</")?;
-                append(&mut self.text, self.tag.name.as_str())
+                self.put_text("</");
+                let put = append(&mut self.text, self.tag.name.as_str());
+                self.keep(put);
             }
         }
     }

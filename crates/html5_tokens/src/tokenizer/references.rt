@@ -1,6 +1,6 @@
 //! Character references.
 
-ghost use Rattle.std.specs.Prelude.{◌≡◌, ◌+◌, ◌*◌, [], true, false, min, IfOk, None};
+ghost use Rattle.std.specs.Prelude.{◌≡◌, ◌≤◌, ◌+◌, ◌*◌, [], true, false, min, None};
 ghost use Rattle.std.specs.Char.{is_ascii_alphanumeric};
 ghost use Rattle.html5_tokens.specs.Numbers.{character_of};
 
@@ -62,6 +62,18 @@ fn with_digit(number: u32, base: u32, digit: u32) -> u32
         .min(0x11_0000)
 }
 
+/// The number with one more digit, or the first one of a number.
+fn number_with(number: Option<u32>, base: u32, digit: u32) -> Reference {
+    let number = match number {
+        Some(number) => with_digit(number, base, digit),
+        None => digit,
+    };
+    match base {
+        16 => Reference::Hex(number),
+        _ => Reference::Decimal(number),
+    }
+}
+
 /// What is wrong with a reference by that number.
 fn number_error(number: u32) -> Option<ParseError> {
     match number {
@@ -111,36 +123,26 @@ impl Tokenizer {
     }
 
     /// Reads a character in a reference, and returns whether it is a part of that.
-    pub(super) fn reference(&mut self, c: char) -> Result<bool, AllocError>
+    pub(super) fn reference(&mut self, c: char) -> bool
         ensures begins { self.old.reference ≡ Reference.Begun → is_ascii_alphanumeric c ≡ true →
-            IfOk result (IsNameRead [] None c self.new.reference) }
+            IsNameRead [] None c self.new.reference result }
         ensures goes_on { (found : Match) → self.old.reference ≡ Reference.Named found →
-            IfOk result (IsReadBehind found c self.new.reference) }
+            IsReadBehind found c self.new.reference result }
     {
         match self.reference {
-            Reference::None => Ok(false),
+            Reference::None => false,
             Reference::Begun => self.reference_begins(c),
             Reference::Named(found) => self.named(found, c),
             Reference::Ambiguous => self.ambiguous(c),
             Reference::Number => self.number_begins(c),
-            Reference::HexStart => match c.to_digit(16) {
-                Some(digit) => self.go_on(Reference::Hex(digit), c),
-                None => self.no_digits(),
-            },
-            Reference::Hex(number) => match c.to_digit(16) {
-                Some(digit) => self.go_on(Reference::Hex(with_digit(number, 16, digit)), c),
-                None => self.numbered(number, c),
-            },
-            Reference::Decimal(number) => match c.to_digit(10) {
-                Some(digit) => self.go_on(Reference::Decimal(with_digit(number, 10, digit)), c),
-                None => self.numbered(number, c),
-            },
+            Reference::HexStart | Reference::Hex(_) => self.digit(16, c),
+            Reference::Decimal(_) => self.digit(10, c),
         }
     }
 
-    fn reference_begins(&mut self, c: char) -> Result<bool, AllocError>
+    fn reference_begins(&mut self, c: char) -> bool
         ensures { is_ascii_alphanumeric c ≡ true →
-            IfOk result (IsNameRead [] None c self.new.reference) }
+            IsNameRead [] None c self.new.reference result }
     {
         if c == '#' {
             return self.go_on(Reference::Number, c);
@@ -148,61 +150,76 @@ impl Tokenizer {
         if c.is_ascii_alphanumeric() {
             return self.named(Match::new(), c);
         }
-        self.put_written()?;
-        Ok(false)
+        self.put_written();
+        false
     }
 
-    fn number_begins(&mut self, c: char) -> Result<bool, AllocError> {
-        if c == 'x' || c == 'X' {
-            return self.go_on(Reference::HexStart, c);
-        }
-        match c.to_digit(10) {
-            Some(digit) => self.go_on(Reference::Decimal(digit), c),
-            None => self.no_digits(),
+    fn number_begins(&mut self, c: char) -> bool {
+        match c {
+            'x' | 'X' => self.go_on(Reference::HexStart, c),
+            _ => self.digit(10, c),
         }
     }
 
-    fn go_on(&mut self, reference: Reference, c: char) -> Result<bool, AllocError> {
-        self.written.push(c)?;
+    /// A digit of a number, or what stands behind it.
+    fn digit(&mut self, base: u32, c: char) -> bool
+        requires least { 2 ≤ base }
+        requires most { base ≤ 36 }
+    {
+        let number = match self.reference {
+            Reference::Hex(number) | Reference::Decimal(number) => Some(number),
+            _ => None,
+        };
+        match c.to_digit(base) {
+            Some(digit) => self.go_on(number_with(number, base, digit), c),
+            None => self.numbered(number, c),
+        }
+    }
+
+    fn go_on(&mut self, reference: Reference, c: char) -> bool {
+        let put = self.written.push(c);
+        self.keep(put);
         self.reference = reference;
-        Ok(true)
+        true
     }
 
     /// What is in the buffer of the reference is text.
-    fn put_written(&mut self) -> Result<(), AllocError> {
+    fn put_written(&mut self) {
         self.reference = Reference::None;
-        if self.is_in_value() {
+        let put = if self.is_in_value() {
             append(&mut self.tag.attr_value, self.written.as_str())
         } else {
             append(&mut self.text, self.written.as_str())
-        }
+        };
+        self.keep(put);
     }
 
-    fn no_digits(&mut self) -> Result<bool, AllocError> {
-        self.error(ParseError::AbsenceOfDigitsInNumericCharacterReference)?;
-        self.put_written()?;
-        Ok(false)
-    }
-
-    fn put_number(&mut self, number: u32) -> Result<(), AllocError> {
+    fn put_number(&mut self, number: u32) {
         if let Some(error) = number_error(number) {
-            self.error(error)?;
+            self.error(error);
         }
         self.written.clear();
-        self.written.push(character(number))?;
-        self.put_written()
+        let put = self.written.push(character(number));
+        self.keep(put);
     }
 
-    fn numbered(&mut self, number: u32, c: char) -> Result<bool, AllocError> {
+    /// What stands behind a number, or behind `&#` where there is none.
+    fn numbered(&mut self, number: Option<u32>, c: char) -> bool {
+        let Some(number) = number else {
+            self.error(ParseError::AbsenceOfDigitsInNumericCharacterReference);
+            self.put_written();
+            return false;
+        };
         if c != ';' {
-            self.error(ParseError::MissingSemicolonAfterCharacterReference)?;
+            self.error(ParseError::MissingSemicolonAfterCharacterReference);
         }
-        self.put_number(number)?;
-        Ok(c == ';')
+        self.put_number(number);
+        self.put_written();
+        c == ';'
     }
 
-    fn named(&mut self, found: Match, c: char) -> Result<bool, AllocError>
-        ensures { IfOk result (IsReadBehind found c self.new.reference) }
+    fn named(&mut self, found: Match, c: char) -> bool
+        ensures { IsReadBehind found c self.new.reference result }
     {
         match found.with(c) {
             Some(more) => self.name_goes_on(more, c),
@@ -210,43 +227,44 @@ impl Tokenizer {
         }
     }
 
-    fn name_goes_on(&mut self, found: Match, c: char) -> Result<bool, AllocError>
-        ensures { IfOk result (λ b. (b ≡ true) ×
-            IsInName self.new.reference (read_of found.names)) }
+    fn name_goes_on(&mut self, found: Match, c: char) -> bool
+        ensures is { result ≡ true }
+        ensures name { IsInName self.new.reference (read_of found.names) }
     {
-        self.written.push(c)?;
+        let put = self.written.push(c);
+        self.keep(put);
         if found.is_whole {
             self.behind.clear();
         } else {
-            self.behind.push(c)?;
+            let put = self.behind.push(c);
+            self.keep(put);
         }
         self.reference = Reference::Named(found);
-        Ok(true)
+        true
     }
 
-    fn name_ends(&mut self, found: Match, c: char) -> Result<bool, AllocError>
-        ensures { IfOk result (λ goes_on. goes_on ≡ false) }
+    fn name_ends(&mut self, found: Match, c: char) -> bool
+        ensures { result ≡ false }
     {
-        self.put_named(found, Some(c))?;
+        self.put_named(found, Some(c));
         if found.value.is_none() {
             self.reference = Reference::Ambiguous;
             return self.ambiguous(c);
         }
-        Ok(false)
+        false
     }
 
     /// Letters and digits behind an ampersand that begin no name are text.
-    fn ambiguous(&mut self, c: char) -> Result<bool, AllocError>
-        ensures { IfOk result (λ goes_on. goes_on ≡ false) }
+    fn ambiguous(&mut self, c: char) -> bool
+        ensures { result ≡ false }
     {
-        if c.is_ascii_alphanumeric() {
-            return Ok(false);
+        if !c.is_ascii_alphanumeric() {
+            self.reference = Reference::None;
+            if c == ';' {
+                self.error(ParseError::UnknownNamedCharacterReference);
+            }
         }
-        self.reference = Reference::None;
-        if c == ';' {
-            self.error(ParseError::UnknownNamedCharacterReference)?;
-        }
-        Ok(false)
+        false
     }
 
     /// Whether a letter, a digit or `=` stands behind the longest name, in a value: then a name
@@ -262,35 +280,29 @@ impl Tokenizer {
     }
 
     /// Puts what the longest name stands for, and what stands behind it.
-    fn put_named(&mut self, found: Match, next: Option<char>) -> Result<(), AllocError> {
-        let Some(value) = found.value else {
-            return self.put_written();
-        };
-        if !found.closed {
-            if self.is_part_of_word(next) {
-                return self.put_written();
+    fn put_named(&mut self, found: Match, next: Option<char>) {
+        if let Some(value) = found.value
+            && (found.closed || !self.is_part_of_word(next))
+        {
+            if !found.closed {
+                self.error(ParseError::MissingSemicolonAfterCharacterReference);
             }
-            self.error(ParseError::MissingSemicolonAfterCharacterReference)?;
+            let put = put_value(&mut self.written, value, self.behind.as_str());
+            self.keep(put);
         }
-        put_value(&mut self.written, value, self.behind.as_str())?;
-        self.put_written()
+        self.put_written();
     }
 
     /// The page ends in the reference.
-    pub(super) fn end_reference(&mut self) -> Result<(), AllocError>
+    pub(super) fn end_reference(&mut self)
         ensures { self.old.reference ≡ Reference.None → self.new ≡ self.old }
     {
         match self.reference {
-            Reference::None | Reference::Ambiguous => Ok(()),
-            Reference::Begun => self.put_written(),
+            Reference::None | Reference::Ambiguous => {}
             Reference::Named(found) => self.put_named(found, None),
-            Reference::Hex(number) | Reference::Decimal(number) => {
-                self.error(ParseError::MissingSemicolonAfterCharacterReference)?;
-                self.put_number(number)
-            }
-            Reference::Number | Reference::HexStart => {
-                self.no_digits()?;
-                Ok(())
+            Reference::Begun => self.put_written(),
+            _ => {
+                self.digit(10, '\0');
             }
         }
     }

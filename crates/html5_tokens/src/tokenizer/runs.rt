@@ -383,7 +383,8 @@ impl Tokenizer {
         let Some((c, after)) = split_char(text) else {
             return Ok(text);
         };
-        if let Some(made) = self.step(c)? {
+        let made = self.step(c)?;
+        if let Some(made) = self.settled(made)? {
             *kind = Some(made);
         }
         self.offset = self.offset.saturating_add(c.len_utf8());

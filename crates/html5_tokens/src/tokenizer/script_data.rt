@@ -32,7 +32,7 @@ impl Tokenizer {
             ('>', ScriptState::EscapedDashDash) => State::Script,
             _ => State::ScriptData(ScriptState::Escaped),
         };
-        let shown = self.shown(c)?;
+        let shown = self.shown(c);
         self.text_then(shown, next)
     }
 
@@ -81,7 +81,7 @@ impl Tokenizer {
             ('>', DoubleState::DashDash) => return self.text_then(c, State::Script),
             _ => DoubleState::Escaped,
         };
-        let shown = self.shown(c)?;
+        let shown = self.shown(c);
         self.text_then(shown, State::ScriptData(ScriptState::Double(next)))
     }
 }

@@ -124,6 +124,16 @@ pub enum DoctypeState {
     Bogus,
 }
 
+/// Where a character of a text, a comment or a tag goes.
+#[derive(Clone, Copy, Drop)]
+pub enum Place {
+    Text,
+    Comment,
+    TagName,
+    AttrName,
+    AttrValue,
+}
+
 /// How the next character is read. A caller switches to one of the first five.
 #[derive(Clone, Copy, Drop)]
 pub enum State {

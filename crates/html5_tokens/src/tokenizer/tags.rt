@@ -2,7 +2,7 @@
 
 ghost use Rattle.std.specs.Prelude.{◌≡◌, IfOk};
 
-use super::state::{AttrState, CommentState, Seen, TagState};
+use super::state::{AttrState, CommentState, Place, Seen, TagState};
 use super::{Progress, State, Tokenizer, append, is_space, push};
 use crate::parse_error::ParseError;
 use crate::token::{TagKind, TokenKind};
@@ -29,12 +29,12 @@ impl Tokenizer {
             '/' => self.then(State::Tag(TagState::EndOpen)),
             'a'..='z' | 'A'..='Z' => self.begin_tag(TagKind::Start, c),
             '?' => {
-                self.error(ParseError::UnexpectedQuestionMarkInsteadOfTagName)?;
+                self.error(ParseError::UnexpectedQuestionMarkInsteadOfTagName);
                 self.bogus_comment(c)
             }
             _ => {
-                self.error(ParseError::InvalidFirstCharacterOfTagName)?;
-                append(&mut self.text, "<")?;
+                self.error(ParseError::InvalidFirstCharacterOfTagName);
+                self.put_text("<");
                 self.state = State::Data;
                 self.in_data(c)
             }
@@ -45,11 +45,11 @@ impl Tokenizer {
         match c {
             'a'..='z' | 'A'..='Z' => self.begin_tag(TagKind::End, c),
             '>' => {
-                self.error(ParseError::MissingEndTagName)?;
+                self.error(ParseError::MissingEndTagName);
                 self.then(State::Data)
             }
             _ => {
-                self.error(ParseError::InvalidFirstCharacterOfTagName)?;
+                self.error(ParseError::InvalidFirstCharacterOfTagName);
                 self.bogus_comment(c)
             }
         }
@@ -74,10 +74,7 @@ impl Tokenizer {
             '/' => self.then(State::Tag(TagState::SelfClosing)),
             '>' => self.emit_tag(),
             _ if is_space(c) => self.then(State::Attribute(AttrState::BeforeName)),
-            _ => {
-                let shown = self.shown(c)?;
-                push(&mut self.tag.name, shown)
-            }
+            _ => self.letter(Place::TagName, c),
         }
     }
 
@@ -88,7 +85,7 @@ impl Tokenizer {
                 self.emit_tag()
             }
             _ => {
-                self.error(ParseError::UnexpectedSolidusInTag)?;
+                self.error(ParseError::UnexpectedSolidusInTag);
                 self.state = State::Attribute(AttrState::BeforeName);
                 self.in_attribute(AttrState::BeforeName, c)
             }
@@ -102,7 +99,7 @@ impl Tokenizer {
     {
         self.finish_attr()?;
         self.state = State::Data;
-        self.check_end_tag()?;
+        self.check_end_tag();
         if !self.tag.finish(self.alloc, &mut self.ended) {
             return Ok(None);
         }
@@ -111,19 +108,18 @@ impl Tokenizer {
     }
 
     /// Notes what an end tag may not have.
-    fn check_end_tag(&mut self) -> Result<(), AllocError>
+    fn check_end_tag(&mut self)
         ensures { self.old.errors ≡ None → self.new ≡ self.old }
     {
         if self.tag.kind == TagKind::Start {
-            return Ok(());
+            return;
         }
         if !self.tag.attrs.is_empty() {
-            self.error(ParseError::EndTagWithAttributes)?;
+            self.error(ParseError::EndTagWithAttributes);
         }
         if self.tag.self_closing {
-            self.error(ParseError::EndTagWithTrailingSolidus)?;
+            self.error(ParseError::EndTagWithTrailingSolidus);
         }
-        Ok(())
     }
 
     /// Keeps the name of a start tag: raw text ends at an end tag of that name.

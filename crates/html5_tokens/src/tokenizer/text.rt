@@ -1,9 +1,8 @@
 //! Characters outside tags: the data, RCDATA, RAWTEXT, script data, PLAINTEXT and CDATA states.
 
-use super::state::{CdataState, EndTagState, Raw, TagState};
+use super::state::{CdataState, EndTagState, Place, Raw, TagState};
 use super::{Progress, REPLACEMENT, State, Tokenizer, append, push};
 use crate::parse_error::ParseError;
-use std::alloc::AllocError;
 
 impl Tokenizer {
     /// Goes on in a state, with a character that is text.
@@ -12,19 +11,31 @@ impl Tokenizer {
         push(&mut self.text, c)
     }
 
-    /// A character that is text; a null is replaced.
-    pub(super) fn text_letter(&mut self, c: char) -> Progress {
-        let shown = self.shown(c)?;
-        push(&mut self.text, shown)
+    /// Puts a text behind the characters that were read.
+    pub(super) fn put_text(&mut self, text: &str) {
+        let put = append(&mut self.text, text);
+        self.keep(put);
+    }
+
+    /// A character that goes there; a null is replaced.
+    pub(super) fn letter(&mut self, place: Place, c: char) -> Progress {
+        let shown = self.shown(c);
+        match place {
+            Place::Text => push(&mut self.text, shown),
+            Place::Comment => push(&mut self.comment, shown),
+            Place::TagName => push(&mut self.tag.name, shown),
+            Place::AttrName => push(&mut self.tag.attr_name, shown),
+            Place::AttrValue => push(&mut self.tag.attr_value, shown),
+        }
     }
 
     /// What stands in place of a character: a null is an error, and is replaced.
-    pub(super) fn shown(&mut self, c: char) -> Result<char, AllocError> {
+    pub(super) fn shown(&mut self, c: char) -> char {
         if c != '\0' {
-            return Ok(c);
+            return c;
         }
-        self.error(ParseError::UnexpectedNullCharacter)?;
-        Ok(REPLACEMENT)
+        self.error(ParseError::UnexpectedNullCharacter);
+        REPLACEMENT
     }
 
     pub(super) fn in_data(&mut self, c: char) -> Progress {
@@ -32,7 +43,7 @@ impl Tokenizer {
             '&' => self.begin_reference(),
             '<' => self.then(State::Tag(TagState::Open)),
             '\0' => {
-                self.error(ParseError::UnexpectedNullCharacter)?;
+                self.error(ParseError::UnexpectedNullCharacter);
                 self.text_then(c, State::Data)
             }
             _ => self.text_then(c, State::Data),
@@ -49,20 +60,29 @@ impl Tokenizer {
     pub(super) fn in_raw(&mut self, raw: Raw, c: char) -> Progress {
         match c {
             '<' => self.then(State::EndTag(raw, EndTagState::LessThan)),
-            _ => self.text_letter(c),
+            _ => self.letter(Place::Text, c),
         }
     }
 
     pub(super) fn in_cdata(&mut self, state: CdataState, c: char) -> Progress {
         match (state, c) {
-            (CdataState::Section, ']') => return self.then(State::Cdata(CdataState::Bracket)),
-            (CdataState::Section, _) => {}
-            (CdataState::Bracket, ']') => return self.then(State::Cdata(CdataState::End)),
-            (CdataState::Bracket, _) => append(&mut self.text, "]")?,
-            (CdataState::End, ']') => return self.text_then(c, State::Cdata(CdataState::End)),
-            (CdataState::End, '>') => return self.then(State::Data),
-            (CdataState::End, _) => append(&mut self.text, "]]")?,
+            (CdataState::Section, ']') => self.then(State::Cdata(CdataState::Bracket)),
+            (CdataState::Bracket, ']') => self.then(State::Cdata(CdataState::End)),
+            (CdataState::End, ']') => self.text_then(c, State::Cdata(CdataState::End)),
+            (CdataState::End, '>') => self.then(State::Data),
+            _ => {
+                self.put_text(brackets(state));
+                self.text_then(c, State::Cdata(CdataState::Section))
+            }
         }
-        self.text_then(c, State::Cdata(CdataState::Section))
+    }
+}
+
+/// What of the end of a CDATA section was read.
+pub(super) fn brackets(state: CdataState) -> &'static str {
+    match state {
+        CdataState::Section => "",
+        CdataState::Bracket => "]",
+        CdataState::End => "]]",
     }
 }

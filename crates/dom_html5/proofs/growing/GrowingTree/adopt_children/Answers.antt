@@ -10,12 +10,7 @@ invariant_of-self-in_err-insert_behind c =
     stack_copied _ _ _ _ _ _ _ _ _ _ c.in-Some-get.furthest _ c.is_forest.ensures c.self.invariant c.put_children_into_copy.ensures.grows c.in_ok-copy.ensures.element (sym c.in-Some-get.ensures.value)
     c.insert_behind.ensures.ok c.insert_behind.ensures.err
 
-pub invariant_of-self-in-Some-index_of : goal.invariant_of-self-in-Some-index_of
-invariant_of-self-in-Some-index_of c =
-    stack_copied _ _ _ _ _ _ _ _ _ _ c.in-Some-get.furthest _ c.is_forest.ensures c.self.invariant c.put_children_into_copy.ensures.grows c.in_ok-copy.ensures.element (sym c.in-Some-get.ensures.value)
-    c.insert_behind.ensures.ok c.insert_behind.ensures.err
-
-pub invariant_of-self-in-None : goal.invariant_of-self-in-None
-invariant_of-self-in-None c =
+pub invariant_of-self-2 : goal.invariant_of-self-2
+invariant_of-self-2 c =
     stack_copied _ _ _ _ _ _ _ _ _ _ c.in-Some-get.furthest _ c.is_forest.ensures c.self.invariant c.put_children_into_copy.ensures.grows c.in_ok-copy.ensures.element (sym c.in-Some-get.ensures.value)
     c.insert_behind.ensures.ok c.insert_behind.ensures.err
