@@ -47,9 +47,8 @@ fn leads_up(selector: &Selector) -> bool {
         .all(|step| !is_sideways(step.combinator))
 }
 
-/// Whether the nodes below the roots have few ancestors beside the nodes of the tree: each is
-/// counted once for each node below it, and none where that are more. No clause: nothing but time
-/// depends on it.
+/// Whether the nodes below the roots have few ancestors in all, beside the nodes of the tree. It
+/// counts no farther. No clause: nothing but time depends on it.
 fn have_few_above(tree: &Tree, roots: &[NodeId]) -> bool {
     let mut left = tree.len() / FEW;
     for root in roots {
