@@ -3,3 +3,4 @@
 mod changes;
 mod elements;
 mod names;
+mod sizes;
