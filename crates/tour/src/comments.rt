@@ -47,10 +47,7 @@ fn clean(document: &mut Document) -> Result<(), TourFault> {
 }
 
 /// The nodes that the selectors select, to be changed.
-fn select<'a>(
-    document: &'a mut Document,
-    selectors: &str,
-) -> Result<SelectionMut<'a>, TourFault> {
+fn select<'a>(document: &'a mut Document, selectors: &str) -> Result<SelectionMut<'a>, TourFault> {
     let ids = document.select(selectors)?.ids()?;
     Ok(SelectionMut::new(&mut document.tree, ids))
 }
