@@ -21,8 +21,8 @@ use dom_trees::tree::Tree;
 /// The numbers of the elements below the roots that match one of the matcher's selectors, each
 /// once, in the order of the traversals. How they are found depends on the structure of the list,
 /// and on how much is below the roots. Each candidate is asked where it has one node for each
-/// compound at most, or where left operands are ancestors and the candidates have few in all. Else
-/// flags of the next node to the left, in one traversal, state which compounds are reached, where
+/// compound at most, or where few nodes in all are above the candidates and, for `~`, beside them
+/// and these. Else flags of the next node to the left, in one traversal, state which compounds are reached, where
 /// the combinators of each selector are whitespace and `>`, or are `+` and `~`. For other lists an
 /// index is made.
 pub fn select_ids(

@@ -20,14 +20,14 @@ const FEW: usize = 32;
 
 /// Whether each candidate is asked. Nested lists are near and `:has` stands in last compounds
 /// alone, since others are tested at one node for several candidates. The combinators are `>` and
-/// `+`, or `>` and whitespace where few nodes are to be asked: a candidate tests no compound twice
-/// at one of its ancestors, so fewer tests are made than at all nodes.
+/// `+`, or few nodes are round the candidates: a candidate tests no compound twice at itself, an
+/// ancestor or a sibling of these, so fewer tests are made than at all nodes.
 pub(crate) fn are_asked_each(tree: &Tree, roots: &[NodeId], selectors: &[Selector]) -> bool {
     if !selectors.iter().all(is_askable) {
         return false;
     }
     selectors.iter().all(is_tight)
-        || (selectors.iter().all(leads_up) && have_few_above(tree, roots))
+        || have_few_around(tree, roots, selectors.iter().any(looks_along_siblings))
 }
 
 fn is_askable(selector: &Selector) -> bool {
@@ -39,30 +39,58 @@ fn is_tight(selector: &Selector) -> bool {
     selector.rest.iter().all(|step| is_bound(step.combinator))
 }
 
-/// Whether left operands are ancestors.
-fn leads_up(selector: &Selector) -> bool {
+/// Whether a left operand is any of the siblings before a node.
+fn looks_along_siblings(selector: &Selector) -> bool {
     selector
         .rest
         .iter()
-        .all(|step| !is_sideways(step.combinator))
+        .any(|step| matches!(step.combinator, Combinator::Sibling))
 }
 
-/// Whether the nodes below the roots have few ancestors in all, beside the nodes of the tree. It
-/// counts no farther. No clause: nothing but time depends on it.
-fn have_few_above(tree: &Tree, roots: &[NodeId]) -> bool {
+/// Whether the nodes below the roots have few ancestors in all, beside the nodes of the tree, and
+/// with siblings few children of these. It counts no farther. No clause: nothing but time depends
+/// on it.
+fn have_few_around(tree: &Tree, roots: &[NodeId], with_siblings: bool) -> bool {
     let mut left = tree.len() / FEW;
     for root in roots {
         for id in tree.descendant_ids_of_it(root) {
-            let above = tree
-                .ancestor_ids_of_it(&id, Some(left.saturating_add(1)))
-                .count();
-            if above > left {
+            let around = count_around(tree, id, with_siblings, left);
+            if around > left {
                 return false;
             }
-            left -= above;
+            left -= around;
         }
     }
     true
+}
+
+/// How many ancestors a node has, with siblings their children too. It counts little farther than
+/// `most`.
+fn count_around(tree: &Tree, id: NodeId, with_siblings: bool, most: usize) -> usize {
+    let mut count: usize = 0;
+    for above in tree.ancestor_ids_of_it(&id, None) {
+        if count > most {
+            break;
+        }
+        count = count.saturating_add(1);
+        if !with_siblings {
+            continue;
+        }
+        count = count.saturating_add(count_children(tree, above, most));
+    }
+    count
+}
+
+/// How many children a node has; it counts no farther than one more than `most`.
+fn count_children(tree: &Tree, id: NodeId, most: usize) -> usize {
+    let mut count: usize = 0;
+    for _ in tree.child_ids_of_it(&id, false) {
+        if count > most {
+            break;
+        }
+        count = count.saturating_add(1);
+    }
+    count
 }
 
 /// Whether left operands are one node at most: of `>` and `+`.
