@@ -26,8 +26,15 @@ pub(crate) fn are_asked_each(tree: &Tree, roots: &[NodeId], selectors: &[Selecto
     if !selectors.iter().all(is_askable) {
         return false;
     }
-    selectors.iter().all(is_tight)
-        || have_few_around(tree, roots, selectors.iter().any(looks_along_siblings))
+    if selectors.iter().all(is_tight) {
+        return true;
+    }
+    let height = if selectors.iter().any(leads_up) {
+        None
+    } else {
+        Some(1)
+    };
+    have_few_around(tree, roots, height, selectors.iter().any(leads_along))
 }
 
 fn is_askable(selector: &Selector) -> bool {
@@ -39,22 +46,44 @@ fn is_tight(selector: &Selector) -> bool {
     selector.rest.iter().all(|step| is_bound(step.combinator))
 }
 
+/// Whether a left operand is an ancestor.
+fn leads_up(selector: &Selector) -> bool {
+    selector
+        .rest
+        .iter()
+        .any(|step| !is_sideways(step.combinator))
+}
+
 /// Whether a left operand is any of the siblings before a node.
-fn looks_along_siblings(selector: &Selector) -> bool {
+fn leads_along(selector: &Selector) -> bool {
     selector
         .rest
         .iter()
         .any(|step| matches!(step.combinator, Combinator::Sibling))
 }
 
-/// Whether the nodes below the roots have few ancestors in all, beside the nodes of the tree, and
-/// with siblings few children of these. It counts no farther. No clause: nothing but time depends
-/// on it.
-fn have_few_around(tree: &Tree, roots: &[NodeId], with_siblings: bool) -> bool {
+/// Whether the nodes below the roots have few ancestors in all, up to that height, beside the nodes
+/// of the tree, and with siblings few children of these. It counts no farther. No clause: nothing
+/// but time depends on it.
+fn have_few_around(
+    tree: &Tree,
+    roots: &[NodeId],
+    height: Option<usize>,
+    with_siblings: bool,
+) -> bool {
     let mut left = tree.len() / FEW;
     for root in roots {
         for id in tree.descendant_ids_of_it(root) {
-            let around = count_around(tree, id, with_siblings, left);
+            let mut around: usize = 0;
+            for above in tree.ancestor_ids_of_it(&id, height) {
+                if around > left {
+                    return false;
+                }
+                around = around.saturating_add(1);
+                if with_siblings {
+                    around = around.saturating_add(count_children(tree, above, left));
+                }
+            }
             if around > left {
                 return false;
             }
@@ -62,23 +91,6 @@ fn have_few_around(tree: &Tree, roots: &[NodeId], with_siblings: bool) -> bool {
         }
     }
     true
-}
-
-/// How many ancestors a node has, with siblings their children too. It counts little farther than
-/// `most`.
-fn count_around(tree: &Tree, id: NodeId, with_siblings: bool, most: usize) -> usize {
-    let mut count: usize = 0;
-    for above in tree.ancestor_ids_of_it(&id, None) {
-        if count > most {
-            break;
-        }
-        count = count.saturating_add(1);
-        if !with_siblings {
-            continue;
-        }
-        count = count.saturating_add(count_children(tree, above, most));
-    }
-    count
 }
 
 /// How many children a node has; it counts no farther than one more than `most`.
