@@ -54,11 +54,11 @@ number_after (x ∷ front) back j =
     ap (number_at (x ∷ front ++ back)) e ∙ number_after front back j
 
 -- a node that was read of the order is known, and stands at that position
-pub read_of_order : (forest : Forest) (order places row : List ℕ) → IsOrder forest order places → row ≡ order → (i n : ℕ) → i < length row → n ≡ get_or row i n →
+pub read_of_order : (forest : Forest) (order places row : List ℕ) → IsOrder forest order places → row ≡ order → (i x n : ℕ) → i < length row → x ≡ get_or row i x → n ≡ x →
     (n ≡ number_at order i) × (n < length forest.content) × (number_at places n ≡ i)
-read_of_order forest order places row good same i n inside is =
+read_of_order forest order places row good same i x n inside is named =
     let long = ap length same in
-    let here : n ≡ number_at order i = get_or_read row i n inside is 0 ∙ ap (λ o. number_at o i) same in
+    let here : n ≡ number_at order i = named ∙ get_or_read row i x inside is 0 ∙ ap (λ o. number_at o i) same in
     let below : i < length forest.content = omega (arith, inside, long, good.long) in
     (here, subst (λ (j : ℕ). j < length forest.content) (sym here) (good.known i below), ap (number_at places) here ∙ good.placed i below)
 

@@ -1,4 +1,4 @@
-use Rattle.std.proofs.Common.{◌+◌, ◌∙◌, subst, length, arith}
+use Rattle.std.proofs.Common.{◌+◌, ◌∙◌, subst, arith}
 use Rattle.std.proofs.lemmas.List.{length-set}
 use Rattle.dom_index.specs.Orders.{IsEnd}
 use Rattle.dom_index.proofs.PlaceLemmas.{read_of_order}
@@ -10,7 +10,7 @@ loop-i-preserved c =
     let preorder = c.args.preorder.now in
     let forest = preorder.tree.now in
     let n = c.value-n.result in
-    let read = read_of_order forest preorder.order.items preorder.places.items c.as_slice-order.result.now preorder.ordered c.as_slice-order.ensures.value c.loop-i.i n (omega arith) (c.value-n.ensures.number ∙ c.index-order-i.is) in
+    let read = read_of_order forest preorder.order.items preorder.places.items c.as_slice-order.result.now preorder.ordered c.as_slice-order.ensures.value c.loop-i.i c.index-order-i.result n (omega arith) c.index-order-i.is c.value-n.ensures.number in
     record {
       long = length-set c.loop-i.flags.items n _ ∙ c.loop-i.invariant.long;
       ends = subst (λ j. IsEnd forest preorder.places.items preorder.subtree_ends.items c.args.table.now (j + 1) c.extend_end-end.result) read.2 c.extend_end-end.ensures;

@@ -1,4 +1,4 @@
-use Rattle.std.proofs.Common.{◌≡◌, ◌+◌, ◌-◌, ◌∙◌, length, sym, ap, subst, arith}
+use Rattle.std.proofs.Common.{◌≡◌, ◌+◌, ◌-◌, ◌∙◌, length, refl, sym, ap, subst, arith}
 use Rattle.dom_selectors.specs.Spelling.{Decides}
 use Rattle.dom_index.specs.Orders.{number_at}
 use Rattle.dom_index.specs.NodeSets.{propagates, with_node, in_set}
@@ -21,7 +21,7 @@ loop-i-preserved c =
     let flags = c.loop-i.flags.items in
     let i = c.loop-i.i in
     let n = c.index-order-place.result in
-    let read = read_of_order forest order places row good c.as_slice-order.ensures.value (length row - 1 - i) n (omega arith) c.index-order-place.is in
+    let read = read_of_order forest order places row good c.as_slice-order.ensures.value (length row - 1 - i) n n (omega arith) c.index-order-place.is refl in
     let known = read.1 in
     let same = ap length c.as_slice-order.ensures.value in
     let place = read.2 in

@@ -1,19 +1,18 @@
 use Rattle.std.proofs.Common.{◌≡◌, ◌≤◌, ◌+◌, ◌*◌, ℕ, List, [], ◌∷◌, true, length, map, drop, replicate, ap, refl, sym, ◌∙◌, subst, arith}
 use Rattle.std.specs.Result.{IfOk}
 use Rattle.std.proofs.lemmas.List.{at_drop_all, nil_from_length}
-use Rattle.dom_selectors.specs.declared.syntax.Selector.{Selector, out-Selector}
-use Rattle.dom_selectors.specs.declared.syntax.Step.{Step}
+use Rattle.dom_selectors.specs.declared.syntax.Selector.{Selector}
 use Rattle.dom_selectors.specs.ListsAsTrees.{lists_of, steps_of}
 use Rattle.dom_selectors.specs.Syntax.{no_steps}
-use Rattle.dom_select.specs.Meaning.{Holds, HasHolds, RelativeMatches, ListHolds, ListsHold, Means, ChainMatches}
+use Rattle.dom_select.specs.Meaning.{ListHolds, ListsHold}
 use Rattle.dom_selectors.specs.ValuesAsTrees.{read_compound, read_list, read_nested, read_step}
 use Rattle.dom_selectors.proofs.Layers.{read_has, read_is}
-use Rattle.dom_selectors.proofs.Weights.{lists_weight, selectors_weight, steps_weight}
-use Rattle.dom_index.specs.TestCounts.{IsFilteredByList, CompoundTests, AddsTests, RelativeTests, HasTests, ListTests, ListsTests, SelectorTests, SelectorsTests, everywhere, cardinality}
-use Rattle.dom_index.specs.CompoundCounts.{compound_count, list_count, lists_count, selectors_count, steps_count}
+use Rattle.dom_selectors.proofs.Weights.{lists_weight, steps_weight}
+use Rattle.dom_index.specs.TestCounts.{IsFilteredByList, CompoundTests, AddsTests, HasTests, ListTests, ListsTests, SelectorTests, SelectorsTests, everywhere, cardinality}
+use Rattle.dom_index.specs.CompoundCounts.{compound_count, list_count, lists_count, steps_count}
 use Rattle.dom_index.specs.NodeSets.{IsIntersection, IsUnion, IsSetOf, IsSetWithin, HasRightOperand, HasLeftOperand, in_set}
 use Rattle.std.proofs.lemmas.Result.{IfOk-weaker}
-use Rattle.dom_index.proofs.TestCountLemmas.{Asking, NextAsks, asking_end, asking_from, asking_last, asking_more, asks_first, asks_last, tests_relative, asks_more, asks_selectors, counts_compound, kept_decided, relative_tests, left_fewer, most_of_compound, ok_both}
+use Rattle.dom_index.proofs.TestCountLemmas.{Asking, NextAsks, asking_end, asking_from, asking_last, asking_more, asks_first, asks_last, asks_more, counts_compound, kept_decided, relative_tests, left_fewer, most_of_compound, ok_both}
 use Rattle.dom_index.proofs.ChainLemmas.{Chain, chain_last, chain_next, chain_start}
 use Rattle.dom_index.proofs.SelectorLemmas.{has_more, list_more, selectors_within}
 use Rattle.dom_index.proofs.RestLemmas.{going_on, step_decided, some_decided, steps_apart, steps_asked, weight_last}
