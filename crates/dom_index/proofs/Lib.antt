@@ -16,3 +16,4 @@ pub mod FlagLemmas
 pub mod RowLemmas
 pub mod PlainLemmas
 pub mod TraversalLemmas
+pub mod SelectorLemmas

@@ -2,10 +2,11 @@
 use Rattle.std.proofs.Common.{◌≡◌, ◌≢◌, ◌<◌, ◌≤◌, ◌+◌, ◌⊎◌, ℕ, zero, suc, List, [], ◌∷◌, ◌++◌, true, true≢false, inl, inr, refl, sym, ap, ◌∙◌, subst, length, set, get_or, arith, length-append}
 use Rattle.std.specs.Prelude.{◌==◌, ◌||◌}
 use Rattle.std.proofs.lemmas.Bool.{cases_Bool, cases_lt, eq-eqb, eqb-true, or_cases, or_right}
-use Rattle.std.proofs.lemmas.List.{get_or-set_same, get_or-set_other}
+use Rattle.std.proofs.lemmas.List.{get_or-set_same, get_or-set_other, get_or_read}
+use Rattle.dom_links.specs.Forest.{Forest}
 use Rattle.dom_links.specs.Lists.{stands_in, IsDistinct}
 use Rattle.dom_links.proofs.forest.Chains.{length_below}
-use Rattle.dom_index.specs.Orders.{number_at}
+use Rattle.dom_index.specs.Orders.{IsOrder, number_at}
 
 -- a number is this one or another
 pub same_or_not : (m n : ℕ) → (m ≡ n) ⊎ (m ≢ n)
@@ -51,6 +52,15 @@ number_after [] back j = ap (number_at back) (omega arith)
 number_after (x ∷ front) back j =
     let e : length (x ∷ front) + j ≡ suc (length front + j) = omega arith in
     ap (number_at (x ∷ front ++ back)) e ∙ number_after front back j
+
+-- a node that was read of the order is known, and stands at that position
+pub read_of_order : (forest : Forest) (order places row : List ℕ) → IsOrder forest order places → row ≡ order → (i x n : ℕ) → i < length row → x ≡ get_or row i x → n ≡ x →
+    (n ≡ number_at order i) × (n < length forest.content) × (number_at places n ≡ i)
+read_of_order forest order places row good same i x n inside is named =
+    let long = ap length same in
+    let here : n ≡ number_at order i = named ∙ get_or_read row i x inside is 0 ∙ ap (λ o. number_at o i) same in
+    let below : i < length forest.content = omega (arith, inside, long, good.long) in
+    (here, subst (λ (j : ℕ). j < length forest.content) (sym here) (good.known i below), ap (number_at places) here ∙ good.placed i below)
 
 -- m stands farther back than n
 pub record IsBehind (xs : List ℕ) (n m : ℕ) : Type 0 where

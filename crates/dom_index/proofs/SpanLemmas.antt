@@ -26,7 +26,7 @@ module _ (forest : Forest) (lines : AreLines forest) (order places subtree_ends 
   below_stands v n s = lines.below_above v n ∙ s
 
   -- the node at the next position is a descendant of one in the set where the end lies after it
-  pub decided_by_end : (n end : ℕ) → length table ≡ length forest.content → n < length forest.content → IsEnd forest places subtree_ends table (number_at places n) end → (b : Bool) → b ≡ nat_lt (number_at places n) end → Decides b (HasLeftOperand forest Descendant table n)
+  decided_by_end : (n end : ℕ) → length table ≡ length forest.content → n < length forest.content → IsEnd forest places subtree_ends table (number_at places n) end → (b : Bool) → b ≡ nat_lt (number_at places n) end → Decides b (HasLeftOperand forest Descendant table n)
   decided_by_end n end long known e true is =
       let less = ltb-true (number_at places n) end (sym is) in
       let r = e.reached (omega arith) in
@@ -50,7 +50,7 @@ module _ (forest : Forest) (lines : AreLines forest) (order places subtree_ends 
       ]
 
   -- one more node
-  pub decided_more : (flags : List Bool) (n : ℕ) (flag : Bool) → n < length forest.content → length flags ≡ length forest.content → Decides flag (HasLeftOperand forest Descendant table n) →
+  decided_more : (flags : List Bool) (n : ℕ) (flag : Bool) → n < length forest.content → length flags ≡ length forest.content → Decides flag (HasLeftOperand forest Descendant table n) →
       ((m : ℕ) → m < length forest.content → number_at places m < number_at places n → Decides (in_set flags m) (HasLeftOperand forest Descendant table m)) →
       (m : ℕ) → m < length forest.content → number_at places m < number_at places n + 1 → Decides (in_set (set flags n flag) m) (HasLeftOperand forest Descendant table m)
   decided_more flags n flag known long here answer m inside before = elim (same_or_not m n) [
@@ -64,3 +64,13 @@ module _ (forest : Forest) (lines : AreLines forest) (order places subtree_ends 
         | inl e ↦ absurd (other (sym (good.ordered m inside) ∙ (ap (number_at order) e ∙ good.ordered n known)))
         | inr ne ↦ omega arith
       ]
+
+  -- the node at position i, with the flag that the end says
+  pub decided_next : (flags : List Bool) (n i end : ℕ) → length table ≡ length forest.content → length flags ≡ length forest.content → n < length forest.content → number_at places n ≡ i → IsEnd forest places subtree_ends table i end →
+      ((m : ℕ) → m < length forest.content → number_at places m < i → Decides (in_set flags m) (HasLeftOperand forest Descendant table m)) →
+      (m : ℕ) → m < length forest.content → number_at places m < i + 1 → Decides (in_set (set flags n (nat_lt i end)) m) (HasLeftOperand forest Descendant table m)
+  decided_next flags n i end table_long long known at ends answer =
+      let flag = decided_by_end n end table_long known (subst (λ j. IsEnd forest places subtree_ends table j end) (sym at) ends) (nat_lt i end) (ap (λ j. nat_lt j end) (sym at)) in
+      let before = subst (λ (j : ℕ). (m : ℕ) → m < length forest.content → number_at places m < j → Decides (in_set flags m) (HasLeftOperand forest Descendant table m)) (sym at) answer in
+      subst (λ (j : ℕ). (m : ℕ) → m < length forest.content → number_at places m < j + 1 → Decides (in_set (set flags n (nat_lt i end)) m) (HasLeftOperand forest Descendant table m)) at
+      (decided_more flags n (nat_lt i end) known long flag before)

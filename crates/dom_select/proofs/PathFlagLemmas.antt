@@ -19,7 +19,7 @@ use Rattle.dom_select.specs.Chains.{IsOrPrecedes, Precedes}
 use Rattle.dom_select.specs.Leftward.{ends_at, left_of}
 use Rattle.dom_select.specs.Meaning.{CombinatorHolds}
 use Rattle.dom_select.specs.MiniNodes.{mini_holds}
-use Rattle.dom_select.specs.PathFlags.{data_at, flag_below, flag_beside, flags_below, flags_beside, is_led, passed_on}
+use Rattle.dom_select.specs.PathFlags.{data_at, flag_below, flag_beside, flags_at, flags_below, flags_beside, is_led, passed_on}
 use Rattle.dom_select.proofs.FollowLemmas.{apart, precedes_from, precedes_then, stands_precedes}
 use Rattle.dom_select.proofs.ReachLemmas.{from_line, to_line, left_here, left_nowhere, left_ends, left_farther}
 
@@ -112,23 +112,24 @@ module _ (forest : Forest) (lines : AreLines forest) where
   at_next Adjacent P n s up link here on h o = passed Adjacent P n s link here on h o
   at_next Sibling P n s up link here on h o = passed Sibling P n s link here on h o
 
+  -- flags that are right at n go on right to m, where each of them does
+  all_right : (flag : Combinator → Bool → Bool → Bool → Bool) (n m : ℕ) →
+      ((k : Combinator) (P : ℕ → Type 0) (here on : Bool) → Decides here (P n) → Decides on (HasLeft forest k P n) → Decides (flag k (is_element (data_at forest n)) here on) (HasLeft forest k P m)) →
+      (minis : List Mini) (P : ℕ → Type 0) (here : Bool) (flags : List Bool) → Decides here (P n) → AreRight forest minis P n flags → AreRight forest minis P m (flags_at flag minis (data_at forest n) here flags)
+  all_right flag n m each [] P here flags h right = tt
+  all_right flag n m each (mini ∷ minis) P here [] h right = absurd right
+  all_right flag n m each (mini ∷ minis) P here (on ∷ flags) h right = (
+    each (combinator_of mini) P here on h right.0,
+    all_right flag n m each minis (Stepped forest mini P) (on && node_passes mini (data_at forest n)) flags (stepped forest mini P n on right.0) right.1,
+  )
+
   pub below_right : (minis : List Mini) (P : ℕ → Type 0) (n c : ℕ) → parent forest c ≡ Some n → before (siblings forest c) c ≡ None → (here : Bool) (flags : List Bool) →
       Decides here (P n) → AreRight forest minis P n flags → AreRight forest minis P c (flags_below minis (data_at forest n) here flags)
-  below_right [] P n c up alone here flags h right = tt
-  below_right (mini ∷ minis) P n c up alone here [] h right = absurd right
-  below_right (mini ∷ minis) P n c up alone here (on ∷ flags) h right = (
-    at_child (combinator_of mini) P n c up alone here on h right.0,
-    below_right minis (Stepped forest mini P) n c up alone (on && node_passes mini (data_at forest n)) flags (stepped forest mini P n on right.0) right.1,
-  )
+  below_right minis P n c up alone = all_right flag_below n c (λ k Q here on. at_child k Q n c up alone here on) minis P
 
   pub beside_right : (minis : List Mini) (P : ℕ → Type 0) (n s : ℕ) → parent forest s ≡ parent forest n → before (siblings forest s) s ≡ Some n → (here : Bool) (flags : List Bool) →
       Decides here (P n) → AreRight forest minis P n flags → AreRight forest minis P s (flags_beside minis (data_at forest n) here flags)
-  beside_right [] P n s up link here flags h right = tt
-  beside_right (mini ∷ minis) P n s up link here [] h right = absurd right
-  beside_right (mini ∷ minis) P n s up link here (on ∷ flags) h right = (
-    at_next (combinator_of mini) P n s up link here on h right.0,
-    beside_right minis (Stepped forest mini P) n s up link (on && node_passes mini (data_at forest n)) flags (stepped forest mini P n on right.0) right.1,
-  )
+  beside_right minis P n s up link = all_right flag_beside n s (λ k Q here on. at_next k Q n s up link here on) minis P
 
   pub from_left : (x w v : ℕ) → IsOrPrecedes forest x w → Precedes forest w v → Precedes forest x v
   from_left x w v (inl e) p = subst (λ u. Precedes forest u v) (sym e) p

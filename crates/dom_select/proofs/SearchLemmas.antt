@@ -18,7 +18,7 @@ use Rattle.dom_selectors.specs.declared.syntax.Combinator.TheVariants.{Descendan
 use Rattle.dom_selectors.specs.MiniSyntax.{Mini, combinator_of}
 use Rattle.dom_selectors.specs.MiniTruth.{node_passes}
 use Rattle.dom_select.specs.declared.mini_selector.search.PathSearch.{PathSearch}
-use Rattle.dom_select.specs.PathFlags.{HaveFlags, IsPutBehind, IsSearch, IsVisit, IsVisited, IsWaiting, data_at, flag_below, flag_beside, flags_before, flags_below, flags_beside, found_by, is_any, is_led, last_flags, led_from, led_in, one_if, row_of, to_find, to_visit}
+use Rattle.dom_select.specs.PathFlags.{HaveFlags, IsPutBehind, IsSearch, IsVisit, IsVisited, IsWaiting, data_at, flag_below, flag_beside, flags_at, flags_before, flags_below, flags_beside, found_by, is_any, is_led, last_flags, led_from, led_in, one_if, row_of, to_find, to_visit}
 
 -- lists
 
@@ -50,6 +50,10 @@ module _ {A : Type 0} where
 
   pub drop_whole : (xs : List A) (n : ℕ) → length xs ≡ n → drop n xs ≡ []
   drop_whole xs n e = ap (drop n) (sym (append-nil xs)) ∙ drop_front xs [] n e
+
+  -- all from a place on was written again
+  pub rest_put : (xs ys : List A) (n : ℕ) → take n xs ++ (ys ++ drop (length xs - n) (drop n xs)) ≡ take n xs ++ ys
+  rest_put xs ys n = ap (λ zs. take n xs ++ (ys ++ zs)) (drop_whole (drop n xs) (length xs - n) (length-drop n xs)) ∙ ap (λ zs. take n xs ++ zs) (append-nil ys)
 
   pub length_of_take : (xs : List A) (n : ℕ) → n ≤ length xs → length (take n xs) ≡ n
   length_of_take xs zero h = refl
@@ -108,35 +112,32 @@ none_led (mini ∷ minis) node [] e = refl
 none_led (mini ∷ minis) node (true ∷ flags) e = absurd (true≢false e)
 none_led (mini ∷ minis) node (false ∷ flags) e = none_led minis node flags e
 
-none_below : (minis : List Mini) (node : NodeData) (flags : List Bool) → is_any flags ≡ false → is_any (flags_below minis node false flags) ≡ false
-none_below [] node flags e = refl
-none_below (mini ∷ minis) node [] e = refl
-none_below (mini ∷ minis) node (true ∷ flags) e = absurd (true≢false e)
-none_below (mini ∷ minis) node (false ∷ flags) e = ap (λ b. b || is_any (flags_below minis node false flags)) (off_below (combinator_of mini) (is_element node)) ∙ none_below minis node flags e
-
-none_beside : (minis : List Mini) (node : NodeData) (flags : List Bool) → is_any flags ≡ false → is_any (flags_beside minis node false flags) ≡ false
-none_beside [] node flags e = refl
-none_beside (mini ∷ minis) node [] e = refl
-none_beside (mini ∷ minis) node (true ∷ flags) e = absurd (true≢false e)
-none_beside (mini ∷ minis) node (false ∷ flags) e = ap (λ b. b || is_any (flags_beside minis node false flags)) (off_beside (combinator_of mini) (is_element node)) ∙ none_beside minis node flags e
+none_at : (flag : Combinator → Bool → Bool → Bool → Bool) → ((k : Combinator) (element : Bool) → flag k element false false ≡ false) →
+    (minis : List Mini) (node : NodeData) (flags : List Bool) → is_any flags ≡ false → is_any (flags_at flag minis node false flags) ≡ false
+none_at flag off [] node flags e = refl
+none_at flag off (mini ∷ minis) node [] e = refl
+none_at flag off (mini ∷ minis) node (true ∷ flags) e = absurd (true≢false e)
+none_at flag off (mini ∷ minis) node (false ∷ flags) e = ap (λ b. b || is_any (flags_at flag minis node false flags)) (off (combinator_of mini) (is_element node)) ∙ none_at flag off minis node flags e
 
 pub none_in : (forest : Forest) (minis : List Mini) (flags : List Bool) (t : Trees) → is_any flags ≡ false → led_in forest minis flags t ≡ []
 none_in forest minis flags NoTrees e = refl
 none_in forest minis flags (Tree n contents children later) e =
     let node = data_at forest n in
     ap (λ b. one_if b n ++ (led_in forest minis (flags_below minis node false flags) children ++ led_in forest minis (flags_beside minis node false flags) later)) (none_led minis node flags e)
-    ∙ ap (λ ns. ns ++ led_in forest minis (flags_beside minis node false flags) later) (none_in forest minis (flags_below minis node false flags) children (none_below minis node flags e))
-    ∙ none_in forest minis (flags_beside minis node false flags) later (none_beside minis node flags e)
+    ∙ ap (λ ns. ns ++ led_in forest minis (flags_beside minis node false flags) later) (none_in forest minis (flags_below minis node false flags) children (none_at flag_below off_below minis node flags e))
+    ∙ none_in forest minis (flags_beside minis node false flags) later (none_at flag_beside off_beside minis node flags e)
+
+as_many_at : (flag : Combinator → Bool → Bool → Bool → Bool) (minis : List Mini) (node : NodeData) (here : Bool) (flags : List Bool) → length flags ≡ length minis →
+    length (flags_at flag minis node here flags) ≡ length minis
+as_many_at flag [] node here flags e = refl
+as_many_at flag (mini ∷ minis) node here [] e = absurd (omega (arith, e))
+as_many_at flag (mini ∷ minis) node here (on ∷ flags) e = ap (λ k. suc k) (as_many_at flag minis node (on && node_passes mini node) flags (omega (arith, e)))
 
 pub as_many_beside : (minis : List Mini) (node : NodeData) (here : Bool) (flags : List Bool) → length flags ≡ length minis → length (flags_beside minis node here flags) ≡ length minis
-as_many_beside [] node here flags e = refl
-as_many_beside (mini ∷ minis) node here [] e = absurd (omega (arith, e))
-as_many_beside (mini ∷ minis) node here (on ∷ flags) e = ap (λ k. suc k) (as_many_beside minis node (on && node_passes mini node) flags (omega (arith, e)))
+as_many_beside = as_many_at flag_beside
 
 pub as_many_below : (minis : List Mini) (node : NodeData) (here : Bool) (flags : List Bool) → length flags ≡ length minis → length (flags_below minis node here flags) ≡ length minis
-as_many_below [] node here flags e = refl
-as_many_below (mini ∷ minis) node here [] e = absurd (omega (arith, e))
-as_many_below (mini ∷ minis) node here (on ∷ flags) e = ap (λ k. suc k) (as_many_below minis node (on && node_passes mini node) flags (omega (arith, e)))
+as_many_below = as_many_at flag_below
 
 pub data_is : (nodes : List NodeData) (n : ℕ) (node : NodeData) → slice_get nodes n ≡ Some node → slice_index_or nodes n Document ≡ node
 data_is [] n node e = cc

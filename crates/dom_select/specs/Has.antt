@@ -72,10 +72,8 @@ IsInRow k steps = (list_all (λ s. is_sideways s.combinator) steps ≡ true) × 
 
 -- the combinator that goes to all of these
 abbrev pub row_combinator : Combinator → Combinator
-row_combinator Descendant = Sibling
 row_combinator Child = Child
-row_combinator Adjacent = Sibling
-row_combinator Sibling = Sibling
+row_combinator _ = Sibling
 
 -- where a row of siblings ends: at the first element beside `+`
 abbrev pub ends_right : Forest → Combinator → ℕ → Bool

@@ -30,17 +30,18 @@ flag_below k element here on = if is_sideways k then false else passed_on k elem
 abbrev pub flag_beside : Combinator → Bool → Bool → Bool → Bool
 flag_beside k element here on = if is_sideways k then passed_on k element here on else on
 
--- the flags of a path's steps at the first child
-abbrev pub flags_below : List Mini → NodeData → Bool → List Bool → List Bool
-flags_below [] node here flags = []
-flags_below (mini ∷ minis) node here [] = []
-flags_below (mini ∷ minis) node here (on ∷ flags) = flag_below (combinator_of mini) (is_element node) here on ∷ flags_below minis node (on && node_passes mini node) flags
+-- the flags of a path's steps at another node, by what each flag becomes there
+abbrev pub flags_at : (Combinator → Bool → Bool → Bool → Bool) → List Mini → NodeData → Bool → List Bool → List Bool
+flags_at flag [] node here flags = []
+flags_at flag (mini ∷ minis) node here [] = []
+flags_at flag (mini ∷ minis) node here (on ∷ flags) = flag (combinator_of mini) (is_element node) here on ∷ flags_at flag minis node (on && node_passes mini node) flags
 
--- at the next sibling
+-- at the first child, and at the next sibling
+abbrev pub flags_below : List Mini → NodeData → Bool → List Bool → List Bool
+flags_below minis node here flags = flags_at flag_below minis node here flags
+
 abbrev pub flags_beside : List Mini → NodeData → Bool → List Bool → List Bool
-flags_beside [] node here flags = []
-flags_beside (mini ∷ minis) node here [] = []
-flags_beside (mini ∷ minis) node here (on ∷ flags) = flag_beside (combinator_of mini) (is_element node) here on ∷ flags_beside minis node (on && node_passes mini node) flags
+flags_beside minis node here flags = flags_at flag_beside minis node here flags
 
 -- whether all steps reach the node
 abbrev pub is_led : List Mini → NodeData → Bool → List Bool → Bool
@@ -106,6 +107,13 @@ flags_before minis flags = take (length flags - length minis) flags
 
 abbrev pub last_flags : List Mini → List Bool → List Bool
 last_flags minis flags = drop (length flags - length minis) flags
+
+-- the last flags became those of the next sibling, and `below` those of the first child
+pub record IsStepped (minis : List Mini) (node : NodeData) (here : Bool) (old new : PathSearch) : Type 0 where
+  pub beside : new.flags.items ≡ flags_before minis old.flags.items ++ flags_beside minis node here (last_flags minis old.flags.items)
+  pub below : new.below.items ≡ flags_below minis node here (last_flags minis old.flags.items)
+  pub found : new.found.items ≡ old.found.items
+  pub pending : new.pending.items ≡ old.pending.items
 
 -- a traversal under way, but that the last flags are those of a node that is visited now
 pub record IsVisit (forest : Forest) (minis : List Mini) (search : PathSearch) : Type 0 where

@@ -8,6 +8,7 @@ use Rattle.std.specs.Ordering.{ordering_then}
 use Rattle.std.specs.declared.cmp.Ordering.{Ordering}
 use Rattle.std.specs.declared.cmp.Ordering.TheVariants.{Less, Equal, Greater}
 use Rattle.std.proofs.lemmas.Map.Text.{is_eq-slice_cmp}
+use Rattle.std.proofs.Math.Bool.{and_comm}
 use Rattle.dom_nodes.specs.Names.{same_name, same_namespace, same_prefix}
 use Rattle.dom_select.specs.TypeCounts.{count_of, name_of, namespace_in, type_cmp}
 use Rattle.dom_select.specs.contracts.matcher.type_counts.TypeNamespaceOrd.TheImpl as derived
@@ -37,14 +38,7 @@ prefixes_same (Some a) (Some b) = is_eq-slice_cmp a.now b.now
 prefixes_same _ _ = refl
 
 turned : (l n p : Bool) → (l && (n && p)) ≡ (p && n && l)
-turned true true true = refl
-turned true true false = refl
-turned true false true = refl
-turned true false false = refl
-turned false true true = refl
-turned false true false = refl
-turned false false true = refl
-turned false false false = refl
+turned l n p = and_comm l (n && p) ∙ ap (λ t. t && l) (and_comm n p)
 
 all_same : (a b c l n p : Bool) → a ≡ l → b ≡ n → c ≡ p → (a && (b && c)) ≡ (p && n && l)
 all_same a b c l n p h i j = ap (λ t. t && (b && c)) h ∙ ap (λ t. l && (t && c)) i ∙ ap (λ t. l && (n && t)) j ∙ turned l n p

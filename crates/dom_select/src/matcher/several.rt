@@ -42,14 +42,11 @@ impl<'a, 'r> Model for Walks<'a, 'r> {
         ++ flat_map (walk_below it.tree.now) (root_ids it.roots) };
 }
 
-impl<'a, 'r> Iterator for Walks<'a, 'r> {
-    type Item = NodeId;
-
-    ghost next_gives = { YieldsFirst (λ rest. rest) };
-
-    ghost remaining = { item_count (λ rest. rest) };
-
-    fn next(&mut self) -> Option<NodeId> {
+impl<'a, 'r> Walks<'a, 'r> {
+    /// The next node, in the order of the walks.
+    fn next(&mut self) -> Option<NodeId>
+        ensures { YieldsFirst (λ rest. rest) self.old result self.new }
+    {
         loop {
             if let Some(id) = next_in(&mut self.walk) {
                 return Some(id);

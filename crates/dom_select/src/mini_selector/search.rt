@@ -7,8 +7,8 @@ ghost use Rattle.dom_links.specs.Lists.{after, first};
 ghost use Rattle.dom_links.specs.Sound.{IsSoundArena};
 ghost use Rattle.dom_selectors.specs.MiniSyntax.{named, texts_of};
 ghost use Rattle.dom_select.specs.MiniPaths.{IsFound};
-ghost use Rattle.dom_select.specs.PathFlags.{IsVisit, IsVisited, IsWaiting, flag_below};
-ghost use Rattle.dom_select.specs.PathFlags.{flag_beside, flags_before, flags_below};
+ghost use Rattle.dom_select.specs.PathFlags.{IsStepped, IsVisit, IsVisited, IsWaiting, flag_below};
+ghost use Rattle.dom_select.specs.PathFlags.{flag_beside, flags_below};
 ghost use Rattle.dom_select.specs.PathFlags.{flags_beside, is_any, is_led, last_flags};
 ghost use Rattle.dom_select.specs.PathFlags.{one_if, passed_on};
 
@@ -97,25 +97,19 @@ fn step_flags(
     here
 }
 
-/// The same for the last flags; those before them stay.
-fn step_last(
-    path: &[MiniSelector<'_>],
-    node: &NodeData,
-    is_start: bool,
-    flags: &mut [bool],
-    below: &mut [bool],
-) -> bool
-    requires flags { length path.now ≤ length flags.old }
-    requires below { length below.old ≡ length path.now }
-    ensures led { result ≡ is_led path.now node.now is_start (last_flags path.now flags.old) }
-    ensures beside { flags.new ≡ flags_before path.now flags.old
-        ++ flags_beside path.now node.now is_start (last_flags path.now flags.old) }
-    ensures below { below.new
-        ≡ flags_below path.now node.now is_start (last_flags path.now flags.old) }
-{
-    let top = flags.len() - path.len();
-    let (_, last) = flags.split_at_mut(top);
-    step_flags(path, node, is_start, last, below)
+impl PathSearch {
+    /// The same for the last flags of the traversal; those before them stay.
+    fn step_last(&mut self, path: &[MiniSelector<'_>], node: &NodeData, is_start: bool) -> bool
+        requires room { length path.now ≤ length self.old.flags.items }
+        requires below { length self.old.below.items ≡ length path.now }
+        ensures led { result
+            ≡ is_led path.now node.now is_start (last_flags path.now self.old.flags.items) }
+        ensures stepped { IsStepped path.now node.now is_start self.old self.new }
+    {
+        let top = self.flags.len() - path.len();
+        let last = &mut self.flags[top..];
+        step_flags(path, node, is_start, last, self.below.as_mut_slice())
+    }
 }
 
 /// Whether one of the flags is set.
@@ -156,14 +150,7 @@ fn visit(
         return Ok(());
     };
     let top = search.flags.len() - path.len();
-    let flags = search.flags.as_mut_slice();
-    let is_led = step_last(
-        path,
-        &node.content,
-        is_start,
-        flags,
-        search.below.as_mut_slice(),
-    );
+    let is_led = search.step_last(path, &node.content, is_start);
     push_if(&mut search.found, id, is_led)?;
     wait_beside(nodes, id, top, search)?;
     wait_below(nodes, id, search)
@@ -219,19 +206,6 @@ pub(crate) fn follow(
     if path.len() > 0 && goes_down(path) {
         return follow_down(alloc, nodes, start, path);
     }
-    follow_path(alloc, nodes, start, path)
-}
-
-/// The same of any path, with a flag for each step.
-fn follow_path(
-    alloc: Global,
-    nodes: &[TreeNode],
-    start: NodeId,
-    path: &[MiniSelector<'_>],
-) -> Result<Vec<NodeId>, OutOfMemory>
-    requires { IsSoundArena nodes.now }
-    ensures { IfOk result (λ found. IsFound path.now (forest_of nodes.now) start found.items) }
-{
     lines_of_a_forest();
     trees_of_a_forest();
     let mut search = PathSearch {

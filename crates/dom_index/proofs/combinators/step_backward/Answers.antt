@@ -1,9 +1,9 @@
-use Rattle.std.proofs.Common.{◌≡◌, ◌<◌, ◌+◌, ◌-◌, ◌∙◌, ℕ, length, sym, ap, subst, arith}
-use Rattle.std.proofs.lemmas.List.{get_or_read}
+use Rattle.std.proofs.Common.{◌≡◌, ◌+◌, ◌-◌, ◌∙◌, length, refl, sym, ap, subst, arith}
 use Rattle.dom_selectors.specs.Spelling.{Decides}
 use Rattle.dom_index.specs.Orders.{number_at}
 use Rattle.dom_index.specs.NodeSets.{propagates, with_node, in_set}
 use Rattle.dom_index.proofs.BackwardLemmas.{DecidedBy, PassesItOn, more_decided, none_decided, passes_here, decided_all, decided_too_long}
+use Rattle.dom_index.proofs.PlaceLemmas.{read_of_order}
 use Rattle.dom_index.proofs.combinators.step_backward.Goals as goal
 use Rattle.dom_index.proofs.combinators.step_backward.Goals.{then-propagates, else-propagates}
 
@@ -14,21 +14,18 @@ loop-i-preserved c =
     let order = preorder.order.items in
     let places = preorder.places.items in
     let good = preorder.ordered in
+    let row = c.as_slice-order.result.now in
     let lines = c.forest_laws.ensures.lines in
     let k = c.args.combinator in
     let table = c.args.table.now in
     let flags = c.loop-i.flags.items in
     let i = c.loop-i.i in
     let n = c.index-order-place.result in
-    let row = c.as_slice-order.result.now in
+    let read = read_of_order forest order places row good c.as_slice-order.ensures.value (length row - 1 - i) n n (omega arith) c.index-order-place.is refl in
+    let known = read.1 in
     let same = ap length c.as_slice-order.ensures.value in
-    let at = length row - 1 - i in
-    let below : i < length order = omega (arith, same, good.long) in
-    let is : n ≡ number_at order at = get_or_read row at n (omega arith) c.index-order-place.is 0 ∙ ap (λ o. number_at o at) c.as_slice-order.ensures.value in
-    let inside : at < length forest.content = omega (arith, same, good.long) in
-    let known : n < length forest.content = subst (λ (j : ℕ). j < length forest.content) (sym is) (good.known at inside) in
-    let place : number_at places n ≡ at = ap (number_at places) is ∙ good.placed at inside in
-    let here : number_at places n + i + 1 ≡ length forest.content = omega (arith, same, good.long) in
+    let place = read.2 in
+    let here : number_at places n + i + 1 ≡ length forest.content = omega (arith, same, good.long, place) in
     let answer = c.loop-i.invariant.answer in
     let passes = passes_here forest lines k table order places good flags i n known here answer c.propagates.result (c.propagates.ensures ∙ ap (λ fs. propagates forest k table fs n) c.deref.ensures.value) in
     elim c.if-propagates.branch [

@@ -1,84 +1,43 @@
 use Rattle.std.proofs.Common.{◌≡◌, ◌≤◌, ◌+◌, ◌*◌, ℕ, List, [], ◌∷◌, true, length, map, drop, replicate, ap, refl, sym, ◌∙◌, subst, arith}
 use Rattle.std.specs.Result.{IfOk}
 use Rattle.std.proofs.lemmas.List.{at_drop_all, nil_from_length}
-use Rattle.dom_selectors.specs.declared.syntax.Selector.{Selector, out-Selector}
-use Rattle.dom_selectors.specs.declared.syntax.Step.{Step}
+use Rattle.dom_selectors.specs.declared.syntax.Selector.{Selector}
 use Rattle.dom_selectors.specs.ListsAsTrees.{lists_of, steps_of}
 use Rattle.dom_selectors.specs.Syntax.{no_steps}
-use Rattle.dom_select.specs.Meaning.{Holds, HasHolds, RelativeMatches, ListHolds, ListsHold, Means, ChainMatches}
+use Rattle.dom_select.specs.Meaning.{ListHolds, ListsHold}
 use Rattle.dom_selectors.specs.ValuesAsTrees.{read_compound, read_list, read_nested, read_step}
 use Rattle.dom_selectors.proofs.Layers.{read_has, read_is}
-use Rattle.dom_selectors.proofs.Weights.{lists_weight, selectors_weight, steps_weight}
-use Rattle.dom_index.specs.TestCounts.{IsFilteredByList, CompoundTests, AddsTests, RelativeTests, HasTests, ListTests, ListsTests, SelectorTests, SelectorsTests, everywhere, cardinality}
-use Rattle.dom_index.specs.CompoundCounts.{compound_count, list_count, lists_count, selectors_count, steps_count}
+use Rattle.dom_selectors.proofs.Weights.{lists_weight, steps_weight}
+use Rattle.dom_index.specs.TestCounts.{IsFilteredByList, CompoundTests, AddsTests, HasTests, ListTests, ListsTests, SelectorTests, SelectorsTests, everywhere, cardinality}
+use Rattle.dom_index.specs.CompoundCounts.{compound_count, list_count, lists_count, steps_count}
 use Rattle.dom_index.specs.NodeSets.{IsIntersection, IsUnion, IsSetOf, IsSetWithin, HasRightOperand, HasLeftOperand, in_set}
 use Rattle.std.proofs.lemmas.Result.{IfOk-weaker}
-use Rattle.dom_index.proofs.TestCountLemmas.{Asking, NextAsks, asking_end, asking_from, asking_last, asking_more, asks_first, asks_last, tests_relative, asks_more, asks_selectors, counts_compound, kept_decided, relative_tests, left_fewer, most_of_compound, ok_both}
+use Rattle.dom_index.proofs.TestCountLemmas.{Asking, NextAsks, asking_end, asking_from, asking_last, asking_more, asks_first, asks_last, asks_more, counts_compound, kept_decided, relative_tests, left_fewer, most_of_compound, ok_both}
 use Rattle.dom_index.proofs.ChainLemmas.{Chain, chain_last, chain_next, chain_start}
-use Rattle.dom_index.proofs.RestLemmas.{going_on, selectors_asked, step_decided, some_decided, steps_apart, steps_asked, weight_last}
-use Rattle.dom_index.proofs.ListLemmas.{Anywhere, Narrowed, Wanted, Widened, enough, lists_cut, narrowed_more, selectors_cut, spent, steps_ahead, widened_more}
+use Rattle.dom_index.proofs.SelectorLemmas.{has_more, list_more, selectors_within}
+use Rattle.dom_index.proofs.RestLemmas.{going_on, step_decided, some_decided, steps_apart, steps_asked, weight_last}
+use Rattle.dom_index.proofs.ListLemmas.{Narrowed, enough, lists_cut, narrowed_more, spent, steps_ahead}
 use Rattle.dom_index.proofs.evaluation.+evaluation.Goals as goal
 
 pub list_set-returns-in_err-answer-clause-tests : goal.list_set-returns-in_err-answer-clause-tests
 list_set-returns-in_err-answer-clause-tests t c =
-    let selectors = c.args.selectors.now in
-    let i = c.loop-selector.selector-index in
-    enough (selectors_count (read_list (drop (i + 1) selectors))) (length c.args.preorder.now.tree.now.content) c.selector_set.new.tests _
-    (selectors_asked (length c.args.preorder.now.tree.now.content) c.args.tests.now c.loop-selector.tests c.selector_set.new.tests selectors i c.selector-item.result c.deref.result.now (omega arith) c.selector-item.is c.deref.ensures.value c.loop-selector.invariant.tests c.selector_set.ensures.tests)
+    selectors_within _ _ _ _ c.args.selectors.now c.loop-selector.selector-index c.selector-item.result _ (omega arith) c.selector-item.is c.deref.ensures.value c.loop-selector.invariant.tests c.selector_set.ensures.tests
 
 pub list_set-loop-selector-preserved : goal.list_set-loop-selector-preserved
 list_set-loop-selector-preserved t c =
-    let selectors = c.args.selectors.now in
-    let forest = c.args.preorder.now.tree.now in
-    let m = length forest.content in
-    let s = out-Selector c.selector-item.result in
-    let i = c.loop-selector.selector-index in
-    let cut = selectors_cut i selectors c.selector-item.result (omega arith) c.selector-item.is in
-    let wanted = c.args.wanted.now in
-    let answer = subst (λ (ss : List Step). IsSetWithin wanted c.in_ok-answer.answer.items m (λ n. ChainMatches (Holds (read_compound s.first) forest) (steps_of (map read_step ss)) forest n n)) c.deref.ensures.value c.in_ok-answer.ensures.table in
-    let light = ap selectors_weight cut in
-    let less = c.loop-selector.invariant.light in
-    record {
-      table = widened_more (Wanted wanted) m (Means (read_list selectors) forest) (λ n. ChainMatches (Holds (read_compound s.first) forest) (steps_of (map read_step s.rest.items)) forest n n) (Means (read_list (drop (i + 1) selectors)) forest) c.loop-selector.table.items c.in_ok-answer.answer.items c.unite.new.table.items answer.each
-          (subst (IsUnion c.unite.new.table.items c.loop-selector.table.items) c.deref-in-loop-selector.ensures.value c.unite.ensures)
-          (subst (λ z. Widened (Wanted wanted) m c.loop-selector.table.items (Means (read_list selectors) forest) (Means z forest)) cut c.loop-selector.invariant.table);
-      asking = asking_more c.args.tests.now c.loop-selector.tests c.selector_set.new.tests (SelectorsTests (read_list selectors) forest wanted) _ (SelectorTests (read_compound s.first) (steps_of (map read_step s.rest.items)) forest wanted)
-          (SelectorsTests (read_list (drop (i + 1) selectors)) forest wanted) (subst (λ z. Asking c.args.tests.now c.loop-selector.tests (SelectorsTests (read_list selectors) forest wanted) (SelectorsTests z forest wanted)) cut c.loop-selector.invariant.asking)
-          (subst (λ (ss : List Step). AddsTests c.loop-selector.tests c.selector_set.new.tests (SelectorTests (read_compound s.first) (steps_of (map read_step ss)) forest wanted)) c.deref.ensures.value c.in_ok-answer.ensures.counted)
-          (asks_selectors s.lead (read_compound s.first) (steps_of (map read_step s.rest.items)) (read_list (drop (i + 1) selectors)) forest wanted);
-      tests = selectors_asked m c.args.tests.now c.loop-selector.tests c.selector_set.new.tests selectors i c.selector-item.result c.deref.result.now (omega arith) c.selector-item.is c.deref.ensures.value c.loop-selector.invariant.tests c.selector_set.ensures.tests;
-      light = omega arith;
-    }
+    list_more c.args.preorder.now.tree.now c.args.wanted.now c.args.selectors.now c.loop-selector.selector-index c.selector-item.result c.deref.result.now (omega arith) c.selector-item.is c.deref.ensures.value
+    c.loop-selector.table.items c.in_ok-answer.answer.items c.unite.new.table.items c.args.tests.now c.loop-selector.tests c.selector_set.new.tests c.loop-selector.invariant c.in_ok-answer.ensures.table.each
+    (subst (IsUnion c.unite.new.table.items c.loop-selector.table.items) c.deref-in-loop-selector.ensures.value c.unite.ensures) c.in_ok-answer.ensures.counted c.selector_set.ensures.tests
 
 pub has_set-returns-in_err-answer-clause-tests : goal.has_set-returns-in_err-answer-clause-tests
 has_set-returns-in_err-answer-clause-tests t c =
-    let selectors = c.args.selectors.now in
-    let i = c.loop-selector.selector-index in
-    enough (selectors_count (read_list (drop (i + 1) selectors))) (length c.args.preorder.now.tree.now.content) c.relative_set.new.tests _
-    (selectors_asked (length c.args.preorder.now.tree.now.content) c.args.tests.now c.loop-selector.tests c.relative_set.new.tests selectors i c.selector-item.result c.deref.result.now (omega arith) c.selector-item.is c.deref.ensures.value c.loop-selector.invariant.tests c.relative_set.ensures.tests)
+    selectors_within _ _ _ _ c.args.selectors.now c.loop-selector.selector-index c.selector-item.result _ (omega arith) c.selector-item.is c.deref.ensures.value c.loop-selector.invariant.tests c.relative_set.ensures.tests
 
 pub has_set-loop-selector-preserved : goal.has_set-loop-selector-preserved
 has_set-loop-selector-preserved t c =
-    let selectors = c.args.selectors.now in
-    let forest = c.args.preorder.now.tree.now in
-    let m = length forest.content in
-    let s = out-Selector c.selector-item.result in
-    let i = c.loop-selector.selector-index in
-    let cut = selectors_cut i selectors c.selector-item.result (omega arith) c.selector-item.is in
-    let answer = subst (λ (ss : List Step). IsSetOf c.in_ok-answer.answer.items m (RelativeMatches s.lead (read_compound s.first) (steps_of (map read_step ss)) forest)) c.deref.ensures.value c.in_ok-answer.ensures.table in
-    let light = ap selectors_weight cut in
-    let less = c.loop-selector.invariant.light in
-    record {
-      table = widened_more Anywhere m (HasHolds (read_list selectors) forest) (RelativeMatches s.lead (read_compound s.first) (steps_of (map read_step s.rest.items)) forest) (HasHolds (read_list (drop (i + 1) selectors)) forest) c.loop-selector.table.items c.in_ok-answer.answer.items c.unite.new.table.items (λ n known here. answer.each n known)
-          (subst (IsUnion c.unite.new.table.items c.loop-selector.table.items) c.deref-in-loop-selector.ensures.value c.unite.ensures)
-          (subst (λ z. Widened Anywhere m c.loop-selector.table.items (HasHolds (read_list selectors) forest) (HasHolds z forest)) cut c.loop-selector.invariant.table);
-      asking = asking_more c.args.tests.now c.loop-selector.tests c.relative_set.new.tests (HasTests (read_list selectors) forest) _ (RelativeTests (read_compound s.first) (steps_of (map read_step s.rest.items)) forest)
-          (HasTests (read_list (drop (i + 1) selectors)) forest) (subst (λ z. Asking c.args.tests.now c.loop-selector.tests (HasTests (read_list selectors) forest) (HasTests z forest)) cut c.loop-selector.invariant.asking)
-          (subst (λ (ss : List Step). AddsTests c.loop-selector.tests c.relative_set.new.tests (RelativeTests (read_compound s.first) (steps_of (map read_step ss)) forest)) c.deref.ensures.value c.in_ok-answer.ensures.counted)
-          (tests_relative s.lead (read_compound s.first) (steps_of (map read_step s.rest.items)) (read_list (drop (i + 1) selectors)) forest);
-      tests = selectors_asked m c.args.tests.now c.loop-selector.tests c.relative_set.new.tests selectors i c.selector-item.result c.deref.result.now (omega arith) c.selector-item.is c.deref.ensures.value c.loop-selector.invariant.tests c.relative_set.ensures.tests;
-      light = omega arith;
-    }
+    has_more c.args.preorder.now.tree.now c.args.selectors.now c.loop-selector.selector-index c.selector-item.result c.deref.result.now (omega arith) c.selector-item.is c.deref.ensures.value
+    c.loop-selector.table.items c.in_ok-answer.answer.items c.unite.new.table.items c.args.tests.now c.loop-selector.tests c.relative_set.new.tests c.loop-selector.invariant (λ n known here. c.in_ok-answer.ensures.table.each n known)
+    (subst (IsUnion c.unite.new.table.items c.loop-selector.table.items) c.deref-in-loop-selector.ensures.value c.unite.ensures) c.in_ok-answer.ensures.counted c.relative_set.ensures.tests
 
 pub lists_set-loop-list-preserved : goal.lists_set-loop-list-preserved
 lists_set-loop-list-preserved t c =

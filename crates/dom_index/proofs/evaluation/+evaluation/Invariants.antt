@@ -1,16 +1,14 @@
-use Rattle.std.proofs.Common.{◌≤◌, ◌+◌, ◌*◌, ℕ, List, length, map, drop}
-use Rattle.dom_selectors.specs.declared.syntax.Selector.{Selector}
+use Rattle.std.proofs.Common.{◌≤◌, ◌+◌, ◌*◌, length, map, drop}
 use Rattle.dom_selectors.specs.ListsAsTrees.{lists_of, steps_of}
-use Rattle.dom_selectors.specs.Syntax.{SelectorList}
-use Rattle.dom_select.specs.Meaning.{HasHolds, Means}
 use Rattle.dom_selectors.specs.ValuesAsTrees.{read_compound, read_list, read_nested, read_step}
-use Rattle.dom_index.specs.TestCounts.{HasTests, ListsTests, SelectorTests, SelectorsTests}
-use Rattle.dom_index.specs.CompoundCounts.{compound_count, lists_count, selectors_count, steps_count}
+use Rattle.dom_index.specs.TestCounts.{ListsTests, SelectorTests}
+use Rattle.dom_index.specs.CompoundCounts.{compound_count, lists_count, steps_count}
 use Rattle.dom_selectors.proofs.Weights.{compound_weight, lists_weight, list_weight, selectors_weight, steps_weight}
 use Rattle.dom_index.proofs.TestCountLemmas.{Asking, NextAsks}
 use Rattle.dom_index.proofs.ChainLemmas.{Arrived}
-use Rattle.dom_index.proofs.ListLemmas.{Anywhere, Narrowed, Wanted, Widened}
+use Rattle.dom_index.proofs.ListLemmas.{Narrowed}
 use Rattle.dom_index.proofs.RestLemmas.{Going}
+use Rattle.dom_index.proofs.SelectorLemmas.{HasUnfinished, ListUnfinished}
 use Rattle.dom_index.proofs.evaluation.+evaluation.Given as goal
 
 abbrev pub decreases-compound_set : goal.decreases-compound_set
@@ -37,29 +35,11 @@ decreases-rest_set l = 1 + steps_weight (steps_of (map read_step l.steps.now))
 abbrev pub decreases-selector_set : goal.decreases-selector_set
 decreases-selector_set l = 8 + compound_weight (read_compound l.first.now) + steps_weight (steps_of (map read_step l.steps.now))
 
--- the set of the selectors that were met, and the tests of those that are left
-abbrev Unfinished : (SelectorList → SelectorList → Type 0) → (SelectorList → SelectorList → Type 0) → List Selector → ℕ → ℕ → ℕ → ℕ → Type 0
-Unfinished Table Asks selectors i count before tests =
-    let all = read_list selectors in
-    let left = read_list (drop i selectors) in
-    record {
-      table : Table all left;
-      asking : Asks all left;
-      tests : tests + selectors_count left * count ≤ before + selectors_count all * count;
-      light : selectors_weight left ≤ selectors_weight all;
-    }
-
 abbrev pub invariant-list_set-loop-selector : goal.invariant-list_set-loop-selector
-invariant-list_set-loop-selector l =
-    let forest = l.preorder.tree.now in
-    let count = length forest.content in
-    Unfinished (λ all left. Widened (Wanted l.wanted) count l.table.items (Means all forest) (Means left forest)) (λ all left. Asking l.fn.tests l.tests (SelectorsTests all forest l.wanted) (SelectorsTests left forest l.wanted)) l.selectors l.selector-index count l.fn.tests l.tests
+invariant-list_set-loop-selector l = ListUnfinished l.preorder.tree.now l.wanted l.selectors l.selector-index l.table.items l.fn.tests l.tests
 
 abbrev pub invariant-has_set-loop-selector : goal.invariant-has_set-loop-selector
-invariant-has_set-loop-selector l =
-    let forest = l.preorder.tree.now in
-    let count = length forest.content in
-    Unfinished (λ all left. Widened Anywhere count l.table.items (HasHolds all forest) (HasHolds left forest)) (λ all left. Asking l.fn.tests l.tests (HasTests all forest) (HasTests left forest)) l.selectors l.selector-index count l.fn.tests l.tests
+invariant-has_set-loop-selector l = HasUnfinished l.preorder.tree.now l.selectors l.selector-index l.table.items l.fn.tests l.tests
 
 -- the steps that are left, and the set of those after them
 abbrev pub invariant-rest_set-loop-step : goal.invariant-rest_set-loop-step

@@ -16,7 +16,7 @@ use Rattle.dom_select.proofs.RightLemmas.{leads_beside, reached_in_row, row_ends
 use Rattle.dom_select.proofs.StepLemmas.{read_front_and_last, weight_front_and_last}
 use Rattle.dom_select.proofs.FollowLemmas.{ends_here, ends_match, followed_all, followed_nearest, followed_so_far, following_at, following_none, following_more, following_not, is_nil, line_back, next_precedes, chain_alone, chain_end, some_where, weight_cut}
 use Rattle.dom_select.proofs.matcher.matches.+matching.Goals as goal
-use Rattle.dom_select.proofs.matcher.matches.+matching.Goals.{match_from_candidates-then-is_candidate+in_default-match_suffix, match_from_candidates-else-is_candidate}
+use Rattle.dom_select.proofs.matcher.matches.+matching.Goals.{match_from_candidates-After-ends_at, match_from_candidates-then-is_candidate+in_default-match_suffix, match_from_candidates-else-is_candidate}
 
 pub last_holds-holds-requires : goal.last_holds-holds-requires
 last_holds-holds-requires t c =
@@ -89,20 +89,25 @@ match_from_candidates-returns-in-Some-match_suffix-clause-is t c =
     c.args.id c.loop-v.at c.in-Some.v c.in-Some-match_suffix.remainder.at c.binding_level-level.result c.requires link (when_true _ _ c.if-is_candidate.true may).0 c.binding_level-level.ensures (rw same at c.in-Some-match_suffix.ensures.is)
     c.loop-v.invariant.forth c.loop-v.invariant.back
 
+-- a node that was turned away is not meant
+turned_away : (t : ℕ) (c : match_from_candidates-After-ends_at t) →
+    IsMeant c.args.caches.now c.args.chain.now.exempt (BeginsChain c.args.chain.now c.args.caches.now) (steps_of (map read_step c.args.steps.now)) c.args.combinator c.in-Some.v → ⊥
+turned_away t c =
+    let may = rw c.tree-tree.ensures at c.is_candidate.ensures in
+    elim c.if-is_candidate.branch [
+      | match_from_candidates-then-is_candidate+in_default-match_suffix w ↦ λ q. (rw c.loop-v.invariant.kept at w.in_default-match_suffix.ensures.is) q.1
+      | match_from_candidates-else-is_candidate w ↦ λ q. not_reached c.subject_type-name.result (read_compound c.args.chain.now.first.now) (map read_step c.args.steps.now) c.args.combinator c.args.caches.now c.args.chain.now.exempt c.in-Some.v c.is_candidate.result
+          c.subject_type-name.ensures may w.if-is_candidate.false c.args.chain.now.start.now q
+    ]
+
 pub match_from_candidates-returns-then-ends_at-clause-is : goal.match_from_candidates-returns-then-ends_at-clause-is
 match_from_candidates-returns-then-ends_at-clause-is t c =
     let lines = rw c.tree-tree.ensures at c.left_of.ensures.lines in
     let link = sym (rw c.tree-tree.ensures at c.in-Some.ensures.link) in
-    let same = c.loop-v.invariant.kept in
-    let may = rw c.tree-tree.ensures at c.is_candidate.ensures in
     let forest = c.args.caches.now in
     let k = c.args.combinator in
     let Q : ℕ → Type 0 = IsMeant forest c.args.chain.now.exempt (BeginsChain c.args.chain.now c.args.caches.now) (steps_of (map read_step c.args.steps.now)) k in
-    let refuted : Q c.in-Some.v → ⊥ = elim c.if-is_candidate.branch [
-      | match_from_candidates-then-is_candidate+in_default-match_suffix w ↦ λ q. (rw same at w.in_default-match_suffix.ensures.is) q.1
-      | match_from_candidates-else-is_candidate w ↦ λ q. not_reached c.subject_type-name.result (read_compound c.args.chain.now.first.now) (map read_step c.args.steps.now) k forest c.args.chain.now.exempt c.in-Some.v c.is_candidate.result c.subject_type-name.ensures may w.if-is_candidate.false c.args.chain.now.start.now q
-    ] in
-    let none = left_ends forest k Q lines c.loop-v.at c.in-Some.v link refuted (sym (rw c.tree-tree.ensures at c.ends_at.ensures) ∙ c.if-ends_at.true) in
+    let none = left_ends forest k Q lines c.loop-v.at c.in-Some.v link (turned_away t (goal.at.match_from_candidates-returns-then-ends_at-clause-is t c).After-ends_at) (sym (rw c.tree-tree.ensures at c.ends_at.ensures) ∙ c.if-ends_at.true) in
     λ s. none (c.loop-v.invariant.forth (to_line Q forest k c.args.id s.0 lines s.1 s.2))
 
 pub match_from_candidates-loop-v-smaller : goal.match_from_candidates-loop-v-smaller
@@ -117,21 +122,16 @@ match_from_candidates-loop-v-preserved t c =
     let lines = rw c.tree-tree.ensures at c.left_of.ensures.lines in
     let link = sym (rw c.tree-tree.ensures at c.in-Some.ensures.link) in
     let same = c.loop-v.invariant.kept in
-    let may = rw c.tree-tree.ensures at c.is_candidate.ensures in
     let forest = c.args.caches.now in
     let k = c.args.combinator in
     let Q : ℕ → Type 0 = IsMeant forest c.args.chain.now.exempt (BeginsChain c.args.chain.now c.args.caches.now) (steps_of (map read_step c.args.steps.now)) k in
-    let refuted : Q c.in-Some.v → ⊥ = elim c.if-is_candidate.branch [
-      | match_from_candidates-then-is_candidate+in_default-match_suffix w ↦ λ q. (rw same at w.in_default-match_suffix.ensures.is) q.1
-      | match_from_candidates-else-is_candidate w ↦ λ q. not_reached c.subject_type-name.result (read_compound c.args.chain.now.first.now) (map read_step c.args.steps.now) k forest c.args.chain.now.exempt c.in-Some.v c.is_candidate.result c.subject_type-name.ensures may w.if-is_candidate.false c.args.chain.now.start.now q
-    ] in
     let goes = sym (rw c.tree-tree.ensures at c.ends_at.ensures) ∙ c.if-ends_at.false in
     record {
       kept = elim c.if-is_candidate.branch [
         | match_from_candidates-then-is_candidate+in_default-match_suffix w ↦ w.caches-is ∙ (w.in_default-match_suffix.ensures.kept ∙ same)
         | match_from_candidates-else-is_candidate w ↦ w.caches-is ∙ same
       ];
-      forth = λ s. (left_farther forest k Q lines c.loop-v.at c.in-Some.v link refuted goes).0 (c.loop-v.invariant.forth s);
+      forth = λ s. (left_farther forest k Q lines c.loop-v.at c.in-Some.v link (turned_away t (goal.at.match_from_candidates-loop-v-preserved t c).After-ends_at) goes).0 (c.loop-v.invariant.forth s);
       back = λ u s. c.loop-v.invariant.back u (line_back forest c.args.chain.now.exempt (BeginsChain c.args.chain.now c.args.caches.now) lines k (map read_step c.args.steps.now) c.loop-v.at c.in-Some.v u link goes s);
     }
 

@@ -44,13 +44,10 @@ waits c = step_of (forest_of c.args.nodes.now) c.loop-next.pending.items c.go_on
 pub loop-next-smaller : goal.loop-next-smaller
 loop-next-smaller c =
     let forest = forest_of c.args.nodes.now in
-    let good = c.requires.sound.forest in
-    let path = c.args.path.now in
-    let pending = c.loop-next.pending.items in
-    let id = c.in-Some-next.id in
-    rw c.in-Some-next.is
-    (fewer forest path (c.trees_of_a_forest.ensures forest good) (c.lines_of_a_forest.ensures forest good) c.requires.down pending _ id c.loop-next.passed c.in_ok-below.below
-    (known_at forest path pending c.loop-next.next id c.loop-next.passed c.in-Some-next.is c.loop-next.invariant.search.known).1 (waits c))
+    let known = (known_at forest c.args.path.now c.loop-next.pending.items c.loop-next.next c.in-Some-next.id c.loop-next.passed c.in-Some-next.is c.loop-next.invariant.search.known).1 in
+    let less = fewer forest c.args.path.now (c.trees_of_a_forest.ensures forest c.requires.sound.forest) (c.lines_of_a_forest.ensures forest c.requires.sound.forest) c.requires.down
+    c.loop-next.pending.items _ c.in-Some-next.id c.loop-next.passed c.in_ok-below.below known (waits c) in
+    rw c.in-Some-next.is less
 
 pub loop-next-preserved : goal.loop-next-preserved
 loop-next-preserved c =

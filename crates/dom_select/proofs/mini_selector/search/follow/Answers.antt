@@ -5,7 +5,7 @@ use Rattle.dom_select.specs.MiniPaths.{IsFound}
 use Rattle.dom_select.specs.PathFlags.{HaveFlags, to_find}
 use Rattle.dom_select.proofs.PathLemmas.{found_none, found_right}
 use Rattle.dom_select.proofs.SearchLemmas.{all_found, empty_list, of_none, of_some, still_fewer, taken_off}
-use Rattle.dom_select.proofs.mini_selector.search.follow_path.Goals as goal
+use Rattle.dom_select.proofs.mini_selector.search.follow.Goals as goal
 
 pub returns-then-is_none : goal.returns-then-is_none
 returns-then-is_none c =

@@ -3,14 +3,14 @@ use Rattle.std.specs.List.{flat_map}
 use Rattle.dom_links.specs.Trees.{walk_below}
 use Rattle.dom_select.specs.Roots.{root_ids}
 use Rattle.dom_select.proofs.SeveralLemmas.{next_root, still_none}
-use Rattle.dom_select.proofs.matcher.several.WalksIterator.next.Goals as goal
+use Rattle.dom_select.proofs.matcher.several.Walks.next.Goals as goal
 
-pub returns-in-Some-clause-steps : goal.returns-in-Some-clause-steps
-returns-in-Some-clause-steps c =
+pub returns-in-Some : goal.returns-in-Some
+returns-in-Some c =
     sym c.self.view_is ∙ sym c.loop-id.invariant ∙ ap (λ ns. ns ++ flat_map (walk_below c.loop-id.self-inside.tree.now) (root_ids c.loop-id.self-inside.roots)) c.in-Some.ensures
 
-pub returns-in_err-root-clause-steps : goal.returns-in_err-root-clause-steps
-returns-in_err-root-clause-steps c =
+pub returns-in_err-root : goal.returns-in_err-root
+returns-in_err-root c =
     rw c.from_residual.ensures (
       sym c.self.view_is ∙ sym c.loop-id.invariant ∙ still_none c.loop-id.self-inside.walk c.loop-id.self-inside.tree (root_ids c.loop-id.self-inside.roots) c.in_default.ensures.0 c.in_err-root.ensures.0,
       still_none c.next_in.new.walk c.loop-id.self-inside.tree (root_ids c.take_first.new.roots) c.in_default.ensures.1 c.in_err-root.ensures.1,

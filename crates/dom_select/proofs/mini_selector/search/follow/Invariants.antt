@@ -1,7 +1,7 @@
 use Rattle.std.proofs.Common.{◌≡◌, length, replicate, true, false}
 use Rattle.dom_links.specs.Forest.{forest_of}
 use Rattle.dom_select.specs.PathFlags.{IsSearch, found_by, led_from, to_visit}
-use Rattle.dom_select.proofs.mini_selector.search.follow_path.Given as goal
+use Rattle.dom_select.proofs.mini_selector.search.follow.Given as goal
 
 abbrev pub invariant-loop-id : goal.invariant-loop-id
 invariant-loop-id l = record {

@@ -1,7 +1,7 @@
 use Rattle.std.proofs.Common.{◌≡◌, length}
 use Rattle.dom_select.specs.Roots.{root_ids}
 use Rattle.dom_select.proofs.SeveralLemmas.{still}
-use Rattle.dom_select.proofs.matcher.several.WalksIterator.next.Given as goal
+use Rattle.dom_select.proofs.matcher.several.Walks.next.Given as goal
 
 -- what is still given stays
 abbrev pub invariant-loop-id : goal.invariant-loop-id
