@@ -101,9 +101,8 @@ fn reads_calm(options: Options) -> bool
 fn parse_any_page(alloc: Global, source: &str, options: Options) -> Result<Document, PageFault>
     ensures { IfOk result (λ document. IsPage document.tree) }
 {
-    let mut parser = PageParser::new(alloc, options)?;
-    parser.feed(source)?;
-    parser.finish()
+    let parser = PageParser::new(alloc, options)?;
+    parser.read_whole(source)
 }
 
 /// The document that a page in UTF-8 stands for. A byte order mark at its beginning is dropped, and
@@ -136,9 +135,8 @@ pub fn parse_page_fragment(
     context: Context<'_>,
     options: Options,
 ) -> Result<Document, PageFault> {
-    let mut parser = PageParser::for_fragment(alloc, context, options)?;
-    parser.feed(source)?;
-    parser.finish()
+    let parser = PageParser::for_fragment(alloc, context, options)?;
+    parser.read_whole(source)
 }
 
 /// The document that was read, in the shape of a page.
@@ -176,6 +174,15 @@ impl PageParser {
             reader,
             is_fragment: true,
         })
+    }
+
+    /// The document of a text that is one piece.
+    fn read_whole(self, source: &str) -> Result<Document, PageFault>
+        ensures { ReadsPage self → IfOk result (λ document. IsPage document.tree) }
+    {
+        let mut parser = self;
+        parser.feed(source)?;
+        parser.finish()
     }
 
     /// Reads the next piece of the text; the pieces may be cut anywhere. After an `Err` nothing is

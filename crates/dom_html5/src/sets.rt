@@ -61,6 +61,30 @@ impl Scope {
     }
 }
 
+/// What the elements of a table are put into: a table, a section of one, or a row; else a template or
+/// the outermost element.
+#[derive(Clone, Copy, Drop)]
+pub enum Context {
+    Table,
+    Section,
+    Row,
+}
+
+impl Context {
+    pub fn ends_at(self, open: &Open) -> bool {
+        if open.ns != Ns::Html {
+            return false;
+        }
+        match (self, open.name) {
+            (_, Name::Template | Name::Html)
+            | (Context::Table, Name::Table)
+            | (Context::Section, Name::Tbody | Name::Tfoot | Name::Thead)
+            | (Context::Row, Name::Tr) => true,
+            _ => false,
+        }
+    }
+}
+
 pub fn is_special(open: &Open) -> bool {
     match open.ns {
         Ns::Html => is_special_name(open.name),

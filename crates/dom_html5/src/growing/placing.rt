@@ -1,6 +1,6 @@
 //! The appropriate place for inserting a node.
 
-ghost use Rattle.std.specs.Prelude.{◌≡◌, List, ℕ, true};
+ghost use Rattle.std.specs.Prelude.{◌≡◌, IfSome, List, ℕ, true};
 ghost use Rattle.dom_links.specs.Sound.{IsOpenGap, children_allowed_at};
 ghost use Rattle.dom_links.specs.Sound.{AtOrBelow, target};
 ghost use Rattle.dom_html5.specs.Elements.{AreOpen, IsElement, IsPlace, IsRooted};
@@ -100,22 +100,28 @@ fn foster_place(tree: &Tree, elements: &[Open]) -> Place
     ensures place { IsPlace tree.now result }
     ensures lies { LiesAt tree.now elements.now result }
 {
-    let Some(place) = last_table(elements) else {
-        return bottom_place(tree, elements);
-    };
-    let Some(table) = elements.get(place) else {
-        return bottom_place(tree, elements);
-    };
-    if table.is_html(Name::Template) {
-        return Place::EndOf(inside(tree, table.id));
-    }
-    if place == 0 {
-        return bottom_place(tree, elements);
-    }
-    match elements.get(place.saturating_sub(1)) {
-        Some(other) => Place::Table(table.id, other.id),
+    match table_place(tree, elements) {
+        Some(place) => place,
         None => bottom_place(tree, elements),
     }
+}
+
+/// Before the last table, if an element is open below it; or in a template behind it.
+fn table_place(tree: &Tree, elements: &[Open]) -> Option<Place>
+    requires { AreOpen tree.now elements.now }
+    ensures place { IfSome result (IsPlace tree.now) }
+    ensures lies { IfSome result (LiesAt tree.now elements.now) }
+{
+    let place = last_table(elements)?;
+    let table = elements.get(place)?;
+    if table.is_html(Name::Template) {
+        return Some(Place::EndOf(inside(tree, table.id)));
+    }
+    if place == 0 {
+        return None;
+    }
+    let other = elements.get(place.saturating_sub(1))?;
+    Some(Place::Table(table.id, other.id))
 }
 
 /// The end of the element `html`, or of the root where nothing is open.

@@ -6,7 +6,7 @@ use super::GrowingTree;
 use crate::fault::PageFault;
 use crate::formatting::Entry;
 use crate::name::Name;
-use crate::sets::{Scope, has_implied_end, is_special};
+use crate::sets::{Context, Scope, has_implied_end, is_special};
 use crate::stack::{Ns, Open};
 use dom_nodes::node_id::NodeId;
 
@@ -164,11 +164,11 @@ impl GrowingTree {
         }
     }
 
-    /// Pops elements up to one of these names, which stays.
-    pub fn clear_to(&mut self, names: &[Name]) {
+    /// Pops elements up to one that ends the context, which stays.
+    pub fn clear_to(&mut self, context: Context) {
         for _ in 0..self.stack.len() {
             match self.stack.current() {
-                Some(open) if open.ns == Ns::Html && names.contains(&open.name) => return,
+                Some(open) if context.ends_at(&open) => return,
                 _ => self.pop(),
             }
         }
