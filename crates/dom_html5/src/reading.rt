@@ -251,13 +251,19 @@ impl PageReader {
     fn read_end(&mut self) -> Result<(), PageFault> {
         self.builder.settled()?;
         self.read_waiting();
+        self.read_last()?;
+        self.builder.end();
+        self.builder.note_errors(&self.tokens.take_errors());
+        self.builder.settled()
+    }
+
+    /// Reads the token that the end of the text ends, and the last characters.
+    fn read_last(&mut self) -> Result<(), PageFault> {
         if let Some(kind) = self.tokens.end_kind()? {
             self.token(kind);
         }
         self.builder.characters(self.tokens.text());
-        self.builder.end();
-        self.builder.note_errors(&self.tokens.take_errors());
-        self.builder.settled()
+        Ok(())
     }
 
     pub fn read(&mut self, piece: &str) {
@@ -306,13 +312,16 @@ impl PageReader {
     /// Puts what the token stands for into the tree.
     fn build(&mut self, kind: TokenKind) {
         match kind {
-            TokenKind::Tag => {
-                if let Some(tag) = self.tokens.tag() {
-                    self.builder.tag(tag);
-                }
-            }
+            TokenKind::Tag => self.build_tag(),
             TokenKind::Comment => self.builder.comment(self.tokens.comment()),
             TokenKind::Doctype => self.builder.doctype(self.tokens.doctype()),
+        }
+    }
+
+    /// Puts the element of a tag into the tree, or ends one.
+    fn build_tag(&mut self) {
+        if let Some(tag) = self.tokens.tag() {
+            self.builder.tag(tag);
         }
     }
 }

@@ -75,11 +75,11 @@ impl Context {
         if open.ns != Ns::Html {
             return false;
         }
-        match (self, open.name) {
-            (_, Name::Template | Name::Html)
-            | (Context::Table, Name::Table)
-            | (Context::Section, Name::Tbody | Name::Tfoot | Name::Thead)
-            | (Context::Row, Name::Tr) => true,
+        match open.name {
+            Name::Html | Name::Template => true,
+            Name::Table => matches!(self, Context::Table),
+            Name::Tbody | Name::Tfoot | Name::Thead => matches!(self, Context::Section),
+            Name::Tr => matches!(self, Context::Row),
             _ => false,
         }
     }

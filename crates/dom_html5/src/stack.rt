@@ -102,6 +102,14 @@ impl OpenElements {
         }
     }
 
+    /// Whether the body stands in the outermost element.
+    pub fn has_body(&self) -> bool {
+        match self.get(1) {
+            Some(open) => open.is_html(Name::Body),
+            None => false,
+        }
+    }
+
     fn count(&mut self, open: &Open, more: bool)
         ensures { self.new.elements ≡ self.old.elements }
     {
