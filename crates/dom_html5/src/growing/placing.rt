@@ -82,17 +82,6 @@ fn root_place(tree: &Tree) -> Place
     Place::EndOf(tree.root_id())
 }
 
-/// The place of the last table or template.
-fn last_table(elements: &[Open]) -> Option<usize> {
-    for place in (0..elements.len()).rev() {
-        let open = elements.get(place)?;
-        if open.is_html(Name::Table) || open.is_html(Name::Template) {
-            return Some(place);
-        }
-    }
-    None
-}
-
 /// Where foster parenting puts a node: before the last table, or into a template behind it.
 fn foster_place(tree: &Tree, elements: &[Open]) -> Place
     requires root { IsRooted tree.now }
@@ -112,16 +101,17 @@ fn table_place(tree: &Tree, elements: &[Open]) -> Option<Place>
     ensures place { IfSome result (IsPlace tree.now) }
     ensures lies { IfSome result (LiesAt tree.now elements.now) }
 {
-    let place = last_table(elements)?;
-    let table = elements.get(place)?;
-    if table.is_html(Name::Template) {
-        return Some(Place::EndOf(inside(tree, table.id)));
+    for place in (0..elements.len()).rev() {
+        let open = elements.get(place)?;
+        if open.is_html(Name::Template) {
+            return Some(Place::EndOf(inside(tree, open.id)));
+        }
+        if open.is_html(Name::Table) {
+            let other = elements.get(place.checked_sub(1)?)?;
+            return Some(Place::Table(open.id, other.id));
+        }
     }
-    if place == 0 {
-        return None;
-    }
-    let other = elements.get(place.saturating_sub(1))?;
-    Some(Place::Table(table.id, other.id))
+    None
 }
 
 /// The end of the element `html`, or of the root where nothing is open.

@@ -153,12 +153,7 @@ impl GrowingTree {
     pub fn generate_implied_end_tags(&mut self, except: Option<Name>) {
         for _ in 0..self.stack.len() {
             match self.stack.current() {
-                Some(open)
-                    if open.ns == Ns::Html
-                        && has_implied_end(open.name)
-                        && Some(open.name) != except => {
-                    self.pop();
-                }
+                Some(open) if has_implied_end(&open) && Some(open.name) != except => self.pop(),
                 _ => return,
             }
         }

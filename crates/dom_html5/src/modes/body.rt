@@ -113,8 +113,7 @@ impl TreeBuilder {
 
     fn start_heading(&mut self, name: Name, tag: &Tag) -> Next {
         if let Some(open) = self.tree.open().current()
-            && open.ns == Ns::Html
-            && is_heading(open.name)
+            && is_heading(&open)
         {
             self.tree.pop();
         }
