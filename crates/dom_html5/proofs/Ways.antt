@@ -138,6 +138,14 @@ filled_steps f filled moved owner front back once same fill m n (inl p) = elim (
   | inr g ↦ inl (inl (sym (parent-put_out (cut moved f) filled moved owner front back n fill g ∙ parent-cut moved f n ∙ cond-false (stands_in n moved) None (parent f n) g) ∙ p))
 ]
 
+-- the same where they are put into the list of a node that is not one of them
+beside_steps : (f filled : Forest) (moved : List ℕ) (t : ℕ) → StandsOnce f → AreNodes f moved → stands_in t moved ≡ false → (front back : List ℕ) → filled.content ≡ f.content →
+    FilledList (cut moved f) filled moved (parent (cut moved f) t) front back → Steps f filled (λ m. parent f t ≡ Some m) (λ n. stands_in n moved ≡ true)
+beside_steps f filled moved t once are out front back same fill =
+    let above : parent (cut moved f) t ≡ parent f t = parent-cut moved f t ∙ cond-false (stands_in t moved) None (parent f t) out in
+    subst (λ (o : Option ℕ). Steps f filled (λ m. o ≡ Some m) (λ n. stands_in n moved ≡ true)) above
+    (filled_steps f filled moved (parent (cut moved f) t) front back (once-cut_list f moved once are) same fill)
+
 -- a step after a move is an old one, or goes to what was moved from what it then lies in
 moved_steps : (f : Forest) (gap : Gap) (moved : List ℕ) → StandsOnce f → AreNodes f moved → stands_in (target gap) moved ≡ false → target gap < length f.content →
     Steps f (moved_to moved gap f) (λ m. owner_at gap f ≡ Some m) (λ n. stands_in n moved ≡ true)
@@ -148,19 +156,13 @@ moved_steps f (front_of t) moved once are out known =
     filled_steps f (moved_to moved (front_of t) f) moved (Some t) [] (children_of (cut moved f) t) (once-cut_list f moved once are) refl
     (put-front_of (cut moved f) moved t (once-cut_list f moved once are) (alone-cut_list f moved once are) known)
 moved_steps f (before_node t) moved once are out known =
-    let middle = cut moved f in
     let now = once-cut_list f moved once are in
-    let parts = around t (siblings middle t) (siblings_once middle t now) (now.placed t known) in
-    let above : parent middle t ≡ parent f t = parent-cut moved f t ∙ cond-false (stands_in t moved) None (parent f t) out in
-    subst (λ (o : Option ℕ). Steps f (moved_to moved (before_node t) f) (λ m. o ≡ Some m) (λ n. stands_in n moved ≡ true)) above
-    (filled_steps f (moved_to moved (before_node t) f) moved (parent middle t) parts.front (t ∷ parts.back) now refl (put-before middle moved t now (alone-cut_list f moved once are) out known parts))
+    let parts = around t (siblings (cut moved f) t) (siblings_once (cut moved f) t now) (now.placed t known) in
+    beside_steps f _ moved t once are out parts.front (t ∷ parts.back) refl (put-before (cut moved f) moved t now (alone-cut_list f moved once are) out known parts)
 moved_steps f (after_node t) moved once are out known =
-    let middle = cut moved f in
     let now = once-cut_list f moved once are in
-    let parts = around t (siblings middle t) (siblings_once middle t now) (now.placed t known) in
-    let above : parent middle t ≡ parent f t = parent-cut moved f t ∙ cond-false (stands_in t moved) None (parent f t) out in
-    subst (λ (o : Option ℕ). Steps f (moved_to moved (after_node t) f) (λ m. o ≡ Some m) (λ n. stands_in n moved ≡ true)) above
-    (filled_steps f (moved_to moved (after_node t) f) moved (parent middle t) (parts.front ++ t ∷ []) parts.back now refl (put-after middle moved t now (alone-cut_list f moved once are) out known parts))
+    let parts = around t (siblings (cut moved f) t) (siblings_once (cut moved f) t now) (now.placed t known) in
+    beside_steps f _ moved t once are out (parts.front ++ t ∷ []) parts.back refl (put-after (cut moved f) moved t now (alone-cut_list f moved once are) out known parts)
 
 one_node : (f : Forest) (x : ℕ) → x < length f.content → AreNodes f (x ∷ [])
 one_node f x known = record { once = (refl, tt); known = λ n s. subst (λ (k : ℕ). k < length f.content) (one_of x n s) known }
@@ -236,6 +238,24 @@ no_onto f g id m good copy known at =
     let e : at.0 ≡ id = (let some = at.1 in cc) in
     none_over f g id m good copy known (subst (AtOrBelow g m) e at.2)
 
+-- who is below the copy is at or below what was put into it
+below_copy : (f g h : Forest) (id : ℕ) (Into : ℕ → Type 0) → IsForest f → IsCopy f g id → Steps g h (λ m. Some id ≡ Some m) Into → (n : ℕ) → n < length f.content → AtOrBelow h id n → Beyond g Into n
+below_copy f g h id Into good copy steps n known (inl same) = absurd (none_below f g id n good (copy_is_new f g id copy) known (inl same))
+below_copy f g h id Into good copy steps n known (inr way) =
+    elim (ways_into g h (λ k. Some id ≡ Some k) Into steps id n way) [
+      | inl old ↦ absurd (none_below f g id n good (copy_is_new f g id copy) known (inr old))
+      | inr both ↦ both.1
+    ]
+
+-- and who was there is not above it
+above_copy : (f g h : Forest) (id : ℕ) (Into : ℕ → Type 0) → IsForest f → IsCopy f g id → Steps g h (λ m. Some id ≡ Some m) Into → (m : ℕ) → m < length f.content → AtOrBelow h m id → ⊥
+above_copy f g h id Into good copy steps m known (inl same) = none_over f g id m good copy known (inl same)
+above_copy f g h id Into good copy steps m known (inr way) =
+    elim (ways_into g h (λ k. Some id ≡ Some k) Into steps m id way) [
+      | inl old ↦ none_over f g id m good copy known (inr old)
+      | inr both ↦ no_onto f g id m good copy known both.0
+    ]
+
 pub grows_around : (f g h : Forest) (id x : ℕ) → IsForest f → IsElement f x → IsCopy f g id → h ≡ moved_to (x ∷ []) (end_of id) g → Grows f h
 grows_around f g h id x good element copy e =
     let new = copy_is_new f g id copy in
@@ -246,27 +266,16 @@ grows_around f g h id x good element copy e =
     ])
 
 pub is_around : (f g h : Forest) (id x : ℕ) → IsForest f → IsElement f x → IsCopy f g id → h ≡ moved_to (x ∷ []) (end_of id) g → IsAround f h id x
-is_around f g h id x good element copy e = record {
-  element = copy_put f g h id copy (ap (λ (k : Forest). k.content) e);
-  below = λ n other at. under n (element_known f n other) at;
-  above = λ m other at. over m (element_known f m other) at;
-}
-  where
-    under : (n : ℕ) → n < length f.content → AtOrBelow h id n → AtOrBelow f x n
-    under n known (inl same) = absurd (none_below f g id n good (copy_is_new f g id copy) known (inl same))
-    under n known (inr way) =
-        elim (ways_into g h (λ k. Some id ≡ Some k) (λ k. x ≡ k) (around_steps f g h id x good element copy e) id n way) [
-          | inl old ↦ absurd (none_below f g id n good (copy_is_new f g id copy) known (inr old))
-          | inr both ↦ at_new f g id good (copy_is_new f g id copy) x n (subst (λ (k : ℕ). AtOrBelow g k n) (sym both.1.1) both.1.2) (element_known f x element)
-        ]
-
-    over : (m : ℕ) → m < length f.content → AtOrBelow h m id → ⊥
-    over m known (inl same) = none_over f g id m good copy known (inl same)
-    over m known (inr way) =
-        elim (ways_into g h (λ k. Some id ≡ Some k) (λ k. x ≡ k) (around_steps f g h id x good element copy e) m id way) [
-          | inl old ↦ none_over f g id m good copy known (inr old)
-          | inr both ↦ no_onto f g id m good copy known both.0
-        ]
+is_around f g h id x good element copy e =
+    let steps = around_steps f g h id x good element copy e in
+    record {
+      element = copy_put f g h id copy (ap (λ (k : Forest). k.content) e);
+      below = λ n other at. (
+          let (o, is, under) = below_copy f g h id (λ k. x ≡ k) good copy steps n (element_known f n other) at in
+          at_new f g id good (copy_is_new f g id copy) x n (subst (λ (k : ℕ). AtOrBelow g k n) (sym is) under) (element_known f x element)
+          );
+      above = λ m other at. above_copy f g h id (λ k. x ≡ k) good copy steps m (element_known f m other) at;
+    }
 
 -- ---- the children of an element are put into a copy
 
@@ -292,30 +301,20 @@ below_child g p n good (x, s, inl e) = subst (IsHostAncestor g p) e (one_step p 
 below_child g p n good (x, s, inr way) = onward g p x n (one_step p x (child_step g p x good s)) way
 
 middle : (f g h : Forest) (id p : ℕ) → IsForest f → IsElement f p → IsCopy f g id → h ≡ reparented p (Some id) g → Middle f h id p
-middle f g h id p good element copy e = record {
-  ways = λ m n known way. elim (ways_into g h (λ k. Some id ≡ Some k) (λ k. stands_in k (children_of g p) ≡ true) (middle_steps f g h id p good copy e) m n way) [
-    | inl old ↦ way_new f g id good (copy_is_new f g id copy) m n old known
-    | inr both ↦ absurd (no_onto f g id m good copy known both.0)
-  ];
-  below = under;
-  above = over;
-}
-  where
-    under : (n : ℕ) → n < length f.content → AtOrBelow h id n → IsHostAncestor f p n
-    under n known (inl same) = absurd (none_below f g id n good (copy_is_new f g id copy) known (inl same))
-    under n known (inr way) =
-        elim (ways_into g h (λ k. Some id ≡ Some k) (λ k. stands_in k (children_of g p) ≡ true) (middle_steps f g h id p good copy e) id n way) [
-          | inl old ↦ absurd (none_below f g id n good (copy_is_new f g id copy) known (inr old))
-          | inr both ↦ way_new f g id good (copy_is_new f g id copy) p n (below_child g p n (forest_copied f g id good copy) both.1) (element_known f p element)
-        ]
-
-    over : (m : ℕ) → m < length f.content → AtOrBelow h m id → ⊥
-    over m known (inl same) = none_over f g id m good copy known (inl same)
-    over m known (inr way) =
-        elim (ways_into g h (λ k. Some id ≡ Some k) (λ k. stands_in k (children_of g p) ≡ true) (middle_steps f g h id p good copy e) m id way) [
-          | inl old ↦ none_over f g id m good copy known (inr old)
-          | inr both ↦ no_onto f g id m good copy known both.0
-        ]
+middle f g h id p good element copy e =
+    let steps = middle_steps f g h id p good copy e in
+    let new = copy_is_new f g id copy in
+    record {
+      ways = λ m n known way. elim (ways_into g h (λ k. Some id ≡ Some k) (λ k. stands_in k (children_of g p) ≡ true) steps m n way) [
+        | inl old ↦ way_new f g id good new m n old known
+        | inr both ↦ absurd (no_onto f g id m good copy known both.0)
+      ];
+      below = λ n known at.
+          way_new f g id good new p n
+          (below_child g p n (forest_copied f g id good copy) (below_copy f g h id (λ k. stands_in k (children_of g p) ≡ true) good copy steps n known at))
+          (element_known f p element);
+      above = λ m known at. above_copy f g h id (λ k. stands_in k (children_of g p) ≡ true) good copy steps m known at;
+    }
 
 -- then the copy may be put into the element
 pub copy_goes_back : (f g h : Forest) (id p : ℕ) → IsForest f → IsElement f p → IsCopy f g id → h ≡ reparented p (Some id) g → MayMove (end_of p) (Node id) h

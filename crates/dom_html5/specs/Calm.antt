@@ -15,9 +15,9 @@ use Rattle.dom_markup.specs.Numbered.{document_of}
 use Rattle.dom_markup.specs.Plain.{Represents}
 use Rattle.dom_markup.specs.ValueTrees.{Attribute, ValueTrees}
 use Rattle.dom_markup.specs.ValueTrees.ValueTrees.{no_trees, text_node, comment_node, doctype_node, element_node}
-use Rattle.dom_html5.specs.ElementKinds.{holds_flow, kind_of, may_hold}
+use Rattle.dom_html5.specs.ElementKinds.{holds_flow, holds_parts, kind_of, may_hold}
 use Rattle.dom_html5.specs.declared.calm.element_kinds.Kind.{Kind}
-use Rattle.dom_html5.specs.declared.calm.element_kinds.Kind.TheVariants.{Anchor, Block, Button, ColumnGroup, DescriptionList, Document, Form, Head, Heading, Html, ItemList, Paragraph, Pre, RowGroup, Table, TableRow, Verbatim}
+use Rattle.dom_html5.specs.declared.calm.element_kinds.Kind.TheVariants.{Anchor, Block, Button, DescriptionList, Document, Form, Heading, Html, ItemList, Paragraph, Pre, Table, Verbatim}
 use Rattle.dom_html5.specs.declared.calm.nesting.Scope.{Scope}
 use Rattle.dom_html5.specs.declared.reading.Options.{Options}
 
@@ -69,22 +69,12 @@ begins_line (b ∷ rest) = b == line_feed
 -- a child of such an element may be this text: whitespace alone where no text is shown
 abbrev pub may_hold_text : Kind → List ℕ → Bool
 may_hold_text Html contents = list_all is_whitespace contents
-may_hold_text Head contents = list_all is_whitespace contents
-may_hold_text Table contents = list_all is_whitespace contents
-may_hold_text ColumnGroup contents = list_all is_whitespace contents
-may_hold_text RowGroup contents = list_all is_whitespace contents
-may_hold_text TableRow contents = list_all is_whitespace contents
 may_hold_text Verbatim contents = not (has_close contents)
 may_hold_text Pre contents = not (begins_line contents)
-may_hold_text parent contents = holds_flow parent
+may_hold_text parent contents = if holds_parts parent then list_all is_whitespace contents else holds_flow parent
 
 abbrev pub holds_comments : Kind → Bool
-holds_comments Head = true
-holds_comments Table = true
-holds_comments ColumnGroup = true
-holds_comments RowGroup = true
-holds_comments TableRow = true
-holds_comments parent = holds_flow parent
+holds_comments parent = holds_parts parent || holds_flow parent
 
 abbrev pub may_hold_comment : Kind → List ℕ → Bool
 may_hold_comment parent contents = holds_comments parent && list_all (λ b. not (b == greater_than)) contents
@@ -144,10 +134,14 @@ abbrev pub is_plain_reference : List ℕ → Bool
 is_plain_reference after = begins after (codes "amp;") || begins after (codes "lt;") || begins after (codes "gt;")
     || begins after (codes "quot;") || begins after (codes "nbsp;") || is_bare after
 
+-- a tag of an element that holds foreign content
+abbrev pub begins_foreign : List ℕ → Bool
+begins_foreign after = begins after (codes "svg") || begins after (codes "math")
+
 -- a tag of an element that calm pages lack, of those that pages have most often
 abbrev pub begins_other_tag : List ℕ → Bool
-begins_other_tag after = begins after (codes "svg") || begins after (codes "math") || begins after (codes "select")
-    || begins after (codes "noscript") || begins after (codes "template") || begins after (codes "iframe")
+begins_other_tag after = begins_foreign after || begins after (codes "select") || begins after (codes "noscript")
+    || begins after (codes "template") || begins after (codes "iframe")
 
 abbrev pub is_calm_byte : ℕ → List ℕ → Bool
 is_calm_byte b after =

@@ -3,6 +3,8 @@ use Rattle.std.specs.Prelude.{ℕ, Bool, true, false, ◌&&◌, List, [], ◌∷
 use Rattle.dom_nodes.specs.Words.{is_among}
 use Rattle.dom_html5.specs.declared.calm.element_kinds.Kind.{Kind}
 use Rattle.dom_html5.specs.declared.calm.element_kinds.Kind.TheVariants.{Document, Html, Head, Body, Metadata, Verbatim, Phrase, Anchor, Button, Paragraph, Block, Heading, Form, Pre, ItemList, Item, DescriptionList, Description, Table, Caption, ColumnGroup, Column, RowGroup, TableRow, Cell, Other}
+use Rattle.dom_html5.specs.declared.calm.element_kinds.Role.{Role}
+use Rattle.dom_html5.specs.declared.calm.element_kinds.Role.TheVariants.{Flow, FlowHolder, FlowLeaf, FlowTable, Parts, Apart}
 
 -- the names of the elements of a kind
 unfoldable pub names_of : Kind → List (List ℕ)
@@ -45,40 +47,42 @@ kind_among name (kind ∷ kinds) = if is_among name (names_of kind) then kind el
 unfoldable pub kind_of : List ℕ → Kind
 kind_of name = kind_among name named_kinds
 
+-- what the elements of a kind are to the contents of a body
+abbrev pub role_of : Kind → Role
+role_of Phrase = Flow
+role_of Anchor = Flow
+role_of Button = Flow
+role_of Paragraph = Flow
+role_of Block = Flow
+role_of Heading = Flow
+role_of Form = Flow
+role_of Pre = Flow
+role_of ItemList = Flow
+role_of DescriptionList = Flow
+role_of Body = FlowHolder
+role_of Item = FlowHolder
+role_of Description = FlowHolder
+role_of Caption = FlowHolder
+role_of Cell = FlowHolder
+role_of Verbatim = FlowLeaf
+role_of Table = FlowTable
+role_of Head = Parts
+role_of ColumnGroup = Parts
+role_of RowGroup = Parts
+role_of TableRow = Parts
+role_of _ = Apart
+
 -- the elements that hold what a body holds
 abbrev pub holds_flow : Kind → Bool
-holds_flow Body = true
-holds_flow Phrase = true
-holds_flow Anchor = true
-holds_flow Button = true
-holds_flow Paragraph = true
-holds_flow Block = true
-holds_flow Heading = true
-holds_flow Form = true
-holds_flow Pre = true
-holds_flow ItemList = true
-holds_flow Item = true
-holds_flow DescriptionList = true
-holds_flow Description = true
-holds_flow Caption = true
-holds_flow Cell = true
-holds_flow _ = false
+holds_flow kind = elim (role_of kind) [ Flow ↦ true | FlowHolder ↦ true | FlowLeaf ↦ false | FlowTable ↦ false | Parts ↦ false | Apart ↦ false ]
 
 -- the elements that may stand where a body's contents may
 abbrev pub is_flow : Kind → Bool
-is_flow Verbatim = true
-is_flow Phrase = true
-is_flow Anchor = true
-is_flow Button = true
-is_flow Paragraph = true
-is_flow Block = true
-is_flow Heading = true
-is_flow Form = true
-is_flow Pre = true
-is_flow ItemList = true
-is_flow DescriptionList = true
-is_flow Table = true
-is_flow _ = false
+is_flow kind = elim (role_of kind) [ Flow ↦ true | FlowHolder ↦ false | FlowLeaf ↦ true | FlowTable ↦ true | Parts ↦ false | Apart ↦ false ]
+
+-- the elements that hold elements of certain kinds, whitespace and comments alone
+abbrev pub holds_parts : Kind → Bool
+holds_parts kind = elim (role_of kind) [ Flow ↦ false | FlowHolder ↦ false | FlowLeaf ↦ false | FlowTable ↦ true | Parts ↦ true | Apart ↦ false ]
 
 -- whether an element of the second kind may be a child of one of the first
 abbrev pub may_hold : Kind → Kind → Bool

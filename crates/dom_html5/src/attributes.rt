@@ -19,23 +19,21 @@ fn namespace(ns: Ns) -> Namespace {
     }
 }
 
-/// The name of a tag's element.
-pub fn element_name(alloc: Global, ns: Ns, name: Name, tag: &Tag) -> Result<QualName, PageFault> {
-    let written = match ns {
+/// The local name of a tag's element.
+fn local_name(ns: Ns, name: Name, tag: &Tag) -> &str {
+    match ns {
         Ns::Svg => svg_tag(tag.name.as_str()),
         Ns::Html if name == Name::Img => "img",
         _ => tag.name.as_str(),
-    };
-    let local = LocalName::new(alloc, written)?;
-    let name = QualName::new(
-        alloc,
-        NameParts {
-            prefix: None,
-            ns: namespace(ns),
-            local,
-        },
-    )?;
-    Ok(name)
+    }
+}
+
+/// The name of a tag's element.
+pub fn element_name(alloc: Global, ns: Ns, name: Name, tag: &Tag) -> Result<QualName, PageFault> {
+    let local = LocalName::new(alloc, local_name(ns, name, tag))?;
+    let prefix = None;
+    let ns = namespace(ns);
+    Ok(QualName::new(alloc, NameParts { prefix, ns, local })?)
 }
 
 /// The attributes that foreign content has in a namespace, as they are written.
@@ -88,14 +86,21 @@ fn qualified(alloc: Global, name: &str) -> Result<QualName, PageFault> {
     Ok(QualName::new(alloc, NameParts { prefix, ns, local })?)
 }
 
-fn attr_name(alloc: Global, ns: Ns, name: &str) -> Result<QualName, PageFault> {
-    let adjusted = match ns {
+/// The name of an attribute in no namespace, as foreign content writes it.
+fn adjusted_attr(ns: Ns, name: &str) -> &str {
+    match ns {
         Ns::Html => name,
-        _ if is_one_of(name, &NAMESPACED) => return qualified(alloc, name),
         Ns::Svg => svg_attr(name),
         Ns::MathMl => mathml_attr(name),
-    };
-    Ok(QualName::plain(LocalName::new(alloc, adjusted)?))
+    }
+}
+
+fn attr_name(alloc: Global, ns: Ns, name: &str) -> Result<QualName, PageFault> {
+    if ns != Ns::Html && is_one_of(name, &NAMESPACED) {
+        return qualified(alloc, name);
+    }
+    let local = LocalName::new(alloc, adjusted_attr(ns, name))?;
+    Ok(QualName::plain(local))
 }
 
 /// An attribute of a tag's element.

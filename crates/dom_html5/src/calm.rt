@@ -10,7 +10,7 @@ ghost use Rattle.dom_markup.specs.FaultKinds.{IsLimitFault};
 ghost use Rattle.dom_markup.specs.Numbered.{document_of};
 ghost use Rattle.dom_markup.specs.ValueTrees.{ValueTrees};
 
-mod element_kinds;
+pub mod element_kinds;
 mod nesting;
 mod texts;
 

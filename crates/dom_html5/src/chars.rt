@@ -251,15 +251,7 @@ impl TreeBuilder {
             self.original = self.mode;
             return self.again_in(Mode::InTableText);
         }
-        self.fostered_run(kind, text)
-    }
-
-    /// Characters by the rules for "in body", with foster parenting.
-    fn fostered_run(&mut self, kind: Run, text: &str) -> Next {
-        self.placing.foster = true;
-        let step = self.body_run(kind, text);
-        self.placing.foster = false;
-        step
+        self.fostered(Token::Run(kind, text))
     }
 
     /// Adds to the pending table characters.
@@ -291,6 +283,6 @@ impl TreeBuilder {
         if !self.table_text_has_letters {
             return self.put_text(text);
         }
-        self.fostered_run(Run::Letters, text);
+        self.fostered(Token::Run(Run::Letters, text));
     }
 }

@@ -60,6 +60,15 @@ impl TreeBuilder {
         }
     }
 
+    /// Reads a token by the rules for "in body".
+    fn body_step(&mut self, token: Token<'_>) -> Next {
+        match token {
+            Token::Tag(name, tag) => self.body_tag(name, tag),
+            Token::Run(kind, text) => self.body_run(kind, text),
+            Token::End => Next::Done,
+        }
+    }
+
     fn tag_step(&mut self, name: Name, tag: &Tag) -> Next {
         if self.is_tag_foreign(tag.kind, name) {
             self.foreign_tag(name, tag)

@@ -1,5 +1,6 @@
 //! The names of elements that rules of tree construction name.
 
+use crate::calm::element_kinds::Kind;
 use dom_nodes::name::LocalName;
 
 /// The name of an element; `Other` stands for all that no rule names.
@@ -137,45 +138,70 @@ pub enum Name {
 /// How many names there are, with `Other`.
 pub const COUNT: usize = 127;
 
-/// What each name is that the tree knows by a number.
+/// A name that no rule names.
+const NEITHER: (Name, Kind) = (Name::Other, Kind::Other);
+
+/// Each name that the tree knows by a number, and the kind of its elements, in order of the numbers.
 #[rattlefmt::skip]
-static KNOWN: [Name; 247] = [
-    Name::Other, Name::A, Name::B, Name::Other, Name::I, Name::P, Name::Other, Name::S, Name::U,
-    Name::Br, Name::Dd, Name::Dl, Name::Dt, Name::Em, Name::H1, Name::H2, Name::H3, Name::H4,
-    Name::H5, Name::H6, Name::Hr, Name::Other, Name::Li, Name::Ol, Name::Rp, Name::Rt, Name::Td,
-    Name::Th, Name::Tr, Name::Tt, Name::Ul, Name::Other, Name::Other, Name::Other, Name::Big,
-    Name::Col, Name::Other, Name::Other, Name::Dir, Name::Div, Name::Other, Name::Img,
-    Name::Other, Name::Other, Name::Other, Name::Other, Name::Other, Name::Other, Name::Nav,
-    Name::Pre, Name::Other, Name::Other, Name::Other, Name::Sub, Name::Sup, Name::Svg, Name::Var,
-    Name::Wbr, Name::Xmp, Name::Abbr, Name::Area, Name::Base, Name::Body, Name::Other, Name::Code,
-    Name::Other, Name::Other, Name::Other, Name::Font, Name::Form, Name::Head, Name::Other,
-    Name::Html, Name::Other, Name::Link, Name::Other, Name::Main, Name::Other, Name::Menu,
-    Name::Meta, Name::Other, Name::Nobr, Name::Other, Name::Other, Name::Ruby, Name::Other,
-    Name::Other, Name::Other, Name::Span, Name::Other, Name::Other, Name::Other, Name::Other,
-    Name::Other, Name::Other, Name::Aside, Name::Other, Name::Other, Name::Other, Name::Other,
-    Name::Other, Name::Other, Name::Other, Name::Embed, Name::Frame, Name::Input, Name::Other,
-    Name::Label, Name::Other, Name::Other, Name::Other, Name::Other, Name::Param, Name::Other,
-    Name::Other, Name::Other, Name::Small, Name::Other, Name::Style, Name::Table, Name::Tbody,
-    Name::Tfoot, Name::Thead, Name::Title, Name::Track, Name::Other, Name::Other, Name::Other,
-    Name::Other, Name::Other, Name::Other, Name::Applet, Name::Other, Name::Button, Name::Other,
-    Name::Center, Name::Other, Name::Dialog, Name::Figure, Name::Footer, Name::Header,
-    Name::Other, Name::Hgroup, Name::Other, Name::Iframe, Name::Other, Name::Keygen, Name::Other,
-    Name::Other, Name::Object, Name::Other, Name::Option, Name::Output, Name::Other, Name::Script,
-    Name::Search, Name::Select, Name::Source, Name::Other, Name::Other, Name::Strike, Name::Other,
-    Name::Strong, Name::Other, Name::Other, Name::Other, Name::Other, Name::Address,
-    Name::Article, Name::Other, Name::Bgsound, Name::Caption, Name::Other, Name::Other,
-    Name::Other, Name::Other, Name::Other, Name::Details, Name::Other, Name::Other, Name::Other,
-    Name::Marquee, Name::Noembed, Name::Other, Name::Other, Name::Other, Name::Other, Name::Other,
-    Name::Other, Name::Section, Name::Summary, Name::Other, Name::Other, Name::Basefont,
-    Name::Colgroup, Name::Other, Name::Other, Name::Other, Name::Other, Name::Other, Name::Other,
-    Name::Other, Name::Fieldset, Name::Frameset, Name::Other, Name::Other, Name::Other,
-    Name::Menuitem, Name::Other, Name::Noframes, Name::Noscript, Name::Optgroup, Name::Other,
-    Name::Other, Name::Other, Name::Other, Name::Other, Name::Other, Name::Template,
-    Name::Textarea, Name::Other, Name::Other, Name::Other, Name::Other, Name::Other, Name::Other,
-    Name::Plaintext, Name::Other, Name::Other, Name::Blockquote, Name::Figcaption, Name::Other,
-    Name::Other, Name::Other, Name::Other, Name::Other, Name::Other, Name::Other, Name::Other,
-    Name::Other, Name::Other, Name::Other, Name::Other, Name::Other, Name::Other, Name::Other,
-    Name::Other,
+pub static KNOWN: [(Name, Kind); 247] = [
+    NEITHER, (Name::A, Kind::Anchor), (Name::B, Kind::Phrase), NEITHER, (Name::I, Kind::Phrase),
+    (Name::P, Kind::Paragraph), (Name::Other, Kind::Phrase), (Name::S, Kind::Phrase),
+    (Name::U, Kind::Phrase), (Name::Br, Kind::Phrase), (Name::Dd, Kind::Description),
+    (Name::Dl, Kind::DescriptionList), (Name::Dt, Kind::Description), (Name::Em, Kind::Phrase),
+    (Name::H1, Kind::Heading), (Name::H2, Kind::Heading), (Name::H3, Kind::Heading),
+    (Name::H4, Kind::Heading), (Name::H5, Kind::Heading), (Name::H6, Kind::Heading),
+    (Name::Hr, Kind::Block), NEITHER, (Name::Li, Kind::Item), (Name::Ol, Kind::ItemList),
+    (Name::Rp, Kind::Other), (Name::Rt, Kind::Other), (Name::Td, Kind::Cell),
+    (Name::Th, Kind::Cell), (Name::Tr, Kind::TableRow), (Name::Tt, Kind::Phrase),
+    (Name::Ul, Kind::ItemList), NEITHER, (Name::Other, Kind::Phrase), (Name::Other, Kind::Phrase),
+    (Name::Big, Kind::Phrase), (Name::Col, Kind::Column), (Name::Other, Kind::Phrase),
+    (Name::Other, Kind::Phrase), (Name::Dir, Kind::ItemList), (Name::Div, Kind::Block), NEITHER,
+    (Name::Img, Kind::Phrase), (Name::Other, Kind::Phrase), (Name::Other, Kind::Phrase), NEITHER,
+    (Name::Other, Kind::Phrase), NEITHER, NEITHER, (Name::Nav, Kind::Block), (Name::Pre, Kind::Pre),
+    NEITHER, NEITHER, NEITHER, (Name::Sub, Kind::Phrase), (Name::Sup, Kind::Phrase),
+    (Name::Svg, Kind::Other), (Name::Var, Kind::Phrase), (Name::Wbr, Kind::Phrase),
+    (Name::Xmp, Kind::Other), (Name::Abbr, Kind::Phrase), (Name::Area, Kind::Phrase),
+    (Name::Base, Kind::Metadata), (Name::Body, Kind::Body), (Name::Other, Kind::Phrase),
+    (Name::Code, Kind::Phrase), NEITHER, (Name::Other, Kind::Phrase), NEITHER,
+    (Name::Font, Kind::Phrase), (Name::Form, Kind::Form), (Name::Head, Kind::Head), NEITHER,
+    (Name::Html, Kind::Html), NEITHER, (Name::Link, Kind::Metadata), NEITHER,
+    (Name::Main, Kind::Block), (Name::Other, Kind::Phrase), (Name::Menu, Kind::ItemList),
+    (Name::Meta, Kind::Metadata), NEITHER, (Name::Nobr, Kind::Other), NEITHER, NEITHER,
+    (Name::Ruby, Kind::Other), (Name::Other, Kind::Phrase), NEITHER, (Name::Other, Kind::Phrase),
+    (Name::Span, Kind::Phrase), NEITHER, (Name::Other, Kind::Phrase), NEITHER, NEITHER, NEITHER,
+    NEITHER, (Name::Aside, Kind::Block), NEITHER, (Name::Other, Kind::Phrase), NEITHER, NEITHER,
+    NEITHER, NEITHER, NEITHER, (Name::Embed, Kind::Phrase), (Name::Frame, Kind::Other),
+    (Name::Input, Kind::Phrase), NEITHER, (Name::Label, Kind::Phrase), NEITHER,
+    (Name::Other, Kind::Phrase), NEITHER, NEITHER, (Name::Param, Kind::Other), NEITHER, NEITHER,
+    NEITHER, (Name::Small, Kind::Phrase), NEITHER, (Name::Style, Kind::Verbatim),
+    (Name::Table, Kind::Table), (Name::Tbody, Kind::RowGroup), (Name::Tfoot, Kind::RowGroup),
+    (Name::Thead, Kind::RowGroup), (Name::Title, Kind::Verbatim), (Name::Track, Kind::Phrase),
+    NEITHER, (Name::Other, Kind::Phrase), NEITHER, NEITHER, NEITHER, NEITHER,
+    (Name::Applet, Kind::Other), NEITHER, (Name::Button, Kind::Button), (Name::Other, Kind::Phrase),
+    (Name::Center, Kind::Block), NEITHER, (Name::Dialog, Kind::Block), (Name::Figure, Kind::Block),
+    (Name::Footer, Kind::Block), (Name::Header, Kind::Block), NEITHER, (Name::Hgroup, Kind::Block),
+    NEITHER, (Name::Iframe, Kind::Other), NEITHER, (Name::Keygen, Kind::Other),
+    (Name::Other, Kind::Phrase), NEITHER, (Name::Object, Kind::Other), NEITHER,
+    (Name::Option, Kind::Other), (Name::Output, Kind::Phrase), NEITHER,
+    (Name::Script, Kind::Verbatim), (Name::Search, Kind::Block), (Name::Select, Kind::Other),
+    (Name::Source, Kind::Phrase), NEITHER, NEITHER, (Name::Strike, Kind::Phrase), NEITHER,
+    (Name::Strong, Kind::Phrase), NEITHER, NEITHER, NEITHER, (Name::Other, Kind::Phrase),
+    (Name::Address, Kind::Block), (Name::Article, Kind::Block), NEITHER,
+    (Name::Bgsound, Kind::Other), (Name::Caption, Kind::Caption), NEITHER, NEITHER, NEITHER,
+    NEITHER, NEITHER, (Name::Details, Kind::Block), NEITHER, NEITHER, NEITHER,
+    (Name::Marquee, Kind::Other), (Name::Noembed, Kind::Other), NEITHER, NEITHER,
+    (Name::Other, Kind::Phrase), NEITHER, NEITHER, NEITHER, (Name::Section, Kind::Block),
+    (Name::Summary, Kind::Block), NEITHER, NEITHER, (Name::Basefont, Kind::Other),
+    (Name::Colgroup, Kind::ColumnGroup), NEITHER, NEITHER, (Name::Other, Kind::Phrase), NEITHER,
+    NEITHER, NEITHER, NEITHER, (Name::Fieldset, Kind::Block), (Name::Frameset, Kind::Other),
+    NEITHER, NEITHER, NEITHER, (Name::Menuitem, Kind::Other), NEITHER,
+    (Name::Noframes, Kind::Other), (Name::Noscript, Kind::Other), (Name::Optgroup, Kind::Other),
+    (Name::Other, Kind::Phrase), NEITHER, NEITHER, NEITHER, NEITHER, NEITHER,
+    (Name::Template, Kind::Other), (Name::Textarea, Kind::Other), NEITHER, NEITHER, NEITHER,
+    NEITHER, NEITHER, NEITHER, (Name::Plaintext, Kind::Other), NEITHER, NEITHER,
+    (Name::Blockquote, Kind::Block), (Name::Figcaption, Kind::Block), NEITHER, NEITHER, NEITHER,
+    NEITHER, NEITHER, NEITHER, NEITHER, NEITHER, NEITHER, NEITHER, NEITHER, NEITHER, NEITHER,
+    NEITHER, NEITHER, NEITHER,
 ];
 
 /// The names that the tree knows by no number.
@@ -201,10 +227,7 @@ impl Name {
     /// The name that a local name in lower case is.
     pub fn of(local: &LocalName) -> Name {
         match local.number() {
-            Some(number) => KNOWN
-                .get(usize::from(number))
-                .copied()
-                .unwrap_or(Name::Other),
+            Some(number) => KNOWN[number as usize].0,
             None => Name::rare(local.as_str()),
         }
     }

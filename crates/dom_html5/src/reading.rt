@@ -101,9 +101,8 @@ fn reads_calm(options: Options) -> bool
 fn parse_any_page(alloc: Global, source: &str, options: Options) -> Result<Document, PageFault>
     ensures { IfOk result (λ document. IsPage document.tree) }
 {
-    let mut parser = PageParser::new(alloc, options)?;
-    parser.feed(source)?;
-    parser.finish()
+    let parser = PageParser::new(alloc, options)?;
+    parser.read_whole(source)
 }
 
 /// The document that a page in UTF-8 stands for. A byte order mark at its beginning is dropped, and
@@ -136,9 +135,8 @@ pub fn parse_page_fragment(
     context: Context<'_>,
     options: Options,
 ) -> Result<Document, PageFault> {
-    let mut parser = PageParser::for_fragment(alloc, context, options)?;
-    parser.feed(source)?;
-    parser.finish()
+    let parser = PageParser::for_fragment(alloc, context, options)?;
+    parser.read_whole(source)
 }
 
 /// The document that was read, in the shape of a page.
@@ -176,6 +174,15 @@ impl PageParser {
             reader,
             is_fragment: true,
         })
+    }
+
+    /// The document of a text that is one piece.
+    fn read_whole(self, source: &str) -> Result<Document, PageFault>
+        ensures { ReadsPage self → IfOk result (λ document. IsPage document.tree) }
+    {
+        let mut parser = self;
+        parser.feed(source)?;
+        parser.finish()
     }
 
     /// Reads the next piece of the text; the pieces may be cut anywhere. After an `Err` nothing is
@@ -244,13 +251,19 @@ impl PageReader {
     fn read_end(&mut self) -> Result<(), PageFault> {
         self.builder.settled()?;
         self.read_waiting();
+        self.read_last()?;
+        self.builder.end();
+        self.builder.note_errors(&self.tokens.take_errors());
+        self.builder.settled()
+    }
+
+    /// Reads the token that the end of the text ends, and the last characters.
+    fn read_last(&mut self) -> Result<(), PageFault> {
         if let Some(kind) = self.tokens.end_kind()? {
             self.token(kind);
         }
         self.builder.characters(self.tokens.text());
-        self.builder.end();
-        self.builder.note_errors(&self.tokens.take_errors());
-        self.builder.settled()
+        Ok(())
     }
 
     pub fn read(&mut self, piece: &str) {
@@ -299,13 +312,16 @@ impl PageReader {
     /// Puts what the token stands for into the tree.
     fn build(&mut self, kind: TokenKind) {
         match kind {
-            TokenKind::Tag => {
-                if let Some(tag) = self.tokens.tag() {
-                    self.builder.tag(tag);
-                }
-            }
+            TokenKind::Tag => self.build_tag(),
             TokenKind::Comment => self.builder.comment(self.tokens.comment()),
             TokenKind::Doctype => self.builder.doctype(self.tokens.doctype()),
+        }
+    }
+
+    /// Puts the element of a tag into the tree, or ends one.
+    fn build_tag(&mut self) {
+        if let Some(tag) = self.tokens.tag() {
+            self.builder.tag(tag);
         }
     }
 }

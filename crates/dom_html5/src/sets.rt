@@ -13,11 +13,12 @@ pub enum Scope {
     Select,
 }
 
-pub fn is_heading(name: Name) -> bool {
-    matches!(
-        name,
-        Name::H1 | Name::H2 | Name::H3 | Name::H4 | Name::H5 | Name::H6
-    )
+pub fn is_heading(open: &Open) -> bool {
+    open.ns == Ns::Html
+        && matches!(
+            open.name,
+            Name::H1 | Name::H2 | Name::H3 | Name::H4 | Name::H5 | Name::H6
+        )
 }
 
 fn ends_default_scope(open: &Open) -> bool {
@@ -57,6 +58,30 @@ impl Scope {
             Scope::Select => {
                 !(open.ns == Ns::Html && matches!(open.name, Name::Optgroup | Name::Option))
             }
+        }
+    }
+}
+
+/// What the elements of a table are put into: a table, a section of one, or a row; else a template or
+/// the outermost element.
+#[derive(Clone, Copy, Drop)]
+pub enum Context {
+    Table,
+    Section,
+    Row,
+}
+
+impl Context {
+    pub fn ends_at(self, open: &Open) -> bool {
+        if open.ns != Ns::Html {
+            return false;
+        }
+        match open.name {
+            Name::Html | Name::Template => true,
+            Name::Table => matches!(self, Context::Table),
+            Name::Tbody | Name::Tfoot | Name::Thead => matches!(self, Context::Section),
+            Name::Tr => matches!(self, Context::Row),
+            _ => false,
         }
     }
 }
@@ -103,20 +128,21 @@ pub fn is_crossed_by_items(open: &Open) -> bool {
 }
 
 /// Elements whose end tags are implied.
-pub fn has_implied_end(name: Name) -> bool {
-    matches!(
-        name,
-        Name::Dd
-            | Name::Dt
-            | Name::Li
-            | Name::Optgroup
-            | Name::Option
-            | Name::P
-            | Name::Rb
-            | Name::Rp
-            | Name::Rt
-            | Name::Rtc
-    )
+pub fn has_implied_end(open: &Open) -> bool {
+    open.ns == Ns::Html
+        && matches!(
+            open.name,
+            Name::Dd
+                | Name::Dt
+                | Name::Li
+                | Name::Optgroup
+                | Name::Option
+                | Name::P
+                | Name::Rb
+                | Name::Rp
+                | Name::Rt
+                | Name::Rtc
+        )
 }
 
 /// Start tags that end foreign content.

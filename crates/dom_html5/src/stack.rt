@@ -34,6 +34,15 @@ impl Open {
     }
 }
 
+/// The count with one more, or with one less.
+fn counted(count: u32, more: bool) -> u32 {
+    if more {
+        count.saturating_add(1)
+    } else {
+        count.saturating_sub(1)
+    }
+}
+
 /// The open elements, the outermost first, and how many HTML elements of each name are among them.
 #[derive(Drop)]
 pub struct OpenElements {
@@ -102,6 +111,14 @@ impl OpenElements {
         }
     }
 
+    /// Whether the body stands in the outermost element.
+    pub fn has_body(&self) -> bool {
+        match self.get(1) {
+            Some(open) => open.is_html(Name::Body),
+            None => false,
+        }
+    }
+
     fn count(&mut self, open: &Open, more: bool)
         ensures { self.new.elements ≡ self.old.elements }
     {
@@ -109,11 +126,7 @@ impl OpenElements {
             return;
         }
         if let Some(count) = self.counts.get_mut(open.name as usize) {
-            *count = if more {
-                count.saturating_add(1)
-            } else {
-                count.saturating_sub(1)
-            };
+            *count = counted(*count, more);
         }
     }
 
@@ -225,7 +238,7 @@ impl OpenElements {
         }
         for place in (0..self.elements.len()).rev() {
             let open = self.get(place)?;
-            if open.ns == Ns::Html && is_heading(open.name) {
+            if is_heading(&open) {
                 return Some(open.name);
             }
             if Scope::Default.ends_at(&open) {

@@ -2,10 +2,11 @@
 
 ghost use Rattle.std.specs.Prelude.{◌≡◌, map};
 ghost use Rattle.dom_html5.specs.Calm.{holds_comments, holds_doctype};
-ghost use Rattle.dom_html5.specs.ElementKinds.{holds_flow, is_flow, kind_among, kind_of};
-ghost use Rattle.dom_html5.specs.ElementKinds.{may_hold, names_of};
+ghost use Rattle.dom_html5.specs.ElementKinds.{holds_flow, holds_parts, is_flow, kind_among};
+ghost use Rattle.dom_html5.specs.ElementKinds.{kind_of, may_hold, names_of, role_of};
 ghost use Rattle.dom_nodes.specs.Words.{is_among};
 
+use crate::name::KNOWN;
 use dom_nodes::name::LocalName;
 use dom_nodes::words::is_one_of;
 
@@ -58,6 +59,23 @@ pub enum Kind {
     Other,
 }
 
+/// What an element is to the contents of a body.
+#[derive(Clone, Copy, Drop)]
+pub enum Role {
+    /// It stands among them, and holds them too.
+    Flow,
+    /// It holds them, and stands elsewhere.
+    FlowHolder,
+    /// It stands among them, and holds text alone.
+    FlowLeaf,
+    /// It stands among them, and holds parts of its own: elements, white space and comments.
+    FlowTable,
+    /// It holds such parts, and stands elsewhere.
+    Parts,
+    /// It has nothing to do with them.
+    Apart,
+}
+
 /// The kinds that have names.
 const NAMED: [Kind; 24] = [
     Kind::Html,
@@ -86,56 +104,13 @@ const NAMED: [Kind; 24] = [
     Kind::Cell,
 ];
 
-/// The kind of each name that the tree knows by a number.
-#[rattlefmt::skip]
-static KINDS: [Kind; 247] = [
-    Kind::Other, Kind::Anchor, Kind::Phrase, Kind::Other, Kind::Phrase, Kind::Paragraph,
-    Kind::Phrase, Kind::Phrase, Kind::Phrase, Kind::Phrase, Kind::Description,
-    Kind::DescriptionList, Kind::Description, Kind::Phrase, Kind::Heading, Kind::Heading,
-    Kind::Heading, Kind::Heading, Kind::Heading, Kind::Heading, Kind::Block, Kind::Other,
-    Kind::Item, Kind::ItemList, Kind::Other, Kind::Other, Kind::Cell, Kind::Cell, Kind::TableRow,
-    Kind::Phrase, Kind::ItemList, Kind::Other, Kind::Phrase, Kind::Phrase, Kind::Phrase,
-    Kind::Column, Kind::Phrase, Kind::Phrase, Kind::ItemList, Kind::Block, Kind::Other,
-    Kind::Phrase, Kind::Phrase, Kind::Phrase, Kind::Other, Kind::Phrase, Kind::Other, Kind::Other,
-    Kind::Block, Kind::Pre, Kind::Other, Kind::Other, Kind::Other, Kind::Phrase, Kind::Phrase,
-    Kind::Other, Kind::Phrase, Kind::Phrase, Kind::Other, Kind::Phrase, Kind::Phrase,
-    Kind::Metadata, Kind::Body, Kind::Phrase, Kind::Phrase, Kind::Other, Kind::Phrase, Kind::Other,
-    Kind::Phrase, Kind::Form, Kind::Head, Kind::Other, Kind::Html, Kind::Other, Kind::Metadata,
-    Kind::Other, Kind::Block, Kind::Phrase, Kind::ItemList, Kind::Metadata, Kind::Other,
-    Kind::Other, Kind::Other, Kind::Other, Kind::Other, Kind::Phrase, Kind::Other, Kind::Phrase,
-    Kind::Phrase, Kind::Other, Kind::Phrase, Kind::Other, Kind::Other, Kind::Other, Kind::Other,
-    Kind::Block, Kind::Other, Kind::Phrase, Kind::Other, Kind::Other, Kind::Other, Kind::Other,
-    Kind::Other, Kind::Phrase, Kind::Other, Kind::Phrase, Kind::Other, Kind::Phrase, Kind::Other,
-    Kind::Phrase, Kind::Other, Kind::Other, Kind::Other, Kind::Other, Kind::Other, Kind::Other,
-    Kind::Phrase, Kind::Other, Kind::Verbatim, Kind::Table, Kind::RowGroup, Kind::RowGroup,
-    Kind::RowGroup, Kind::Verbatim, Kind::Phrase, Kind::Other, Kind::Phrase, Kind::Other,
-    Kind::Other, Kind::Other, Kind::Other, Kind::Other, Kind::Other, Kind::Button, Kind::Phrase,
-    Kind::Block, Kind::Other, Kind::Block, Kind::Block, Kind::Block, Kind::Block, Kind::Other,
-    Kind::Block, Kind::Other, Kind::Other, Kind::Other, Kind::Other, Kind::Phrase, Kind::Other,
-    Kind::Other, Kind::Other, Kind::Other, Kind::Phrase, Kind::Other, Kind::Verbatim, Kind::Block,
-    Kind::Other, Kind::Phrase, Kind::Other, Kind::Other, Kind::Phrase, Kind::Other, Kind::Phrase,
-    Kind::Other, Kind::Other, Kind::Other, Kind::Phrase, Kind::Block, Kind::Block, Kind::Other,
-    Kind::Other, Kind::Caption, Kind::Other, Kind::Other, Kind::Other, Kind::Other, Kind::Other,
-    Kind::Block, Kind::Other, Kind::Other, Kind::Other, Kind::Other, Kind::Other, Kind::Other,
-    Kind::Other, Kind::Phrase, Kind::Other, Kind::Other, Kind::Other, Kind::Block, Kind::Block,
-    Kind::Other, Kind::Other, Kind::Other, Kind::ColumnGroup, Kind::Other, Kind::Other,
-    Kind::Phrase, Kind::Other, Kind::Other, Kind::Other, Kind::Other, Kind::Block, Kind::Other,
-    Kind::Other, Kind::Other, Kind::Other, Kind::Other, Kind::Other, Kind::Other, Kind::Other,
-    Kind::Other, Kind::Phrase, Kind::Other, Kind::Other, Kind::Other, Kind::Other, Kind::Other,
-    Kind::Other, Kind::Other, Kind::Other, Kind::Other, Kind::Other, Kind::Other, Kind::Other,
-    Kind::Other, Kind::Other, Kind::Other, Kind::Other, Kind::Block, Kind::Block, Kind::Other,
-    Kind::Other, Kind::Other, Kind::Other, Kind::Other, Kind::Other, Kind::Other, Kind::Other,
-    Kind::Other, Kind::Other, Kind::Other, Kind::Other, Kind::Other, Kind::Other, Kind::Other,
-    Kind::Other,
-];
-
 impl Kind {
     /// The kind of the elements of that name.
     pub fn of(name: &LocalName) -> Kind
         ensures { result ≡ kind_of name.now }
     {
         match name.number() {
-            Some(number) => KINDS[number as usize],
+            Some(number) => KNOWN[number as usize].1,
             None => Kind::of_text(name.as_str()),
         }
     }
@@ -231,49 +206,50 @@ impl Kind {
         }
     }
 
+    /// What elements of this kind are to the contents of a body.
+    fn role(self) -> Role
+        ensures { result ≡ role_of self }
+    {
+        match self {
+            Kind::Phrase
+            | Kind::Anchor
+            | Kind::Button
+            | Kind::Paragraph
+            | Kind::Block
+            | Kind::Heading
+            | Kind::Form
+            | Kind::Pre
+            | Kind::ItemList
+            | Kind::DescriptionList => Role::Flow,
+            Kind::Body | Kind::Item | Kind::Description | Kind::Caption | Kind::Cell => {
+                Role::FlowHolder
+            }
+            Kind::Verbatim => Role::FlowLeaf,
+            Kind::Table => Role::FlowTable,
+            Kind::Head | Kind::ColumnGroup | Kind::RowGroup | Kind::TableRow => Role::Parts,
+            _ => Role::Apart,
+        }
+    }
+
     /// Whether such elements hold what a body holds.
     pub fn holds_flow(self) -> bool
         ensures { result ≡ holds_flow self }
     {
-        matches!(
-            self,
-            Kind::Body
-                | Kind::Phrase
-                | Kind::Anchor
-                | Kind::Button
-                | Kind::Paragraph
-                | Kind::Block
-                | Kind::Heading
-                | Kind::Form
-                | Kind::Pre
-                | Kind::ItemList
-                | Kind::Item
-                | Kind::DescriptionList
-                | Kind::Description
-                | Kind::Caption
-                | Kind::Cell
-        )
+        matches!(self.role(), Role::Flow | Role::FlowHolder)
     }
 
     /// Whether such elements may stand where a body's contents may.
     pub fn is_flow(self) -> bool
         ensures { result ≡ is_flow self }
     {
-        matches!(
-            self,
-            Kind::Verbatim
-                | Kind::Phrase
-                | Kind::Anchor
-                | Kind::Button
-                | Kind::Paragraph
-                | Kind::Block
-                | Kind::Heading
-                | Kind::Form
-                | Kind::Pre
-                | Kind::ItemList
-                | Kind::DescriptionList
-                | Kind::Table
-        )
+        matches!(self.role(), Role::Flow | Role::FlowLeaf | Role::FlowTable)
+    }
+
+    /// Whether such elements hold elements of certain kinds, white space and comments alone.
+    pub fn holds_parts(self) -> bool
+        ensures { result ≡ holds_parts self }
+    {
+        matches!(self.role(), Role::FlowTable | Role::Parts)
     }
 
     /// Whether an element of the other kind may be a child of one of this kind.
@@ -299,10 +275,7 @@ impl Kind {
     pub fn holds_comments(self) -> bool
         ensures { result ≡ holds_comments self }
     {
-        match self {
-            Kind::Head | Kind::Table | Kind::ColumnGroup | Kind::RowGroup | Kind::TableRow => true,
-            _ => self.holds_flow(),
-        }
+        self.holds_parts() || self.holds_flow()
     }
 
     /// Whether a doctype may stand there.

@@ -118,14 +118,10 @@ fn holds_text(parent: Kind, contents: &str) -> bool
     ensures { result ≡ may_hold_text parent contents.now }
 {
     match parent {
-        Kind::Html
-        | Kind::Head
-        | Kind::Table
-        | Kind::ColumnGroup
-        | Kind::RowGroup
-        | Kind::TableRow => is_whitespace(contents),
+        Kind::Html => is_whitespace(contents),
         Kind::Verbatim => !has_close(contents),
         Kind::Pre => !begins_line(contents),
+        _ if parent.holds_parts() => is_whitespace(contents),
         _ => parent.holds_flow(),
     }
 }

@@ -89,9 +89,18 @@ impl GrowingTree {
                 self.remove_formatting(formatting.id);
                 return Ok(true);
             };
-            self.adopt_once(place, furthest, foster)?;
+            let bookmark = self.bookmark_at(formatting.id);
+            self.adopt_once(place, furthest, bookmark, foster)?;
         }
         Ok(true)
+    }
+
+    /// The bookmark where the entry of an element stands.
+    fn bookmark_at(&self, id: NodeId) -> Bookmark {
+        Bookmark {
+            index: self.formatting.index_of(id).unwrap_or(0),
+            renewed: false,
+        }
     }
 
     /// One round of the outer loop, with the places of the formatting element and of the furthest
@@ -101,18 +110,13 @@ impl GrowingTree {
         &mut self,
         place: usize,
         furthest_place: usize,
+        bookmark: Bookmark,
         foster: bool,
     ) -> Result<(), PageFault> {
-        let Some(formatting) = self.stack.get(place) else {
-            return Ok(());
-        };
         let Some(furthest) = self.stack.get(furthest_place) else {
             return Ok(());
         };
-        let mut bookmark = Bookmark {
-            index: self.formatting.index_of(formatting.id).unwrap_or(0),
-            renewed: false,
-        };
+        let mut bookmark = bookmark;
         let mut round: usize = 0;
         for node_place in (place.saturating_add(1)..furthest_place).rev() {
             round = round.saturating_add(1);

@@ -121,25 +121,30 @@ fn create(
     made(tree.create_element(name, attrs, flags))
 }
 
+/// What is particular of the element of a tag: whether it is a template, or an `annotation-xml` whose
+/// encoding is HTML.
+fn flags_of(ns: Ns, name: Name, tag: &Tag) -> ElementFlags {
+    ElementFlags {
+        template: ns == Ns::Html && name == Name::Template,
+        mathml_annotation_xml_integration_point: holds_html(ns, name, tag),
+    }
+}
+
 /// Makes the element of a tag; it stands alone.
 fn create_for(tree: &mut Tree, ns: Ns, name: Name, tag: &Tag) -> Result<Open, PageFault>
     ensures ok { IfOk result (λ made. IsMade tree.old tree.new made.id) }
     ensures err { OnErr result (tree.new ≡ tree.old) }
 {
     let alloc = tree.allocator();
+    let flags = flags_of(ns, name, tag);
     let attrs = attrs_of(alloc, ns, tag.attrs.as_slice())?;
-    let name_in_tree = element_name(alloc, ns, name, tag)?;
-    let holds_html = holds_html(ns, name, tag);
-    let flags = ElementFlags {
-        template: ns == Ns::Html && name == Name::Template,
-        mathml_annotation_xml_integration_point: holds_html,
-    };
-    let id = create(tree, name_in_tree, attrs, flags)?;
+    let written = element_name(alloc, ns, name, tag)?;
+    let id = create(tree, written, attrs, flags)?;
     Ok(Open {
         id,
         ns,
         name,
-        holds_html,
+        holds_html: flags.mathml_annotation_xml_integration_point,
     })
 }
 
@@ -178,9 +183,11 @@ fn copied(tree: &Tree, id: NodeId) -> Result<Element, PageFault>
 /// The same element again, alone: its name and attributes.
 fn copy_of(tree: &mut Tree, element: Open) -> Result<Open, PageFault>
     requires { IsElement tree.old element.id }
+    ensures forest { IsForest tree.old }
     ensures ok { IfOk result (λ copy. IsCopy tree.old tree.new copy.id) }
     ensures err { OnErr result (tree.new ≡ tree.old) }
 {
+    is_forest(tree);
     let copy = copied(tree, element.id)?;
     let flags = ElementFlags {
         template: false,
@@ -202,7 +209,6 @@ pub fn put_copy(tree: &mut Tree, gap: Gap, element: Open) -> Result<Open, PageFa
     ensures grows { Grows tree.old tree.new }
     ensures element { IfOk result (λ copy. IsFresh tree.old tree.new copy.id) }
 {
-    is_forest(tree);
     let copy = copy_of(tree, element)?;
     move_to(tree, gap, copy.id);
     Ok(copy)
@@ -216,7 +222,6 @@ pub fn put_into_copy(tree: &mut Tree, element: Open, id: NodeId) -> Result<Open,
     ensures grows { Grows tree.old tree.new }
     ensures element { IfOk result (λ copy. IsAround tree.old tree.new copy.id id) }
 {
-    is_forest(tree);
     let copy = copy_of(tree, element)?;
     move_to(tree, Gap::EndOf(copy.id), id);
     Ok(copy)
@@ -233,7 +238,6 @@ pub fn put_children_into_copy(
     ensures grows { Grows tree.old tree.new }
     ensures element { IfOk result (λ copy. IsInside tree.old tree.new copy.id parent) }
 {
-    is_forest(tree);
     let copy = copy_of(tree, element)?;
     reparent(tree, parent, copy.id);
     is_forest(tree);

@@ -1,6 +1,6 @@
 //! The appropriate place for inserting a node.
 
-ghost use Rattle.std.specs.Prelude.{◌≡◌, List, ℕ, true};
+ghost use Rattle.std.specs.Prelude.{◌≡◌, IfSome, List, ℕ, true};
 ghost use Rattle.dom_links.specs.Sound.{IsOpenGap, children_allowed_at};
 ghost use Rattle.dom_links.specs.Sound.{AtOrBelow, target};
 ghost use Rattle.dom_html5.specs.Elements.{AreOpen, IsElement, IsPlace, IsRooted};
@@ -82,17 +82,6 @@ fn root_place(tree: &Tree) -> Place
     Place::EndOf(tree.root_id())
 }
 
-/// The place of the last table or template.
-fn last_table(elements: &[Open]) -> Option<usize> {
-    for place in (0..elements.len()).rev() {
-        let open = elements.get(place)?;
-        if open.is_html(Name::Table) || open.is_html(Name::Template) {
-            return Some(place);
-        }
-    }
-    None
-}
-
 /// Where foster parenting puts a node: before the last table, or into a template behind it.
 fn foster_place(tree: &Tree, elements: &[Open]) -> Place
     requires root { IsRooted tree.now }
@@ -100,22 +89,29 @@ fn foster_place(tree: &Tree, elements: &[Open]) -> Place
     ensures place { IsPlace tree.now result }
     ensures lies { LiesAt tree.now elements.now result }
 {
-    let Some(place) = last_table(elements) else {
-        return bottom_place(tree, elements);
-    };
-    let Some(table) = elements.get(place) else {
-        return bottom_place(tree, elements);
-    };
-    if table.is_html(Name::Template) {
-        return Place::EndOf(inside(tree, table.id));
-    }
-    if place == 0 {
-        return bottom_place(tree, elements);
-    }
-    match elements.get(place.saturating_sub(1)) {
-        Some(other) => Place::Table(table.id, other.id),
+    match table_place(tree, elements) {
+        Some(place) => place,
         None => bottom_place(tree, elements),
     }
+}
+
+/// Before the last table, if an element is open below it; or in a template behind it.
+fn table_place(tree: &Tree, elements: &[Open]) -> Option<Place>
+    requires { AreOpen tree.now elements.now }
+    ensures place { IfSome result (IsPlace tree.now) }
+    ensures lies { IfSome result (LiesAt tree.now elements.now) }
+{
+    for place in (0..elements.len()).rev() {
+        let open = elements.get(place)?;
+        if open.is_html(Name::Template) {
+            return Some(Place::EndOf(inside(tree, open.id)));
+        }
+        if open.is_html(Name::Table) {
+            let other = elements.get(place.checked_sub(1)?)?;
+            return Some(Place::Table(open.id, other.id));
+        }
+    }
+    None
 }
 
 /// The end of the element `html`, or of the root where nothing is open.

@@ -6,7 +6,7 @@ use super::GrowingTree;
 use crate::fault::PageFault;
 use crate::formatting::Entry;
 use crate::name::Name;
-use crate::sets::{Scope, has_implied_end, is_special};
+use crate::sets::{Context, Scope, has_implied_end, is_special};
 use crate::stack::{Ns, Open};
 use dom_nodes::node_id::NodeId;
 
@@ -153,22 +153,17 @@ impl GrowingTree {
     pub fn generate_implied_end_tags(&mut self, except: Option<Name>) {
         for _ in 0..self.stack.len() {
             match self.stack.current() {
-                Some(open)
-                    if open.ns == Ns::Html
-                        && has_implied_end(open.name)
-                        && Some(open.name) != except => {
-                    self.pop();
-                }
+                Some(open) if has_implied_end(&open) && Some(open.name) != except => self.pop(),
                 _ => return,
             }
         }
     }
 
-    /// Pops elements up to one of these names, which stays.
-    pub fn clear_to(&mut self, names: &[Name]) {
+    /// Pops elements up to one that ends the context, which stays.
+    pub fn clear_to(&mut self, context: Context) {
         for _ in 0..self.stack.len() {
             match self.stack.current() {
-                Some(open) if open.ns == Ns::Html && names.contains(&open.name) => return,
+                Some(open) if context.ends_at(&open) => return,
                 _ => self.pop(),
             }
         }

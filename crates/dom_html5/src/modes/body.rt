@@ -95,10 +95,7 @@ impl TreeBuilder {
     }
 
     fn start_body(&mut self, tag: &Tag) -> Next {
-        if let Some(body) = self.tree.open().get(1)
-            && body.is_html(Name::Body)
-            && !self.tree.open().has(Name::Template)
-        {
+        if self.tree.open().has_body() && !self.tree.open().has(Name::Template) {
             self.frameset_ok = false;
             self.add_attrs(1, tag);
         }
@@ -106,21 +103,17 @@ impl TreeBuilder {
     }
 
     fn start_frameset(&mut self, tag: &Tag) -> Next {
-        if let Some(body) = self.tree.open().get(1)
-            && body.is_html(Name::Body)
-            && self.frameset_ok
-        {
-            self.tree.cut_out(1);
-            self.tree.truncate(1);
-            return self.insert_then(Name::Frameset, tag, Mode::InFrameset);
+        if !self.frameset_ok || !self.tree.open().has_body() {
+            return Next::Done;
         }
-        Next::Done
+        self.tree.cut_out(1);
+        self.tree.truncate(1);
+        self.insert_then(Name::Frameset, tag, Mode::InFrameset)
     }
 
     fn start_heading(&mut self, name: Name, tag: &Tag) -> Next {
         if let Some(open) = self.tree.open().current()
-            && open.ns == Ns::Html
-            && is_heading(open.name)
+            && is_heading(&open)
         {
             self.tree.pop();
         }

@@ -1,10 +1,10 @@
 //! The insertion modes of tables.
 
-use super::{is_start, next_if};
+use super::{Token, is_start, next_if};
 use crate::attributes::is_hidden;
 use crate::builder::{Mode, Next, TreeBuilder};
 use crate::name::Name;
-use crate::sets::Scope;
+use crate::sets::{Context, Scope};
 use html5_tokens::token::Tag;
 
 /// Whether an element stands between a table and its cells, or is a cell.
@@ -33,20 +33,6 @@ fn is_dropped_end(name: Name) -> bool {
     )
 }
 
-/// Where the elements of a table are put: into a table, a section of one, a row; or into a template
-/// or the outermost element.
-static TABLE_CONTEXT: [Name; 3] = [Name::Table, Name::Template, Name::Html];
-
-static SECTION_CONTEXT: [Name; 5] = [
-    Name::Tbody,
-    Name::Tfoot,
-    Name::Thead,
-    Name::Template,
-    Name::Html,
-];
-
-static ROW_CONTEXT: [Name; 3] = [Name::Tr, Name::Template, Name::Html];
-
 impl TreeBuilder {
     /// A tag by the rules for "in table".
     pub fn table_tag(&mut self, name: Name, tag: &Tag) -> Next {
@@ -60,7 +46,7 @@ impl TreeBuilder {
             }
             Name::Template => self.end_template(),
             _ if is_dropped_end(name) || is_table_part(name) => Next::Done,
-            _ => self.fostered(name, tag),
+            _ => self.fostered(Token::Tag(name, tag)),
         }
     }
 
@@ -74,9 +60,9 @@ impl TreeBuilder {
     }
 
     /// What doesn't belong into a table is read by the rules for "in body", with foster parenting.
-    fn fostered(&mut self, name: Name, tag: &Tag) -> Next {
+    pub fn fostered(&mut self, token: Token<'_>) -> Next {
         self.placing.foster = true;
-        let step = self.body_tag(name, tag);
+        let step = self.body_step(token);
         self.placing.foster = false;
         step
     }
@@ -88,14 +74,14 @@ impl TreeBuilder {
         match name {
             Name::Table => next_if(self.end_table()),
             Name::Style | Name::Script | Name::Template => self.head_element(name, tag),
-            Name::Input if is_hidden(tag) => self.insert_void(name, tag),
+            Name::Input => self.start_table_input(name, tag),
             Name::Form => self.start_table_form(tag),
-            _ => self.fostered(name, tag),
+            _ => self.fostered(Token::Tag(name, tag)),
         }
     }
 
     fn start_table_part(&mut self, name: Name, tag: &Tag) -> Next {
-        self.tree.clear_to(&TABLE_CONTEXT);
+        self.tree.clear_to(Context::Table);
         match name {
             Name::Caption => {
                 self.push_marker();
@@ -106,6 +92,13 @@ impl TreeBuilder {
             Name::Td | Name::Th | Name::Tr => self.imply(Name::Tbody, "tbody", Mode::InTableBody),
             _ => self.insert_then(name, tag, Mode::InTableBody),
         }
+    }
+
+    fn start_table_input(&mut self, name: Name, tag: &Tag) -> Next {
+        if is_hidden(tag) {
+            return self.insert_void(name, tag);
+        }
+        self.fostered(Token::Tag(name, tag))
     }
 
     fn start_table_form(&mut self, tag: &Tag) -> Next {
@@ -182,7 +175,7 @@ impl TreeBuilder {
     }
 
     fn end_section(&mut self) {
-        self.tree.clear_to(&SECTION_CONTEXT);
+        self.tree.clear_to(Context::Section);
         self.tree.pop();
         self.mode = Mode::InTable;
     }
@@ -216,11 +209,11 @@ impl TreeBuilder {
     fn table_body_start(&mut self, name: Name, tag: &Tag) -> Next {
         match name {
             Name::Tr => {
-                self.tree.clear_to(&SECTION_CONTEXT);
+                self.tree.clear_to(Context::Section);
                 self.insert_then(name, tag, Mode::InRow)
             }
             Name::Th | Name::Td => {
-                self.tree.clear_to(&SECTION_CONTEXT);
+                self.tree.clear_to(Context::Section);
                 self.imply(Name::Tr, "tr", Mode::InRow)
             }
             _ if is_table_part(name) => self.leave_section(),
@@ -233,7 +226,7 @@ impl TreeBuilder {
         if !self.tree.open().in_scope(Name::Tr, Scope::Table) {
             return Next::Done;
         }
-        self.tree.clear_to(&ROW_CONTEXT);
+        self.tree.clear_to(Context::Row);
         self.tree.pop();
         self.mode = Mode::InTableBody;
         Next::Again
@@ -271,7 +264,7 @@ impl TreeBuilder {
     }
 
     fn start_cell(&mut self, name: Name, tag: &Tag) -> Next {
-        self.tree.clear_to(&ROW_CONTEXT);
+        self.tree.clear_to(Context::Row);
         self.insert(name, tag);
         self.push_marker();
         self.done_in(Mode::InCell)
@@ -294,24 +287,32 @@ impl TreeBuilder {
 
     pub fn cell_tag(&mut self, name: Name, tag: &Tag) -> Next {
         if is_start(tag) {
-            if !is_table_part(name) {
-                return self.body_tag(name, tag);
+            return self.cell_start(name, tag);
+        }
+        match name {
+            Name::Table | Name::Tr => self.leave_cell_in(name),
+            _ if is_section(name) => self.leave_cell_in(name),
+            _ if is_cell(name) => {
+                self.end_cell(name);
+                Next::Done
             }
+            _ if is_dropped_end(name) => Next::Done,
+            _ => self.body_tag(name, tag),
+        }
+    }
+
+    fn cell_start(&mut self, name: Name, tag: &Tag) -> Next {
+        if is_table_part(name) {
             return self.leave_cell();
         }
-        if is_cell(name) {
-            self.end_cell(name);
-            return Next::Done;
+        self.body_tag(name, tag)
+    }
+
+    /// Ends the cell that is open, if it lies in an element of that name.
+    fn leave_cell_in(&mut self, name: Name) -> Next {
+        if self.tree.open().in_scope(name, Scope::Table) {
+            return self.leave_cell();
         }
-        if is_dropped_end(name) {
-            return Next::Done;
-        }
-        if name != Name::Table && name != Name::Tr && !is_section(name) {
-            return self.body_tag(name, tag);
-        }
-        if !self.tree.open().in_scope(name, Scope::Table) {
-            return Next::Done;
-        }
-        self.leave_cell()
+        Next::Done
     }
 }
