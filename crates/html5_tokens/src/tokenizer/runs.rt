@@ -206,12 +206,18 @@ pub fn run_len(run: Run, text: &str) -> usize
     ensures text { run ≡ Run.Text → IsRun text.now → result ≡ length text.now }
 {
     match run {
-        Run::Text => return text_len(text),
-        Run::TagName => return tag_name_len(text),
-        Run::AttrName => return attr_name_len(text),
-        Run::AttrValue(Quote::Double) => return value_len(text),
-        _ => {}
+        Run::Text => text_len(text),
+        Run::TagName => tag_name_len(text),
+        Run::AttrName => attr_name_len(text),
+        Run::AttrValue(Quote::Double) => value_len(text),
+        _ => other_len(run, text),
     }
+}
+
+/// The same of a run that has no function of its own.
+fn other_len(run: Run, text: &str) -> usize
+    ensures { IsCharBoundary text.now result }
+{
     let bytes = text.as_bytes();
     let skipped = match run {
         Run::Raw => skip(bytes, *b"\0\r<<"),
@@ -254,11 +260,7 @@ impl Tokenizer {
 
     /// Reads a text up to the end of the first token in it, which is put there, and returns what
     /// follows that. Errors where memory is refused.
-    pub fn read_token<'a>(
-        &mut self,
-        text: &'a str,
-        token: &mut Option<Token>,
-    ) -> Result<&'a str, AllocError>
+    pub fn read_token<'a>(&mut self, text: &'a str, token: &mut Option<Token>) -> Rest<'a>
         ensures text { ReadsRun self.old self.new text.now token.old token.new result }
         ensures plain_tag { TakesPlainTag self.old self.new text.now token.new result }
     {
@@ -271,11 +273,7 @@ impl Tokenizer {
     /// Reads a text up to the end of the first token in it, and returns what follows that. The kind
     /// of the token is put there; the token itself is lent, as by [`Tokenizer::tag`]. Errors where
     /// memory is refused.
-    pub fn read_kind<'a>(
-        &mut self,
-        text: &'a str,
-        kind: &mut Option<TokenKind>,
-    ) -> Result<&'a str, AllocError>
+    pub fn read_kind<'a>(&mut self, text: &'a str, kind: &mut Option<TokenKind>) -> Rest<'a>
         ensures text { ReadsRun self.old self.new text.now kind.old kind.new result }
         ensures plain_tag { ReadsPlainTag self.old self.new text.now kind.new result }
     {
@@ -384,9 +382,7 @@ impl Tokenizer {
             return Ok(text);
         };
         let made = self.step(c)?;
-        if let Some(made) = self.settled(made)? {
-            *kind = Some(made);
-        }
+        *kind = self.settled(made)?;
         self.offset = self.offset.saturating_add(c.len_utf8());
         Ok(after)
     }
@@ -414,8 +410,9 @@ impl Tokenizer {
         ensures { run ≡ Run.Text → OnOk result (AddsText self.old self.new front.now) }
     {
         match run {
-            Run::Text | Run::Raw | Run::Plaintext | Run::Escaped => append(&mut self.text, front),
-            Run::Cdata => append(&mut self.text, front),
+            Run::Text | Run::Raw | Run::Plaintext | Run::Escaped | Run::Cdata => {
+                append(&mut self.text, front)
+            }
             Run::DoctypeId(id, _) => self.push_id(id, front),
             Run::Comment | Run::BogusComment => append(&mut self.comment, front),
             Run::TagName => append(&mut self.tag.name, front),
