@@ -71,13 +71,6 @@ struct PlainAttr<'a> {
     rest: &'a str,
 }
 
-/// A value in double quotes, behind the first of them, and what follows the second.
-#[inline(always)]
-fn quoted_doubly(text: &str) -> Option<(&str, &str)> {
-    let (value, rest) = text.split_at(value_len(text));
-    Some((value, behind(b'"', rest)?))
-}
-
 /// A value in single quotes, behind the first of them, and what follows the second.
 fn quoted_singly(text: &str) -> Option<(&str, &str)> {
     let (value, rest) = text.split_at(run_len(Run::AttrValue(Quote::Single), text));
@@ -99,7 +92,8 @@ fn unquoted(text: &str) -> Option<(&str, &str)> {
 #[inline(always)]
 fn plain_value(text: &str) -> Option<(&str, &str)> {
     if let Some(inner) = behind(b'"', text) {
-        return quoted_doubly(inner);
+        let (value, rest) = inner.split_at(value_len(inner));
+        return Some((value, behind(b'"', rest)?));
     }
     match behind(b'\'', text) {
         Some(inner) => quoted_singly(inner),
@@ -107,25 +101,23 @@ fn plain_value(text: &str) -> Option<(&str, &str)> {
     }
 }
 
-/// The value behind the name of an attribute, and what follows it; empty where there is none.
-#[inline(always)]
-fn value_behind(text: &str) -> Option<(&str, &str)> {
-    if let Some(written) = behind(b'=', text) {
-        return plain_value(written);
-    }
-    let rest = skip_spaces(text);
-    match first_byte(rest) {
-        0 | b'\r' | b'=' | b'"' | b'\'' | b'<' => None,
-        _ => Some(("", rest)),
-    }
-}
-
 /// The attribute at the front of a text.
 #[inline(always)]
 fn plain_attr(text: &str) -> Option<PlainAttr<'_>> {
     let (name, rest) = text.split_at(attr_name_len(text));
-    let (value, rest) = value_behind(rest)?;
-    Some(PlainAttr { name, value, rest })
+    if let Some(written) = behind(b'=', rest) {
+        let (value, rest) = plain_value(written)?;
+        return Some(PlainAttr { name, value, rest });
+    }
+    let rest = skip_spaces(rest);
+    if matches!(first_byte(rest), 0 | b'\r' | b'=' | b'"' | b'\'' | b'<') {
+        return None;
+    }
+    Some(PlainAttr {
+        name,
+        value: "",
+        rest,
+    })
 }
 
 /// The kind of a tag, and the text from its name on, where a letter follows `<` or `</`.

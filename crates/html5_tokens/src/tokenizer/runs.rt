@@ -206,18 +206,12 @@ pub fn run_len(run: Run, text: &str) -> usize
     ensures text { run ≡ Run.Text → IsRun text.now → result ≡ length text.now }
 {
     match run {
-        Run::Text => text_len(text),
-        Run::TagName => tag_name_len(text),
-        Run::AttrName => attr_name_len(text),
-        Run::AttrValue(Quote::Double) => value_len(text),
-        _ => other_len(run, text),
+        Run::Text => return text_len(text),
+        Run::TagName => return tag_name_len(text),
+        Run::AttrName => return attr_name_len(text),
+        Run::AttrValue(Quote::Double) => return value_len(text),
+        _ => {}
     }
-}
-
-/// The same of a run that has no function of its own.
-fn other_len(run: Run, text: &str) -> usize
-    ensures { IsCharBoundary text.now result }
-{
     let bytes = text.as_bytes();
     let skipped = match run {
         Run::Raw => skip(bytes, *b"\0\r<<"),
