@@ -13,6 +13,8 @@ use url::ParseError;
 pub enum Fault {
     Memory,
     TooManyNodes,
+    /// A word of the command line isn't UTF-8.
+    Argument,
     /// The text at this place of the command line is no selector.
     Selector {
         place: &'static str,
@@ -37,6 +39,7 @@ impl fmt::Display for Fault {
         match self {
             Fault::Memory => f.write_str("out of memory"),
             Fault::TooManyNodes => f.write_str("too many nodes"),
+            Fault::Argument => f.write_str("an argument isn't UTF-8"),
             Fault::Selector { place, fault } => write!(f, "{place}: {fault}"),
             Fault::Base(fault) => write!(f, "--base: {fault}"),
             Fault::File(fault) => write!(f, "{fault}"),

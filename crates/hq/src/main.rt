@@ -17,7 +17,7 @@ use faults::{Fault, report, report_in};
 use options::Options;
 use pages::print_file;
 use std::env;
-use std::io::{BufWriter, Write};
+use std::io::{BufWriter, ErrorKind, Write};
 use std::process::ExitCode;
 
 /// The status where something matched.
@@ -30,24 +30,27 @@ const UNMATCHED: u8 = 1;
 const FAULTY: u8 = 2;
 
 fn main(rt: HostRuntime) -> ExitCode {
-    let Ok(args) = env::args(&rt) else {
-        let _ = eprintln!(rt; "hq: an argument isn't UTF-8");
-        return ExitCode::from(FAULTY);
-    };
-    let Ok(words) = args.collect::<Vec<String>>(rt.alloc()) else {
-        return ExitCode::from(failed(&rt, &Fault::Memory));
-    };
-    match obey(&rt, words.as_slice()) {
+    match obey(&rt) {
         Ok(status) => ExitCode::from(status),
         Err(fault) => ExitCode::from(failed(&rt, &fault)),
     }
 }
 
-/// Does what the words ask for, and gives the status.
-fn obey(rt: &HostRuntime, words: &[String]) -> Result<u8, Fault> {
-    match command(rt.alloc())?.try_get_matches_from(words) {
+/// Does what the command line asks for, and gives the status.
+fn obey(rt: &HostRuntime) -> Result<u8, Fault> {
+    let words = words_of(rt)?;
+    match command(rt.alloc())?.try_get_matches_from(words.as_slice()) {
         Ok(matches) => print_files(rt, &Options::new(rt.alloc(), &matches)?),
         Err(refused) => Ok(show(rt, &refused)),
+    }
+}
+
+/// The words of the command line, the program's name first.
+fn words_of(rt: &HostRuntime) -> Result<Vec<String>, Fault> {
+    match env::args(rt) {
+        Ok(words) => Ok(words.collect(rt.alloc())?),
+        Err(fault) if fault.kind() == ErrorKind::OutOfMemory => Err(Fault::Memory),
+        Err(_) => Err(Fault::Argument),
     }
 }
 

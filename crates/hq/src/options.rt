@@ -151,23 +151,25 @@ fn matcher_of(alloc: Global, text: &str, place: &'static str) -> Result<Matcher,
     }
 }
 
+/// The flags of which one says what is shown.
+static SHOWN: [(&str, Show<'static>); 5] = [
+    ("html", Show::Html),
+    ("inner", Show::Inner),
+    ("text", Show::Text),
+    ("md", Show::Markdown),
+    ("count", Show::Count),
+];
+
 fn show_of<'a>(matches: &ArgMatches<'a>) -> Show<'a> {
     if let Some(name) = matches.get_str("attr") {
         return Show::Attr(name);
     }
-    if matches.get_flag("text") {
-        return Show::Text;
+    for (name, show) in &SHOWN {
+        if matches.get_flag(name) {
+            return *show;
+        }
     }
-    if matches.get_flag("inner") {
-        return Show::Inner;
-    }
-    if matches.get_flag("md") {
-        return Show::Markdown;
-    }
-    if matches.get_flag("count") {
-        return Show::Count;
-    }
-    if matches.get_flag("json") && !matches.get_flag("html") {
+    if matches.get_flag("json") {
         return Show::All;
     }
     Show::Html

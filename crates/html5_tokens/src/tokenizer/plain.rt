@@ -180,11 +180,12 @@ impl Tokenizer {
                 Some((kind, named)) => self.read_plain_tag(kind, named, read),
                 None => self.read_plain_reference(text),
             },
-            State::Rcdata => self.read_plain_reference(text),
+            State::Rcdata | State::Attribute(AttrState::Quoted(_)) => {
+                self.read_plain_reference(text)
+            }
             State::Attribute(AttrState::BeforeName | AttrState::AfterQuoted) => {
                 self.read_plain_attrs(text, read)
             }
-            State::Attribute(AttrState::Quoted(_)) => self.read_plain_reference(text),
             _ => Ok(text),
         }
     }

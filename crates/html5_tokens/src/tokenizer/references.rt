@@ -64,10 +64,7 @@ fn with_digit(number: u32, base: u32, digit: u32) -> u32
 
 /// The number with one more digit, or the first one of a number.
 fn number_with(number: Option<u32>, base: u32, digit: u32) -> Reference {
-    let number = match number {
-        Some(number) => with_digit(number, base, digit),
-        None => digit,
-    };
+    let number = with_digit(number.unwrap_or(0), base, digit);
     match base {
         16 => Reference::Hex(number),
         _ => Reference::Decimal(number),

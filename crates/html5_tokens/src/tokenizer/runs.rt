@@ -254,11 +254,7 @@ impl Tokenizer {
 
     /// Reads a text up to the end of the first token in it, which is put there, and returns what
     /// follows that. Errors where memory is refused.
-    pub fn read_token<'a>(
-        &mut self,
-        text: &'a str,
-        token: &mut Option<Token>,
-    ) -> Result<&'a str, AllocError>
+    pub fn read_token<'a>(&mut self, text: &'a str, token: &mut Option<Token>) -> Rest<'a>
         ensures text { ReadsRun self.old self.new text.now token.old token.new result }
         ensures plain_tag { TakesPlainTag self.old self.new text.now token.new result }
     {
@@ -271,11 +267,7 @@ impl Tokenizer {
     /// Reads a text up to the end of the first token in it, and returns what follows that. The kind
     /// of the token is put there; the token itself is lent, as by [`Tokenizer::tag`]. Errors where
     /// memory is refused.
-    pub fn read_kind<'a>(
-        &mut self,
-        text: &'a str,
-        kind: &mut Option<TokenKind>,
-    ) -> Result<&'a str, AllocError>
+    pub fn read_kind<'a>(&mut self, text: &'a str, kind: &mut Option<TokenKind>) -> Rest<'a>
         ensures text { ReadsRun self.old self.new text.now kind.old kind.new result }
         ensures plain_tag { ReadsPlainTag self.old self.new text.now kind.new result }
     {
@@ -384,9 +376,7 @@ impl Tokenizer {
             return Ok(text);
         };
         let made = self.step(c)?;
-        if let Some(made) = self.settled(made)? {
-            *kind = Some(made);
-        }
+        *kind = self.settled(made)?;
         self.offset = self.offset.saturating_add(c.len_utf8());
         Ok(after)
     }
@@ -414,8 +404,9 @@ impl Tokenizer {
         ensures { run ≡ Run.Text → OnOk result (AddsText self.old self.new front.now) }
     {
         match run {
-            Run::Text | Run::Raw | Run::Plaintext | Run::Escaped => append(&mut self.text, front),
-            Run::Cdata => append(&mut self.text, front),
+            Run::Text | Run::Raw | Run::Plaintext | Run::Escaped | Run::Cdata => {
+                append(&mut self.text, front)
+            }
             Run::DoctypeId(id, _) => self.push_id(id, front),
             Run::Comment | Run::BogusComment => append(&mut self.comment, front),
             Run::TagName => append(&mut self.tag.name, front),
