@@ -58,7 +58,7 @@ pub fn edit(rt: &HostRuntime, tree: &Tree, line: &str) -> Option<()> {
     edit_nodes(&mut nodes, call, node_of(target)?, node_of(moved)?)?;
     match Tree::from_nodes(nodes) {
         Ok(edited) => show_tree(rt, word, &edited),
-        Err((_, fault)) => show(rt, "from_nodes", fault),
+        Err((_nodes, fault)) => show(rt, "from_nodes", fault),
     }
     Some(())
 }
