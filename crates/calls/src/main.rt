@@ -24,6 +24,7 @@ mod selections;
 mod sinks;
 mod streams;
 mod texts;
+mod tour;
 mod trees;
 mod values;
 mod walking;
@@ -152,6 +153,7 @@ fn write(rt: &HostRuntime, group: &str, line: &str) -> Option<()> {
         "fence" => texts::measure_fence(rt, line),
         "mark" => texts::read_mark(rt, line),
         "faults" => faults::print_all(rt),
+        "tour" => return tour::print_all(rt).ok(),
         "web" => web::read(rt, line),
         "web-row" => web::read_row(rt, line),
         "web-tokens" => web::cut_stretches(rt, line),

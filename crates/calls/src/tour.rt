@@ -1,6 +1,5 @@
 //! The snippets of README.md, docs/API.md, docs/SINK.md and docs/PAGES.md, one after the other, and
 //! small whole programs over the library. `check` compares the documents with these files.
-#![tactic(auto)]
 
 mod article;
 mod changing;
@@ -14,7 +13,7 @@ mod parens;
 mod reading;
 mod writing;
 
-use fault::TourFault;
+use crate::tour::fault::TourFault;
 use std::alloc::Global;
 use std::io::Write;
 
@@ -36,7 +35,8 @@ fn print_programs<W: Write>(alloc: Global, out: &mut W) -> Result<(), TourFault>
     pages::print_page(alloc, pages::PAGE, out)
 }
 
-fn main(rt: HostRuntime) -> Result<(), TourFault> {
+/// Prints what all of them print.
+pub fn print_all(rt: &HostRuntime) -> Result<(), TourFault> {
     let mut out = rt.stdout();
     print_snippets(rt.alloc(), &mut out)?;
     print_programs(rt.alloc(), &mut out)
