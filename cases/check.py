@@ -1,7 +1,7 @@
 """The test command. It runs the gate, `rt ci`, which proves every crate from nothing and runs every test, and beside it
 tries the must-fail edits over each crate that the gate has proved (cases/edits.py). Then it runs the program that the
 gate built on the cases in cases/ and on streams that fail, compares the snippets of the documents with the
-crate `tour`, and tries the callers that must not compile. Its last line counts all, and its status is 0
+snippets of crate `calls`, and tries the callers that must not compile. Its last line counts all, and its status is 0
 where nothing failed. `check --cases` leaves the gate and the edits out. What an earlier run on this machine showed of the
 same files is kept; `check --anew` shows all again.
 
@@ -17,7 +17,7 @@ trees. What the line `sanitize` leaves of random forests is compared with cases/
 what selectors select with what they select in another way (cases/ways.py).
 Which public functions the tests and programs call themselves is counted by cases/coverage.py.
 
-A snippet is a block of README.md, docs/API.md, docs/SINK.md or docs/PAGES.md: one of rust stands in a file of crates/tour/src, line for line
+A snippet is a block of README.md, docs/API.md, docs/SINK.md or docs/PAGES.md: one of rust stands in a file of crates/calls/src/tour, line for line
 but for its indentation, and one of text in its stdout, which the gate compares with what it prints.
 
 A caller that must not compile is a file cases/must-not-compile/NAME-WHAT.txt, a program that uses the crate NAME alone. One
@@ -207,10 +207,10 @@ def stands_in(block, text):
 
 
 def snippets():
-    """Compares the documents' snippets with the crate `tour`, and returns how many stand there and how many don't."""
-    crate = ROOT / "crates" / "tour"
+    """Compares the documents' snippets with those of the crate `calls`, and returns how many stand there and how many don't."""
+    crate = ROOT / "crates" / "calls"
     known = {
-        "rust": [file.read_text(encoding="utf-8") for file in sorted((crate / "src").glob("**/*.rt"))],
+        "rust": [file.read_text(encoding="utf-8") for file in sorted((crate / "src" / "tour").glob("*.rt"))],
         "text": [(crate / "stdout").read_text(encoding="utf-8")],
     }
     passed = failed = 0
@@ -220,7 +220,7 @@ def snippets():
                 passed += 1
             else:
                 failed += 1
-                print(f"{document.name}:{start}: this {kind or 'plain'} block isn't in crates/tour")
+                print(f"{document.name}:{start}: this {kind or 'plain'} block isn't in crates/calls/src/tour")
     print(f"snippets: {passed} passed, {failed} failed")
     return passed, failed if passed else failed + 1
 

@@ -4,7 +4,10 @@ is compared with that of the grammar in grammars.py: read, with the same result,
 documents have, and a place inside the text.
 
 Raw nodes: a tree of 7 nodes with each link changed to each other number, to none and to 99, and with two changes at random,
-are a forest exactly where the definition in docs/FOREST.md says so."""
+are a forest exactly where the definition in docs/FOREST.md says so.
+
+Pages: each of some texts in each beginning and with each character replaced, bytes that are no UTF-8, and random pages are one
+page by each way of reading them."""
 import random
 import re
 import subprocess
@@ -113,6 +116,8 @@ def texts(kind, whole):
     return len(inputs) - failed, failed
 
 
+# So many raw nodes are checked in a time that grows with their number alone.
+MANY_NODES = 20_000
 # A tree: what each node is, with its parent, the siblings before and after, and the first and last child. 0 holds 1, which
 # holds 2, 3 and 4; 2 is a template with the contents 5, which holds 6.
 TREE = (
@@ -222,6 +227,18 @@ def changed_trees():
         yield changed(forest, dice.randrange(7), dice.randint(1, 5), dice.choice(values))
 
 
+def many_nodes():
+    """Has a ring of MANY_NODES parents and so many nodes, each in the one before, asked; returns how many answers are right and wrong."""
+    ring = [f"element {number % MANY_NODES + 1} - - - -" for number in range(1, MANY_NODES + 1)]
+    nested = [f"element {number - 1} - - {number + 1} {number + 1}" for number in range(1, MANY_NODES)]
+    lone, last = "document - - - - -", f"element {MANY_NODES - 1} - - - -"
+    answers = asked(["raw"], [";".join([lone, *ring]), ";".join(["document - - - 1 1", *nested, last])])
+    wanted = ["Cycle true", "forest true true"]
+    if answers != wanted:
+        print(f"many raw nodes: {answers}"[:300])
+    return (len(wanted), 0) if answers == wanted else (0, len(wanted))
+
+
 def raw_nodes():
     """Has `from_nodes` and `validate` asked; returns how many answers are right and how many aren't."""
     trees = list(dict.fromkeys(changed_trees()))
@@ -239,8 +256,107 @@ def raw_nodes():
     return passed, len(trees) - passed if good else len(trees)
 
 
+# Texts of pages that go through every insertion mode; each character of them is replaced by each of PAGE_MARKS.
+PAGES = (
+    '<!DOCTYPE html PUBLIC "-//W3C//DTD HTML 4.01//EN" "strict.dtd"><!-- a --><html lang=en><head><title>A &amp; b</title><noscript>'
+    "<link rel=x><style>a>b</style></noscript></head> <body class=c>Text &notin; &#x41;</body><!-- b --></html><!-- c --> x",
+    "<table><caption>c<b>d</caption><colgroup><col span=2><tbody><tr><td>1<th>2<tr><td><table><tr><td>x</table>foster<i>ed</i>"
+    "<select><option>o<tr><td>y</select></table>tail",
+    "<html><head></head><frameset rows=*><frame src=a><frameset><frame></frameset><noframes><p>n</noframes></frameset> <!-- c -->"
+    "</html><noframes>x</noframes>",
+    "<template><tr><td>a<template><col></template></template><table><template><li>x</template><tr><template><caption>y<colgroup>",
+    "<p><b class=x><i><u>1<p>2</b>3</i><a href=1>4<a href=2>5<div>6</a>7</div><nobr>8<nobr>9</p>",
+    "<select><optgroup label=a><option>1<option>2<hr><optgroup><option>3<table><input><select>x</select></select><keygen><table><td>"
+    "<select><caption>z</table><textarea>\n a</textarea>",
+    "<svg viewbox='0 0 1 1' xlink:href=#a><foreignObject><p>x<math definitionurl=q><mi>y<mglyph></mglyph></mi><annotation-xml "
+    "encoding=text/html><b>z</annotation-xml></math></foreignObject><![CDATA[a]]b]]><desc>d<title>t</svg><font color=r>",
+    "<script><!--<script>x</script>--></script><style>a</sty</style><textarea></text</textarea><xmp><b></xmp><iframe><i></iframe>"
+    "<title></titl</title><plaintext></plaintext>&amp;",
+    "<!--><!---><!-- a--b --!><!x><?pi ?></ x><//><!DOCTYPE><!doctype a SYSTEM 'b'><a b=1 b=2 c='d' e=\"f\"g=h / i></a j=k/><=><a =x>"
+    "<![CDATA[n]]>&#0;&#x80;&#xD800;&#1114112;&ampx;&copy",
+    "<form><form><ul><li>a<li>b<ul><li>c</ul><dl><dt>d<dd>e</dl><h1>g<h2>h</h1></form><button>i<button>j</button><ruby>k<rb>l<rt>m"
+    "</ruby><marquee>o</p></marquee><applet>p</applet><image><hr></br><pre>\n q</pre><body x=y><html z=w>",
+)
+PAGE_MARKS = ("", "<", ">", "&", "\0", "/")
+# Bytes with a byte order mark, characters of each length, and what isn't UTF-8.
+PAGE_BYTES = (
+    b"",
+    b"\xef\xbb\xbf<p>Mat\xc3\xa9",
+    b"\xef\xbb\xbf\xef\xbb\xbf1",
+    b"\xef\xbb",
+    b"<p title='\xe2\x82\xac'>\xf0\x9d\x84\x9e</p>\xc3\xa9\xe2\x82\xac",
+    b"a\xc3<b>\xe2\x82</b>\xf0\x9d\x84x\xff\xfe",
+    b"\xe0\x80\x80\xed\xa0\x80\xf4\x90\x80\x80\xc0\xaf\xf8\x88",
+    b"\x80\x80\x80\x80\xf0\x9d\x84",
+)
+# Random pages of explicit markup: so many, and what they are made of, by the element around.
+RANDOM_PAGES = 4_000
+NAMES = "p div span b a i font ul ol menu dl li dd h1 h2 pre form button table table td tr section label address nobr select ruby svg"
+NAMES_IN = {name: "tr tr tr td" for name in ("tbody", "thead")} | {name: "li li li p" for name in ("ul", "ol", "menu")}
+NAMES_IN |= {"table": "tbody tbody caption colgroup tr thead b", "tr": "td td th p", "dl": "dt dd dd div"}
+LEAVES = ["t", "t", " ", "\n", "\nt", "a&amp;b", "a & b", "&lt;", "&nbsp;", "&eacute;", "&ltx", "a < b", "&#13;", "<!--c-->", "<!---->"]
+LEAVES += ["<!--a--!>b-->", "<br>", "<hr>", "<img src=x>", "<input>", "<wbr/>", "<style>a>b</style>", "<script>a<b</script>"]
+LEAVES += ["<title>t</title>"]
+LEAVES_IN = {name: [" ", "\n", "<!--c-->", "t"] for name in ("table", "tbody", "thead", "tr")} | {"colgroup": ["<col>", " ", "<!--c-->", "t"]}
+HEADS = ["", "<title>t&amp;</title> <meta charset=utf-8>", "\n<style>a&b</style><script>x<!--y</script>", "<base href=x><link rel=y><!--c-->"]
+HEADS += ["<noscript>x</noscript>", "t"]
+
+
+def random_page(dice):
+    """A page whose elements nest, calm or not."""
+    page, around = ["<!DOCTYPE html><html><head>", dice.choice(HEADS), "</head><body class=c>"], ["body"]
+    for _ in range(dice.randrange(12)):
+        kind = dice.randrange(4)
+        if kind == 0:
+            page.append(dice.choice(LEAVES_IN.get(around[-1], LEAVES)))
+        elif kind > 1:
+            around.append(dice.choice(NAMES_IN.get(around[-1], f"{NAMES} object template x-y").split()))
+            page.append(f"<{around[-1]}>")
+        elif len(around) > 1:
+            page.append(f"</{around.pop()}>")
+    return "".join([*page, *(f"</{name}>" for name in around[:0:-1]), "</body></html>"])
+
+
+def page_inputs():
+    """Every beginning of each text of PAGES, every text with one character replaced, bytes, and random pages."""
+    for text in PAGES:
+        for at in range(len(text)):
+            yield text[:at].encode()
+            yield from (f"{text[:at]}{mark}{text[at + 1 :]}".encode() for mark in PAGE_MARKS)
+    yield from PAGE_BYTES
+    dice = random.Random(7)
+    yield from (random_page(dice).encode() for _ in range(RANDOM_PAGES))
+
+
+def is_text(data):
+    try:
+        return bool(data.decode()) or not data
+    except UnicodeDecodeError:
+        return False
+
+
+def pages():
+    """Has pages read whole, with their errors noted, in pieces of some sizes, and with a text behind their bytes; returns how many are one page
+    by each way, and how many aren't. Noting errors, tags are read character by character; so, and in pieces, calm pages are read
+    by tree construction."""
+    inputs = list(dict.fromkeys(page_inputs()))
+    whole = dict(zip(inputs, asked(["pages", "whole"], [data.hex() for data in inputs])))
+    ended = dict(zip(PAGE_BYTES, asked(["pages", "whole"], [(data + "é".encode()).hex() for data in PAGE_BYTES])))
+    passed = failed = 0
+    ways = [("noted", [data for data in inputs if is_text(data)], whole), ("mixed", PAGE_BYTES, ended)]
+    for way, given, wanted in [*ways, *((size, inputs, whole) for size in ("1", "3", "64"))]:
+        answers = asked(["pages", way], [data.hex() for data in given])
+        wrong = [data for data, answer in zip(given, answers) if not answer.startswith("read ") or answer != wanted.get(data)]
+        for data in wrong[:3]:
+            print(f"hostile pages, {way}: {data!r} isn't the page that it is whole")
+        lacking = len(wrong) + len(given) - len(answers)
+        passed, failed = passed + len(given) - lacking, failed + lacking
+    print(f"hostile pages, each way: {passed} passed, {failed} failed")
+    return passed, failed if passed else failed + 1
+
+
 def hostile():
     """Returns how many inputs are answered as they must be, and how many aren't."""
     counted = [texts("markup", MARKUPS), texts("selector", SELECTORS), texts("path", PATHS), texts("script", SCRIPTS)]
-    counted.append(raw_nodes())
+    counted += [raw_nodes(), many_nodes(), pages()]
     return tuple(sum(column) for column in zip(*counted))

@@ -25,7 +25,7 @@ MANY = 3_000
 # The line of `calls` that prints all that the document holds.
 STATE = b"state"
 # The files of cases/calls whose lines are asked.
-FILES = "memory changes documents indexes minis moves reading sanitising selections selectors sinks texts values".split()
+FILES = "memory apart changes documents indexes minis moves pages reading sanitising selections selectors several sinks texts values".split()
 # What is asked in small address spaces, over so many paragraphs.
 LIMITED = [b"texts", b"print", b"clone", b"places", b"select p b", b"selection p, b", b"step b", b"find 0 p > b", b"to-fragment 0"]
 LIMITED += [b"htmls 0", b"md 0", b"walk 0", b"nodes 1,5,9 append_html " + b"<i>x</i>" * 2_000]
@@ -49,7 +49,7 @@ OF_NODES = "remove strip_elements remove_attr remove_attrs retain_attrs remove_a
 WITHOUT = {f"{group} {call}" for group, calls in (("move", OF_TREE), ("node", OF_NODE), ("nodes", OF_NODES)) for call in calls}
 WITHOUT |= {f"sink-change {call}" for call in ("reparent_children", "remove_from_parent")}
 WITHOUT |= {"change strip_elements_of", "change update_node", "sink-ask", "around", "count", "kinds", "named", "pseudos", "tokens"}
-WITHOUT |= {"fence", "mark", "faults", "position", "node-numbers", "state"}
+WITHOUT |= {"fence", "mark", "faults", "position", "node-numbers", "state", "apart-ask", "child", "options", "sizes"}
 
 
 def library(folder):

@@ -3,8 +3,12 @@
 //! cases/calls. `calls bulk WORD ..` makes many calls, of what standard input has.
 #![tactic(auto)]
 
+mod apart;
+mod arena;
 mod asking;
+mod building;
 mod bulk;
+mod caches;
 mod cleaning;
 mod css;
 mod faults;
@@ -18,10 +22,13 @@ mod reading;
 mod selecting;
 mod selections;
 mod sinks;
+mod streams;
 mod texts;
+mod tour;
 mod trees;
 mod values;
 mod walking;
+mod web;
 mod words;
 
 use crate::words::cut;
@@ -53,6 +60,7 @@ fn mend(rt: &HostRuntime, document: &mut Document, group: &str, line: &str) -> O
     match group {
         "sink-note" => sinks::note(rt, document, line),
         "normalize" => pages::normalize(rt, document),
+        "make-page" => web::shape(rt, &mut document.tree),
         _ => return read(rt, document, group, line),
     }
     Some(())
@@ -78,6 +86,7 @@ fn read(rt: &HostRuntime, document: &Document, group: &str, line: &str) -> Optio
         "combine" => selections::combine(rt, document, line),
         "selected" => selections::read(rt, document, line),
         "path" => minis::follow(rt, document, line),
+        "counted" => caches::count_tests(rt, &document.tree, line),
         _ => return read_nodes(rt, document, group, line),
     }
     Some(())
@@ -96,6 +105,11 @@ fn read_nodes(rt: &HostRuntime, document: &Document, group: &str, line: &str) ->
         "walk" => walking::walk(rt, tree, line),
         "count" => walking::count(rt, tree, line),
         "htmls" => pages::write_html(rt, tree, line),
+        "serialize" => streams::serialize(rt, tree, line),
+        "apart" => apart::change(rt, tree, line),
+        "apart-ask" => apart::ask(rt, tree, line),
+        "arena" => arena::edit(rt, tree, line),
+        "arena-ask" => arena::ask(rt, tree, line),
         "md" => texts::write_node(rt, tree, line),
         "without" => texts::write_without(rt, tree, line),
         "formatted" => texts::format(rt, tree, line),
@@ -116,6 +130,9 @@ fn ask(rt: &HostRuntime, tree: &Tree, group: &str, line: &str) -> Option<()> {
         "names" => minis::find_names(rt, tree, line),
         "mini-is" => minis::is_meant(rt, tree, line),
         "mini-ask" => minis::ask(rt, tree, line),
+        "child" => caches::find_child(rt, tree, line),
+        "matches" => caches::match_several(rt, tree, line),
+        "caches" => caches::index(rt, tree, line),
         _ => write(rt, group, line),
     }
 }
@@ -136,6 +153,13 @@ fn write(rt: &HostRuntime, group: &str, line: &str) -> Option<()> {
         "fence" => texts::measure_fence(rt, line),
         "mark" => texts::read_mark(rt, line),
         "faults" => faults::print_all(rt),
+        "tour" => return tour::print_all(rt).ok(),
+        "web" => web::read(rt, line),
+        "web-row" => web::read_row(rt, line),
+        "web-tokens" => web::cut_stretches(rt, line),
+        "build" => building::build(rt),
+        "options" => texts::print_options(rt),
+        "sizes" => values::print_sizes(rt),
         _ => return make(rt, group, line),
     }
     Some(())
@@ -152,6 +176,8 @@ fn make(rt: &HostRuntime, group: &str, line: &str) -> Option<()> {
         "raw" => bulk::batch::check_line(rt, line),
         "qual-names" => values::compare_names(rt, line),
         "node-numbers" => values::compare_numbers(rt, line),
+        "folded" => values::compare_folded(rt, line),
+        "copied" => values::copy_names(rt, line),
         "position" => faults::find_position(rt, line),
         _ => None,
     }

@@ -1,6 +1,6 @@
 //! Markdown and its pieces, and the tokens of a text.
 
-use crate::printing::{show, show_read};
+use crate::printing::{show, show_read, show_some};
 use crate::words::{cut, node_of, words_of};
 use dom_md::formatting::formatted_node;
 use dom_query::{
@@ -111,4 +111,27 @@ pub fn cut_tokens(rt: &HostRuntime, text: &str) {
 fn show_token(rt: &HostRuntime, token: &Token<'_>) -> Option<()> {
     let (kind, start, end) = (token.kind, token.start, token.end);
     println!(rt; "{kind:?} {start} {end}: {}", token.text).ok()
+}
+
+/// Options that are set one after the other, emphasis that is added, and marks of lists.
+pub fn print_options(rt: &HostRuntime) {
+    let plain = FormatOpts::new();
+    let (bold, cell) = (
+        plain.emphasis_scope(EmphasisScope::BOLD),
+        plain.table_cell(),
+    );
+    println!(rt; "{:?}", plain.include_node().skip_escape().inline()).ok();
+    println!(rt; "{:?}", cell.skip_md().list_item().link_body()).ok();
+    println!(rt; "{bold:?}").ok();
+    let both = EmphasisScope::none()
+        .insert(EmphasisScope::BOLD)
+        .insert(EmphasisScope::ITALIC);
+    println!(rt; "{both:?}").ok();
+    for (opts, kind) in &[
+        (cell, ListKind::Ul),
+        (plain, ListKind::Ul),
+        (plain, ListKind::Ol(1)),
+    ] {
+        show_some(rt, "mark", ListContext::new(*opts, *kind).mark());
+    }
 }

@@ -1,11 +1,16 @@
 //! What nodes hold: names, numbers, copies.
 
+use crate::apart::show_made;
 use crate::css::show_same;
 use crate::printing::{show, show_flags, show_some};
 use crate::sinks::{local_of, namespace_of};
 use crate::words::{cut, node_of};
-use dom_query::{Document, LocalName, NameParts, Namespace, NodeData, QualName, RareText, Tree};
+use dom_query::{
+    Attr, CaseSensitivity, Document, LocalName, NameParts, Namespace, NamespaceRef, NodeData,
+    OutOfMemory, QualName, RareText, Text, Tree, TreeNode,
+};
 use std::alloc::Global;
+use std::mem::size_of;
 
 /// All that a document holds.
 pub fn print_state(rt: &HostRuntime, document: &Document) {
@@ -88,4 +93,87 @@ pub fn compare_numbers(rt: &HostRuntime, line: &str) -> Option<()> {
     println!(rt; "{first:?} {second:?}").ok()?;
     show(rt, "below", first? < second?);
     Some(())
+}
+
+/// What a name is in lower case, and whether another and it are the same: `NAME NAME`.
+pub fn compare_folded(rt: &HostRuntime, line: &str) -> Option<()> {
+    let (word, second) = cut(line);
+    let other = LocalName::new(rt.alloc(), second).ok()?;
+    match LocalName::folded(rt.alloc(), word) {
+        Ok(name) => show_folded(rt, &name, &other),
+        Err(fault) => show(rt, "folded", fault),
+    }
+    let (word, second) = (word.as_bytes(), second.as_bytes());
+    let is_same = CaseSensitivity::CaseSensitive.is_same(word, second);
+    let is_alike = CaseSensitivity::AsciiCaseInsensitive.is_same(word, second);
+    show_flags(rt, &[("the same", is_same), ("without case", is_alike)]);
+    Some(())
+}
+
+fn show_folded(rt: &HostRuntime, name: &LocalName, other: &LocalName) {
+    let (number, another) = (name.number(), other.number());
+    show(rt, "folded", name.as_str());
+    let flags = [
+        ("is_same", name.is_same(other)),
+        ("has a number", number.is_some()),
+        ("the same number", number == another),
+    ];
+    show_flags(rt, &flags);
+}
+
+/// Copies of the parts of a name, of an attribute of that name and of its value, which grows alone:
+/// `NAME VALUE`.
+pub fn copy_names(rt: &HostRuntime, line: &str) -> Option<()> {
+    let (word, value) = cut(line);
+    let parts = parts_of(rt.alloc(), word)?;
+    show_made(rt, "parts", parts.try_clone());
+    show_made(rt, "namespace", parts.ns.try_clone());
+    let prefix = parts.prefix.as_ref()?.try_clone().ok()?;
+    show(rt, "prefix", prefix.as_str());
+    show_spaces(rt, &parts.ns);
+    copy_attr(rt, attr_of(rt.alloc(), word, value)?)
+}
+
+fn parts_of(alloc: Global, word: &str) -> Option<NameParts> {
+    Some(NameParts {
+        prefix: Some(RareText::new(alloc, "p").ok()?),
+        ns: Namespace::Other(RareText::new(alloc, "urn:x").ok()?),
+        local: LocalName::new(alloc, word).ok()?,
+    })
+}
+
+fn show_spaces(rt: &HostRuntime, ns: &Namespace) {
+    let flags = [
+        (
+            "is urn:x",
+            ns.by_ref().is_same(&NamespaceRef::Other("urn:x")),
+        ),
+        ("is itself", ns.is_same(ns)),
+        ("is of HTML", ns.is_same(&Namespace::Html)),
+    ];
+    show_flags(rt, &flags);
+}
+
+fn attr_of(alloc: Global, word: &str, value: &str) -> Option<Attr> {
+    let name = QualName::plain(LocalName::new(alloc, word).ok()?);
+    let value = Text::new(alloc, value).ok()?;
+    Some(Attr { name, value })
+}
+
+fn copy_attr(rt: &HostRuntime, attr: Attr) -> Option<()> {
+    show_made(rt, "longer", lengthened(&attr.value));
+    show_made(rt, "attribute", attr.try_clone());
+    println!(rt; "{:?} {}", LocalName::empty(), attr.value.as_str()).ok()
+}
+
+fn lengthened(text: &Text) -> Result<Text, OutOfMemory> {
+    let mut copy = text.try_clone()?;
+    copy.push_str("w")?;
+    Ok(copy)
+}
+
+/// How large a node and an attribute are: nodes take most of the memory of a large page.
+pub fn print_sizes(rt: &HostRuntime) {
+    show(rt, "TreeNode", size_of::<TreeNode>());
+    show(rt, "Attr", size_of::<Attr>());
 }

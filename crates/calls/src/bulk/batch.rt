@@ -1,7 +1,8 @@
 //! Many inputs in one process: `bulk batch KIND` reads them in hexadecimal, one a line on standard
-//! input, and prints one answer a line. `bulk raw` reads nodes with their links in that way, and
-//! the line `raw` those of its words.
+//! input, and prints one answer a line; so does `bulk pages WAY` of pages that are read in that
+//! way. `bulk raw` reads nodes with their links, and the line `raw` those of its words.
 
+use crate::web::show_bytes;
 use crate::words::{cut, node_of};
 use dom_query::{
     Attrs, Document, Element, Link, LocalName, Matcher, NodeData, NodeId, QualName, Text, Tree,
@@ -96,7 +97,8 @@ fn answer(rt: &HostRuntime, kind: &str, bytes: &[u8]) -> Option<()> {
     }
 }
 
-fn input(rt: &HostRuntime) -> Option<String> {
+/// What standard input has.
+pub fn input(rt: &HostRuntime) -> Option<String> {
     let mut text = String::new(rt.alloc());
     rt.stdin().read_to_string(&mut text).ok()?;
     Some(text)
@@ -108,6 +110,16 @@ pub fn answer_all(rt: &HostRuntime, kind: &str) -> Option<()> {
     for line in text.as_str().lines() {
         let bytes = bytes_of(rt.alloc(), line)?;
         answer(rt, kind, bytes.as_slice())?;
+    }
+    Some(())
+}
+
+/// Reads each input as a page.
+pub fn read_pages(rt: &HostRuntime, way: &str) -> Option<()> {
+    let text = input(rt)?;
+    for line in text.as_str().lines() {
+        let bytes = bytes_of(rt.alloc(), line)?;
+        show_bytes(rt, way, bytes.as_slice())?;
     }
     Some(())
 }

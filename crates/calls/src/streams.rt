@@ -1,0 +1,90 @@
+//! Readers and writers that fail.
+
+use crate::bulk::batch::input;
+use crate::printing::{show_edit, show_read};
+use crate::words::node_of;
+use dom_query::{NodeRef, SerializableNodeRef, TraversalScope, Tree, drive};
+use std::io::{self, ErrorKind, Read, Write};
+
+/// A writer that takes so many writes, at most so many bytes in each, and then fails.
+#[derive(Drop)]
+struct Failing {
+    left: usize,
+    most: usize,
+    taken: Vec<u8>,
+}
+
+impl Write for Failing {
+    fn write(&mut self, buf: &[u8]) -> io::Result<usize> {
+        if self.left == 0 {
+            return Err(io::Error::from(ErrorKind::BrokenPipe));
+        }
+        self.left -= 1;
+        let count = buf.len().min(self.most);
+        self.taken.extend_from_slice(&buf[..count])?;
+        Ok(count)
+    }
+
+    fn flush(&mut self) -> io::Result<()> {
+        Ok(())
+    }
+}
+
+/// A reader that fails in that way.
+#[derive(Drop)]
+struct NoReader(ErrorKind);
+
+impl Read for NoReader {
+    fn read(&mut self, _buf: &mut [u8]) -> io::Result<usize> {
+        Err(io::Error::from(self.0))
+    }
+}
+
+/// What writers get of a node's HTML that take all of it, some, and no byte: `N`.
+pub fn serialize(rt: &HostRuntime, tree: &Tree, line: &str) -> Option<()> {
+    let node = SerializableNodeRef::from(NodeRef::new(node_of(line)?, tree));
+    for (left, most) in &[(usize::MAX, 3), (4, 3), (9, 0)] {
+        serialize_into(rt, &node, *left, *most);
+    }
+    Some(())
+}
+
+fn serialize_into(rt: &HostRuntime, node: &SerializableNodeRef<'_>, left: usize, most: usize) {
+    let taken = Vec::new(rt.alloc());
+    let mut out = Failing { left, most, taken };
+    let ended = node.serialize(TraversalScope::IncludeNode, &mut out);
+    show_edit(rt, "serialize", ended);
+    show_read(rt, "taken", String::from_utf8_lossy(rt.alloc(), &out.taken));
+}
+
+/// How a drive with these words ends whose reader is given, and whose writer takes so many writes:
+/// its status, and what it says on standard error.
+fn drive_into<R: Read>(
+    rt: &HostRuntime,
+    words: &[String],
+    input: &mut R,
+    (left, most): (usize, usize),
+) -> Option<u8> {
+    let (taken, mut err) = (Vec::new(rt.alloc()), Vec::<u8>::new(rt.alloc()));
+    let mut out = Failing { left, most, taken };
+    let status = drive(rt.alloc(), words, input, &mut out, &mut err);
+    let said = String::from_utf8_lossy(rt.alloc(), &err).ok()?;
+    println!(rt; "{left}: {status} {said:?}").ok()?;
+    Some(status)
+}
+
+/// How drives with these words end: where the reader fails, where there is no memory for it, where
+/// the writer takes no byte, and for each number of bytes that it takes, until those are enough.
+pub fn drive_all(rt: &HostRuntime, words: &[String]) -> Option<()> {
+    let markup = input(rt)?;
+    for kind in &[ErrorKind::BrokenPipe, ErrorKind::OutOfMemory] {
+        drive_into(rt, words, &mut NoReader(*kind), (9, 9))?;
+    }
+    drive_into(rt, words, &mut markup.as_bytes(), (9, 0))?;
+    for left in 0..usize::MAX {
+        if drive_into(rt, words, &mut markup.as_bytes(), (left, 1))? != 5 {
+            break;
+        }
+    }
+    Some(())
+}

@@ -1,0 +1,99 @@
+//! A parser of another markup, which fills a document by the calls of a sink alone. An element is
+//! written `(name text)`, its attributes behind the name as `name@key=value@key=value`; a space
+//! ends that. Without a name the attributes are added to the element around.
+
+use crate::tour::fault::TourFault;
+use dom_query::{
+    Attr, Attrs, Document, ElementFlags, LocalName, NameParts, Namespace, NodeId, NodeMarkup,
+    NodeOrText, OutOfMemory, QualName, Text, TreeSink,
+};
+use std::alloc::Global;
+use std::io::Write;
+
+/// Reads a text into whatever sink it is given.
+pub fn read<S: TreeSink + Drop>(
+    alloc: Global,
+    text: &str,
+    mut sink: S,
+) -> Result<Document, TourFault> {
+    let mut around = Vec::new(alloc);
+    let mut here = sink.get_document();
+    for (number, piece) in text.split('(').enumerate() {
+        let mut rest = piece;
+        if number > 0 {
+            let (tag, behind) = piece.split_once(' ').unwrap_or((piece, ""));
+            rest = behind;
+            around.push(here).map_err(OutOfMemory::from)?;
+            here = open(alloc, &mut sink, here, tag)?;
+        }
+        for (ends, part) in rest.split(')').enumerate() {
+            if ends > 0 {
+                match around.pop() {
+                    Some(outer) => here = outer,
+                    None => sink.parse_error("a parenthesis ends nothing")?,
+                }
+            }
+            if !part.is_empty() {
+                sink.append(&here, NodeOrText::AppendText(part))?;
+            }
+        }
+    }
+    if !around.is_empty() {
+        sink.parse_error("an element is open at the end")?;
+    }
+    Ok(sink.finish())
+}
+
+/// Makes the element of a tag, and answers where what is inside it goes.
+fn open<S: TreeSink>(
+    alloc: Global,
+    sink: &mut S,
+    parent: NodeId,
+    tag: &str,
+) -> Result<NodeId, TourFault> {
+    let (name, rest) = tag.split_once('@').unwrap_or((tag, ""));
+    let attrs = attributes(alloc, rest)?;
+    if name.is_empty() {
+        sink.add_attrs_if_missing(&parent, attrs)?;
+        return Ok(parent);
+    }
+    let flags = ElementFlags {
+        template: name == "template",
+        mathml_annotation_xml_integration_point: false,
+    };
+    let name = named(alloc, Namespace::Html, name)?;
+    let element = sink.create_element(name, attrs, flags)?;
+    sink.append(&parent, NodeOrText::AppendNode(element))?;
+    Ok(sink.get_template_contents(&element).unwrap_or(element))
+}
+
+/// The attributes that are written behind a name.
+fn attributes(alloc: Global, written: &str) -> Result<Attrs, TourFault> {
+    let mut attrs = Attrs::new(alloc);
+    for attr in written.split('@').filter(|attr| !attr.is_empty()) {
+        let (key, value) = attr.split_once('=').unwrap_or((attr, ""));
+        attrs.push(Attr {
+            name: named(alloc, Namespace::None, key)?,
+            value: Text::new(alloc, value)?,
+        })?;
+    }
+    Ok(attrs)
+}
+
+fn named(alloc: Global, ns: Namespace, name: &str) -> Result<QualName, TourFault> {
+    let local = LocalName::new(alloc, name)?;
+    let prefix = None;
+    let name = QualName::new(alloc, NameParts { prefix, ns, local })?;
+    Ok(name)
+}
+
+/// Prints what is read of a text, and what was wrong with it.
+pub fn print_read<W: Write>(alloc: Global, out: &mut W) -> Result<(), TourFault> {
+    let text = "(ul@id=teas (li Assam)(li@class=hot Mate(@class=cold@lang=es )))) (template (p x";
+    let document = read(alloc, text, Document::new(alloc)?)?;
+    writeln!(out, "{}", document.html()?)?;
+    for error in document.errors.as_slice() {
+        writeln!(out, "{error}")?;
+    }
+    Ok(())
+}

@@ -1,3 +1,0 @@
-//! Tests of `dom_links`.
-
-mod arena;

@@ -1,3 +1,0 @@
-//! Tests of `dom_md`.
-
-mod options;

@@ -1,5 +1,0 @@
-//! Tests of `dom_trees`.
-
-mod building;
-mod making;
-mod raw_nodes;
