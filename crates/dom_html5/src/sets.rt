@@ -44,7 +44,7 @@ fn ends_default_scope(open: &Open) -> bool {
 }
 
 impl Scope {
-    pub fn ends_at(self, open: &Open) -> bool {
+    pub(crate) fn ends_at(self, open: &Open) -> bool {
         match self {
             Scope::Default => ends_default_scope(open),
             Scope::ListItem => {
@@ -72,7 +72,7 @@ pub enum Context {
 }
 
 impl Context {
-    pub fn ends_at(self, open: &Open) -> bool {
+    pub(crate) fn ends_at(self, open: &Open) -> bool {
         if open.ns != Ns::Html {
             return false;
         }
