@@ -141,7 +141,7 @@ pub const COUNT: usize = 127;
 /// A name that no rule names.
 const NEITHER: (Name, Kind) = (Name::Other, Kind::Other);
 
-/// Each name that the tree knows by a number, and the kind of its elements, in order of the numbers.
+/// Each name that the tree knows by a number, and the kind of its elements, in order of number.
 #[rattlefmt::skip]
 pub static KNOWN: [(Name, Kind); 247] = [
     NEITHER, (Name::A, Kind::Anchor), (Name::B, Kind::Phrase), NEITHER, (Name::I, Kind::Phrase),

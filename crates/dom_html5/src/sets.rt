@@ -62,8 +62,8 @@ impl Scope {
     }
 }
 
-/// What the elements of a table are put into: a table, a section of one, or a row; else a template or
-/// the outermost element.
+/// What the elements of a table are put into: a table, a section of one, or a row; else a template
+/// or the outermost element.
 #[derive(Clone, Copy, Drop)]
 pub enum Context {
     Table,

@@ -121,8 +121,8 @@ fn create(
     made(tree.create_element(name, attrs, flags))
 }
 
-/// What is particular of the element of a tag: whether it is a template, or an `annotation-xml` whose
-/// encoding is HTML.
+/// What is particular of the element of a tag: whether it is a template, or an `annotation-xml`
+/// whose encoding is HTML.
 fn flags_of(ns: Ns, name: Name, tag: &Tag) -> ElementFlags {
     ElementFlags {
         template: ns == Ns::Html && name == Name::Template,
