@@ -1,4 +1,4 @@
-"""The test command. It runs the gate, `rt ci`, which proves every crate from nothing and runs every test, and beside it
+"""The test command. It runs the gate, `rt ci`, which proves every crate from nothing and runs the programs, and beside it
 tries the must-fail edits over each crate that the gate has proved (cases/edits.py). Then it runs the program that the
 gate built on the cases in cases/ and on streams that fail, compares the snippets of the documents with the
 snippets of crate `calls`, and tries the callers that must not compile. Its last line counts all, and its status is 0
@@ -15,7 +15,7 @@ and one of cases/hq or cases/pages (html5lib's tests of tree construction) is on
 refusals.py refuses each request for memory in turn, and asks in ever larger address spaces; hostile.py has texts and nodes read that are changed in every place, and depth.py deep and wide
 trees. What the line `sanitize` leaves of random forests is compared with cases/clean.py, what paths find with cases/paths.py, and
 what selectors select with what they select in another way (cases/ways.py).
-Which public functions the tests and programs call themselves is counted by cases/coverage.py.
+Which public functions the programs call themselves is counted by cases/coverage.py.
 
 A snippet is a block of README.md, docs/API.md, docs/SINK.md or docs/PAGES.md: one of rust stands in a file of crates/calls/src/tour, line for line
 but for its indentation, and one of text in its stdout, which the gate compares with what it prints.

@@ -1,4 +1,4 @@
-"""Which public functions the tests and the programs call themselves, as far as their texts show.
+"""Which public functions the programs call themselves, as far as their texts show.
 
 A public function is one that `dom_query` hands on by the `pub use` lines of its lib.rt: a function, a `pub fn` of a type,
 or a method of a trait. Methods of the traits of std (`fmt`, `from`, `next`) are left out.
@@ -8,7 +8,7 @@ It is called where the source of a program or of a test (ROOTS) names it: `name(
 from the fields of structs, and from what the functions that are called return by their declarations. The method is the
 type's own, or else that of a trait which it implements, or by which a type parameter is bound. A call whose receiver isn't
 shown so counts for nothing, and neither does one that a function of the libraries makes. What a call answers is compared by
-the tests and by the rows of cases/; this finds only that it is made.
+the rows of cases/; this finds only that it is made.
 
 Of the other public functions of the crates, but for laws, it finds that something calls one of that name, in a library too."""
 import collections
