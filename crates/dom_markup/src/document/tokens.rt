@@ -153,6 +153,7 @@ impl<'a> Iterator for Tokens<'a> {
 
     ghost remaining = { λ unread. at_most (length unread.text) };
 
+    #[inline(always)]
     fn next(&mut self) -> Option<Result<Token<'a>, MarkupFault>> {
         let source = self.rest;
         if source.is_empty() {
