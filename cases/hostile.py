@@ -329,8 +329,9 @@ def page_inputs():
 
 
 def is_text(data):
+    """Whether bytes are the text that they are read as: UTF-8 without a byte order mark, which is dropped of bytes alone."""
     try:
-        return bool(data.decode()) or not data
+        return not data.decode().startswith("\ufeff")
     except UnicodeDecodeError:
         return False
 
