@@ -3,7 +3,8 @@
 use crate::bulk::batch::input;
 use crate::printing::{show_edit, show_read};
 use crate::words::node_of;
-use dom_query::{NodeRef, SerializableNodeRef, TraversalScope, Tree, drive};
+use dom_query::{NodeRef, RunFault, SerializableNodeRef, TraversalScope, Tree, drive, run};
+use std::alloc::Global;
 use std::io::{self, ErrorKind, Read, Write};
 
 /// A writer that takes so many writes, at most so many bytes in each, and then fails.
@@ -85,6 +86,52 @@ pub fn drive_all(rt: &HostRuntime, words: &[String]) -> Option<()> {
         if drive_into(rt, words, &mut markup.as_bytes(), (left, 1))? != 5 {
             break;
         }
+    }
+    run_all(rt, markup.as_str(), words.first()?)
+}
+
+/// How a run ends whose writer takes so many writes of so many bytes, and what that got.
+fn run_into(
+    alloc: Global,
+    markup: &str,
+    script: &str,
+    (left, most): (usize, usize),
+) -> (Result<(), RunFault>, Failing) {
+    let taken = Vec::new(alloc);
+    let mut out = Failing { left, most, taken };
+    let ended = run(alloc, markup.as_bytes(), script.as_bytes(), &mut out);
+    (ended, out)
+}
+
+/// How runs of a script end: where the writer takes no byte, and where it takes that many in each
+/// write, for each number of writes, until those are enough.
+fn run_all(rt: &HostRuntime, markup: &str, script: &str) -> Option<()> {
+    let (ended, out) = run_into(rt.alloc(), markup, script, (9, 0));
+    println!(rt; "run, 0: {ended:?}, {} writes left", out.left).ok()?;
+    let (_, whole) = run_into(rt.alloc(), markup, script, (usize::MAX, usize::MAX));
+    for most in &[1, 2, 7, usize::MAX] {
+        run_until_whole(rt, markup, script, &whole.taken, *most)?;
+    }
+    Some(())
+}
+
+/// Prints the number of writes that are enough, and whether fewer got beginnings of the whole.
+fn run_until_whole(
+    rt: &HostRuntime,
+    markup: &str,
+    script: &str,
+    whole: &[u8],
+    most: usize,
+) -> Option<()> {
+    let mut are_beginnings = true;
+    for left in 0..usize::MAX {
+        let (ended, out) = run_into(rt.alloc(), markup, script, (left, most));
+        if ended != Err(RunFault::Write) {
+            let is_whole = out.taken.as_slice() == whole;
+            println!(rt; "run, {most}: {ended:?}, {left} {are_beginnings} {is_whole}").ok()?;
+            break;
+        }
+        are_beginnings = are_beginnings && out.left == 0 && whole.starts_with(&out.taken);
     }
     Some(())
 }
