@@ -345,7 +345,7 @@ def pages():
     ended = dict(zip(PAGE_BYTES, asked(["pages", "whole"], [(data + "é".encode()).hex() for data in PAGE_BYTES])))
     passed = failed = 0
     ways = [("noted", [data for data in inputs if is_text(data)], whole), ("mixed", PAGE_BYTES, ended)]
-    for way, given, wanted in [*ways, *((size, inputs, whole) for size in ("1", "3", "64"))]:
+    for way, given, wanted in [*ways, *((size, inputs, whole) for size in ("1", "2", "3", "4", "5", "64"))]:
         answers = asked(["pages", way], [data.hex() for data in given])
         wrong = [data for data, answer in zip(given, answers) if not answer.startswith("read ") or answer != wanted.get(data)]
         for data in wrong[:3]:
