@@ -21,6 +21,7 @@ pub struct Text {
 
 /// Written out, so that what drops a text has no case for each form.
 impl Drop for Text {
+    #[inline(always)]
     fn drop(self) {
         let Text { form, alloc: _ } = self;
         drop(form);

@@ -14,6 +14,7 @@ pub struct RareText {
 
 /// Written out, so that what drops such a text has one step for it.
 impl Drop for RareText {
+    #[inline(always)]
     fn drop(self) {
         let RareText { text } = self;
         drop(text);
