@@ -130,6 +130,7 @@ impl<'a, D: Descent> NodeEdges<'a, D> {
     }
 
     /// The next edge.
+    #[inline(always)]
     pub fn next(&mut self) -> Result<Option<Edge>, OutOfMemory>
         ensures { IfOk result (λ edge. MatchOption edge (self.old ≡ []) (λ edge. self.old
             ≡ edge ∷ self.new)) }
@@ -143,6 +144,7 @@ impl<'a, D: Descent> NodeEdges<'a, D> {
 }
 
 /// The first edge of an entry; pushes the others.
+#[inline(always)]
 fn begin<D: Descent>(
     nodes: &[TreeNode],
     entry: Entry,
@@ -181,6 +183,7 @@ fn mark_of<D: Descent>(nodes: &[TreeNode], id: NodeId) -> bool
 }
 
 /// Pushes what follows the opening of a node.
+#[inline(always)]
 fn push_after<D: Descent>(
     nodes: &[TreeNode],
     id: NodeId,
@@ -201,6 +204,7 @@ fn push_after<D: Descent>(
 }
 
 /// Who follows the node, unless that is `alone`.
+#[inline(always)]
 fn next_of(node: &TreeNode, alone: bool) -> Option<NodeId>
     ensures { result ≡ (if alone then None else node.now.next_sibling) }
 {
@@ -211,6 +215,7 @@ fn next_of(node: &TreeNode, alone: bool) -> Option<NodeId>
 }
 
 /// Pushes what is entered of a node, and its closing edge.
+#[inline(always)]
 fn push_inside<D: Descent>(
     nodes: &[TreeNode],
     id: NodeId,
@@ -233,6 +238,7 @@ fn push_inside<D: Descent>(
 }
 
 /// Pushes the children of a node, and its closing edge.
+#[inline(always)]
 fn push_children<D: Descent>(
     nodes: &[TreeNode],
     id: NodeId,
@@ -250,6 +256,7 @@ fn push_children<D: Descent>(
 }
 
 /// Pushes a node, alone or with its later siblings.
+#[inline(always)]
 fn push_row<D: Descent>(
     nodes: &[TreeNode],
     first: Option<NodeId>,
@@ -274,6 +281,7 @@ fn push_row<D: Descent>(
 }
 
 /// Pushes one entry.
+#[inline(always)]
 fn push(ahead: &mut Vec<Entry>, entry: Entry) -> Result<(), OutOfMemory>
     ensures { OnOk result (ahead.new.items ≡ ahead.old.items ++ entry ∷ []) }
 {
