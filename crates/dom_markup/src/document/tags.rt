@@ -5,6 +5,8 @@ ghost use Rattle.dom_markup.specs.Bytes.{folded};
 ghost use Rattle.dom_markup.specs.Markup.{BeginsEnd, Closes, BeginsNoEnd};
 ghost use Rattle.dom_markup.specs.ByteClasses.{ClosesNothing};
 ghost use Rattle.dom_markup.specs.Front.{TakesStart};
+ghost use Rattle.dom_markup.specs.Names.{void_names};
+ghost use Rattle.dom_nodes.specs.Words.{is_among};
 
 use crate::document::names::{is_void, names_element};
 use crate::document::scan::{ByteClass, attributes_end, close_at, split_front, strip};
@@ -25,6 +27,19 @@ pub fn close_tag(close: &str, void: bool) -> Result<&str, MarkupFaultKind>
     Err(MarkupFaultKind::BadTag)
 }
 
+/// What follows the end of a start tag of this name, behind its attributes. Whether the element is
+/// void matters only where a slash ends the tag.
+#[inline(always)]
+fn close_named<'a>(name: &str, close: &'a str) -> Result<&'a str, MarkupFaultKind>
+    ensures { let void = is_among (folded name.now) void_names in
+        MatchResult result (λ r. Closes void close.now r.now) (ClosesNothing void close.now) }
+{
+    if let Some(rest) = close_at(close, false) {
+        return Ok(rest);
+    }
+    close_tag(close, is_void(name))
+}
+
 /// The name of the start tag behind its `<`, as it is written, and what follows the tag.
 pub fn start_tag_end(tag: &str) -> Result<(&str, &str), MarkupFaultKind>
     ensures { TakesStart (codes "<" ++ tag.now) result }
@@ -33,7 +48,7 @@ pub fn start_tag_end(tag: &str) -> Result<(&str, &str), MarkupFaultKind>
     if !names_element(name) {
         return Err(MarkupFaultKind::BadTag);
     }
-    let rest = close_tag(attributes_end(behind), is_void(name))?;
+    let rest = close_named(name, attributes_end(behind))?;
     Ok((name, rest))
 }
 

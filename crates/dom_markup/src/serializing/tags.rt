@@ -1,6 +1,6 @@
 //! What a node is written as, before and after what is below it.
 
-ghost use Rattle.std.specs.Prelude.{◌≡◌};
+ghost use Rattle.std.specs.Prelude.{◌≡◌, ◌++◌, codes};
 ghost use Rattle.std.specs.List.{list_any};
 ghost use Rattle.std.specs.Str.{bytes_eq};
 ghost use Rattle.dom_markup.specs.Html.{attr_text, closing, opening, prefix_text, start_tag};
@@ -67,22 +67,22 @@ fn put_attr<P: PutText<W>, W>(w: &mut W, escaper: &Escaper, attr: &Attr) -> Resu
     ensures { Writes (P.written w.old) (P.written w.new) result (attr_text attr.now) }
 {
     let local = attr.name.local().as_str();
-    put_parts::<P, W>(w, &[" ", prefix(&attr.name), local, "=\""])?;
+    put_parts::<P, W>(w, &[before_local(&attr.name), local, "=\""])?;
     escaper.put_value::<P, W>(w, attr.value.as_str())?;
     P::put(w, "\"")
 }
 
-/// What stands before the local name of an attribute.
-fn prefix(name: &QualName) -> &str
-    ensures { result.now ≡ prefix_text name.now }
+/// What stands before the local name of an attribute: a space, and its prefix.
+fn before_local(name: &QualName) -> &str
+    ensures { result.now ≡ codes " " ++ prefix_text name.now }
 {
     match name.ns() {
-        NamespaceRef::None => "",
-        NamespaceRef::Xml => "xml:",
-        NamespaceRef::XLink => "xlink:",
-        NamespaceRef::XmlNs if name.local().as_str() == "xmlns" => "",
-        NamespaceRef::XmlNs => "xmlns:",
-        _ => "unknown_namespace:",
+        NamespaceRef::None => " ",
+        NamespaceRef::Xml => " xml:",
+        NamespaceRef::XLink => " xlink:",
+        NamespaceRef::XmlNs if name.local().as_str() == "xmlns" => " ",
+        NamespaceRef::XmlNs => " xmlns:",
+        _ => " unknown_namespace:",
     }
 }
 

@@ -1,4 +1,4 @@
-use Rattle.std.proofs.Common.{[], rules}
+use Rattle.std.proofs.Common.{[], refl, rules}
 use Rattle.std.proofs.lemmas.Result.{err_from_is_err_and}
 use Rattle.dom_markup.specs.Bytes.{folded}
 use Rattle.dom_markup.specs.Markup.{NamesElement, kept_after}
@@ -12,10 +12,10 @@ pub returns-in_err-rest : goal.returns-in_err-rest
 returns-in_err-rest c =
     let p = err_from_is_err_and c.from_residual.result c.from_residual.ensures.1 in
     let names : NamesElement c.split_front.result.0.now (folded c.split_front.result.0.now) = search rules in
-    rw (p.1, p.2) (start_fails _ _ _ _ _ _ c.split_front.ensures names.0 c.is_void.ensures c.attributes_end.ensures c.in_err-rest.ensures)
+    rw (p.1, p.2) (start_fails _ _ _ _ _ _ c.split_front.ensures names.0 refl c.attributes_end.ensures c.in_err-rest.ensures)
 
 pub returns : goal.returns
 returns c =
     let names : NamesElement c.split_front.result.0.now (folded c.split_front.result.0.now) = search rules in
-    let closed = start_closes _ _ _ _ _ _ c.split_front.ensures names c.is_void.ensures c.attributes_end.ensures c.in_ok-rest.ensures in
+    let closed = start_closes _ _ _ _ _ _ c.split_front.ensures names refl c.attributes_end.ensures c.in_ok-rest.ensures in
     (kept_after [] closed.0, closed.2)
