@@ -382,7 +382,7 @@ class Trials:
     def __init__(self, is_control=False, anew=False):
         self.rt, self.room, self.is_control = toolchain(), tempfile.TemporaryDirectory(prefix="edits-workspace-"), is_control
         self.processors = self.rt.processors()
-        self.lanes, self.is_beside, self.counts = max(1, self.processors // 2), True, []
+        self.lanes, self.is_beside, self.counts = max(1, self.processors // 4), True, []
         # (the gate's own proofs wait for one another, so they go first)
         self.pool = ThreadPoolExecutor(self.lanes, initializer=os.nice, initargs=(10,))
         root = pathlib.Path(self.room.name)
