@@ -1,7 +1,7 @@
 """The test command. It runs the gate, `rt ci`, which proves every crate from nothing and runs the programs, and beside it
 tries the must-fail edits over each crate that the gate has proved (cases/edits.py). Then it runs the program that the
-gate built on the cases in cases/ and on streams that fail, compares the snippets of the documents with the
-snippets of crate `calls`, and tries the callers that must not compile. Its last line counts all, and its status is 0
+gate built on the cases in cases/ and on streams that fail, compares the snippets of the documents with those
+of crate `tour`, and tries the callers that must not compile. Its last line counts all, and its status is 0
 where nothing failed. `check --cases` leaves the gate and the edits out. What an earlier run on this machine showed of the
 same files is kept; `check --anew` shows all again.
 
@@ -9,15 +9,15 @@ A case is a line of a file cases/*.jsonl: `markup` is standard input and `script
 arguments in its place; `markup_hex` and `script_hex` give bytes that are no text), `output` and `error` are what must
 stand on standard output and standard error, and `status` is the exit status, 0 if not given. A text may be given as a
 list of pieces, each a text and how often it stands there, with {n} in it for the number of each; an argument may be given
-with how often it stands there. A case of cases/calls is one of the program `calls`, whose arguments are calls of the library,
-and one of cases/hq or cases/pages (html5lib's tests of tree construction) is one of `hq`.
+with how often it stands there. A case of cases/calls is one of the program `calls`, whose arguments are calls of the libraries,
+one of cases/tour one of `tour`, which is over `dom_query` alone, and one of cases/hq or cases/pages (html5lib's tests of tree construction) is one of `hq`.
 
 refusals.py refuses each request for memory in turn, and asks in ever larger address spaces; hostile.py has texts and nodes read that are changed in every place, and depth.py deep and wide
 trees. What the line `sanitize` leaves of random forests is compared with cases/clean.py, what paths find with cases/paths.py, and
 what selectors select with what they select in another way (cases/ways.py).
 Which public functions the programs call themselves is counted by cases/coverage.py.
 
-A snippet is a block of README.md, docs/API.md, docs/SINK.md or docs/PAGES.md: one of rust stands in a file of crates/calls/src/tour, line for line
+A snippet is a block of README.md, docs/API.md, docs/SINK.md or docs/PAGES.md: one of rust stands in a file of crates/tour/src, line for line
 but for its indentation, and one of text in its stdout, which the gate compares with what it prints.
 
 A caller that must not compile is a file cases/must-not-compile/NAME-WHAT.txt, a program that uses the crate NAME alone. One
@@ -159,6 +159,11 @@ def calls():
     return run_cases("cases of calls", "calls", (ROOT / "cases" / "calls").glob("*.jsonl"))
 
 
+def toured():
+    """Runs the program `tour` on its cases, and returns how many passed and failed."""
+    return run_cases("cases of tour", "tour", (ROOT / "cases" / "tour").glob("*.jsonl"))
+
+
 def pages():
     """Runs the program `hq` on its cases and on those of html5lib, and returns how many passed and failed."""
     return run_cases("cases of pages", "hq", [*(ROOT / "cases").glob("hq/*.jsonl"), *(ROOT / "cases").glob("pages/*.jsonl")])
@@ -207,10 +212,10 @@ def stands_in(block, text):
 
 
 def snippets():
-    """Compares the documents' snippets with those of the crate `calls`, and returns how many stand there and how many don't."""
-    crate = ROOT / "crates" / "calls"
+    """Compares the documents' snippets with those of the crate `tour`, and returns how many stand there and how many don't."""
+    crate = ROOT / "crates" / "tour"
     known = {
-        "rust": [file.read_text(encoding="utf-8") for file in sorted((crate / "src" / "tour").glob("*.rt"))],
+        "rust": [file.read_text(encoding="utf-8") for file in sorted((crate / "src").glob("*.rt"))],
         "text": [(crate / "stdout").read_text(encoding="utf-8")],
     }
     passed = failed = 0
@@ -220,7 +225,7 @@ def snippets():
                 passed += 1
             else:
                 failed += 1
-                print(f"{document.name}:{start}: this {kind or 'plain'} block isn't in crates/calls/src/tour")
+                print(f"{document.name}:{start}: this {kind or 'plain'} block isn't in crates/tour/src")
     print(f"snippets: {passed} passed, {failed} failed")
     return passed, failed if passed else failed + 1
 
@@ -290,7 +295,7 @@ def refused_callers():
 def main():
     clock, cases_alone = Clock(), sys.argv[1:] == ["--cases"]
     counts = [] if cases_alone else gate(clock)
-    tables = [table, calls, pages, cleaned, followed, asked_each_way, streams.streams, snippets, wrong_bodies, coverage.coverage]
+    tables = [table, calls, toured, pages, cleaned, followed, asked_each_way, streams.streams, snippets, wrong_bodies, coverage.coverage]
     counts += clock.timed("the cases", lambda: [each() for each in tables])
     hard = [("the hostile inputs", hostile.hostile), ("the refusals", refusals.refusals), ("small address spaces", refusals.limited), ("deep and wide trees", depth.depth)]
     counts += [clock.timed(part, each) for part, each in hard]

@@ -18,7 +18,7 @@ import re
 import sys
 
 ROOT = pathlib.Path(__file__).resolve().parent.parent
-ROOTS = ("calls", "dq", "hq")
+ROOTS = ("calls", "tour", "dq", "hq")
 # Comments, strings, characters, and imports of specs.
 BLANK = re.compile(r'//[^\n]*|"(?:\\.|[^"\\])*"|\'(?:\\[^\']+|[^\'\\])\'|\bghost use [^;]*;', re.S)
 GENERICS = re.compile(r"<(?:[^<>]|<[^<>]*>)*>")

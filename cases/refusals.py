@@ -3,11 +3,11 @@ of a run, and N is counted up until a run meets no refusal. A refusal is reporte
 5; what was written is then a beginning of the output, and all that was asked for is given back. Where a refusal is passed by,
 as that of a cache or of room that was asked for in advance, the answer is the right one.
 
-A line of the program `calls` is asked between two lines `state`, which print all that the document holds and ask for nothing.
+A line of the programs `calls` and `tour` is asked between two lines `state`, which print all that the document holds and ask for nothing.
 Where a request of that line is refused, each line that it prints says so, or is printed with ample memory too, and the
 document is as it was before, or as it is where the line is asked of the first nodes alone.
 
-Where there is no `cc`, or its library can't be preloaded, this says so and counts nothing. Lines of `calls` that are asked in ever
+Where there is no `cc`, or its library can't be preloaded, this says so and counts nothing. Lines that are asked in ever
 larger address spaces (`limited`) need no counter."""
 import json
 import os
@@ -22,13 +22,17 @@ from rows import ROOT, SECONDS, built, given, words_of
 
 REPORTED = (b"dq: out of memory\n", b"dq: write failed\n", b"dq: read failed\n")
 MANY = 3_000
-# The line of `calls` that prints all that the document holds.
+# The line that prints all that the document holds.
 STATE = b"state"
-# The files of cases/calls whose lines are asked.
-FILES = "memory apart changes documents indexes minis moves pages reading sanitising selections selectors several sinks texts values".split()
+# The programs, and the files of their rows whose lines are asked.
+FILES = {
+    "calls": "memory apart changes documents indexes minis moves pages reading sanitising selections selectors several sinks texts values".split(),
+    "tour": ["lines"],
+}
 # What is asked in small address spaces, over so many paragraphs.
-LIMITED = [b"texts", b"print", b"clone", b"places", b"select p b", b"selection p, b", b"step b", b"find 0 p > b", b"to-fragment 0"]
-LIMITED += [b"htmls 0", b"md 0", b"walk 0", b"nodes 1,5,9 append_html " + b"<i>x</i>" * 2_000]
+LIMITED = [b"print", b"clone", b"places", b"select p b", b"selection p, b", b"step b", b"find 0 p > b", b"to-fragment 0", b"htmls 0"]
+LIMITED += [b"md 0", b"walk 0", b"nodes 1,5,9 append_html " + b"<i>x</i>" * 2_000]
+LIMITED = [("tour", b"texts"), *(("calls", line) for line in LIMITED)]
 PARAGRAPH, PARAGRAPHS = b"<p class='a'>text that a node keeps apart, for it is long<b>b</b></p>", 1_000
 SPACES = 3_900_000, 7_900_000, 65_536
 # Groups of calls whose second word names the call.
@@ -129,24 +133,24 @@ def rows(counter):
 
 
 def group_of(line):
-    """The call that a line of `calls` makes: its first word, and the word that names a call of that group."""
+    """The call that a line makes: its first word, and the word that names a call of that group."""
     words = line.split(b" ")
     at = {b"node": 2, b"nodes": 2}.get(words[0], 1 if words[0] in NAMED else 0)
     return b" ".join(dict.fromkeys([words[0], *words[at : at + 1]])).decode()
 
 
-def asked_lines():
-    """The lines of the rows of cases/calls by their calls: each with the row's markup and the lines in front of it."""
+def asked_lines(program):
+    """The lines of the rows of a program by their calls: each with the program, the row's markup and the lines in front of it."""
     lines = {}
-    for name in FILES:
-        for line in (ROOT / "cases" / "calls" / f"{name}.jsonl").read_text(encoding="utf-8").splitlines():
+    for name in FILES[program]:
+        for line in (ROOT / "cases" / program / f"{name}.jsonl").read_text(encoding="utf-8").splitlines():
             case = json.loads(line)
             words, markup = words_of(case), given(case, "markup")
             if len(markup) <= MANY and words[0] != b"bulk":
                 for at, word in enumerate(words):
                     # (a line `snippet` edits each of several nodes, whatever the others answer)
                     if not re.match(rb"snippet \d+,", word):
-                        lines.setdefault(group_of(word), []).append((markup, words[:at], word))
+                        lines.setdefault(group_of(word), []).append((program, markup, words[:at], word))
     return lines
 
 
@@ -154,9 +158,9 @@ class Asked:
     """A line that is asked with ample memory: what is printed before it, its answer, the document after it, and the requests that
     it makes, by their numbers."""
 
-    def __init__(self, counter, markup, before, line):
-        self.markup, self.before, self.line = markup, before, line
-        still = counts(counter, [built("calls"), *before, STATE, STATE, STATE], markup)
+    def __init__(self, counter, program, markup, before, line):
+        self.program, self.markup, self.before, self.line = program, markup, before, line
+        still = counts(counter, [built(program), *before, STATE, STATE, STATE], markup)
         done = counts(counter, self.words(), markup)
         self.is_well = still[0] == done[0] == 0 and still[3][2] == done[3][2] == 0
         self.state = b"".join(still[1].splitlines(True)[-1:])
@@ -165,7 +169,7 @@ class Asked:
         self.requests = range(still[3][0] + 1, done[3][0] + 1) if self.is_well else range(0)
 
     def words(self, line=None):
-        return [built("calls"), *self.before, STATE, self.line if line is None else line, STATE]
+        return [built(self.program), *self.before, STATE, self.line if line is None else line, STATE]
 
     def parts(self, output):
         """The lines of the answer, and the document after it; None where that isn't printed."""
@@ -205,7 +209,7 @@ def chosen_line(counter, lines):
     """The line of a call that makes most requests, over a document that has as many more leaves as the nodes have room for."""
     asked = [Asked(counter, *line) for line in lines[:TRIED]]
     best = max(asked, key=lambda it: len(it.requests))
-    grown = [Asked(counter, best.markup + LEAF * count, best.before, best.line) for count in range(1, LEAVES)]
+    grown = [Asked(counter, best.program, best.markup + LEAF * count, best.before, best.line) for count in range(1, LEAVES)]
     return max([best, *grown], key=lambda it: len(it.requests))
 
 
@@ -223,22 +227,22 @@ def refused_line(counter, name, lines):
     return len(kinds), faults
 
 
-def calls(counter):
-    """Refuses each request of a line of each call of `calls`; returns how many passed and failed."""
+def calls(counter, program):
+    """Refuses each request of a line of each call of a program; returns how many passed and failed."""
     passed = failed = refusals = 0
-    for name, lines in asked_lines().items():
+    for name, lines in asked_lines(program).items():
         refused, faults = refused_line(counter, name, lines)
         for fault in faults[:3]:
-            print(f"calls '{name}': {fault}"[:600])
+            print(f"{program} '{name}': {fault}"[:600])
         passed, failed, refusals = passed + (not faults), failed + bool(faults), refusals + refused
-    print(f"calls with each request refused: {passed} passed, {failed} failed ({refusals} refusals)")
+    print(f"lines of {program} with each request refused: {passed} passed, {failed} failed ({refusals} refusals)")
     return passed, failed if passed else failed + 1
 
 
-def within(line, limit=None):
+def within(program, line, limit=None):
     """How a line is answered over many paragraphs, in an address space of so many bytes."""
     limited_to = (lambda: resource.setrlimit(resource.RLIMIT_AS, (limit, limit))) if limit else None
-    words, markup = [built("calls"), line], PARAGRAPH * PARAGRAPHS
+    words, markup = [built(program), line], PARAGRAPH * PARAGRAPHS
     return subprocess.run(words, input=markup, capture_output=True, timeout=SECONDS, preexec_fn=limited_to)
 
 
@@ -259,9 +263,9 @@ def limited():
     """Asks lines in ever larger address spaces, without any counter: each says that memory was refused, and then is answered.
     Returns how many lines passed and failed."""
     passed = failed = 0
-    for line in LIMITED:
-        ample = within(line)
-        endings = [ending_within(within(line, limit), ample) for limit in range(*SPACES)]
+    for program, line in LIMITED:
+        ample = within(program, line)
+        endings = [ending_within(within(program, line, limit), ample) for limit in range(*SPACES)]
         is_well = None not in endings and REFUSED in endings and endings[-1] == DONE
         passed, failed = passed + is_well, failed + (not is_well)
         if not is_well:
@@ -276,5 +280,5 @@ def refusals():
         counter = library(folder)
         if counter is None:
             return 0, 0
-        counted = [rows(counter), calls(counter)]
+        counted = [rows(counter), *(calls(counter, program) for program in FILES)]
     return tuple(sum(column) for column in zip(*counted))

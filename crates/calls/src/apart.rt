@@ -2,11 +2,13 @@
 
 use crate::printing::{show, show_flags, show_some};
 use crate::words::node_of;
-use dom_nodes::node_data::Change;
-use dom_query::{
-    Attr, Attrs, CaseSensitivity, Element, LocalName, NodeData, NodeEdit, NodeId, OutOfMemory,
-    QualName, Text, Tree, TreeNode,
-};
+use dom_nodes::case_sensitivity::CaseSensitivity;
+use dom_nodes::fault::OutOfMemory;
+use dom_nodes::name::{Attr, LocalName, QualName};
+use dom_nodes::node_data::{Attrs, Change, Element, NodeData, NodeEdit, TreeNode};
+use dom_nodes::node_id::NodeId;
+use dom_nodes::text::Text;
+use dom_trees::tree::Tree;
 use std::alloc::Global;
 use std::fmt::Debug;
 

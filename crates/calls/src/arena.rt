@@ -7,10 +7,13 @@ ghost use Rattle.dom_links.specs.Sound.{IsSoundArena, target};
 use crate::printing::{show, show_read};
 use crate::words::{cut, named, node_of};
 use dom_links::gap::{Gap, Moving};
-use dom_query::{
-    AncestorNodes, ChildNodes, DescendantNodes, NodeData, NodeId, NodeMarkup, Text, Tree, TreeNode,
-    TreeNodeOps,
-};
+use dom_links::iters::{AncestorNodes, ChildNodes, DescendantNodes};
+use dom_links::ops::TreeNodeOps;
+use dom_markup::serializing::NodeMarkup;
+use dom_nodes::node_data::{NodeData, TreeNode};
+use dom_nodes::node_id::NodeId;
+use dom_nodes::text::Text;
+use dom_trees::tree::Tree;
 use std::alloc::Global;
 
 /// A call that edits nodes.

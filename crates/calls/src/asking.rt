@@ -2,9 +2,13 @@
 
 use crate::printing::show;
 use crate::words::{cut, node_of};
-use dom_query::{
-    CaseSensitivity, CssLocalName, Namespace, NodeRef, NodeSelect, NonTSPseudoClass, Tree,
-};
+use dom_nodes::case_sensitivity::CaseSensitivity;
+use dom_nodes::name::Namespace;
+use dom_select::node_select::NodeSelect;
+use dom_selectors::css::CssLocalName;
+use dom_selectors::pseudo_class::NonTSPseudoClass;
+use dom_trees::node_ref::NodeRef;
+use dom_trees::tree::Tree;
 
 /// What a node is: `N`.
 pub fn show_kinds(rt: &HostRuntime, tree: &Tree, line: &str) -> Option<()> {

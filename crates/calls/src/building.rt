@@ -1,12 +1,15 @@
 //! A tree that is built by calls of `Tree` alone.
 
 use crate::printing::{show, show_edit, show_read};
-use dom_links::gap::{Gap, Moving};
-use dom_nodes::node_data::Change;
-use dom_query::{
-    Attr, Attrs, EditFault, Element, ElementFlags, LocalName, NodeData, NodeId, NodeMarkup,
-    OutOfMemory, Place, QualName, Text, Tree,
-};
+use dom_links::gap::{Gap, Moving, Place};
+use dom_markup::document::sink::ElementFlags;
+use dom_markup::serializing::NodeMarkup;
+use dom_nodes::fault::{EditFault, OutOfMemory};
+use dom_nodes::name::{Attr, LocalName, QualName};
+use dom_nodes::node_data::{Attrs, Change, Element, NodeData};
+use dom_nodes::node_id::NodeId;
+use dom_nodes::text::Text;
+use dom_trees::tree::Tree;
 use std::alloc::Global;
 
 /// Builds a tree, and prints it; then a fragment of its nodes, and what is refused.

@@ -5,10 +5,19 @@ use crate::printing::{begin, end, show, show_next, show_nodes, show_read, show_s
 use crate::selecting::matcher_of;
 use crate::words::{cut, node_of, nodes_of};
 use dom_index::selecting::select_counted;
-use dom_query::{
-    IndexKind, Matcher, MatcherIter, Matches, MiniSelector, NodeId, NodeRef, NodeSelect, Selection,
-    SelectorCaches, Traversal, Tree, TreeNode,
-};
+use dom_nodes::indexes::IndexKind;
+use dom_nodes::node_data::TreeNode;
+use dom_nodes::node_id::NodeId;
+use dom_select::matcher::Matcher;
+use dom_select::matcher::caches::SelectorCaches;
+use dom_select::matcher::matcher_iter::MatcherIter;
+use dom_select::matcher::several::Matches;
+use dom_select::node_select::NodeSelect;
+use dom_select::traversal::Traversal;
+use dom_selection::selection::Selection;
+use dom_selectors::mini_selector::selector::MiniSelector;
+use dom_trees::node_ref::NodeRef;
+use dom_trees::tree::Tree;
 
 /// The first child of a node that is an element without children, and that of a name: `N NAME`; and
 /// whether the node is an element of that name itself, and empty.

@@ -2,7 +2,8 @@
 
 use crate::printing::show;
 use crate::words::words_of;
-use dom_query::{Allow, Document, sanitize};
+use dom_markup::document::Document;
+use dom_sanitize::sanitize::{Allow, sanitize};
 
 /// Cleans the document by three lists of names: `ELEMENTS;ATTRIBUTES;DROPPED`.
 pub fn clean(rt: &HostRuntime, document: &mut Document, line: &str) -> Option<()> {

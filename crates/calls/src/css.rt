@@ -2,10 +2,11 @@
 
 use crate::printing::show;
 use crate::selecting::matcher_of;
-use dom_query::{
-    CssLocalName, CssString, InnerSelector, Matcher, MiniSelector, NonTSPseudoClass, OutOfMemory,
-    PseudoElement, ToCss,
-};
+use dom_nodes::fault::OutOfMemory;
+use dom_select::matcher::{InnerSelector, Matcher};
+use dom_selectors::css::{CssLocalName, CssString, ToCss};
+use dom_selectors::mini_selector::selector::MiniSelector;
+use dom_selectors::pseudo_class::{NonTSPseudoClass, PseudoElement};
 
 /// Prints what is written of a value.
 fn show_css<C: ToCss>(rt: &HostRuntime, what: &str, value: &C) {

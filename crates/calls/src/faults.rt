@@ -1,20 +1,14 @@
 //! The texts of faults.
 
 use crate::words::cut;
-use dom_query::{
-    EditFault, MarkupFault, MarkupFaultKind, MiniFault, OutOfMemory, PageFault, RunFault,
-    SelectionFault, SelectorFault, ValidateFault, WriteFault,
-};
+use dom_edits::edit::SelectionFault;
+use dom_html5::PageFault;
+use dom_links::validation::ValidateFault;
+use dom_markup::serializing::WriteFault;
+use dom_nodes::fault::{EditFault, MarkupFault, MarkupFaultKind, OutOfMemory};
+use dom_selectors::fault::SelectorFault;
+use dom_selectors::mini_selector::fault::MiniFault;
 use std::fmt::Display;
-
-const RUNS: [RunFault; 6] = [
-    RunFault::BadScript(12),
-    RunFault::BadMarkup,
-    RunFault::Edit(3, EditFault::Cycle),
-    RunFault::TooManyNodes,
-    RunFault::Memory,
-    RunFault::Write,
-];
 
 const WRITES: [WriteFault; 2] = [WriteFault::Write, WriteFault::Memory];
 
@@ -85,7 +79,6 @@ fn print_each<D: Display>(rt: &HostRuntime, faults: &[D]) {
 
 /// Prints the text of each fault.
 pub fn print_all(rt: &HostRuntime) {
-    print_each(rt, &RUNS);
     print_each(rt, &WRITES);
     print_each(rt, &SELECTORS);
     print_each(rt, &MINIS);

@@ -1,13 +1,13 @@
-//! Calls of the library, asked at a shell. `calls LINE ..` reads the markup on standard input,
+//! Calls of the libraries, asked at a shell. `calls LINE ..` reads the markup on standard input,
 //! makes the call of each line on the document, in order, and prints what each answers: the rows of
-//! cases/calls. `calls bulk WORD ..` makes many calls, of what standard input has.
+//! cases/calls. `calls bulk raw` and `calls bulk time ..` make many calls, of what standard input
+//! has.
 #![tactic(auto)]
 
 mod apart;
 mod arena;
 mod asking;
 mod building;
-mod bulk;
 mod caches;
 mod cleaning;
 mod css;
@@ -18,23 +18,23 @@ mod minis;
 mod node_calls;
 mod pages;
 mod printing;
+mod raw;
 mod reading;
 mod selecting;
 mod selections;
 mod sinks;
-mod streams;
 mod texts;
-mod tour;
+mod timing;
 mod trees;
 mod values;
 mod walking;
 mod web;
 mod words;
 
-use crate::words::cut;
-use dom_query::{Document, Tree};
+use crate::words::{cut, input};
+use dom_markup::document::Document;
+use dom_trees::tree::Tree;
 use std::env;
-use std::io::Read;
 use std::process::ExitCode;
 
 /// Makes a call that changes the document.
@@ -71,7 +71,6 @@ fn read(rt: &HostRuntime, document: &Document, group: &str, line: &str) -> Optio
     match group {
         "page" => pages::read(rt, document),
         "print" => pages::print_page(rt, document),
-        "texts" => pages::print_texts(rt, document),
         "html" => pages::print_html(rt, document),
         "clone" => pages::print_copy(rt, document),
         "state" => values::print_state(rt, document),
@@ -96,7 +95,6 @@ fn read(rt: &HostRuntime, document: &Document, group: &str, line: &str) -> Optio
 fn read_nodes(rt: &HostRuntime, document: &Document, group: &str, line: &str) -> Option<()> {
     let tree = &document.tree;
     match group {
-        "texts-without" => pages::print_without(rt, document, line),
         "to-fragment" => pages::make_fragment(rt, document, line),
         "sink-ask" => sinks::ask(rt, document, line),
         "read" => reading::read(rt, tree, line),
@@ -105,7 +103,6 @@ fn read_nodes(rt: &HostRuntime, document: &Document, group: &str, line: &str) ->
         "walk" => walking::walk(rt, tree, line),
         "count" => walking::count(rt, tree, line),
         "htmls" => pages::write_html(rt, tree, line),
-        "serialize" => streams::serialize(rt, tree, line),
         "apart" => apart::change(rt, tree, line),
         "apart-ask" => apart::ask(rt, tree, line),
         "arena" => arena::edit(rt, tree, line),
@@ -153,7 +150,6 @@ fn write(rt: &HostRuntime, group: &str, line: &str) -> Option<()> {
         "fence" => texts::measure_fence(rt, line),
         "mark" => texts::read_mark(rt, line),
         "faults" => faults::print_all(rt),
-        "tour" => return tour::print_all(rt).ok(),
         "web" => web::read(rt, line),
         "web-row" => web::read_row(rt, line),
         "web-tokens" => web::cut_stretches(rt, line),
@@ -173,7 +169,7 @@ fn make(rt: &HostRuntime, group: &str, line: &str) -> Option<()> {
         "chunk" => texts::escape_chunk(rt, line),
         "cell" => texts::escape_cell(rt, line),
         "list" => texts::number_list(rt, line),
-        "raw" => bulk::batch::check_line(rt, line),
+        "raw" => raw::check_line(rt, line),
         "qual-names" => values::compare_names(rt, line),
         "node-numbers" => values::compare_numbers(rt, line),
         "folded" => values::compare_folded(rt, line),
@@ -185,8 +181,7 @@ fn make(rt: &HostRuntime, group: &str, line: &str) -> Option<()> {
 
 /// Makes the call of each line on the markup that standard input has.
 fn call_all(rt: &HostRuntime, lines: &[String]) -> Option<()> {
-    let mut markup = String::new(rt.alloc());
-    rt.stdin().read_to_string(&mut markup).ok()?;
+    let markup = input(rt)?;
     let mut document = Document::parse(rt.alloc(), markup.as_str()).ok()?;
     for line in lines {
         let (group, rest) = cut(line.as_str());
@@ -198,7 +193,10 @@ fn call_all(rt: &HostRuntime, lines: &[String]) -> Option<()> {
 /// Does what the words say.
 fn run(rt: &HostRuntime, words: &[String]) -> Option<()> {
     match words {
-        [word, words @ ..] if word.as_str() == "bulk" => bulk::run(rt, words),
+        [bulk, word] if bulk.as_str() == "bulk" && word.as_str() == "raw" => raw::check_all(rt),
+        [bulk, word, words @ ..] if bulk.as_str() == "bulk" && word.as_str() == "time" => {
+            timing::time_calls(rt, words)
+        }
         _ => call_all(rt, words),
     }
 }

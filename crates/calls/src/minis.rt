@@ -2,10 +2,16 @@
 
 use crate::printing::{show, show_ids_read, show_nodes_read, show_read, show_some};
 use crate::words::{cut, node_of, words_of};
-use dom_query::{
-    Document, MatchNode, MiniFault, MiniSelect, MiniSelector, NodeId, NodeRef, Traversal, Tree,
-    parse_mini_selector, parse_selector_list,
-};
+use dom_markup::document::Document;
+use dom_nodes::node_id::NodeId;
+use dom_select::matcher::MatchNode;
+use dom_select::mini_selector::extension::MiniSelect;
+use dom_select::traversal::Traversal;
+use dom_selectors::mini_selector::fault::MiniFault;
+use dom_selectors::mini_selector::parser::{parse_mini_selector, parse_selector_list};
+use dom_selectors::mini_selector::selector::MiniSelector;
+use dom_trees::node_ref::NodeRef;
+use dom_trees::tree::Tree;
 
 /// Follows a path, and prints the id of each node that it finds, in order, or `-` where a node has
 /// none: `PATH`.

@@ -1,8 +1,14 @@
 //! Calls of `Document` and of the whole `Tree`.
 
 use crate::printing::{show, show_edit, show_node, show_read, show_some};
-use crate::words::{cut, node_of, nodes_of, words_of};
-use dom_query::{Document, DocumentMd, NodeFragment, NodeId, NodeMarkup, Place, Snippet, Tree};
+use crate::words::{cut, node_of, nodes_of};
+use dom_links::gap::Place;
+use dom_markup::document::Document;
+use dom_markup::document::fragments::NodeFragment;
+use dom_markup::document::snippet::Snippet;
+use dom_markup::serializing::NodeMarkup;
+use dom_nodes::node_id::NodeId;
+use dom_trees::tree::Tree;
 
 /// What a document answers of all of it, and its tree.
 pub fn read(rt: &HostRuntime, document: &Document) {
@@ -35,19 +41,6 @@ pub fn print_page(rt: &HostRuntime, document: &Document) {
 /// The HTML of a document.
 pub fn print_html(rt: &HostRuntime, document: &Document) {
     show_read(rt, "html", document.html());
-}
-
-/// The formatted text of a document, and its Markdown.
-pub fn print_texts(rt: &HostRuntime, document: &Document) {
-    show_read(rt, "formatted_text", document.formatted_text());
-    show_read(rt, "md", document.md(None));
-}
-
-/// The Markdown of a document without the elements of some names: `NAME NAME ..`.
-pub fn print_without(rt: &HostRuntime, document: &Document, line: &str) -> Option<()> {
-    let names = words_of(rt.alloc(), line)?;
-    show_read(rt, "md", document.md(Some(&names)));
-    Some(())
 }
 
 /// The number of nodes of a document, its HTML, and what was noted of it.

@@ -1,7 +1,8 @@
 //! What calls answer, one answer to a line. A line that can't be printed is missing in the output,
 //! which is compared.
 
-use dom_query::{NodeId, NodeRef};
+use dom_nodes::node_id::NodeId;
+use dom_trees::node_ref::NodeRef;
 use std::fmt::Display;
 
 /// Prints a value.

@@ -2,7 +2,8 @@
 
 use crate::printing::{show, show_flags, show_node, show_read, show_some};
 use crate::words::{cut, node_of};
-use dom_query::{NodeRef, Tree};
+use dom_trees::node_ref::NodeRef;
+use dom_trees::tree::Tree;
 
 /// What a node is, has and says: `N`, or `N WORD` for the attribute, class or name of that word.
 pub fn read(rt: &HostRuntime, tree: &Tree, line: &str) -> Option<()> {

@@ -2,13 +2,19 @@
 
 use crate::printing::{begin, end, show, show_ids_read, show_next, show_nodes_read, show_read};
 use crate::words::{cut, node_of, nodes_of};
+use dom_index::index::TreeIndex;
 use dom_index::selecting::select_nodes;
-use dom_query::{
-    DescendantMatches, Document, MatchNode, Matcher, MatcherIter, NodeId, NodeRef, NodeSelect,
-    OutOfMemory, SelectorCaches, Tree, TreeIndex,
-};
-use dom_select::matcher::descendants::select_below;
+use dom_markup::document::Document;
+use dom_nodes::fault::OutOfMemory;
+use dom_nodes::node_id::NodeId;
+use dom_select::matcher::caches::SelectorCaches;
+use dom_select::matcher::descendants::{DescendantMatches, select_below};
+use dom_select::matcher::matcher_iter::MatcherIter;
 use dom_select::matcher::several::select_below_all;
+use dom_select::matcher::{MatchNode, Matcher};
+use dom_select::node_select::NodeSelect;
+use dom_trees::node_ref::NodeRef;
+use dom_trees::tree::Tree;
 
 /// The matcher of a text; where it is no selector, why is printed.
 pub fn matcher_of(rt: &HostRuntime, text: &str) -> Option<Matcher> {

@@ -6,10 +6,13 @@ use crate::printing::{
 };
 use crate::selecting::matcher_of;
 use crate::words::cut;
-use dom_query::{
-    Document, DocumentSelect, Matcher, MatcherIter, OutOfMemory, Selection, SelectionMd,
-    SelectorFault,
-};
+use dom_markup::document::Document;
+use dom_nodes::fault::OutOfMemory;
+use dom_select::matcher::Matcher;
+use dom_select::matcher::matcher_iter::MatcherIter;
+use dom_selection::document_select::DocumentSelect;
+use dom_selection::selection::Selection;
+use dom_selectors::fault::SelectorFault;
 use std::fmt::Display;
 
 /// Prints the nodes of a selection, or the fault in its place.
@@ -217,7 +220,6 @@ fn read_nodes(rt: &HostRuntime, all: &Selection<'_>, name: &str) {
     show_flags(rt, &flags);
     show_read(rt, "text", all.text());
     show_read(rt, "immediate_text", all.immediate_text());
-    show_read(rt, "formatted_text", all.formatted_text());
     show_read(rt, "html", all.html());
     show_read(rt, "inner_html", all.inner_html());
     show_some_read(rt, "try_html", all.try_html());

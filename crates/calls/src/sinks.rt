@@ -2,10 +2,13 @@
 
 use crate::printing::{show, show_edit, show_read, show_some};
 use crate::words::{cut, node_of};
-use dom_query::{
-    Attr, Attrs, Document, EditFault, ElementFlags, LocalName, NameParts, Namespace, NodeId,
-    NodeOrText, QualName, QuirksMode, Text, TreeSink,
-};
+use dom_markup::document::sink::{ElementFlags, NodeOrText, TreeSink};
+use dom_markup::document::{Document, QuirksMode};
+use dom_nodes::fault::EditFault;
+use dom_nodes::name::{Attr, LocalName, NameParts, Namespace, QualName};
+use dom_nodes::node_data::Attrs;
+use dom_nodes::node_id::NodeId;
+use dom_nodes::text::Text;
 use std::alloc::Global;
 
 /// A call that makes a node: `CALL WORDS`.

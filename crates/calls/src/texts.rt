@@ -2,11 +2,17 @@
 
 use crate::printing::{show, show_read, show_some};
 use crate::words::{cut, node_of, words_of};
+use dom_markup::document::{Token, Tokens};
+use dom_md::cells::escape_table_cell_inplace;
+use dom_md::chunks::push_escaped_chunk;
+use dom_md::context::{EmphasisScope, FormatOpts, ListContext, ListKind};
+use dom_md::fences::fence_len;
 use dom_md::formatting::formatted_node;
-use dom_query::{
-    EmphasisScope, FormatOpts, ListContext, ListKind, MDSerializer, NodeMd, NodeRef, Token, Tokens,
-    Tree, escape_table_cell_inplace, fence_len, html_escape, push_escaped_chunk, serialize_md,
-};
+use dom_md::html_escape;
+use dom_md::node_md::NodeMd;
+use dom_md::serializer::{MDSerializer, serialize_md};
+use dom_trees::node_ref::NodeRef;
+use dom_trees::tree::Tree;
 
 /// The Markdown of a node, by each call: `N`.
 pub fn write_node(rt: &HostRuntime, tree: &Tree, line: &str) -> Option<()> {

@@ -5,10 +5,13 @@ use crate::css::show_same;
 use crate::printing::{show, show_flags, show_some};
 use crate::sinks::{local_of, namespace_of};
 use crate::words::{cut, node_of};
-use dom_query::{
-    Attr, CaseSensitivity, Document, LocalName, NameParts, Namespace, NamespaceRef, NodeData,
-    OutOfMemory, QualName, RareText, Text, Tree, TreeNode,
-};
+use dom_markup::document::Document;
+use dom_nodes::case_sensitivity::CaseSensitivity;
+use dom_nodes::fault::OutOfMemory;
+use dom_nodes::name::{Attr, LocalName, NameParts, Namespace, NamespaceRef, QualName};
+use dom_nodes::node_data::{NodeData, TreeNode};
+use dom_nodes::text::{RareText, Text};
+use dom_trees::tree::Tree;
 use std::alloc::Global;
 use std::mem::size_of;
 

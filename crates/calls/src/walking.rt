@@ -2,9 +2,11 @@
 
 use crate::printing::{show, show_ids_read, show_node, show_nodes_read, show_some};
 use crate::words::{node_of, nodes_of};
-use dom_query::{
-    NodeId, NodeRef, Tree, TreeNodeOps, ancestor_nodes, child_nodes, descendant_nodes,
-};
+use dom_links::ops::TreeNodeOps;
+use dom_nodes::node_id::NodeId;
+use dom_trees::iters::{ancestor_nodes, child_nodes, descendant_nodes};
+use dom_trees::node_ref::NodeRef;
+use dom_trees::tree::Tree;
 
 /// The lists of nodes above and below a node, and beside it by number: `N`.
 pub fn walk(rt: &HostRuntime, tree: &Tree, line: &str) -> Option<()> {

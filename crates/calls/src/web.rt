@@ -1,17 +1,13 @@
-//! Pages of the web: what texts are read as in each way, and their tokens.
-
-ghost use Rattle.std.specs.Prelude.{◌<◌};
+//! Pages of the web: what texts are read as, and their tokens.
 
 use crate::printing::{show, show_edit, show_read};
-use dom_html5::make_page;
-use dom_query::{
-    Context, Document, Options, PageFault, PageParser, Tree, parse_page, parse_page_bytes,
-    parse_page_fragment,
+use dom_html5::{
+    Context, Options, PageFault, make_page, parse_page, parse_page_bytes, parse_page_fragment,
 };
+use dom_markup::document::Document;
+use dom_trees::tree::Tree;
 use html5_tokens::token::{TagKind, Token};
 use html5_tokens::tokenizer::{Step, Tokenizer};
-use std::alloc::Global;
-use std::str;
 
 /// With errors noted tags are read character by character, and calm pages by tree construction.
 const NOTING: Options = Options {
@@ -46,42 +42,6 @@ pub fn read_row(rt: &HostRuntime, text: &str) {
 /// Gives the tree the shape of a page.
 pub fn shape(rt: &HostRuntime, tree: &mut Tree) {
     show_edit(rt, "make_page", make_page(tree));
-}
-
-/// The page of bytes in pieces of this size.
-fn in_pieces(alloc: Global, bytes: &[u8], size: usize) -> Result<Document, PageFault>
-    requires { 0 < size }
-{
-    let mut parser = PageParser::new(alloc, Options::default())?;
-    for piece in bytes.chunks(size) {
-        parser.feed_bytes(piece)?;
-    }
-    parser.finish()
-}
-
-/// The page of bytes and the text `é` behind them.
-fn mixed(alloc: Global, bytes: &[u8]) -> Result<Document, PageFault> {
-    let mut parser = PageParser::new(alloc, Options::default())?;
-    parser.feed_bytes(bytes)?;
-    parser.feed("é")?;
-    parser.finish()
-}
-
-/// The page of bytes, read in the way of that name; None where the bytes aren't read so.
-fn read_by(alloc: Global, way: &str, bytes: &[u8]) -> Option<Result<Document, PageFault>> {
-    match way {
-        "whole" => Some(parse_page_bytes(alloc, bytes, Options::default())),
-        "noted" => Some(parse_page(alloc, str::from_utf8(bytes).ok()?, NOTING)),
-        "mixed" => Some(mixed(alloc, bytes)),
-        _ => Some(in_pieces(alloc, bytes, way.parse::<usize>().ok()?.max(1))),
-    }
-}
-
-/// Prints how many nodes a page has below its root, and its HTML.
-pub fn show_bytes(rt: &HostRuntime, way: &str, bytes: &[u8]) -> Option<()> {
-    let page = read_by(rt.alloc(), way, bytes)?.ok()?;
-    let (count, html) = (page.root().descendants_it().count(), page.html().ok()?);
-    println!(rt; "read {count} {html:?}").ok()
 }
 
 /// The kind of a token, and its name or text.

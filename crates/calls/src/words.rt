@@ -1,7 +1,8 @@
-//! The words of a line.
+//! The words of a line, and what standard input has.
 
-use dom_query::NodeId;
+use dom_nodes::node_id::NodeId;
 use std::alloc::Global;
+use std::io::Read;
 
 /// The first word of a line, and what stands behind it.
 pub fn cut(line: &str) -> (&str, &str) {
@@ -43,4 +44,11 @@ pub fn words_of(alloc: Global, line: &str) -> Option<Vec<&str>> {
         }
     }
     Some(words)
+}
+
+/// What standard input has.
+pub fn input(rt: &HostRuntime) -> Option<String> {
+    let mut text = String::new(rt.alloc());
+    rt.stdin().read_to_string(&mut text).ok()?;
+    Some(text)
 }

@@ -1,6 +1,6 @@
 //! Writing HTML.
 
-use crate::tour::fault::TourFault;
+use crate::fault::TourFault;
 use dom_query::{Document, NodeMarkup, NodeRef, TraversalScope};
 use std::alloc::Global;
 use std::io::Write;

@@ -1,6 +1,6 @@
 //! Cleaning the comments of users.
 
-use crate::tour::fault::TourFault;
+use crate::fault::TourFault;
 use dom_query::{Allow, Document, DocumentSelect, NodeMarkup, SelectionMut, sanitize};
 use std::alloc::Global;
 use std::io::Write;

@@ -1,6 +1,6 @@
 //! Changing many nodes.
 
-use crate::tour::fault::TourFault;
+use crate::fault::TourFault;
 use dom_query::{Document, DocumentSelect, NodeMarkup, SelectionMut};
 use std::alloc::Global;
 use std::io::Write;

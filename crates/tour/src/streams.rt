@@ -1,9 +1,8 @@
 //! Readers and writers that fail.
 
-use crate::bulk::batch::input;
-use crate::printing::{show_edit, show_read};
-use crate::words::node_of;
-use dom_query::{NodeRef, RunFault, SerializableNodeRef, TraversalScope, Tree, drive, run};
+use crate::asking::show_read;
+use crate::batch::input;
+use dom_query::{NodeId, NodeRef, RunFault, SerializableNodeRef, TraversalScope, Tree, drive, run};
 use std::alloc::Global;
 use std::io::{self, ErrorKind, Read, Write};
 
@@ -43,19 +42,20 @@ impl Read for NoReader {
 
 /// What writers get of a node's HTML that take all of it, some, and no byte: `N`.
 pub fn serialize(rt: &HostRuntime, tree: &Tree, line: &str) -> Option<()> {
-    let node = SerializableNodeRef::from(NodeRef::new(node_of(line)?, tree));
+    let id = NodeId::new(line.parse::<usize>().ok()?)?;
+    let node = SerializableNodeRef::from(NodeRef::new(id, tree));
     for (left, most) in &[(usize::MAX, 3), (4, 3), (9, 0)] {
-        serialize_into(rt, &node, *left, *most);
+        let taken = Vec::new(rt.alloc());
+        let mut out = Failing {
+            left: *left,
+            most: *most,
+            taken,
+        };
+        let ended = node.serialize(TraversalScope::IncludeNode, &mut out);
+        show_read(rt, "serialize", ended.map(|_done| "done"))?;
+        show_read(rt, "taken", String::from_utf8_lossy(rt.alloc(), &out.taken))?;
     }
     Some(())
-}
-
-fn serialize_into(rt: &HostRuntime, node: &SerializableNodeRef<'_>, left: usize, most: usize) {
-    let taken = Vec::new(rt.alloc());
-    let mut out = Failing { left, most, taken };
-    let ended = node.serialize(TraversalScope::IncludeNode, &mut out);
-    show_edit(rt, "serialize", ended);
-    show_read(rt, "taken", String::from_utf8_lossy(rt.alloc(), &out.taken));
 }
 
 /// How a drive with these words ends whose reader is given, and whose writer takes so many writes:

@@ -1,6 +1,6 @@
 //! A page of the web: read, extracted from, rewritten and written.
 
-use crate::tour::fault::TourFault;
+use crate::fault::TourFault;
 use dom_query::{Document, DocumentSelect, NodeMarkup, Options, SelectionMut, parse_page};
 use std::alloc::Global;
 use std::io::Write;

@@ -1,19 +1,8 @@
 //! The snippets of README.md, docs/API.md, docs/SINK.md and docs/PAGES.md, one after the other, and
 //! small whole programs over the library. `check` compares the documents with these files.
 
-mod article;
-mod changing;
-mod comments;
-mod fault;
-mod finding;
-mod links;
-mod many;
-mod pages;
-mod parens;
-mod reading;
-mod writing;
-
-use crate::tour::fault::TourFault;
+use crate::fault::TourFault;
+use crate::{article, changing, comments, finding, links, many, pages, parens, reading, writing};
 use std::alloc::Global;
 use std::io::Write;
 

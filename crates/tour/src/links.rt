@@ -1,6 +1,6 @@
 //! The program of README.md.
 
-use crate::tour::fault::TourFault;
+use crate::fault::TourFault;
 use dom_query::{DescendantMatches, Document, Matcher};
 use std::alloc::Global;
 use std::io::Write;

@@ -1,6 +1,6 @@
 //! Finding the article of a page.
 
-use crate::tour::fault::TourFault;
+use crate::fault::TourFault;
 use dom_query::{Document, DocumentSelect, NodeId, NodeMd, NodeRef, Selection};
 use std::alloc::Global;
 use std::io::Write;

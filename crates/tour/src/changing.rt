@@ -1,6 +1,6 @@
 //! Changing a tree.
 
-use crate::tour::fault::TourFault;
+use crate::fault::TourFault;
 use dom_query::{DescendantMatches, Document, EditFault, Matcher, NodeId, NodeMarkup, Tree};
 use std::alloc::Global;
 use std::io::Write;

@@ -2,7 +2,7 @@
 //! written `(name text)`, its attributes behind the name as `name@key=value@key=value`; a space
 //! ends that. Without a name the attributes are added to the element around.
 
-use crate::tour::fault::TourFault;
+use crate::fault::TourFault;
 use dom_query::{
     Attr, Attrs, Document, ElementFlags, LocalName, NameParts, Namespace, NodeId, NodeMarkup,
     NodeOrText, OutOfMemory, QualName, Text, TreeSink,

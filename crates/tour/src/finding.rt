@@ -1,6 +1,6 @@
 //! Finding elements by selectors.
 
-use crate::tour::fault::TourFault;
+use crate::fault::TourFault;
 use dom_query::{DescendantMatches, Document, Matcher, NodeSelect};
 use std::alloc::Global;
 use std::io::Write;

@@ -1,6 +1,6 @@
 //! Reading markup.
 
-use crate::tour::fault::TourFault;
+use crate::fault::TourFault;
 use dom_query::{Document, MarkupFaultKind};
 use std::alloc::Global;
 use std::io::Write;

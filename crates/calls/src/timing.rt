@@ -2,15 +2,23 @@
 //! SELECTOR` prints the best of so many runs in nanoseconds and what the call counted. `bulk time`
 //! does each call once and prints its count alone.
 
-use crate::words::{named, words_of};
-use dom_query::{
-    Allow, Document, DocumentMd, DocumentSelect, EditFault, Matcher, MiniSelect, NodeId,
-    NodeMarkup, NodeMd, Options, OutOfMemory, Place, Snippet, Tokens, Tree, TreeIndex, parse_page,
-    sanitize, sanitize_tree,
-};
+use crate::words::{input, named, words_of};
+use dom_html5::{Options, parse_page};
+use dom_index::index::TreeIndex;
+use dom_links::gap::Place;
+use dom_markup::document::snippet::Snippet;
+use dom_markup::document::{Document, Tokens};
+use dom_markup::serializing::NodeMarkup;
+use dom_md::node_md::NodeMd;
+use dom_nodes::fault::{EditFault, OutOfMemory};
+use dom_nodes::node_id::NodeId;
+use dom_sanitize::sanitize::{Allow, sanitize, sanitize_tree};
+use dom_select::matcher::Matcher;
 use dom_select::matcher::descendants::select_below;
+use dom_select::mini_selector::extension::MiniSelect;
+use dom_selection::document_select::DocumentSelect;
+use dom_trees::tree::Tree;
 use std::alloc::Global;
-use std::io::Read;
 use std::time::{Duration, Instant};
 
 /// What is timed.
@@ -79,8 +87,7 @@ struct Page<'a> {
 impl<'a> Page<'a> {
     /// The markup on standard input, with the matcher of a selector.
     fn read(rt: &HostRuntime, selector: &'a str) -> Option<Page<'a>> {
-        let mut source = String::new(rt.alloc());
-        rt.stdin().read_to_string(&mut source).ok()?;
+        let source = input(rt)?;
         Some(Page {
             document: Document::parse(rt.alloc(), source.as_str()).ok()?,
             matcher: Matcher::new(rt.alloc(), selector).ok()?,
@@ -232,11 +239,12 @@ fn nodes_of<F>(made: &Result<Document, F>) -> Option<usize> {
 
 /// Writes the document, and counts the bytes.
 fn length_of(document: &Document, call: Call) -> Option<usize> {
+    let root = document.root();
     let written = match call {
-        Call::Html => document.html(),
-        Call::Text => document.text(),
-        Call::Formatted => document.formatted_text(),
-        _ => document.md(None),
+        Call::Html => root.html(),
+        Call::Text => root.text(),
+        Call::Formatted => root.formatted_text(),
+        _ => root.md(None),
     };
     match written {
         Ok(text) => Some(text.len()),

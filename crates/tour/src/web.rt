@@ -1,0 +1,50 @@
+//! Pages of the web: each way of reading them.
+
+ghost use Rattle.std.specs.Prelude.{◌<◌};
+
+use dom_query::{Document, Options, PageFault, PageParser, parse_page, parse_page_bytes};
+use std::alloc::Global;
+use std::str;
+
+/// With errors noted tags are read character by character, and calm pages by tree construction.
+const NOTING: Options = Options {
+    scripting: false,
+    max_depth: None,
+    errors: true,
+};
+
+/// The page of bytes in pieces of this size.
+fn in_pieces(alloc: Global, bytes: &[u8], size: usize) -> Result<Document, PageFault>
+    requires { 0 < size }
+{
+    let mut parser = PageParser::new(alloc, Options::default())?;
+    for piece in bytes.chunks(size) {
+        parser.feed_bytes(piece)?;
+    }
+    parser.finish()
+}
+
+/// The page of bytes and the text `é` behind them.
+fn mixed(alloc: Global, bytes: &[u8]) -> Result<Document, PageFault> {
+    let mut parser = PageParser::new(alloc, Options::default())?;
+    parser.feed_bytes(bytes)?;
+    parser.feed("é")?;
+    parser.finish()
+}
+
+/// The page of bytes, read in the way of that name; None where the bytes aren't read so.
+fn read_by(alloc: Global, way: &str, bytes: &[u8]) -> Option<Result<Document, PageFault>> {
+    match way {
+        "whole" => Some(parse_page_bytes(alloc, bytes, Options::default())),
+        "noted" => Some(parse_page(alloc, str::from_utf8(bytes).ok()?, NOTING)),
+        "mixed" => Some(mixed(alloc, bytes)),
+        _ => Some(in_pieces(alloc, bytes, way.parse::<usize>().ok()?.max(1))),
+    }
+}
+
+/// Prints how many nodes a page has below its root, and its HTML.
+pub fn show_bytes(rt: &HostRuntime, way: &str, bytes: &[u8]) -> Option<()> {
+    let page = read_by(rt.alloc(), way, bytes)?.ok()?;
+    let (count, html) = (page.root().descendants_it().count(), page.html().ok()?);
+    println!(rt; "read {count} {html:?}").ok()
+}
