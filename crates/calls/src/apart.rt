@@ -56,6 +56,11 @@ fn given(alloc: Global) -> Result<Attrs, OutOfMemory> {
 
 fn changed_node(node: &TreeNode) -> Result<TreeNode, OutOfMemory> {
     let mut node = node.try_clone()?;
+    change_node(&mut node)?;
+    Ok(node)
+}
+
+fn change_node(node: &mut TreeNode) -> Result<(), OutOfMemory> {
     node.set_attr("href", "u")?;
     node.rename("a")?;
     node.add_class("k m")?;
@@ -63,8 +68,7 @@ fn changed_node(node: &TreeNode) -> Result<TreeNode, OutOfMemory> {
     node.remove_attr("x");
     node.remove_attrs(&["y", "none"]);
     node.retain_attrs(&["href", "class"]);
-    node.change(Change::AddClass("n"))?;
-    Ok(node)
+    node.change(Change::AddClass("n"))
 }
 
 fn with_others(alloc: Global, node: &TreeNode) -> Result<TreeNode, OutOfMemory> {
@@ -80,17 +84,27 @@ fn with_others(alloc: Global, node: &TreeNode) -> Result<TreeNode, OutOfMemory> 
 
 fn changed_data(alloc: Global, data: &NodeData) -> Result<NodeData, OutOfMemory> {
     let mut data = data.try_clone()?;
+    change_data(alloc, &mut data)?;
+    Ok(data)
+}
+
+fn change_data(alloc: Global, data: &mut NodeData) -> Result<(), OutOfMemory> {
     data.change(Change::Rename("i"))?;
     data.update(alloc, |edit: &mut NodeEdit| edit.attrs.clear());
     data.add_attrs_if_missing(given(alloc)?)?;
     let edit = data.take_edit(alloc);
     data.put_edit(NodeEdit::new(alloc));
     data.put_edit(edit);
-    Ok(data)
+    Ok(())
 }
 
 fn changed_element(element: &Element) -> Result<Element, OutOfMemory> {
     let mut element = element.try_clone()?;
+    edit_element(&mut element)?;
+    Ok(element)
+}
+
+fn edit_element(element: &mut Element) -> Result<(), OutOfMemory> {
     element.set_attr("w", "2")?;
     element.remove_attr("x");
     element.remove_attrs(&["y"]);
@@ -98,8 +112,7 @@ fn changed_element(element: &Element) -> Result<Element, OutOfMemory> {
     element.rename("i")?;
     element.add_class("m k")?;
     element.remove_class("k")?;
-    element.change(Change::RemoveClass("l"))?;
-    Ok(element)
+    element.change(Change::RemoveClass("l"))
 }
 
 fn cleared(alloc: Global, data: &NodeData) -> Result<NodeData, OutOfMemory> {
@@ -113,6 +126,11 @@ fn cleared(alloc: Global, data: &NodeData) -> Result<NodeData, OutOfMemory> {
 
 fn changed_attrs(alloc: Global, attrs: &Attrs) -> Result<Attrs, OutOfMemory> {
     let mut attrs = attrs.try_clone()?;
+    change_attrs(alloc, &mut attrs)?;
+    Ok(attrs)
+}
+
+fn change_attrs(alloc: Global, attrs: &mut Attrs) -> Result<(), OutOfMemory> {
     attrs.reserve(8);
     attrs.set("x", Text::new(alloc, "3")?)?;
     attrs.remove("href");
@@ -120,7 +138,7 @@ fn changed_attrs(alloc: Global, attrs: &Attrs) -> Result<Attrs, OutOfMemory> {
     attrs.remove_all_of(&["y", "none"]);
     attrs.retain_all_of(&["x", "z"]);
     attrs.shrink_to_fit();
-    Ok(attrs)
+    Ok(())
 }
 
 /// What a node, its data, and the element that it is answer: `N`.

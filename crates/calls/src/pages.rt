@@ -12,18 +12,25 @@ use dom_trees::tree::Tree;
 
 /// What a document answers of all of it, and its tree.
 pub fn read(rt: &HostRuntime, document: &Document) {
-    let tree = &document.tree;
-    show(rt, "len", tree.len());
+    show(rt, "len", document.tree.len());
     show(rt, "root", document.root().id.value());
     show_node(rt, "html_root", &document.html_root());
     show_node(rt, "head", &document.head());
     show_node(rt, "body", &document.body());
     show_some(rt, "base_uri", document.base_uri());
+    read_texts(rt, document);
+    read_tree(rt, &document.tree);
+}
+
+fn read_texts(rt: &HostRuntime, document: &Document) {
     show_read(rt, "text", document.text());
     show_read(rt, "html", document.html());
     show_read(rt, "inner_html", document.inner_html());
     show_some(rt, "try_html", document.try_html());
     show_some(rt, "try_inner_html", document.try_inner_html());
+}
+
+fn read_tree(rt: &HostRuntime, tree: &Tree) {
     show_node(rt, "html_root", &tree.html_root());
     show_node(rt, "head", &tree.head());
     show_node(rt, "body", &tree.body());

@@ -37,7 +37,7 @@ fn read_kind(rt: &HostRuntime, node: &NodeRef<'_>) {
     show(rt, "query_or", node.query_or(false, |it| it.is_text()));
 }
 
-/// What it has as an element, and its texts.
+/// What it has as an element.
 fn read_element(rt: &HostRuntime, node: &NodeRef<'_>) {
     show_some(rt, "node_name", node.node_name());
     match node.element_ref() {
@@ -49,6 +49,11 @@ fn read_element(rt: &HostRuntime, node: &NodeRef<'_>) {
         None => show(rt, "qual_name_ref", "-"),
     }
     show(rt, "attrs", node.attrs().len());
+    read_texts(rt, node);
+}
+
+/// What it has of some attributes, and its texts.
+fn read_texts(rt: &HostRuntime, node: &NodeRef<'_>) {
     show_some(rt, "class", node.class());
     show_some(rt, "id_attr", node.id_attr());
     show_some(rt, "base_uri", node.base_uri());
@@ -73,17 +78,25 @@ fn read_named(rt: &HostRuntime, node: &NodeRef<'_>, word: &str) {
 /// The nodes around a node, and the elements: `N`.
 pub fn look_around(rt: &HostRuntime, tree: &Tree, line: &str) -> Option<()> {
     let node = tree.get_unchecked(&node_of(line)?);
+    show_around(rt, &node);
+    show_elements_around(rt, &node);
+    Some(())
+}
+
+fn show_around(rt: &HostRuntime, node: &NodeRef<'_>) {
     show_node(rt, "parent", &node.parent());
     show_node(rt, "first_child", &node.first_child());
     show_node(rt, "last_child", &node.last_child());
     show_node(rt, "next_sibling", &node.next_sibling());
     show_node(rt, "prev_sibling", &node.prev_sibling());
     show_node(rt, "last_sibling", &node.last_sibling());
+}
+
+fn show_elements_around(rt: &HostRuntime, node: &NodeRef<'_>) {
     show_node(rt, "parent_element", &node.parent_element());
     show_node(rt, "next_element_sibling", &node.next_element_sibling());
     show_node(rt, "next_sibling_element", &node.next_sibling_element());
     show_node(rt, "prev_element_sibling", &node.prev_element_sibling());
     show_node(rt, "prev_sibling_element", &node.prev_sibling_element());
     show_node(rt, "first_element_child", &node.first_element_child());
-    Some(())
 }

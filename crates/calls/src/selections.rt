@@ -95,15 +95,20 @@ fn step_from(rt: &HostRuntime, all: &Selection<'_>) {
     }
     show_nodes(rt, "first", all.first().nodes());
     show_nodes(rt, "last", all.last().nodes());
+    count(rt, all);
+    for one in all.iter() {
+        show_nodes(rt, "iter", one.nodes());
+    }
+}
+
+/// How many nodes there are, and their numbers.
+fn count(rt: &HostRuntime, all: &Selection<'_>) {
     show(rt, "length", all.length());
     show(rt, "size", all.size());
     let flags = [("exists", all.exists()), ("is_empty", all.is_empty())];
     show_flags(rt, &flags);
     show_some(rt, "get 1", all.get(1).map(|node| node.id.value()));
     show_ids_read(rt, "ids", all.ids());
-    for one in all.iter() {
-        show_nodes(rt, "iter", one.nodes());
-    }
 }
 
 /// What a selector chooses from the nodes that another selects: `CHOICE SELECTOR`.
@@ -218,6 +223,11 @@ fn read_nodes(rt: &HostRuntime, all: &Selection<'_>, name: &str) {
         ("has_class", all.has_class(name)),
     ];
     show_flags(rt, &flags);
+    read_texts(rt, all);
+}
+
+/// What is read of all of them.
+fn read_texts(rt: &HostRuntime, all: &Selection<'_>) {
     show_read(rt, "text", all.text());
     show_read(rt, "immediate_text", all.immediate_text());
     show_read(rt, "html", all.html());

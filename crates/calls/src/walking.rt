@@ -12,6 +12,7 @@ use dom_trees::tree::Tree;
 pub fn walk(rt: &HostRuntime, tree: &Tree, line: &str) -> Option<()> {
     let id = node_of(line)?;
     list(rt, &NodeRef::new(id, tree));
+    list_beside(rt, tree, &id);
     count_steps(rt, tree, &id);
     begin(rt, &NodeRef::new(id, tree));
     ask(rt, tree, &id);
@@ -26,7 +27,7 @@ pub fn list_children(rt: &HostRuntime, tree: &Tree, line: &str) -> Option<()> {
     Some(())
 }
 
-/// Nodes by their numbers, by references, and beside it.
+/// Nodes by their numbers, and by references.
 fn list(rt: &HostRuntime, node: &NodeRef<'_>) {
     let (id, tree) = (&node.id, node.tree);
     show_ids_read(rt, "child_ids_of", tree.child_ids_of(id));
@@ -40,6 +41,10 @@ fn list(rt: &HostRuntime, node: &NodeRef<'_>) {
     show_nodes_read(rt, "descendants", node.descendants());
     show_nodes_read(rt, "children_of", tree.children_of(id));
     show_nodes_read(rt, "ancestors_of", tree.ancestors_of(id, None));
+}
+
+/// The nodes beside it.
+fn list_beside(rt: &HostRuntime, tree: &Tree, id: &NodeId) {
     show_node(rt, "parent_of", &tree.parent_of(id));
     show_node(rt, "first_child_of", &tree.first_child_of(id));
     show_node(rt, "last_child_of", &tree.last_child_of(id));
@@ -60,12 +65,13 @@ fn count_steps(rt: &HostRuntime, tree: &Tree, id: &NodeId) {
     let last = tree.child_ids_of_it(id, true).next();
     show_some(rt, "child_ids_of_it from the end", last.map(NodeId::value));
     show(rt, "ancestor_nodes", ancestor_nodes(tree, id, None).count());
-    show(
-        rt,
-        "ancestor_ids_of_it",
-        tree.ancestor_ids_of_it(id, None).count(),
-    );
+    let count = tree.ancestor_ids_of_it(id, None).count();
+    show(rt, "ancestor_ids_of_it", count);
     show(rt, "descendant_nodes", descendant_nodes(tree, id).count());
+    count_reads(rt, tree, id);
+}
+
+fn count_reads(rt: &HostRuntime, tree: &Tree, id: &NodeId) {
     let mut walk = tree.descendant_ids_of_it(id);
     while walk.next().is_some() {}
     show(rt, "reads", walk.reads());
