@@ -2,7 +2,7 @@
 //! nodes, indexes in caches, and tests of compounds.
 
 use crate::printing::{begin, end, show, show_next, show_nodes, show_read, show_some};
-use crate::selecting::matcher_of;
+use crate::selecting::{matcher_of, show_each};
 use crate::words::{cut, node_of, nodes_of};
 use dom_index::selecting::select_counted;
 use dom_nodes::indexes::IndexKind;
@@ -76,21 +76,13 @@ fn match_below(rt: &HostRuntime, all: &Selection<'_>, matcher: &Matcher) {
         Err(fault) => show(rt, "Matches::below_nodes", fault),
     }
     match MatcherIter::below_nodes(first.tree, all.nodes(), matcher) {
-        Ok(matches) => list_below(rt, matches),
+        Ok(matches) => show_each(rt, "MatcherIter::below_nodes", matches),
         Err(fault) => show(rt, "MatcherIter::below_nodes", fault),
     }
 }
 
 fn list(rt: &HostRuntime, what: &str, matches: Matches<'_, '_, '_>) {
     begin(rt, what);
-    for node in matches {
-        show_next(rt, node.id);
-    }
-    end(rt);
-}
-
-fn list_below(rt: &HostRuntime, matches: MatcherIter<'_, '_, '_>) {
-    begin(rt, "MatcherIter::below_nodes");
     for node in matches {
         show_next(rt, node.id);
     }

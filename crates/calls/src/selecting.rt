@@ -41,7 +41,7 @@ fn select_by_each(rt: &HostRuntime, tree: &Tree, matcher: &Matcher) {
     list_below(rt, tree, &roots, matcher);
     walk_below_root(rt, tree, matcher);
     match MatcherIter::new(tree, &roots, matcher) {
-        Ok(matches) => walk_below(rt, matches),
+        Ok(matches) => show_each(rt, "MatcherIter", matches),
         Err(fault) => show(rt, "MatcherIter", fault),
     }
 }
@@ -55,9 +55,9 @@ fn walk_below_root(rt: &HostRuntime, tree: &Tree, matcher: &Matcher) {
     end(rt);
 }
 
-/// What walks below roots select, one by one.
-fn walk_below(rt: &HostRuntime, matches: MatcherIter<'_, '_, '_>) {
-    begin(rt, "MatcherIter");
+/// What walks below nodes select, one by one.
+pub fn show_each(rt: &HostRuntime, what: &str, matches: MatcherIter<'_, '_, '_>) {
+    begin(rt, what);
     for node in matches {
         show_next(rt, node.id);
     }

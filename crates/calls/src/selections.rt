@@ -1,15 +1,13 @@
 //! Calls of `Selection` and of `DocumentSelect`.
 
 use crate::printing::{
-    begin, end, show, show_flags, show_ids_read, show_next, show_nodes, show_read, show_some,
-    show_some_read,
+    show, show_flags, show_ids_read, show_nodes, show_read, show_some, show_some_read,
 };
-use crate::selecting::matcher_of;
+use crate::selecting::{matcher_of, show_each};
 use crate::words::cut;
 use dom_markup::document::Document;
 use dom_nodes::fault::OutOfMemory;
 use dom_select::matcher::Matcher;
-use dom_select::matcher::matcher_iter::MatcherIter;
 use dom_selection::document_select::DocumentSelect;
 use dom_selection::selection::Selection;
 use dom_selectors::fault::SelectorFault;
@@ -169,21 +167,12 @@ fn choose_by_matcher(rt: &HostRuntime, all: &Selection<'_>, matcher: &Matcher) {
     let one = all.select_single_matcher(matcher);
     show_found(rt, "select_single_matcher", one);
     match all.select_matcher_iter(matcher) {
-        Ok(Some(matches)) => show_each(rt, matches),
+        Ok(Some(matches)) => show_each(rt, "select_matcher_iter", matches),
         Ok(None) => show(rt, "select_matcher_iter", "-"),
         Err(fault) => show(rt, "select_matcher_iter", fault),
     }
     show_found(rt, "filter_matcher", all.filter_matcher(matcher));
     show_found(rt, "add_matcher", all.add_matcher(matcher));
-}
-
-/// What a matcher selects below the nodes, one by one.
-fn show_each(rt: &HostRuntime, matches: MatcherIter<'_, '_, '_>) {
-    begin(rt, "select_matcher_iter");
-    for node in matches {
-        show_next(rt, node.id);
-    }
-    end(rt);
 }
 
 /// What the nodes of two selectors make together: `OTHER SELECTOR`.
