@@ -47,6 +47,9 @@ from rows import ROOT, SECONDS, built, given, words_of  # noqa: E402
 
 NO_FUNCTION = "no_function_of_this_name"
 SEED, FORESTS, PATHS, WAYS = 1, 2000, 500, 400
+# The memory, in bytes, that must be free for each proof at a time: a crate's took up to 3.2 GB, that of `calls` 4.8. `rt`
+# reckons with up to 9, which leaves processors idle.
+PROOF = 4_000_000_000
 
 
 class Clock:
@@ -87,7 +90,9 @@ def gate(clock):
     trials, begun, before = edits.Trials(anew="--anew" in sys.argv), time.monotonic(), used()
     # (a kit whose rt keeps nothing shows all anew each time, and has no such word)
     anew = ["--anew"] if "--anew" in sys.argv and trials.refusals.kept else []
-    ran = subprocess.Popen([rt, "ci", *anew], cwd=ROOT, stdout=subprocess.PIPE, stderr=subprocess.STDOUT, text=True)
+    side_by_side = max(1, min(trials.processors, trials.rt.free() // PROOF))
+    env = {"RT_JOBS": str(side_by_side), **os.environ}
+    ran = subprocess.Popen([rt, "ci", *anew], cwd=ROOT, env=env, stdout=subprocess.PIPE, stderr=subprocess.STDOUT, text=True)
     last, proved_at, functions = "", begun, []
     for line in ran.stdout:
         function = re.match(r"fn (\w+)::(\S+): proved", line)
