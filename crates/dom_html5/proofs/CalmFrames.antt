@@ -11,7 +11,8 @@ use Rattle.dom_markup.specs.Numbered.{read_attr}
 use Rattle.dom_markup.specs.Plain.{start_text, text_of_trees}
 use Rattle.dom_markup.specs.ValueTrees.{Attribute, ValueTrees}
 use Rattle.dom_markup.specs.ValueTrees.ValueTrees.{no_trees, doctype_node, element_node}
-use Rattle.dom_html5.specs.Calm.{IsCalmDocument, IsFramed, behind_text}
+use Rattle.html5_trees.specs.Framed.{IsFramed}
+use Rattle.dom_html5.specs.Calm.{IsCalmDocument, behind_text}
 
 -- the text ends with that one
 record Ends (text last : List ℕ) : Type 0 where

@@ -14,7 +14,7 @@ use Rattle.dom_nodes.specs.declared.node_data.NodeData.TheVariants.{Comment, Ele
 use Rattle.dom_links.specs.Forest.{Forest, children_of}
 use Rattle.dom_links.specs.ListMoves.{element_at}
 use Rattle.dom_trees.specs.Views.{child_named, has_local_name, node_is, page_part}
-use Rattle.dom_html5.specs.Shape.{IsFound, IsPage, are_parts, besides_comments, elements_of, has_parts, is_contents, is_html, is_top}
+use Rattle.html5_trees.specs.Shape.{IsFound, IsPage, are_parts, besides_comments, elements_of, has_parts, is_contents, is_html, is_top}
 
 both : (a b : Bool) → (a && b) ≡ true → (a ≡ true) × (b ≡ true)
 both true b h = (refl, h)

@@ -1,6 +1,6 @@
 -- Calm pages: explicit markup that tree construction reads as it stands, so that both readers give one tree.
-use Rattle.std.specs.Prelude.{ℕ, ◌≡◌, ◌==◌, ◌≤◌, ◌-◌, ◌&&◌, ◌||◌, Bool, true, false, not, nat_eq, List, [], ◌∷◌, Option, None, find, length, map, take, drop, codes, if◌then◌else◌}
-use Rattle.std.specs.Char.{is_ascii_alphanumeric, to_ascii_lowercase}
+use Rattle.std.specs.Prelude.{ℕ, ◌≡◌, ◌==◌, ◌&&◌, ◌||◌, Bool, true, false, not, nat_eq, List, [], ◌∷◌, Option, None, find, codes, if◌then◌else◌}
+use Rattle.std.specs.Char.{is_ascii_alphanumeric}
 use Rattle.std.specs.List.{list_all, starts_with}
 use Rattle.std.specs.Option.{option_map_or}
 use Rattle.dom_nodes.specs.Ascii.{ampersand, carriage_return, exclamation_mark, greater_than, less_than, line_feed, number_sign, slash}
@@ -15,11 +15,12 @@ use Rattle.dom_markup.specs.Numbered.{document_of}
 use Rattle.dom_markup.specs.Plain.{Represents}
 use Rattle.dom_markup.specs.ValueTrees.{Attribute, ValueTrees}
 use Rattle.dom_markup.specs.ValueTrees.ValueTrees.{no_trees, text_node, comment_node, doctype_node, element_node}
-use Rattle.dom_html5.specs.ElementKinds.{holds_flow, holds_parts, kind_of, may_hold}
-use Rattle.dom_html5.specs.declared.calm.element_kinds.Kind.{Kind}
-use Rattle.dom_html5.specs.declared.calm.element_kinds.Kind.TheVariants.{Anchor, Block, Button, DescriptionList, Document, Form, Heading, Html, ItemList, Paragraph, Pre, Table, Verbatim}
+use Rattle.html5_trees.specs.ElementKinds.{holds_comments, holds_doctype, holds_flow, holds_parts, kind_of, may_hold}
+use Rattle.html5_trees.specs.Framed.{IsFramed}
+use Rattle.html5_trees.specs.declared.element_kinds.Kind.{Kind}
+use Rattle.html5_trees.specs.declared.element_kinds.Kind.TheVariants.{Anchor, Block, Button, DescriptionList, Document, Form, Heading, Html, ItemList, Paragraph, Pre, Table, Verbatim}
 use Rattle.dom_html5.specs.declared.calm.nesting.Scope.{Scope}
-use Rattle.dom_html5.specs.declared.reading.Options.{Options}
+use Rattle.html5_trees.specs.declared.reading.Options.{Options}
 
 -- ---- trees
 
@@ -73,15 +74,8 @@ may_hold_text Verbatim contents = not (has_close contents)
 may_hold_text Pre contents = not (begins_line contents)
 may_hold_text parent contents = if holds_parts parent then list_all is_whitespace contents else holds_flow parent
 
-abbrev pub holds_comments : Kind → Bool
-holds_comments parent = holds_parts parent || holds_flow parent
-
 abbrev pub may_hold_comment : Kind → List ℕ → Bool
 may_hold_comment parent contents = holds_comments parent && list_all (λ b. not (b == greater_than)) contents
-
-abbrev pub holds_doctype : Kind → Bool
-holds_doctype Document = true
-holds_doctype parent = false
 
 -- the trees may stand there, and so may what is in them
 abbrev pub are_calm : Scope → ValueTrees → Bool
@@ -153,12 +147,6 @@ is_calm_byte b after =
 abbrev pub is_calm_text : List ℕ → Bool
 is_calm_text [] = true
 is_calm_text (b ∷ after) = is_calm_byte b after && is_calm_text after
-
--- A to Z being a to z, the text begins with a doctype and `<html`, and ends with the end tags of `body` and `html`
-pub record IsFramed (page : List ℕ) : Type 0 where
-  pub long : 34 ≤ length page
-  pub front : map to_ascii_lowercase (take 20 page) ≡ codes "<!doctype html><html"
-  pub back : map to_ascii_lowercase (drop (length page - 14) page) ≡ codes "</body></html>"
 
 -- ---- pages
 

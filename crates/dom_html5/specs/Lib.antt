@@ -1,5 +1,3 @@
-pub mod Shape
-pub mod ElementKinds
 pub mod Calm
 pub mod Scopes
-pub mod Elements
+pub mod Parsers

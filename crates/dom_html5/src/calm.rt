@@ -5,25 +5,23 @@ ghost use Rattle.dom_html5.specs.Calm.{IsCalmDocument, IsCalmPage, are_calm, top
 ghost use Rattle.dom_html5.specs.Calm.{has_elements_at_ends, is_element_at};
 ghost use Rattle.dom_links.specs.Forest.{children_of};
 ghost use Rattle.dom_links.specs.Lists.{first, last};
-ghost use Rattle.dom_html5.specs.Shape.{IsPage};
+ghost use Rattle.html5_trees.specs.Shape.{IsPage};
 ghost use Rattle.dom_markup.specs.FaultKinds.{IsLimitFault};
 ghost use Rattle.dom_markup.specs.Numbered.{document_of};
 ghost use Rattle.dom_markup.specs.ValueTrees.{ValueTrees};
 
-pub mod element_kinds;
 mod nesting;
 mod texts;
 
 use crate::calm::nesting::{TOP, next_scope};
 use crate::calm::texts::{is_calm_text, is_framed};
-use crate::fault::PageFault;
-use crate::shape::is_page;
 use dom_markup::document::Document;
 use dom_markup::laws::one_reading;
 use dom_markup::laws::plain::documents_are_forests;
 use dom_nodes::fault::{MarkupFault, MarkupFaultKind};
 use dom_nodes::node_id::NodeId;
 use dom_trees::tree::Tree;
+use html5_trees::{PageFault, is_page};
 use std::alloc::Global;
 
 /// The document of a calm page; None where the page isn't calm. `Err` where a limit was met.

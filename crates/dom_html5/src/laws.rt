@@ -2,7 +2,7 @@
 
 ghost use Rattle.std.specs.Prelude.{◌⊎◌, codes, find};
 ghost use Rattle.dom_html5.specs.Calm.{IsCalmForest, SpellsCalmPage};
-ghost use Rattle.dom_html5.specs.Shape.{IsFound, IsPage};
+ghost use Rattle.html5_trees.specs.Shape.{IsFound, IsPage};
 ghost use Rattle.dom_links.specs.Forest.{Forest, children_of};
 ghost use Rattle.dom_links.specs.ListMoves.{element_at};
 ghost use Rattle.dom_links.specs.Sound.{IsForest};

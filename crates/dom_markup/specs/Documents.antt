@@ -7,7 +7,7 @@ use Rattle.dom_links.specs.Forest.{Forest}
 use Rattle.dom_trees.specs.SameTree.{SameTree}
 use Rattle.dom_trees.specs.declared.node_ref.NodeRef.{NodeRef}
 use Rattle.dom_markup.specs.declared.document.Document.{Document}
-use Rattle.dom_markup.specs.declared.document.QuirksMode.TheVariants.{NoQuirks}
+use Rattle.dom_trees.specs.declared.quirks.QuirksMode.TheVariants.{NoQuirks}
 use Rattle.dom_markup.specs.FaultKinds.{HoldsMark, IsLimitFault, IsNestingFault}
 use Rattle.dom_markup.specs.Markup.{Item, Spells, SpellsItemsUpTo}
 use Rattle.dom_markup.specs.Names.{markup}

@@ -36,16 +36,9 @@ use dom_nodes::fault::{EditFault, MarkupFault, MarkupFaultKind, OutOfMemory};
 use dom_nodes::node_data::NodeData;
 use dom_nodes::node_id::NodeId;
 use dom_trees::node_ref::NodeRef;
+pub use dom_trees::quirks::QuirksMode;
 use dom_trees::tree::Tree;
 use std::alloc::Global;
-
-/// How far a browser would go in reading the page by older rules.
-#[derive(Clone, Copy, PartialEq, Eq, Debug, Drop)]
-pub enum QuirksMode {
-    Quirks,
-    LimitedQuirks,
-    NoQuirks,
-}
 
 /// A tree, and what was noted while it was read.
 #[derive(Drop)]

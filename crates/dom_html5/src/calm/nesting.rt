@@ -4,9 +4,9 @@ ghost use Rattle.std.specs.Prelude.{◌≡◌, if◌then◌else◌};
 ghost use Rattle.dom_html5.specs.Calm.{admits, bars, inside, may_hold_comment, may_hold_text};
 ghost use Rattle.dom_html5.specs.Scopes.{next_scope, scope_below};
 
-use crate::calm::element_kinds::Kind;
 use crate::calm::texts::{begins_line, has_close, is_whitespace, lacks_greater_than};
 use dom_nodes::node_data::{NodeData, TreeNode};
+use html5_trees::Kind;
 
 /// What a node stands in: the kind of its parent, and which elements are open.
 #[derive(Clone, Copy, Drop)]

@@ -6,7 +6,8 @@ ghost use Rattle.dom_markup.specs.Bytes.{is_whitespace};
 ghost use Rattle.dom_nodes.specs.Ascii.{greater_than};
 ghost use Rattle.dom_html5.specs.Calm.{begins_close, begins_foreign, begins_line, has_close};
 ghost use Rattle.dom_html5.specs.Calm.{is_bare, is_calm_byte, is_calm_text};
-ghost use Rattle.dom_html5.specs.Calm.{IsFramed, begins_other_tag, is_plain_reference};
+ghost use Rattle.html5_trees.specs.Framed.{IsFramed};
+ghost use Rattle.dom_html5.specs.Calm.{begins_other_tag, is_plain_reference};
 
 /// How many bytes a framed page has at least.
 const LEAST: usize = 34;

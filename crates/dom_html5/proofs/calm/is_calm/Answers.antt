@@ -1,6 +1,6 @@
 use Rattle.std.proofs.Common.{◌≡◌, true, sym, subst, ◌∙◌}
 use Rattle.dom_html5.specs.Calm.{has_elements_at_ends}
-use Rattle.dom_html5.specs.Shape.{IsPage}
+use Rattle.html5_trees.specs.Shape.{IsPage}
 use Rattle.dom_html5.proofs.CalmPages.{calm_shape}
 use Rattle.dom_html5.proofs.calm.is_calm.Goals as goal
 

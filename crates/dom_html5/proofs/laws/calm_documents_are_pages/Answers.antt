@@ -2,7 +2,8 @@ use Rattle.std.proofs.Common.{◌≡◌, false, sym, subst, ◌∙◌}
 use Rattle.dom_links.specs.Forest.{children_of}
 use Rattle.dom_markup.specs.Html.{html_of}
 use Rattle.dom_markup.specs.Plain.{text_of_trees}
-use Rattle.dom_html5.specs.Calm.{IsCalmDocument, IsFramed}
+use Rattle.html5_trees.specs.Framed.{IsFramed}
+use Rattle.dom_html5.specs.Calm.{IsCalmDocument}
 use Rattle.dom_html5.proofs.CalmFrames.{calm_framed}
 use Rattle.dom_html5.proofs.laws.calm_documents_are_pages.Goals as goal
 

@@ -1,5 +1,0 @@
-use Rattle.dom_html5.proofs.HeldNumbers.{stack_removed}
-use Rattle.dom_html5.proofs.growing.GrowingTree.remove_at.Goals as goal
-
-pub invariant_of-self : goal.invariant_of-self
-invariant_of-self c = stack_removed _ _ _ _ _ _ _ _ c.self.invariant c.remove_at.ensures

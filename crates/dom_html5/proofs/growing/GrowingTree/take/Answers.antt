@@ -1,5 +1,0 @@
-use Rattle.dom_html5.proofs.HeldNumbers.{stack_taken}
-use Rattle.dom_html5.proofs.growing.GrowingTree.take.Goals as goal
-
-pub invariant_of-self : goal.invariant_of-self
-invariant_of-self c = stack_taken _ _ _ _ _ _ _ _ c.self.invariant c.take.ensures

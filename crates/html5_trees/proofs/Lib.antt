@@ -1,0 +1,7 @@
+mod EditCauses
+pub mod Enclosing
+mod HeldNumbers
+mod KindLemmas
+mod MadeNodes
+mod StackOrder
+mod Ways

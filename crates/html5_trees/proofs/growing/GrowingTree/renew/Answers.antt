@@ -1,0 +1,10 @@
+use Rattle.std.proofs.Common.{sym}
+use Rattle.html5_trees.proofs.HeldNumbers.{grown, stack_renewed}
+use Rattle.html5_trees.proofs.growing.GrowingTree.renew.Goals as goal
+
+pub invariant_of-self : goal.invariant_of-self
+invariant_of-self c = grown _ _ _ _ _ _ _ c.self.invariant c.put_into_copy.ensures.grows
+
+pub invariant_of-self-2 : goal.invariant_of-self-2
+invariant_of-self-2 c =
+    stack_renewed _ _ _ _ _ _ _ _ _ _ _ _ c.in-Some-behind.last c.self.invariant c.put_into_copy.ensures.grows c.in_ok-copy.ensures.element (sym c.in-Some-behind.ensures) c.replace-2.ensures c.replace.ensures

@@ -1,0 +1,112 @@
+-- The kinds of elements that rules on calm trees tell apart, and their names.
+use Rattle.std.specs.Prelude.{ℕ, Bool, true, false, ◌&&◌, ◌||◌, List, [], ◌∷◌, codes, if◌then◌else◌}
+use Rattle.dom_nodes.specs.Words.{is_among}
+use Rattle.html5_trees.specs.declared.element_kinds.Kind.{Kind}
+use Rattle.html5_trees.specs.declared.element_kinds.Kind.TheVariants.{Document, Html, Head, Body, Metadata, Verbatim, Phrase, Anchor, Button, Paragraph, Block, Heading, Form, Pre, ItemList, Item, DescriptionList, Description, Table, Caption, ColumnGroup, Column, RowGroup, TableRow, Cell, Other}
+use Rattle.html5_trees.specs.declared.element_kinds.Role.{Role}
+use Rattle.html5_trees.specs.declared.element_kinds.Role.TheVariants.{Flow, FlowHolder, FlowLeaf, FlowTable, Parts, Apart}
+
+-- the names of the elements of a kind
+unfoldable pub names_of : Kind → List (List ℕ)
+names_of Html = codes "html" ∷ []
+names_of Head = codes "head" ∷ []
+names_of Body = codes "body" ∷ []
+names_of Metadata = codes "base" ∷ codes "link" ∷ codes "meta" ∷ []
+names_of Verbatim = codes "script" ∷ codes "style" ∷ codes "title" ∷ []
+names_of Phrase = codes "abbr" ∷ codes "acronym" ∷ codes "area" ∷ codes "audio" ∷ codes "b" ∷ codes "bdi" ∷ codes "bdo" ∷ codes "big" ∷ codes "br" ∷ codes "canvas" ∷ codes "cite" ∷ codes "code" ∷ codes "data" ∷ codes "datalist" ∷ codes "del" ∷ codes "dfn" ∷ codes "em" ∷ codes "embed" ∷ codes "font" ∷ codes "i" ∷ codes "img" ∷ codes "input" ∷ codes "ins" ∷ codes "kbd" ∷ codes "label" ∷ codes "legend" ∷ codes "map" ∷ codes "mark" ∷ codes "meter" ∷ codes "output" ∷ codes "picture" ∷ codes "progress" ∷ codes "q" ∷ codes "s" ∷ codes "samp" ∷ codes "slot" ∷ codes "small" ∷ codes "source" ∷ codes "span" ∷ codes "strike" ∷ codes "strong" ∷ codes "sub" ∷ codes "sup" ∷ codes "time" ∷ codes "track" ∷ codes "tt" ∷ codes "u" ∷ codes "var" ∷ codes "video" ∷ codes "wbr" ∷ []
+names_of Anchor = codes "a" ∷ []
+names_of Button = codes "button" ∷ []
+names_of Paragraph = codes "p" ∷ []
+names_of Block = codes "address" ∷ codes "article" ∷ codes "aside" ∷ codes "blockquote" ∷ codes "center" ∷ codes "details" ∷ codes "dialog" ∷ codes "div" ∷ codes "fieldset" ∷ codes "figcaption" ∷ codes "figure" ∷ codes "footer" ∷ codes "header" ∷ codes "hgroup" ∷ codes "hr" ∷ codes "main" ∷ codes "nav" ∷ codes "search" ∷ codes "section" ∷ codes "summary" ∷ []
+names_of Heading = codes "h1" ∷ codes "h2" ∷ codes "h3" ∷ codes "h4" ∷ codes "h5" ∷ codes "h6" ∷ []
+names_of Form = codes "form" ∷ []
+names_of Pre = codes "pre" ∷ []
+names_of ItemList = codes "dir" ∷ codes "menu" ∷ codes "ol" ∷ codes "ul" ∷ []
+names_of Item = codes "li" ∷ []
+names_of DescriptionList = codes "dl" ∷ []
+names_of Description = codes "dd" ∷ codes "dt" ∷ []
+names_of Table = codes "table" ∷ []
+names_of Caption = codes "caption" ∷ []
+names_of ColumnGroup = codes "colgroup" ∷ []
+names_of Column = codes "col" ∷ []
+names_of RowGroup = codes "tbody" ∷ codes "tfoot" ∷ codes "thead" ∷ []
+names_of TableRow = codes "tr" ∷ []
+names_of Cell = codes "td" ∷ codes "th" ∷ []
+names_of _ = []
+
+-- the kinds that have names
+abbrev pub named_kinds : List Kind
+named_kinds = Html ∷ Head ∷ Body ∷ Metadata ∷ Verbatim ∷ Phrase ∷ Anchor ∷ Button ∷ Paragraph ∷ Block ∷ Heading ∷ Form ∷ Pre ∷ ItemList ∷ Item ∷ DescriptionList ∷ Description ∷ Table ∷ Caption ∷ ColumnGroup ∷ Column ∷ RowGroup ∷ TableRow ∷ Cell ∷ []
+
+-- the first of the kinds that has the name
+abbrev pub kind_among : List ℕ → List Kind → Kind
+kind_among name [] = Other
+kind_among name (kind ∷ kinds) = if is_among name (names_of kind) then kind else kind_among name kinds
+
+-- the kind of the element of that name
+unfoldable pub kind_of : List ℕ → Kind
+kind_of name = kind_among name named_kinds
+
+-- what the elements of a kind are to the contents of a body
+abbrev pub role_of : Kind → Role
+role_of Phrase = Flow
+role_of Anchor = Flow
+role_of Button = Flow
+role_of Paragraph = Flow
+role_of Block = Flow
+role_of Heading = Flow
+role_of Form = Flow
+role_of Pre = Flow
+role_of ItemList = Flow
+role_of DescriptionList = Flow
+role_of Body = FlowHolder
+role_of Item = FlowHolder
+role_of Description = FlowHolder
+role_of Caption = FlowHolder
+role_of Cell = FlowHolder
+role_of Verbatim = FlowLeaf
+role_of Table = FlowTable
+role_of Head = Parts
+role_of ColumnGroup = Parts
+role_of RowGroup = Parts
+role_of TableRow = Parts
+role_of _ = Apart
+
+-- the elements that hold what a body holds
+abbrev pub holds_flow : Kind → Bool
+holds_flow kind = elim (role_of kind) [ Flow ↦ true | FlowHolder ↦ true | FlowLeaf ↦ false | FlowTable ↦ false | Parts ↦ false | Apart ↦ false ]
+
+-- the elements that may stand where a body's contents may
+abbrev pub is_flow : Kind → Bool
+is_flow kind = elim (role_of kind) [ Flow ↦ true | FlowHolder ↦ false | FlowLeaf ↦ true | FlowTable ↦ true | Parts ↦ false | Apart ↦ false ]
+
+-- the elements that hold elements of certain kinds, whitespace and comments alone
+abbrev pub holds_parts : Kind → Bool
+holds_parts kind = elim (role_of kind) [ Flow ↦ false | FlowHolder ↦ false | FlowLeaf ↦ false | FlowTable ↦ true | Parts ↦ true | Apart ↦ false ]
+
+-- whether an element of the second kind may be a child of one of the first
+abbrev pub may_hold : Kind → Kind → Bool
+may_hold Document Html = true
+may_hold Html Head = true
+may_hold Html Body = true
+may_hold Head Metadata = true
+may_hold Head Verbatim = true
+may_hold Heading Heading = false
+may_hold ItemList Item = true
+may_hold DescriptionList Description = true
+may_hold Table Caption = true
+may_hold Table ColumnGroup = true
+may_hold Table RowGroup = true
+may_hold ColumnGroup Column = true
+may_hold RowGroup TableRow = true
+may_hold TableRow Cell = true
+may_hold parent kind = holds_flow parent && is_flow kind
+
+-- the elements that hold comments
+abbrev pub holds_comments : Kind → Bool
+holds_comments parent = holds_parts parent || holds_flow parent
+
+-- a doctype may stand there
+abbrev pub holds_doctype : Kind → Bool
+holds_doctype Document = true
+holds_doctype parent = false

@@ -1,0 +1,4 @@
+pub mod Shape
+pub mod ElementKinds
+pub mod Framed
+pub mod Elements

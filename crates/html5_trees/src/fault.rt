@@ -1,0 +1,74 @@
+//! Why a page isn't read.
+
+ghost use Rattle.std.specs.Prelude.{◌≡◌, Err, IfErr, MatchResult, Ok};
+ghost use Rattle.html5_trees.specs.Elements.{IsLimit, limit_of};
+
+use dom_nodes::fault::{EditFault, OutOfMemory};
+use dom_nodes::node_id::NodeId;
+use std::alloc::{AllocError, AllocFailed};
+use std::error::Error;
+use std::fmt;
+
+/// Why a page isn't read. Every text stands for a document, so limits alone are left.
+#[derive(Clone, Copy, PartialEq, Eq, Debug, Drop)]
+pub enum PageFault {
+    /// Memory was refused.
+    Memory,
+    /// A number past the last one would be given.
+    TooManyNodes,
+}
+
+impl fmt::Display for PageFault {
+    fn fmt<W: fmt::Write>(&self, f: &mut fmt::Formatter<W>) -> fmt::Result {
+        match self {
+            PageFault::Memory => f.write_str("out of memory"),
+            PageFault::TooManyNodes => f.write_str("too many nodes"),
+        }
+    }
+}
+
+impl Error for PageFault {}
+
+impl From<AllocError> for PageFault {
+    fn from(_refused: AllocError) -> PageFault {
+        PageFault::Memory
+    }
+}
+
+impl<T: Drop> From<AllocFailed<T>> for PageFault {
+    fn from(_refused: AllocFailed<T>) -> PageFault {
+        PageFault::Memory
+    }
+}
+
+impl From<OutOfMemory> for PageFault {
+    fn from(_refused: OutOfMemory) -> PageFault {
+        PageFault::Memory
+    }
+}
+
+/// What an edit comes to that limits alone refuse.
+pub fn settled(done: Result<(), EditFault>) -> Result<(), PageFault>
+    requires { IfErr done IsLimit }
+    ensures { MatchResult result (λ _. done ≡ Ok tt) (λ fault. done ≡ Err (limit_of fault)) }
+{
+    match done {
+        Ok(()) => Ok(()),
+        Err(EditFault::Memory) => Err(PageFault::Memory),
+        Err(EditFault::TooManyNodes) => Err(PageFault::TooManyNodes),
+        Err(_) => unreachable!(),
+    }
+}
+
+/// What making a node comes to, which limits alone refuse.
+pub fn made(id: Result<NodeId, EditFault>) -> Result<NodeId, PageFault>
+    requires { IfErr id IsLimit }
+    ensures { MatchResult result (λ n. id ≡ Ok n) (λ fault. id ≡ Err (limit_of fault)) }
+{
+    match id {
+        Ok(id) => Ok(id),
+        Err(EditFault::Memory) => Err(PageFault::Memory),
+        Err(EditFault::TooManyNodes) => Err(PageFault::TooManyNodes),
+        Err(_) => unreachable!(),
+    }
+}

@@ -1,0 +1,168 @@
+//! The list of active formatting elements.
+
+ghost use Rattle.std.specs.Prelude.{◌≡◌, [], ◌∷◌, ◌++◌, Contains, IfSome, OnErr, OnOk};
+ghost use Rattle.std.specs.Prelude.{insert, remove, slice_set};
+ghost use Rattle.std.specs.Option.{option_to_list};
+ghost use Rattle.html5_trees.specs.declared.formatting.Entry.TheVariants.{Element as AnEntry};
+
+use crate::fault::PageFault;
+use crate::name::Name;
+use crate::stack::Open;
+use dom_nodes::node_data::Element;
+use dom_nodes::node_id::NodeId;
+use dom_trees::tree::Tree;
+use std::alloc::Global;
+
+/// An entry of the list of active formatting elements.
+#[derive(Clone, Copy, Drop)]
+pub enum Entry {
+    Marker,
+    Element(Open),
+}
+
+/// The list of active formatting elements, the oldest first.
+#[derive(Drop)]
+pub struct ActiveFormatting {
+    entries: Vec<Entry>,
+}
+
+fn has_attr(element: &Element, attr: &dom_nodes::name::Attr) -> bool {
+    for also in element.attrs.as_slice() {
+        if attr.name.is_same(&also.name) && attr.value.as_str() == also.value.as_str() {
+            return true;
+        }
+    }
+    false
+}
+
+/// Whether two elements have the same name and the same attributes, in whatever order.
+fn is_same_element(one: &Element, other: &Element) -> bool {
+    if !one.name.is_same(&other.name) {
+        return false;
+    }
+    if one.attrs.as_slice().len() != other.attrs.as_slice().len() {
+        return false;
+    }
+    for attr in one.attrs.as_slice() {
+        if !has_attr(other, attr) {
+            return false;
+        }
+    }
+    true
+}
+
+fn are_same(tree: &Tree, one: NodeId, other: NodeId) -> bool {
+    let (Some(one), Some(other)) = (tree.tree_node(&one), tree.tree_node(&other)) else {
+        return false;
+    };
+    match (one.content.as_element(), other.content.as_element()) {
+        (Some(one), Some(other)) => is_same_element(one, other),
+        _ => false,
+    }
+}
+
+impl ActiveFormatting {
+    pub fn new(alloc: Global) -> ActiveFormatting
+        ensures { result.entries.items ≡ [] }
+    {
+        ActiveFormatting {
+            entries: Vec::new(alloc),
+        }
+    }
+
+    pub fn len(&self) -> usize {
+        self.entries.len()
+    }
+
+    pub fn get(&self, index: usize) -> Option<Entry>
+        ensures { IfSome result (Contains self.now.entries.items) }
+    {
+        self.entries.get(index).copied()
+    }
+
+    /// Adds an entry.
+    pub fn push(&mut self, entry: Entry) -> Result<(), PageFault>
+        ensures ok { let old = self.old.entries.items in
+            OnOk result (self.new.entries.items ≡ old ++ entry ∷ []) }
+        ensures err { OnErr result (self.new.entries.items ≡ self.old.entries.items) }
+    {
+        self.entries.push(entry)?;
+        Ok(())
+    }
+
+    /// The third entry since the last marker, from the end, that is the same element.
+    pub fn third_same(&self, tree: &Tree, id: NodeId) -> Option<usize> {
+        let mut same: usize = 0;
+        for index in (0..self.entries.len()).rev() {
+            let Some(Entry::Element(other)) = self.get(index) else {
+                return None;
+            };
+            if are_same(tree, other.id, id) {
+                same = same.saturating_add(1);
+                if same == 3 {
+                    return Some(index);
+                }
+            }
+        }
+        None
+    }
+
+    /// Takes the last entry off the list.
+    pub fn take(&mut self) -> Option<Entry>
+        ensures { self.old.entries.items ≡ self.new.entries.items ++ option_to_list result }
+    {
+        self.entries.pop()
+    }
+
+    pub fn replace(&mut self, index: usize, element: &Open)
+        ensures { let old = self.old.entries.items in
+            self.new.entries.items ≡ slice_set old index (AnEntry element.now) }
+    {
+        if let Some(entry) = self.entries.get_mut(index) {
+            *entry = Entry::Element(*element);
+        }
+    }
+
+    pub fn insert(&mut self, index: usize, element: &Open) -> Result<(), PageFault>
+        ensures ok { let old = self.old.entries.items in
+            OnOk result (self.new.entries.items ≡ insert old index (AnEntry element.now)) }
+        ensures err { OnErr result (self.new.entries.items ≡ self.old.entries.items) }
+    {
+        let index = index.min(self.entries.len());
+        self.entries.insert(index, Entry::Element(*element))?;
+        Ok(())
+    }
+
+    pub fn remove_at(&mut self, index: usize)
+        ensures { self.new.entries.items ≡ remove self.old.entries.items index }
+    {
+        if index < self.entries.len() {
+            let _ = self.entries.remove(index);
+        }
+    }
+
+    /// Where the entry of an element stands.
+    pub fn index_of(&self, id: NodeId) -> Option<usize> {
+        for index in (0..self.entries.len()).rev() {
+            if let Some(Entry::Element(open)) = self.get(index)
+                && open.id == id
+            {
+                return Some(index);
+            }
+        }
+        None
+    }
+
+    /// The last element of that name since the last marker.
+    pub fn named(&self, name: Name) -> Option<Open> {
+        for index in (0..self.entries.len()).rev() {
+            let Some(Entry::Element(open)) = self.get(index) else {
+                return None;
+            };
+            if open.name == name {
+                return Some(open);
+            }
+        }
+        None
+    }
+}

@@ -1,0 +1,246 @@
+//! Edits of the tree that tree construction makes. Limits alone refuse them, and elements stay
+//! elements.
+
+ghost use Rattle.std.specs.Prelude.{◌≡◌, ◌∷◌, [], IfOk, OnErr, Some, false};
+ghost use Rattle.dom_links.specs.ListMoves.{reparented};
+ghost use Rattle.dom_links.specs.Moves.{moved_to};
+ghost use Rattle.dom_links.specs.Sound.{IsForest, IsOpenGap};
+ghost use Rattle.dom_links.specs.declared.gap.Moving.TheVariants.{Node};
+ghost use Rattle.dom_trees.specs.Edits.{MayMove, MayReparentOf};
+ghost use Rattle.html5_trees.specs.Elements.{Grows, IsAround, IsCopy, IsElement, IsFresh, IsInside};
+ghost use Rattle.html5_trees.specs.Elements.{IsMade, IsNew, IsRooted};
+
+use crate::attributes::{attrs_of, element_name, holds_html};
+use crate::fault::{PageFault, made, settled};
+use crate::name::Name;
+use crate::stack::{Ns, Open};
+use dom_links::gap::{Gap, Moving};
+use dom_nodes::name::QualName;
+use dom_nodes::node_data::{Attrs, Element};
+use dom_nodes::node_id::NodeId;
+use dom_trees::tree::{ElementFlags, Tree};
+use html5_tokens::token::Tag;
+
+/// Every tree is a forest.
+pub fn is_forest(tree: &Tree)
+    ensures { IsForest tree.now }
+{
+    let _ = tree.nodes();
+}
+
+/// Moves a node to a gap where it may go.
+pub fn move_to(tree: &mut Tree, gap: Gap, id: NodeId)
+    requires { MayMove gap (Node id) tree.old }
+    ensures { tree.new ≡ moved_to (id ∷ []) gap tree.old }
+{
+    let Ok(()) = tree.move_to(gap, Moving::Node(id)) else {
+        unreachable!();
+    };
+}
+
+/// Moves the children of an element below another, where they may go.
+pub fn reparent(tree: &mut Tree, id: NodeId, parent: NodeId)
+    requires { MayReparentOf id (Some parent) tree.old }
+    ensures { tree.new ≡ reparented id (Some parent) tree.old }
+{
+    let Ok(()) = tree.reparent_children_of(&id, Some(parent)) else {
+        unreachable!();
+    };
+}
+
+/// Cuts an element out of its list.
+pub fn cut_out(tree: &mut Tree, id: NodeId)
+    requires { IsElement tree.old id }
+    ensures { Grows tree.old tree.new }
+{
+    let Ok(()) = tree.remove_from_parent(&id) else {
+        unreachable!();
+    };
+}
+
+/// Puts a text at a gap.
+pub fn put_text(tree: &mut Tree, gap: Gap, text: &str) -> Result<(), PageFault>
+    requires { IsOpenGap gap tree.old }
+    ensures { Grows tree.old tree.new }
+{
+    is_forest(tree);
+    settled(tree.add_text_at(gap, text))
+}
+
+/// Makes a comment, which stands alone.
+fn create_comment(tree: &mut Tree, text: &str) -> Result<NodeId, PageFault>
+    ensures ok { IfOk result (IsNew tree.old tree.new) }
+    ensures err { OnErr result (tree.new ≡ tree.old) }
+{
+    made(tree.new_comment(text))
+}
+
+/// Puts a new comment at a gap.
+pub fn put_comment(tree: &mut Tree, gap: Gap, text: &str) -> Result<(), PageFault>
+    requires { IsOpenGap gap tree.old }
+    ensures { Grows tree.old tree.new }
+{
+    is_forest(tree);
+    let comment = create_comment(tree, text)?;
+    is_forest(tree);
+    move_to(tree, gap, comment);
+    Ok(())
+}
+
+/// Puts a doctype at the end of what stands at the top: its name, public and system identifier.
+pub fn put_doctype(tree: &mut Tree, parts: [&str; 3]) -> Result<(), PageFault>
+    requires { IsRooted tree.old }
+    ensures { Grows tree.old tree.new }
+{
+    is_forest(tree);
+    let [name, public_id, system_id] = parts;
+    made(tree.append_doctype_of(&NodeId::root(), name, public_id, system_id))?;
+    Ok(())
+}
+
+/// Adds the attributes of a tag to an element that lacks them.
+pub fn add_attrs(tree: &mut Tree, id: NodeId, tag: &Tag) -> Result<(), PageFault>
+    requires { IsElement tree.old id }
+    ensures { Grows tree.old tree.new }
+{
+    let attrs = attrs_of(tree.allocator(), Ns::Html, tag.attrs.as_slice())?;
+    settled(tree.add_missing_attrs_of(&id, attrs))
+}
+
+/// Makes an element, which stands alone.
+fn create(
+    tree: &mut Tree,
+    name: QualName,
+    attrs: Attrs,
+    flags: ElementFlags,
+) -> Result<NodeId, PageFault>
+    ensures ok { IfOk result (IsMade tree.old tree.new) }
+    ensures plain { flags.template ≡ false → IfOk result (IsCopy tree.old tree.new) }
+    ensures err { OnErr result (tree.new ≡ tree.old) }
+{
+    made(tree.create_element(name, attrs, flags))
+}
+
+/// What is particular of the element of a tag: whether it is a template, or an `annotation-xml`
+/// whose encoding is HTML.
+fn flags_of(ns: Ns, name: Name, tag: &Tag) -> ElementFlags {
+    ElementFlags {
+        template: ns == Ns::Html && name == Name::Template,
+        mathml_annotation_xml_integration_point: holds_html(ns, name, tag),
+    }
+}
+
+/// Makes the element of a tag; it stands alone.
+fn create_for(tree: &mut Tree, ns: Ns, name: Name, tag: &Tag) -> Result<Open, PageFault>
+    ensures ok { IfOk result (λ made. IsMade tree.old tree.new made.id) }
+    ensures err { OnErr result (tree.new ≡ tree.old) }
+{
+    let alloc = tree.allocator();
+    let flags = flags_of(ns, name, tag);
+    let attrs = attrs_of(alloc, ns, tag.attrs.as_slice())?;
+    let written = element_name(alloc, ns, name, tag)?;
+    let id = create(tree, written, attrs, flags)?;
+    Ok(Open {
+        id,
+        ns,
+        name,
+        holds_html: flags.mathml_annotation_xml_integration_point,
+    })
+}
+
+/// Puts the element of a tag at a gap.
+pub fn put_element(
+    tree: &mut Tree,
+    gap: Gap,
+    ns: Ns,
+    name: Name,
+    tag: &Tag,
+) -> Result<Open, PageFault>
+    requires { IsOpenGap gap tree.old }
+    ensures grows { Grows tree.old tree.new }
+    ensures element { IfOk result (λ made. IsFresh tree.old tree.new made.id) }
+{
+    is_forest(tree);
+    let made = create_for(tree, ns, name, tag)?;
+    is_forest(tree);
+    move_to(tree, gap, made.id);
+    Ok(made)
+}
+
+/// The name and the attributes of an element.
+fn copied(tree: &Tree, id: NodeId) -> Result<Element, PageFault>
+    requires { IsElement tree.now id }
+{
+    let Some(node) = tree.tree_node(&id) else {
+        unreachable!();
+    };
+    let Some(element) = node.content.as_element() else {
+        unreachable!();
+    };
+    Ok(element.try_clone()?)
+}
+
+/// The same element again, alone: its name and attributes.
+fn copy_of(tree: &mut Tree, element: Open) -> Result<Open, PageFault>
+    requires { IsElement tree.old element.id }
+    ensures forest { IsForest tree.old }
+    ensures ok { IfOk result (λ copy. IsCopy tree.old tree.new copy.id) }
+    ensures err { OnErr result (tree.new ≡ tree.old) }
+{
+    is_forest(tree);
+    let copy = copied(tree, element.id)?;
+    let flags = ElementFlags {
+        template: false,
+        mathml_annotation_xml_integration_point: false,
+    };
+    let id = create(tree, copy.name, copy.attrs, flags)?;
+    Ok(Open {
+        id,
+        ns: element.ns,
+        name: element.name,
+        holds_html: false,
+    })
+}
+
+/// Puts a copy of an element at a gap.
+pub fn put_copy(tree: &mut Tree, gap: Gap, element: Open) -> Result<Open, PageFault>
+    requires gap { IsOpenGap gap tree.old }
+    requires element { IsElement tree.old element.id }
+    ensures grows { Grows tree.old tree.new }
+    ensures element { IfOk result (λ copy. IsFresh tree.old tree.new copy.id) }
+{
+    let copy = copy_of(tree, element)?;
+    move_to(tree, gap, copy.id);
+    Ok(copy)
+}
+
+/// Puts an element into a copy of another one, which stands alone.
+pub fn put_into_copy(tree: &mut Tree, element: Open, id: NodeId) -> Result<Open, PageFault>
+    requires rooted { IsRooted tree.old }
+    requires element { IsElement tree.old element.id }
+    requires moved { IsElement tree.old id }
+    ensures grows { Grows tree.old tree.new }
+    ensures element { IfOk result (λ copy. IsAround tree.old tree.new copy.id id) }
+{
+    let copy = copy_of(tree, element)?;
+    move_to(tree, Gap::EndOf(copy.id), id);
+    Ok(copy)
+}
+
+/// Puts the children of an element into a copy of another one, and that into the element.
+pub fn put_children_into_copy(
+    tree: &mut Tree,
+    element: Open,
+    parent: NodeId,
+) -> Result<Open, PageFault>
+    requires element { IsElement tree.old element.id }
+    requires parent { IsElement tree.old parent }
+    ensures grows { Grows tree.old tree.new }
+    ensures element { IfOk result (λ copy. IsInside tree.old tree.new copy.id parent) }
+{
+    let copy = copy_of(tree, element)?;
+    reparent(tree, parent, copy.id);
+    is_forest(tree);
+    move_to(tree, Gap::EndOf(parent), copy.id);
+    Ok(copy)
+}

@@ -1,0 +1,181 @@
+//! The appropriate place for inserting a node.
+
+ghost use Rattle.std.specs.Prelude.{◌≡◌, IfSome, List, ℕ, true};
+ghost use Rattle.dom_links.specs.Sound.{IsOpenGap, children_allowed_at};
+ghost use Rattle.dom_links.specs.Sound.{AtOrBelow, target};
+ghost use Rattle.html5_trees.specs.Elements.{AreOpen, IsElement, IsPlace, IsRooted};
+ghost use Rattle.html5_trees.specs.Elements.{LiesAt, LiesIn};
+ghost use Rattle.html5_trees.specs.declared.stack.Open.{Open as AnOpen};
+
+use super::edits::is_forest;
+use crate::name::Name;
+use crate::stack::{Ns, Open, OpenElements};
+use dom_links::gap::Gap;
+use dom_nodes::node_id::NodeId;
+use dom_trees::tree::Tree;
+
+/// What bears on the place of a node besides the stack of open elements.
+#[derive(Clone, Copy, Drop)]
+pub struct Placing {
+    /// Whether foster parenting is on.
+    pub foster: bool,
+    /// Whether elements go into the head, behind which the current node stands.
+    pub in_head: bool,
+    /// So many elements may lie in one another.
+    pub max_depth: usize,
+}
+
+/// Where a node goes.
+#[derive(Clone, Copy, Drop)]
+pub enum Place {
+    EndOf(NodeId),
+    /// Right before a table that has a parent; else at the end of what another node holds.
+    Table(NodeId, NodeId),
+}
+
+/// Whether foster parenting moves what is put into that element.
+pub fn is_foster_target(target: &Open) -> bool {
+    target.ns == Ns::Html
+        && matches!(
+            target.name,
+            Name::Table | Name::Tbody | Name::Tfoot | Name::Thead | Name::Tr
+        )
+}
+
+/// The contents of a template; else the element itself.
+fn inside(tree: &Tree, id: NodeId) -> NodeId
+    requires { IsElement tree.now id }
+    ensures open { children_allowed_at tree.now result ≡ true }
+    ensures held { (x : ℕ) → IsElement tree.now x → AtOrBelow tree.now x result
+        → AtOrBelow tree.now x id }
+{
+    is_forest(tree);
+    match tree.tree_node(&id) {
+        Some(node) => node.content.template_contents().unwrap_or(id),
+        None => id,
+    }
+}
+
+/// The place with the last of these open elements as the target.
+fn place_in(tree: &Tree, elements: &[Open], foster: bool) -> Place
+    requires root { IsRooted tree.now }
+    requires open { AreOpen tree.now elements.now }
+    ensures place { IsPlace tree.now result }
+    ensures lies { LiesAt tree.now elements.now result }
+{
+    let Some(target) = elements.last() else {
+        return root_place(tree);
+    };
+    if foster && is_foster_target(target) {
+        return foster_place(tree, elements);
+    }
+    Place::EndOf(inside(tree, target.id))
+}
+
+/// The end of the root.
+fn root_place(tree: &Tree) -> Place
+    requires { IsRooted tree.now }
+    ensures place { IsPlace tree.now result }
+    ensures lies { (elements : List AnOpen) → LiesAt tree.now elements result }
+{
+    is_forest(tree);
+    Place::EndOf(tree.root_id())
+}
+
+/// Where foster parenting puts a node: before the last table, or into a template behind it.
+fn foster_place(tree: &Tree, elements: &[Open]) -> Place
+    requires root { IsRooted tree.now }
+    requires open { AreOpen tree.now elements.now }
+    ensures place { IsPlace tree.now result }
+    ensures lies { LiesAt tree.now elements.now result }
+{
+    match table_place(tree, elements) {
+        Some(place) => place,
+        None => bottom_place(tree, elements),
+    }
+}
+
+/// Before the last table, if an element is open below it; or in a template behind it.
+fn table_place(tree: &Tree, elements: &[Open]) -> Option<Place>
+    requires { AreOpen tree.now elements.now }
+    ensures place { IfSome result (IsPlace tree.now) }
+    ensures lies { IfSome result (LiesAt tree.now elements.now) }
+{
+    for place in (0..elements.len()).rev() {
+        let open = elements.get(place)?;
+        if open.is_html(Name::Template) {
+            return Some(Place::EndOf(inside(tree, open.id)));
+        }
+        if open.is_html(Name::Table) {
+            let other = elements.get(place.checked_sub(1)?)?;
+            return Some(Place::Table(open.id, other.id));
+        }
+    }
+    None
+}
+
+/// The end of the element `html`, or of the root where nothing is open.
+fn bottom_place(tree: &Tree, elements: &[Open]) -> Place
+    requires root { IsRooted tree.now }
+    requires open { AreOpen tree.now elements.now }
+    ensures place { IsPlace tree.now result }
+    ensures lies { LiesAt tree.now elements.now result }
+{
+    match elements.first() {
+        Some(html) => Place::EndOf(html.id),
+        None => root_place(tree),
+    }
+}
+
+/// The end of a node's parent, if it has one.
+fn place_above(tree: &Tree, id: NodeId) -> Place
+    requires { children_allowed_at tree.now id ≡ true }
+    ensures { IsPlace tree.now result }
+{
+    is_forest(tree);
+    match tree.parent_of(&id) {
+        Some(parent) => Place::EndOf(parent.id),
+        None => Place::EndOf(id),
+    }
+}
+
+/// The gap at a place.
+fn gap_of(tree: &Tree, place: Place) -> Gap
+    requires { IsPlace tree.now place }
+    ensures open { IsOpenGap result tree.now }
+    ensures lies { (elements : List AnOpen) → LiesAt tree.now elements place
+        → LiesIn tree.now elements (target result) }
+{
+    is_forest(tree);
+    match place {
+        Place::EndOf(parent) => Gap::EndOf(parent),
+        Place::Table(table, other) => match tree.parent_of(&table) {
+            Some(_) => Gap::Before(table),
+            None => Gap::EndOf(inside(tree, other)),
+        },
+    }
+}
+
+/// The gap where a node goes with the last of these open elements as the target.
+pub fn gap_in(tree: &Tree, elements: &[Open], foster: bool) -> Gap
+    requires root { IsRooted tree.now }
+    requires open { AreOpen tree.now elements.now }
+    ensures open { IsOpenGap result tree.now }
+    ensures lies { LiesIn tree.now elements.now (target result) }
+{
+    gap_of(tree, place_in(tree, elements, foster))
+}
+
+/// The gap where a node goes. Where the elements lie as deep as they may, it is behind the current
+/// node, not in it.
+pub fn gap(tree: &Tree, stack: &OpenElements, placing: Placing) -> Gap
+    requires root { IsRooted tree.now }
+    requires stack { AreOpen tree.now stack.now.elements.items }
+    ensures { IsOpenGap result tree.now }
+{
+    let place = match place_in(tree, stack.as_slice(), placing.foster) {
+        Place::EndOf(parent) if stack.len() >= placing.max_depth => place_above(tree, parent),
+        place => place,
+    };
+    gap_of(tree, place)
+}

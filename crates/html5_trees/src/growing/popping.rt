@@ -1,0 +1,223 @@
+//! Elements that leave the stack of open elements, and the list of active formatting elements.
+
+ghost use Rattle.std.specs.Prelude.{◌≡◌};
+
+use super::GrowingTree;
+use crate::fault::PageFault;
+use crate::formatting::Entry;
+use crate::name::Name;
+use crate::sets::{Context, Scope, has_implied_end, is_special};
+use crate::stack::{Ns, Open};
+use dom_nodes::node_id::NodeId;
+
+/// What an end tag in foreign content comes to.
+#[derive(Clone, Copy, Drop)]
+pub enum ForeignEnd {
+    /// It ends the element at a place of the stack.
+    At(usize),
+    /// An HTML element is met first, whose rules read the tag.
+    Html,
+    Nowhere,
+}
+
+impl GrowingTree {
+    /// Takes the current node off the stack.
+    fn take(&mut self) -> Option<Open>
+        ensures { self.new ≡ self.old }
+    {
+        self.stack.take()
+    }
+
+    pub fn pop(&mut self) {
+        let _ = self.take();
+    }
+
+    /// Takes the current node off the stack, if it is an HTML element of that name.
+    pub fn pop_if(&mut self, name: Name) {
+        if self.stack.current_is(name) {
+            self.pop();
+        }
+    }
+
+    /// Ends the option and the group of options that are open in a list.
+    pub fn pop_options(&mut self) {
+        self.pop_if(Name::Option);
+        self.pop_if(Name::Optgroup);
+    }
+
+    /// Ends a group of options, and the option in it, if the current node is one of both.
+    pub fn end_optgroup(&mut self) {
+        if self.stack.current_is(Name::Option)
+            && let Some(open) = self.stack.get(self.stack.len().saturating_sub(2))
+            && open.is_html(Name::Optgroup)
+        {
+            self.pop();
+        }
+        self.pop_if(Name::Optgroup);
+    }
+
+    /// Where an end tag in foreign content ends an element.
+    pub fn foreign_end(&self, written: &str) -> ForeignEnd {
+        let count = self.stack.len();
+        for place in (0..count).rev() {
+            match self.stack.get(place) {
+                Some(open) if open.ns == Ns::Html && place.saturating_add(1) < count => {
+                    return ForeignEnd::Html;
+                }
+                Some(open) if place > 0 && self.has_name(&open, written) => {
+                    return ForeignEnd::At(place);
+                }
+                _ => {}
+            }
+        }
+        ForeignEnd::Nowhere
+    }
+
+    /// Keeps the first open elements alone.
+    pub fn truncate(&mut self, count: usize) {
+        for _ in count..self.stack.len() {
+            self.pop();
+        }
+    }
+
+    /// Takes the element at a place off the stack.
+    pub fn remove_at(&mut self, place: usize)
+        ensures { self.new ≡ self.old }
+    {
+        self.stack.remove_at(place);
+    }
+
+    /// Takes an element off the stack.
+    pub fn remove(&mut self, id: NodeId)
+        ensures { self.new ≡ self.old }
+    {
+        if let Some(place) = self.stack.place_of(id) {
+            self.remove_at(place);
+        }
+    }
+
+    /// Pops elements up to the topmost one of that name, and that too.
+    pub fn pop_to(&mut self, name: Name) {
+        for _ in 0..self.stack.len() {
+            match self.take() {
+                Some(open) if open.is_html(name) => return,
+                _ => {}
+            }
+        }
+    }
+
+    /// Closes the element of that name in scope, if there is one, with all that is open in it: what
+    /// has an implied end tag too. Returns whether there was one.
+    pub fn close(&mut self, name: Name, scope: Scope) -> bool {
+        if !self.stack.in_scope(name, scope) {
+            return false;
+        }
+        self.pop_to(name);
+        true
+    }
+
+    /// Any other end tag: what is open up to an element of that name is closed, unless a special
+    /// one lies between.
+    pub fn close_named(&mut self, name: Name, written: &str) {
+        if !self.stack.has(name) {
+            return;
+        }
+        if let Some(place) = self.named_below_special(name, written) {
+            self.truncate(place);
+        }
+    }
+
+    fn named_below_special(&self, name: Name, written: &str) -> Option<usize> {
+        for place in (0..self.stack.len()).rev() {
+            let open = self.stack.get(place)?;
+            if open.is_html(name) && (name != Name::Other || self.has_name(&open, written)) {
+                return Some(place);
+            }
+            if is_special(&open) {
+                return None;
+            }
+        }
+        None
+    }
+
+    /// Leaves foreign content: pops elements up to one whose contents are read as HTML.
+    pub fn pop_foreign(&mut self) {
+        for _ in 0..self.stack.len() {
+            match self.stack.current() {
+                Some(open) if open.holds_foreign() => self.pop(),
+                _ => return,
+            }
+        }
+    }
+
+    pub fn generate_implied_end_tags(&mut self, except: Option<Name>) {
+        for _ in 0..self.stack.len() {
+            match self.stack.current() {
+                Some(open) if has_implied_end(&open) && Some(open.name) != except => self.pop(),
+                _ => return,
+            }
+        }
+    }
+
+    /// Pops elements up to one that ends the context, which stays.
+    pub fn clear_to(&mut self, context: Context) {
+        for _ in 0..self.stack.len() {
+            match self.stack.current() {
+                Some(open) if context.ends_at(&open) => return,
+                _ => self.pop(),
+            }
+        }
+    }
+
+    /// Adds the current node to the list. Of four that are the same since the last marker the oldest
+    /// goes.
+    pub fn push_formatting(&mut self) -> Result<(), PageFault> {
+        let Some(open) = self.stack.current() else {
+            return Ok(());
+        };
+        if let Some(index) = self.formatting.third_same(&self.tree, open.id) {
+            self.remove_entry(index);
+        }
+        self.push_current()
+    }
+
+    /// Adds the current node to the list.
+    fn push_current(&mut self) -> Result<(), PageFault> {
+        let Some(open) = self.stack.current() else {
+            return Ok(());
+        };
+        self.formatting.push(Entry::Element(open))
+    }
+
+    pub fn push_marker(&mut self) -> Result<(), PageFault> {
+        self.formatting.push(Entry::Marker)
+    }
+
+    /// Takes the last entry off the list.
+    fn take_entry(&mut self) -> Option<Entry> {
+        self.formatting.take()
+    }
+
+    pub fn clear_to_marker(&mut self) {
+        for _ in 0..self.formatting.len() {
+            match self.take_entry() {
+                Some(Entry::Element(_)) => {}
+                _ => return,
+            }
+        }
+    }
+
+    /// Takes an entry out of the list.
+    pub fn remove_entry(&mut self, index: usize)
+        ensures { self.new ≡ self.old }
+    {
+        self.formatting.remove_at(index);
+    }
+
+    /// Takes the entry of an element out of the list.
+    pub fn remove_formatting(&mut self, id: NodeId) {
+        if let Some(index) = self.formatting.index_of(id) {
+            self.remove_entry(index);
+        }
+    }
+}

@@ -1,0 +1,29 @@
+//! Trees of pages: the tree construction of the HTML Standard (13.2.6).
+#![tactic(auto)]
+
+mod adjusting;
+mod attributes;
+mod builder;
+mod bytes;
+mod chars;
+mod element_kinds;
+mod fault;
+mod foreign;
+mod formatting;
+mod growing;
+mod inserting;
+mod modes;
+mod name;
+mod pointers;
+mod quirks;
+mod reading;
+mod sets;
+mod shape;
+mod stack;
+
+pub use bytes::without_mark;
+pub use element_kinds::Kind;
+pub use fault::PageFault;
+pub use growing::BuiltTree;
+pub use reading::{Context, Options, PageReader};
+pub use shape::{is_page, make_page};
