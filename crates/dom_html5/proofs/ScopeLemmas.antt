@@ -14,9 +14,8 @@ use Rattle.dom_markup.specs.Names.{is_template}
 use Rattle.dom_markup.specs.Numbered.{Row, read_element, rows_from, size}
 use Rattle.dom_markup.specs.ValueTrees.{ValueTrees}
 use Rattle.dom_markup.specs.ValueTrees.ValueTrees.{no_trees, text_node, comment_node, doctype_node, element_node}
-use Rattle.html5_trees.specs.ElementKinds.{holds_doctype}
 use Rattle.dom_html5.specs.Calm.{admits, are_calm, bars, inside, may_hold_comment, may_hold_text, top}
-use Rattle.html5_trees.specs.ElementKinds.{kind_of, may_hold, names_of}
+use Rattle.html5_trees.specs.ElementKinds.{holds_doctype, kind_of, may_hold, names_of}
 use Rattle.dom_html5.specs.Scopes.{next_scope, scope_below}
 use Rattle.html5_trees.specs.declared.element_kinds.Kind.{Kind}
 use Rattle.html5_trees.specs.declared.element_kinds.Kind.TheVariants.{Document, Other}

@@ -3,9 +3,8 @@ use Rattle.std.specs.Prelude.{ℕ, List, Option, None, Some, slice_get, if◌the
 use Rattle.std.specs.Option.{option_and_then}
 use Rattle.dom_nodes.specs.declared.node_data.NodeData.{NodeData}
 use Rattle.dom_nodes.specs.declared.node_data.NodeData.TheVariants.{Comment, Doctype, Element as AnElement, Text}
-use Rattle.html5_trees.specs.ElementKinds.{holds_doctype}
 use Rattle.dom_html5.specs.Calm.{admits, inside, may_hold_comment, may_hold_text}
-use Rattle.html5_trees.specs.ElementKinds.{kind_of}
+use Rattle.html5_trees.specs.ElementKinds.{holds_doctype, kind_of}
 use Rattle.dom_html5.specs.declared.calm.nesting.Scope.{Scope}
 
 -- what the children of a node stand in, where it may stand in that scope
