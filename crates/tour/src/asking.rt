@@ -2,8 +2,10 @@
 
 use crate::batch::input;
 use crate::streams::serialize;
+use crate::web::NOTING;
 use dom_query::{
     Document, DocumentMd, DocumentSelect, EditFault, RunFault, SelectionMd, SelectorFault,
+    parse_page,
 };
 use std::fmt::Display;
 
@@ -43,6 +45,7 @@ pub fn answer_all(rt: &HostRuntime, lines: &[String]) -> Option<()> {
 fn answer(rt: &HostRuntime, document: &Document, word: &str, rest: &str) -> Option<()> {
     match word {
         "faults" => print_faults(rt),
+        "noted" => print_noted(rt, rest),
         "state" => print_state(rt, document),
         "texts" => print_texts(rt, document),
         "texts-without" => print_without(rt, document, rest),
@@ -56,6 +59,21 @@ fn answer(rt: &HostRuntime, document: &Document, word: &str, rest: &str) -> Opti
 fn print_faults(rt: &HostRuntime) -> Option<()> {
     for fault in &RUNS {
         println!(rt; "{fault}").ok()?;
+    }
+    Some(())
+}
+
+/// The parse errors that are noted of a page: `PAGE`.
+fn print_noted(rt: &HostRuntime, page: &str) -> Option<()> {
+    match parse_page(rt.alloc(), page, NOTING) {
+        Ok(document) => print_errors(rt, &document),
+        Err(fault) => println!(rt; "{fault}").ok(),
+    }
+}
+
+fn print_errors(rt: &HostRuntime, document: &Document) -> Option<()> {
+    for error in document.errors.as_slice() {
+        println!(rt; "{error}").ok()?;
     }
     Some(())
 }

@@ -7,7 +7,7 @@ use std::alloc::Global;
 use std::str;
 
 /// With errors noted tags are read character by character, and calm pages by tree construction.
-const NOTING: Options = Options {
+pub const NOTING: Options = Options {
     scripting: false,
     max_depth: None,
     errors: true,
