@@ -99,6 +99,10 @@ pairs_inserted R xs n y known h before behind i (suc j) d lt within =
 open_at : (f : Forest) (os : List Open) (i : ℕ) (d : Open) → AreOpen f os → i < length os → IsElement f (get_or os i d).id
 open_at f os i d are within = All-get_or (λ (o : Open). IsElement f o.id) os i d within are
 
+pub element_there : (f : Forest) (os : List Open) (n : ℕ) (o : Open) → AreOpen f os → slice_get os n ≡ Some o → IsElement f o.id
+element_there f os n o are there =
+    subst (λ (p : Open). IsElement f p.id) (get_or_from_slice_get os n o o there) (open_at f os n o are (slice_get_within os n o there))
+
 pub order_grown : (f g : Forest) (os : List Open) → Grows f g → AreOpen f os → IsInOrder f os → IsInOrder g os
 order_grown f g os grows are order i j d lt within at =
     order i j d lt within (elim at [

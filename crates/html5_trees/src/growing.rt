@@ -236,10 +236,12 @@ impl GrowingTree {
         let form = self.form;
         self.form = FormPointer::None;
         if let FormPointer::Element(id) = form
-            && self.stack.node_in_scope(id)
+            && let Some(place) = self.stack.place_among(Name::Form, id)
+            && self.stack.is_in_scope(place)
         {
             self.generate_implied_end_tags(None);
-            self.remove(id);
+            self.remove_at(place);
+            self.mark();
         }
     }
 

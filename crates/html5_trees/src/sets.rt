@@ -21,7 +21,7 @@ pub fn is_heading(open: &Open) -> bool {
         )
 }
 
-fn ends_default_scope(open: &Open) -> bool {
+pub fn ends_default_scope(open: &Open) -> bool {
     match open.ns {
         Ns::Html => matches!(
             open.name,
@@ -43,23 +43,9 @@ fn ends_default_scope(open: &Open) -> bool {
     }
 }
 
-impl Scope {
-    pub(crate) fn ends_at(self, open: &Open) -> bool {
-        match self {
-            Scope::Default => ends_default_scope(open),
-            Scope::ListItem => {
-                ends_default_scope(open) || open.is_html(Name::Ol) || open.is_html(Name::Ul)
-            }
-            Scope::Button => ends_default_scope(open) || open.is_html(Name::Button),
-            Scope::Table => {
-                open.ns == Ns::Html
-                    && matches!(open.name, Name::Html | Name::Table | Name::Template)
-            }
-            Scope::Select => {
-                !(open.ns == Ns::Html && matches!(open.name, Name::Optgroup | Name::Option))
-            }
-        }
-    }
+/// Whether it ends the scope of a list of options.
+pub fn ends_select_scope(open: &Open) -> bool {
+    !(open.ns == Ns::Html && matches!(open.name, Name::Optgroup | Name::Option))
 }
 
 /// What the elements of a table are put into: a table, a section of one, or a row; else a template
@@ -112,14 +98,6 @@ fn is_special_name(name: Name) -> bool {
         | Name::Template | Name::Textarea | Name::Tfoot | Name::Th | Name::Thead | Name::Title
         | Name::Tr | Name::Track | Name::Ul | Name::Wbr | Name::Xmp
     )
-}
-
-/// Whether a tag of that name ends the element, an item of a list.
-pub fn is_item_like(open: &Open, name: Name) -> bool {
-    match name {
-        Name::Li => open.is_html(Name::Li),
-        _ => open.is_html(Name::Dd) || open.is_html(Name::Dt),
-    }
 }
 
 /// Whether an item of a list may end one beyond that element, which is special.

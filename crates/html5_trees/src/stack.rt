@@ -4,10 +4,13 @@ ghost use Rattle.std.specs.Prelude.{◌≡◌, [], ◌∷◌, ◌++◌, Contains
 ghost use Rattle.std.specs.Prelude.{◌+◌, insert, remove, slice_get, slice_set, take};
 ghost use Rattle.std.specs.Option.{option_to_list};
 
+mod marks;
+
 use crate::fault::PageFault;
-use crate::name::{COUNT, Name};
-use crate::sets::{Scope, is_crossed_by_items, is_heading, is_item_like, is_special};
+use crate::name::Name;
+use crate::sets::{Scope, ends_select_scope, is_special};
 use dom_nodes::node_id::NodeId;
+use marks::Marks;
 use std::alloc::Global;
 
 /// The namespace of an element.
@@ -34,20 +37,13 @@ impl Open {
     }
 }
 
-/// The count with one more, or with one less.
-fn counted(count: u32, more: bool) -> u32 {
-    if more {
-        count.saturating_add(1)
-    } else {
-        count.saturating_sub(1)
-    }
-}
+const HEADINGS: [Name; 6] = [Name::H1, Name::H2, Name::H3, Name::H4, Name::H5, Name::H6];
 
-/// The open elements, the outermost first, and how many HTML elements of each name are among them.
+/// The open elements, the outermost first, and the marks that stand for walks over them.
 #[derive(Drop)]
 pub struct OpenElements {
     elements: Vec<Open>,
-    counts: [u32; COUNT],
+    marks: Marks,
 }
 
 impl OpenElements {
@@ -56,7 +52,7 @@ impl OpenElements {
     {
         OpenElements {
             elements: Vec::new(alloc),
-            counts: [0; COUNT],
+            marks: Marks::new(alloc),
         }
     }
 
@@ -119,15 +115,11 @@ impl OpenElements {
         }
     }
 
-    fn count(&mut self, open: &Open, more: bool)
+    /// Marks all elements. What changes elements within the stack asks for it at its end.
+    pub fn mark(&mut self)
         ensures { self.new.elements ≡ self.old.elements }
     {
-        if open.ns != Ns::Html {
-            return;
-        }
-        if let Some(count) = self.counts.get_mut(open.name as usize) {
-            *count = counted(*count, more);
-        }
+        self.marks.fill(self.elements.as_slice());
     }
 
     pub fn push(&mut self, element: &Open) -> Result<(), PageFault>
@@ -135,8 +127,9 @@ impl OpenElements {
             OnOk result (self.new.elements.items ≡ old ++ element.now ∷ []) }
         ensures err { OnErr result (self.new.elements.items ≡ self.old.elements.items) }
     {
+        self.marks.reserve(self.elements.len().saturating_add(1))?;
         self.elements.push(*element)?;
-        self.count(element, true);
+        self.mark();
         Ok(())
     }
 
@@ -144,33 +137,32 @@ impl OpenElements {
     pub fn take(&mut self) -> Option<Open>
         ensures { self.old.elements.items ≡ self.new.elements.items ++ option_to_list result }
     {
-        let open = self.elements.pop()?;
-        self.count(&open, false);
-        Some(open)
+        let place = self.elements.len().saturating_sub(1);
+        self.marks.cut(place, self.elements.as_slice());
+        self.elements.pop()
     }
 
+    /// Takes the element at a place off the stack. `mark` is asked for later.
     pub fn remove_at(&mut self, place: usize)
         ensures { self.new.elements.items ≡ remove self.old.elements.items place }
     {
         if place < self.elements.len() {
-            let open = self.elements.remove(place);
-            self.count(&open, false);
+            self.marks.cut(place, self.elements.as_slice());
+            let _ = self.elements.remove(place);
         }
     }
 
+    /// Puts an element in place of another. `mark` is asked for later.
     pub fn replace(&mut self, place: usize, element: &Open)
         ensures { self.new.elements.items ≡ slice_set self.old.elements.items place element.now }
     {
-        let Some(entry) = self.elements.get_mut(place) else {
-            return;
-        };
-        let old = *entry;
-        *entry = *element;
-        self.count(&old, false);
-        self.count(element, true);
+        self.marks.cut(place, self.elements.as_slice());
+        if let Some(entry) = self.elements.get_mut(place) {
+            *entry = *element;
+        }
     }
 
-    /// Opens an element right behind the one at a place.
+    /// Opens an element right behind the one at a place. `mark` is asked for later.
     pub fn insert_behind(&mut self, place: usize, element: &Open) -> Result<(), PageFault>
         ensures ok { let old = self.old.elements.items in
             OnOk result (self.new.elements.items ≡ insert old (place + 1) element.now) }
@@ -179,16 +171,20 @@ impl OpenElements {
         if place >= self.elements.len() {
             return self.push(element);
         }
+        self.marks.reserve(self.elements.len().saturating_add(1))?;
+        self.marks.cut(place + 1, self.elements.as_slice());
         self.elements.insert(place + 1, *element)?;
-        self.count(element, true);
         Ok(())
     }
 
-    /// Where an element stands, which mostly is near the current node.
-    pub fn place_of(&self, id: NodeId) -> Option<usize> {
+    /// Where an element stands.
+    pub fn place_of(&self, element: &Open) -> Option<usize> {
+        if element.ns == Ns::Html {
+            return self.place_among(element.name, element.id);
+        }
         for place in (0..self.elements.len()).rev() {
             if let Some(open) = self.get(place)
-                && open.id == id
+                && open.id == element.id
             {
                 return Some(place);
             }
@@ -196,85 +192,104 @@ impl OpenElements {
         None
     }
 
+    /// Where an HTML element of that name stands.
+    pub fn place_among(&self, name: Name, id: NodeId) -> Option<usize> {
+        let mut top = self.marks.top(name);
+        for _ in 0..self.elements.len() {
+            let place = top.checked_sub(1)?;
+            if self.get(place)?.id == id {
+                return Some(place);
+            }
+            top = self.marks.same(place);
+        }
+        None
+    }
+
     /// Whether an HTML element of that name is open.
     pub fn has(&self, name: Name) -> bool {
-        match self.counts.get(name as usize) {
-            Some(count) => *count > 0,
-            None => false,
-        }
+        self.marks.top(name) > 0
+    }
+
+    /// The place of the topmost HTML element that has one of these names.
+    pub fn topmost(&self, names: &[Name]) -> Option<usize> {
+        self.marks.topmost(names).checked_sub(1)
     }
 
     pub fn in_scope(&self, name: Name, scope: Scope) -> bool {
-        if !self.has(name) {
-            return false;
-        }
-        for place in (0..self.elements.len()).rev() {
-            let Some(open) = self.get(place) else {
-                return false;
-            };
-            if open.is_html(name) {
-                return true;
-            }
-            if scope.ends_at(&open) {
-                return false;
-            }
-        }
-        false
+        let top = self.marks.top(name);
+        top > 0 && top >= self.scope_end(scope)
     }
 
-    fn has_heading(&self) -> bool {
-        self.has(Name::H1)
-            || self.has(Name::H2)
-            || self.has(Name::H3)
-            || self.has(Name::H4)
-            || self.has(Name::H5)
-            || self.has(Name::H6)
+    /// The topmost element that ends a scope: its place with one added, or 0.
+    fn scope_end(&self, scope: Scope) -> usize {
+        let ends = self.marks.ends();
+        match scope {
+            Scope::Default => ends,
+            Scope::ListItem => self.marks.topmost(&[Name::Ol, Name::Ul]).max(ends),
+            Scope::Button => self.marks.top(Name::Button).max(ends),
+            Scope::Table => self
+                .marks
+                .topmost(&[Name::Html, Name::Table, Name::Template]),
+            Scope::Select => self.select_scope_end(),
+        }
+    }
+
+    /// The same of a list's scope, which options and groups of these don't end.
+    fn select_scope_end(&self) -> usize {
+        for place in (0..self.elements.len()).rev() {
+            if let Some(open) = self.get(place)
+                && ends_select_scope(&open)
+            {
+                return place.saturating_add(1);
+            }
+        }
+        0
+    }
+
+    /// Whether the element at a place is in scope.
+    pub fn is_in_scope(&self, place: usize) -> bool {
+        place.saturating_add(1) >= self.marks.ends()
+    }
+
+    /// The name of an element that is given by its place with one added, unless it stands below
+    /// the end of a search.
+    fn name_from(&self, end: usize, top: usize) -> Option<Name> {
+        if top < end {
+            return None;
+        }
+        let open = self.get(top.checked_sub(1)?)?;
+        Some(open.name)
     }
 
     /// The name of the heading in scope.
     pub fn heading_in_scope(&self) -> Option<Name> {
-        if !self.has_heading() {
-            return None;
-        }
-        for place in (0..self.elements.len()).rev() {
-            let open = self.get(place)?;
-            if is_heading(&open) {
-                return Some(open.name);
-            }
-            if Scope::Default.ends_at(&open) {
-                return None;
-            }
-        }
-        None
-    }
-
-    pub fn node_in_scope(&self, id: NodeId) -> bool {
-        for place in (0..self.elements.len()).rev() {
-            let Some(open) = self.get(place) else {
-                return false;
-            };
-            if open.id == id {
-                return true;
-            }
-            if Scope::Default.ends_at(&open) {
-                return false;
-            }
-        }
-        false
+        self.name_from(self.marks.ends(), self.marks.topmost(&HEADINGS))
     }
 
     /// The item of a list that one of that name ends.
     pub fn item_before(&self, name: Name) -> Option<Name> {
-        for place in (0..self.elements.len()).rev() {
-            let open = self.get(place)?;
-            if is_item_like(&open, name) {
-                return Some(open.name);
-            }
-            if is_special(&open) && !is_crossed_by_items(&open) {
-                return None;
-            }
+        let top = match name {
+            Name::Li => self.marks.top(Name::Li),
+            _ => self.marks.topmost(&[Name::Dd, Name::Dt]),
+        };
+        self.name_from(self.marks.item_ends(), top)
+    }
+
+    /// Where the topmost HTML element of that name stands, unless below a special one.
+    pub fn last_named(&self, name: Name) -> Option<usize> {
+        self.place_from_special(self.marks.top(name))
+    }
+
+    /// The same of the next element of the same name below a place.
+    pub fn named_before(&self, place: usize) -> Option<usize> {
+        self.place_from_special(self.marks.same(place))
+    }
+
+    fn place_from_special(&self, top: usize) -> Option<usize> {
+        if top < self.marks.special() {
+            return None;
         }
-        None
+        top.checked_sub(1)
     }
 
     /// Where the special element nearest above a place of the stack stands.
@@ -289,22 +304,8 @@ impl OpenElements {
         None
     }
 
-    /// The mode of a `select` that stands at a place: whether it lies in a table.
-    pub fn is_select_in_table(&self, place: usize) -> bool {
-        if !self.has(Name::Table) {
-            return false;
-        }
-        for below in (0..place).rev() {
-            let Some(open) = self.get(below) else {
-                return false;
-            };
-            if open.is_html(Name::Template) {
-                return false;
-            }
-            if open.is_html(Name::Table) {
-                return true;
-            }
-        }
-        false
+    /// Whether a table is open above each open template.
+    pub fn is_in_table(&self) -> bool {
+        self.marks.top(Name::Table) > self.marks.top(Name::Template)
     }
 }

@@ -57,7 +57,7 @@ impl GrowingTree {
     fn first_closed(&self) -> usize {
         for index in (0..self.formatting.len()).rev() {
             match self.formatting.get(index) {
-                Some(Entry::Element(open)) if self.stack.place_of(open.id).is_none() => {}
+                Some(Entry::Element(open)) if self.stack.place_of(&open).is_none() => {}
                 _ => return index.saturating_add(1),
             }
         }
@@ -77,11 +77,11 @@ impl GrowingTree {
             let Some(formatting) = self.formatting.named(name) else {
                 return Ok(false);
             };
-            let Some(place) = self.stack.place_of(formatting.id) else {
+            let Some(place) = self.stack.place_of(&formatting) else {
                 self.remove_formatting(formatting.id);
                 return Ok(true);
             };
-            if !self.stack.node_in_scope(formatting.id) {
+            if !self.stack.is_in_scope(place) {
                 return Ok(true);
             }
             let Some(furthest) = self.stack.furthest_block(place) else {
@@ -122,8 +122,9 @@ impl GrowingTree {
             round = round.saturating_add(1);
             bookmark = self.pass(node_place, round <= 3, bookmark)?;
         }
+        self.mark();
         self.put_below(place, foster);
-        match self.stack.place_of(furthest.id) {
+        match self.stack.place_of(&furthest) {
             Some(furthest_place) => self.adopt_children(place, furthest_place, bookmark),
             None => Ok(()),
         }
@@ -194,29 +195,34 @@ impl GrowingTree {
             return Ok(());
         };
         is_forest(&self.tree);
-        let old = formatting.id;
         let parent = furthest.id;
         let copy = put_children_into_copy(&mut self.tree, formatting, parent)?;
         self.stack.insert_behind(furthest_place, &copy)?;
-        self.put_in_place(old, bookmark, &copy)
+        self.put_in_place(place, bookmark, &copy)
+    }
+
+    /// Where in the list the element at a place of the stack is.
+    fn entry_at(&self, place: usize) -> Option<usize> {
+        self.formatting.index_of(self.stack.get(place)?.id)
     }
 
     /// A copy takes the place of an element in the list, and that leaves the stack.
     fn put_in_place(
         &mut self,
-        old: NodeId,
+        place: usize,
         bookmark: Bookmark,
         copy: &Open,
     ) -> Result<(), PageFault>
         requires { IsElement self.old copy.now.id }
     {
         let mut index = bookmark.index;
-        if let Some(gone) = self.formatting.index_of(old) {
+        if let Some(gone) = self.entry_at(place) {
             self.remove_entry(gone);
             index = bookmark.without(gone).index;
         }
         self.insert_entry(index, copy)?;
-        self.remove(old);
+        self.remove_at(place);
+        self.mark();
         Ok(())
     }
 

@@ -6,7 +6,7 @@ use super::GrowingTree;
 use crate::fault::PageFault;
 use crate::formatting::Entry;
 use crate::name::Name;
-use crate::sets::{Context, Scope, has_implied_end, is_special};
+use crate::sets::{Context, Scope, has_implied_end};
 use crate::stack::{Ns, Open};
 use dom_nodes::node_id::NodeId;
 
@@ -80,7 +80,14 @@ impl GrowingTree {
         }
     }
 
-    /// Takes the element at a place off the stack.
+    /// Marks all elements of the stack.
+    pub fn mark(&mut self)
+        ensures { self.new ≡ self.old }
+    {
+        self.stack.mark();
+    }
+
+    /// Takes the element at a place off the stack. `mark` is asked for later.
     pub fn remove_at(&mut self, place: usize)
         ensures { self.new ≡ self.old }
     {
@@ -88,11 +95,12 @@ impl GrowingTree {
     }
 
     /// Takes an element off the stack.
-    pub fn remove(&mut self, id: NodeId)
+    pub fn remove(&mut self, element: &Open)
         ensures { self.new ≡ self.old }
     {
-        if let Some(place) = self.stack.place_of(id) {
+        if let Some(place) = self.stack.place_of(element) {
             self.remove_at(place);
+            self.mark();
         }
     }
 
@@ -119,23 +127,24 @@ impl GrowingTree {
     /// Any other end tag: what is open up to an element of that name is closed, unless a special
     /// one lies between.
     pub fn close_named(&mut self, name: Name, written: &str) {
-        if !self.stack.has(name) {
-            return;
-        }
-        if let Some(place) = self.named_below_special(name, written) {
+        if let Some(place) = self.named_above_special(name, written) {
             self.truncate(place);
         }
     }
 
-    fn named_below_special(&self, name: Name, written: &str) -> Option<usize> {
-        for place in (0..self.stack.len()).rev() {
+    /// Where the last element of that name stands, unless a special one is above it. Elements that
+    /// no rule names are compared one by one.
+    fn named_above_special(&self, name: Name, written: &str) -> Option<usize> {
+        let mut place = self.stack.last_named(name)?;
+        if name != Name::Other {
+            return Some(place);
+        }
+        for _ in 0..self.stack.len() {
             let open = self.stack.get(place)?;
-            if open.is_html(name) && (name != Name::Other || self.has_name(&open, written)) {
+            if self.has_name(&open, written) {
                 return Some(place);
             }
-            if is_special(&open) {
-                return None;
-            }
+            place = self.stack.named_before(place)?;
         }
         None
     }

@@ -149,10 +149,9 @@ impl TreeBuilder {
 
     fn start_a(&mut self, tag: &Tag) -> Next {
         if let Some(open) = self.tree.formatting_named(Name::A) {
-            let id = open.id;
             self.adopt(Name::A);
-            self.tree.remove_formatting(id);
-            self.tree.remove(id);
+            self.tree.remove_formatting(open.id);
+            self.tree.remove(&open);
         }
         self.start_formatting(Name::A, tag)
     }

@@ -4,6 +4,25 @@ use crate::builder::{Mode, TreeBuilder};
 use crate::name::Name;
 use crate::stack::Ns;
 
+/// The elements that ask for a mode. The outermost open element asks for one whatever it is.
+const ASKING: [Name; 15] = [
+    Name::Select,
+    Name::Td,
+    Name::Th,
+    Name::Tr,
+    Name::Tbody,
+    Name::Thead,
+    Name::Tfoot,
+    Name::Caption,
+    Name::Colgroup,
+    Name::Table,
+    Name::Template,
+    Name::Head,
+    Name::Body,
+    Name::Frameset,
+    Name::Html,
+];
+
 impl TreeBuilder {
     /// Resets the insertion mode to what the stack of open elements asks for.
     pub fn reset_mode(&mut self) {
@@ -11,12 +30,11 @@ impl TreeBuilder {
     }
 
     fn mode_of_stack(&self) -> Mode {
-        for place in (0..self.tree.open().len()).rev() {
-            if let Some(mode) = self.mode_at(place) {
-                return mode;
-            }
+        if self.tree.open().len() == 0 {
+            return Mode::InBody;
         }
-        Mode::InBody
+        let place = self.tree.open().topmost(&ASKING).unwrap_or(0);
+        self.mode_at(place).unwrap_or(Mode::InBody)
     }
 
     /// The mode that the element at a place of the stack asks for, if it asks for one.
@@ -27,7 +45,7 @@ impl TreeBuilder {
             return if last { Some(Mode::InBody) } else { None };
         }
         match open.name {
-            Name::Select => Some(self.select_mode(last, place)),
+            Name::Select => Some(self.select_mode(last)),
             Name::Td | Name::Th if !last => Some(Mode::InCell),
             Name::Tr => Some(Mode::InRow),
             Name::Tbody | Name::Thead | Name::Tfoot => Some(Mode::InTableBody),
@@ -55,8 +73,9 @@ impl TreeBuilder {
         }
     }
 
-    fn select_mode(&self, last: bool, place: usize) -> Mode {
-        if !last && self.tree.open().is_select_in_table(place) {
+    /// The mode of a `select` that is the topmost of the elements that ask.
+    fn select_mode(&self, last: bool) -> Mode {
+        if !last && self.tree.open().is_in_table() {
             Mode::InSelectInTable
         } else {
             Mode::InSelect
