@@ -103,14 +103,13 @@ impl TreeBuilder {
         self.keep(opened);
     }
 
-    /// The adoption agency algorithm for a tag. False: the tag is read as any other end tag.
-    pub fn adopt(&mut self, name: Name) -> bool {
+    /// The adoption agency algorithm for a tag. Where no element of its name is active, the tag, a
+    /// start tag too, is read as any other end tag.
+    pub fn adopt(&mut self, name: Name, tag: &Tag) {
         match self.tree.adopt(name, self.placing.foster) {
-            Ok(adopted) => adopted,
-            Err(fault) => {
-                self.keep(Err(fault));
-                true
-            }
+            Ok(true) => {}
+            Ok(false) => self.tree.close_named(name, tag.name.as_str()),
+            Err(fault) => self.keep(Err(fault)),
         }
     }
 }

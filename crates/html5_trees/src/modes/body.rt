@@ -149,7 +149,7 @@ impl TreeBuilder {
 
     fn start_a(&mut self, tag: &Tag) -> Next {
         if let Some(open) = self.tree.formatting_named(Name::A) {
-            self.adopt(Name::A);
+            self.adopt(Name::A, tag);
             self.tree.remove_formatting(open.id);
             self.tree.remove(&open);
         }
@@ -159,7 +159,7 @@ impl TreeBuilder {
     fn start_nobr(&mut self, tag: &Tag) -> Next {
         self.reconstruct();
         if self.tree.open().in_scope(Name::Nobr, Scope::Default) {
-            self.adopt(Name::Nobr);
+            self.adopt(Name::Nobr, tag);
         }
         self.start_formatting(Name::Nobr, tag)
     }

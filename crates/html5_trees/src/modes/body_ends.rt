@@ -25,9 +25,7 @@ impl TreeBuilder {
             Group::Li => self.end_in(Scope::ListItem, name),
             Group::Heading => self.end_heading(),
             Group::A | Group::Formatting | Group::Nobr => {
-                if !self.adopt(name) {
-                    self.tree.close_named(name, tag.name.as_str());
-                }
+                self.adopt(name, tag);
                 Next::Done
             }
             Group::Object => self.end_object(name),
