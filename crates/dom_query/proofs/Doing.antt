@@ -13,10 +13,10 @@ use Rattle.dom_select.specs.Meaning.{Means}
 use Rattle.dom_select.specs.Selected.{Selected}
 use Rattle.dom_sanitize.specs.Clean.{Lists}
 use Rattle.dom_sanitize.specs.Laws.{HasOneClean}
-use Rattle.dom_query.specs.declared.script.Command.{Command}
-use Rattle.dom_query.specs.declared.script.Command.TheVariants.{Query, Edit, Sanitize}
-use Rattle.dom_query.specs.declared.script.QueryKind.{QueryKind}
-use Rattle.dom_query.specs.declared.script.QueryKind.TheVariants.{Select, Find, Filter, Add}
+use Rattle.dom_script.specs.declared.script.Command.{Command}
+use Rattle.dom_script.specs.declared.script.Command.TheVariants.{Query, Edit, Sanitize}
+use Rattle.dom_script.specs.declared.script.QueryKind.{QueryKind}
+use Rattle.dom_script.specs.declared.script.QueryKind.TheVariants.{Select, Find, Filter, Add}
 use Rattle.dom_query.specs.Cleaning.{allow_of}
 use Rattle.dom_query.specs.Editing.{IsRefusal, line_edit, targets}
 use Rattle.dom_query.specs.Out.{Does, DoesAll, Ending, Fails}

@@ -17,8 +17,8 @@ use Rattle.dom_links.specs.Sound.{is_open}
 use Rattle.dom_links.specs.declared.gap.Place.{Place}
 use Rattle.dom_links.specs.declared.gap.Place.TheVariants.{AtEnd, AtFront, InsteadOfChildren}
 use Rattle.dom_edits.specs.Edits.{Each, PutKnownCause, putting_known}
-use Rattle.dom_query.specs.declared.script.edit_line.EditLine.{EditLine}
-use Rattle.dom_query.specs.declared.script.edit_line.EditLine.TheVariants.{SetText, Strip, Put, Remove, Unwrap}
+use Rattle.dom_script.specs.declared.script.edit_line.EditLine.{EditLine}
+use Rattle.dom_script.specs.declared.script.edit_line.EditLine.TheVariants.{SetText, Strip, Put, Remove, Unwrap}
 use Rattle.dom_query.specs.Editing.{EditsOrFails, FailsAtOne, IsRefusal, line_edit, rewriting}
 
 -- ---- changes of data

@@ -1,13 +1,8 @@
 pub mod QueryLemmas
-pub mod Lines
-pub mod Names
-pub mod EditLines
 pub mod ListLines
 pub mod EditLemmas
-pub mod Reading
 pub mod Writing
 pub mod Doing
-pub mod Scripts
 pub mod Outputs
 pub mod ReadBacks
 pub mod Refusals

@@ -1,12 +1,6 @@
--- Lists of names in a line, and the allow-list that they are.
-use Rattle.std.proofs.Common.{◌≡◌, ◌≢◌, ℕ, List, [], ◌∷◌, refl, ◌∙◌, ap}
+-- The allow-list that lists of names are.
+use Rattle.std.proofs.Common.{◌≡◌, ℕ, List, ◌∙◌, ap}
 use Rattle.dom_sanitize.specs.Clean.{Lists}
-use Rattle.dom_query.specs.Cleaning.{listed_in}
-use Rattle.dom_query.specs.EditLine.{names_in}
-
-pub some-list : (text : List ℕ) → text ≢ [] → names_in text ≡ listed_in text
-some-list [] some = absurd (some refl)
-some-list (b ∷ bs) some = refl
 
 -- lists of the same names are the same allow-list
 pub same-lists : (a b : Lists) → a.elements ≡ b.elements → a.attrs ≡ b.attrs → a.drop ≡ b.drop → a ≡ b

@@ -5,13 +5,13 @@ use Rattle.dom_links.specs.Forest.{Forest}
 use Rattle.dom_markup.specs.Markup.{Spells}
 use Rattle.dom_markup.specs.Numbered.{document_of}
 use Rattle.dom_markup.specs.ValueTrees.{ValueTrees}
-use Rattle.dom_query.specs.declared.script.Command.{Command}
+use Rattle.dom_script.specs.declared.script.Command.{Command}
 use Rattle.dom_query.specs.Out.{DoesAll, Ending, IsNoMarkup, Out, Ran}
 use Rattle.dom_query.specs.Out.Ending.{done, refused, bad_script, bad_markup}
 use Rattle.dom_query.specs.Runs.{Began, DidAllBegin, IsEnding}
-use Rattle.dom_query.specs.Script.{IsScript}
+use Rattle.dom_script.specs.Script.{IsScript}
 use Rattle.dom_query.proofs.Doing.{OneClean, OneSelection, does-all-once}
-use Rattle.dom_query.proofs.Scripts.{OneReading, OneSelector, no-script-none, no-script-once, script-once}
+use Rattle.dom_script.proofs.Scripts.{OneReading, OneSelector, no-script-none, no-script-once, script-once}
 use Rattle.dom_markup.proofs.html.WritingLemmas.{nothing-begun}
 
 markup-none : (markup : List ℕ) (trees : ValueTrees) → IsUtf8 markup → Spells markup trees → IsNoMarkup markup → ⊥

@@ -8,15 +8,15 @@ use Rattle.dom_markup.specs.Numbered.{document_of}
 use Rattle.dom_markup.specs.Plain.{IsPlain}
 use Rattle.dom_markup.specs.ReadingBack.{SpellsDocument}
 use Rattle.dom_markup.specs.ValueTrees.{ValueTrees}
-use Rattle.dom_query.specs.declared.script.Command.{Command}
-use Rattle.dom_query.specs.declared.script.Command.TheVariants.{Render}
-use Rattle.dom_query.specs.declared.script.Rendering.TheVariants.{Document}
+use Rattle.dom_script.specs.declared.script.Command.{Command}
+use Rattle.dom_script.specs.declared.script.Command.TheVariants.{Render}
+use Rattle.dom_script.specs.declared.script.Rendering.TheVariants.{Document}
 use Rattle.dom_query.specs.Out.{DoesAll, Ending}
 use Rattle.dom_query.specs.Out.Ending.{done}
 use Rattle.dom_query.specs.ReadBack.{EndReadsBack, Leave, ReadsBack}
-use Rattle.dom_query.specs.Script.{AreCommands}
+use Rattle.dom_script.specs.Script.{AreCommands}
 use Rattle.dom_query.specs.Rendering.{line_of}
-use Rattle.dom_query.proofs.Scripts.{OneReading, OneSelector, command-once, script-once}
+use Rattle.dom_script.proofs.Scripts.{OneReading, OneSelector, command-once, script-once}
 
 abbrev IsDone : Ending → Type 0
 IsDone done = Unit {0}

@@ -2,10 +2,10 @@
 use Rattle.std.proofs.Common.{ℕ, List, [], Option, inl, inr, refl}
 use Rattle.dom_query.specs.declared.runner.RunFault.{RunFault}
 use Rattle.dom_query.specs.declared.runner.RunFault.TheVariants.{BadScript, BadMarkup, Edit, TooManyNodes, Memory, Write}
-use Rattle.dom_query.specs.declared.script.Command.{Command}
+use Rattle.dom_script.specs.declared.script.Command.{Command}
 use Rattle.dom_query.specs.Faults.{MarkupRefused}
 use Rattle.dom_query.specs.Runs.{RunCause}
-use Rattle.dom_query.specs.Script.{IsScript}
+use Rattle.dom_script.specs.Script.{IsScript}
 use Rattle.dom_markup.proofs.html.WritingLemmas.{nothing-written}
 
 pub reports-markup : (markup script : List ℕ) (old : Option (List ℕ)) (commands : List Command) (fault : RunFault)

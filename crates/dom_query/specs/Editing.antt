@@ -10,9 +10,9 @@ use Rattle.dom_links.specs.Forest.{Forest}
 use Rattle.dom_trees.specs.Edits.{IsKnown, TreeEdit, normalizing, removing, setting_text, unwrapping}
 use Rattle.dom_trees.specs.Refusals.{JoinCause}
 use Rattle.dom_edits.specs.Edits.{Each, Stops, putting_known, stripping}
-use Rattle.dom_query.specs.declared.script.edit_line.EditLine.{EditLine}
-use Rattle.dom_query.specs.declared.script.edit_line.EditLine.TheVariants.{SetAttr, RemoveAttr, Rename, AddClass, RemoveClass, SetText, Strip, Put, Remove, Unwrap, Normalize}
-use Rattle.dom_query.specs.EditLine.{names_in}
+use Rattle.dom_script.specs.declared.script.edit_line.EditLine.{EditLine}
+use Rattle.dom_script.specs.declared.script.edit_line.EditLine.TheVariants.{SetAttr, RemoveAttr, Rename, AddClass, RemoveClass, SetText, Strip, Put, Remove, Unwrap, Normalize}
+use Rattle.dom_script.specs.EditLine.{names_in}
 
 -- the data of x is changed; it is refused where x is unknown, or memory was refused
 abbrev pub rewriting : (NodeData → NodeData) → ℕ → TreeEdit

@@ -10,29 +10,9 @@ use Rattle.dom_markup.specs.declared.serializing.WriteFault.TheVariants.{Write a
 use Rattle.dom_markup.specs.Refusals.{BeginsTooManyNodes}
 use Rattle.dom_query.specs.declared.runner.RunFault.{RunFault}
 use Rattle.dom_query.specs.declared.runner.RunFault.TheVariants.{BadScript, BadMarkup, Edit, TooManyNodes, Memory, Write}
-use Rattle.dom_query.specs.declared.script.ScriptFault.{ScriptFault}
-use Rattle.dom_query.specs.declared.script.ScriptFault.TheVariants.{BadLine, Memory as NoMemory, TooManyNodes as NoNumbers}
+use Rattle.dom_script.specs.declared.script.ScriptFault.{ScriptFault}
+use Rattle.dom_script.specs.declared.script.ScriptFault.TheVariants.{BadLine, Memory as NoMemory, TooManyNodes as NoNumbers}
 use Rattle.dom_query.specs.Out.{IsNoMarkup}
-use Rattle.dom_query.specs.EditLine.{HasLargeMarkup}
-use Rattle.dom_query.specs.Script.{HasLargeLine, IsNoScript}
-
--- a limit that was met where the markup of a line was read
-abbrev pub MarkupLimit : List ℕ → ScriptFault → Type 0
-MarkupLimit text NoNumbers = BeginsTooManyNodes text
-MarkupLimit text NoMemory = Unit {0}
-MarkupLimit text (BadLine number) = ⊥
-
--- why a line was not read
-abbrev pub LineRefused : List ℕ → ScriptFault → Type 0
-LineRefused line NoNumbers = HasLargeMarkup line
-LineRefused line NoMemory = Unit {0}
-LineRefused line (BadLine number) = ⊥
-
--- why a text was not read as a script
-abbrev pub ScriptRefused : List ℕ → ScriptFault → Type 0
-ScriptRefused script (BadLine line) = IsNoScript script line
-ScriptRefused script NoNumbers = HasLargeLine script
-ScriptRefused script NoMemory = Unit {0}
 
 -- the text is markup of the trees that the forest is
 abbrev pub IsMarkup : List ℕ → Forest → Type 0

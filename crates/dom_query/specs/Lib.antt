@@ -1,7 +1,4 @@
-pub mod Words
-pub mod EditLine
 pub mod Cleaning
-pub mod Script
 pub mod Queries
 pub mod Rendering
 pub mod Editing

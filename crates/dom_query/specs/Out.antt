@@ -7,12 +7,12 @@ use Rattle.dom_edits.specs.Edits.{Each}
 use Rattle.dom_markup.specs.Markup.{Spells, SpellsNothing}
 use Rattle.dom_markup.specs.Numbered.{document_of}
 use Rattle.dom_markup.specs.ValueTrees.{ValueTrees}
-use Rattle.dom_query.specs.declared.script.Command.{Command}
-use Rattle.dom_query.specs.declared.script.Command.TheVariants.{Nothing, Query, Navigate, Render, Attr, Edit, Sanitize}
+use Rattle.dom_script.specs.declared.script.Command.{Command}
+use Rattle.dom_script.specs.declared.script.Command.TheVariants.{Nothing, Query, Navigate, Render, Attr, Edit, Sanitize}
 use Rattle.dom_query.specs.Cleaning.{IsCleaned, allow_of}
 use Rattle.dom_query.specs.Editing.{FailsAtOne, IsRefusal, line_edit, targets}
 use Rattle.dom_query.specs.Queries.{QueryResult, navigated}
-use Rattle.dom_query.specs.Script.{IsScript, IsNoScript}
+use Rattle.dom_script.specs.Script.{IsScript, IsNoScript}
 use Rattle.dom_query.specs.Rendering.{first_attr, line_of, rendered}
 
 -- the commands were done; an edit is refused at a line; a line is no command; the markup is none

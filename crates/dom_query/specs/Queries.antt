@@ -7,10 +7,10 @@ use Rattle.dom_selectors.specs.Syntax.{SelectorList}
 use Rattle.dom_select.specs.Meaning.{Means}
 use Rattle.dom_select.specs.Selected.{FiltersTo, Selected, first_occurrences}
 use Rattle.dom_selection.specs.Selections.{child_elements, element_after, element_before, elements_above, parent_node}
-use Rattle.dom_query.specs.declared.script.Navigation.{Navigation}
-use Rattle.dom_query.specs.declared.script.Navigation.TheVariants.{Parent, Children, Ancestors, Next, Prev, First, Last}
-use Rattle.dom_query.specs.declared.script.QueryKind.{QueryKind}
-use Rattle.dom_query.specs.declared.script.QueryKind.TheVariants.{Select, Find, Filter, Add}
+use Rattle.dom_script.specs.declared.script.Navigation.{Navigation}
+use Rattle.dom_script.specs.declared.script.Navigation.TheVariants.{Parent, Children, Ancestors, Next, Prev, First, Last}
+use Rattle.dom_script.specs.declared.script.QueryKind.{QueryKind}
+use Rattle.dom_script.specs.declared.script.QueryKind.TheVariants.{Select, Find, Filter, Add}
 
 -- the selection, and then what the selector selects below the root and that doesn't stand in it; an empty one stays empty
 abbrev pub Added : Forest → List ℕ → SelectorList → List ℕ → Type 0

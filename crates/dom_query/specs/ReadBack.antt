@@ -7,14 +7,14 @@ use Rattle.dom_markup.specs.Numbered.{document_of}
 use Rattle.dom_markup.specs.Plain.{IsPlain}
 use Rattle.dom_markup.specs.ReadingBack.{SpellsDocument}
 use Rattle.dom_markup.specs.ValueTrees.{ValueTrees}
-use Rattle.dom_query.specs.declared.script.Command.{Command}
-use Rattle.dom_query.specs.declared.script.Command.TheVariants.{Render}
-use Rattle.dom_query.specs.declared.script.Rendering.TheVariants.{Document}
+use Rattle.dom_script.specs.declared.script.Command.{Command}
+use Rattle.dom_script.specs.declared.script.Command.TheVariants.{Render}
+use Rattle.dom_script.specs.declared.script.Rendering.TheVariants.{Document}
 use Rattle.dom_query.specs.Faults.{IsMarkup}
 use Rattle.dom_query.specs.Out.{Does, Out}
 use Rattle.dom_query.specs.Out.Ending.{done}
 use Rattle.dom_query.specs.Rendering.{line_of}
-use Rattle.dom_query.specs.Script.{IsScript}
+use Rattle.dom_script.specs.Script.{IsScript}
 
 -- where the script is the one line `document` and the document of the markup is plain, what a run writes that is done is a text
 -- that spells the same tree, and a line feed

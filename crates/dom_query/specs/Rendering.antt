@@ -9,8 +9,8 @@ use Rattle.dom_markup.specs.Writing.{Writes}
 use Rattle.dom_markup.specs.declared.serializing.TraversalScope.{TraversalScope}
 use Rattle.dom_markup.specs.declared.serializing.TraversalScope.TheVariants.{IncludeNode, ChildrenOnly}
 use Rattle.dom_md.specs.Formatted.{formatted_node}
-use Rattle.dom_query.specs.declared.script.Rendering.{Rendering}
-use Rattle.dom_query.specs.declared.script.Rendering.TheVariants.{Count, Text, Formatted, Html, InnerHtml, Document}
+use Rattle.dom_script.specs.declared.script.Rendering.{Rendering}
+use Rattle.dom_script.specs.declared.script.Rendering.TheVariants.{Count, Text, Formatted, Html, InnerHtml, Document}
 
 -- the HTML of the first node or of its children, or nothing
 abbrev pub first_html : TraversalScope → Forest → List ℕ → List ℕ

@@ -8,11 +8,11 @@ use Rattle.dom_markup.specs.Refusals.{BeginsTooManyNodes}
 use Rattle.dom_markup.specs.Writing.{AppendsBeginning}
 use Rattle.dom_query.specs.declared.runner.RunFault.{RunFault}
 use Rattle.dom_query.specs.declared.runner.RunFault.TheVariants.{BadScript, BadMarkup, Edit, TooManyNodes, Memory, Write}
-use Rattle.dom_query.specs.declared.script.Command.{Command}
+use Rattle.dom_script.specs.declared.script.Command.{Command}
 use Rattle.dom_query.specs.Editing.{IsRefusal}
 use Rattle.dom_query.specs.Out.{Does, DoesAll, Ending, Fails, Out, Ran}
 use Rattle.dom_query.specs.Out.Ending.{refused, bad_script, bad_markup}
-use Rattle.dom_query.specs.Script.{HasLargeLine, IsScript}
+use Rattle.dom_script.specs.Script.{HasLargeLine, IsScript}
 
 -- the command was done with this selection, what it writes was written, and then the forest is `after`, and those nodes are
 -- selected

@@ -4,7 +4,7 @@ ghost use Rattle.std.specs.Prelude.{ℕ, List, Option};
 ghost use Rattle.dom_query.specs.Drive.{Drove, StatusMeans};
 ghost use Rattle.dom_query.specs.Out.{HasOneOutput};
 ghost use Rattle.dom_query.specs.ReadBack.{EndReadsBack, ReadsBack};
-ghost use Rattle.dom_query.specs.declared.script.Command.{Command};
+ghost use Rattle.dom_script.specs.declared.script.Command.{Command};
 
 /// A run has one text and one ending at most.
 pub fn one_output()

@@ -10,7 +10,6 @@ mod numbers;
 pub mod prelude;
 mod reporting;
 mod runner;
-mod script;
 mod selection_md;
 pub mod serializing;
 

@@ -5,7 +5,7 @@ use Rattle.dom_links.specs.Forest.{Forest}
 use Rattle.dom_links.specs.Lists.{without}
 use Rattle.dom_trees.specs.declared.node_ref.NodeRef.{NodeRef}
 use Rattle.dom_trees.specs.Views.{refs_to}
-use Rattle.dom_selectors.specs.Grammar.{StandsFor}
+use Rattle.dom_selectors.specs.Grammar.{StandsFor, StandsForNothing}
 use Rattle.dom_selectors.specs.Syntax.{SelectorList}
 use Rattle.dom_select.specs.ByText.{ByText}
 use Rattle.dom_select.specs.Descendants.{IsMatch, Matches, ToCome}
@@ -60,14 +60,6 @@ SelectsFirstIn selector forest found = (tree : Bor Forest) × (tree.now ≡ fore
 -- the selector that the text stands for gives this
 abbrev pub GivesByText : {A : Type 0} → List ℕ → (SelectorList → A → Type 0) → A → Type 0
 GivesByText text Gives found = ByText text (λ selector. Gives selector found)
-
--- the text stands for no selector
-abbrev pub StandsForNothing : List ℕ → Type 0
-StandsForNothing text = (selector : SelectorList) → StandsFor text selector → ⊥
-
--- the selector that the text stands for; none where it stands for none
-abbrev pub IsSelectorOf : List ℕ → Option SelectorList → Type 0
-IsSelectorOf text found = MatchOption found (StandsForNothing text) (StandsFor text)
 
 -- what the selector gives that the text stands for; none where it stands for none
 abbrev pub TriesText : {A : Type 0} → List ℕ → (SelectorList → A → Type 0) → Option A → Type 0

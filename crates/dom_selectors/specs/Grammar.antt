@@ -225,6 +225,14 @@ TakesIn context result read Spells text = Takes result read Spells (stands_for c
 abbrev pub TakesBehind : {T A : Type 0} → ParseContext → Result (T × Bor (List ℕ)) SelectorFault → (T → A) → (A → List ℕ → List ℕ → Type 0) → List ℕ → Type 0
 TakesBehind context result read Spells text = Takes result read Spells (stands_behind context text) text
 
+-- the text stands for no selector
+abbrev pub StandsForNothing : List ℕ → Type 0
+StandsForNothing text = (selector : SelectorList) → StandsFor text selector → ⊥
+
+-- the selector that the text stands for; none where it stands for none
+abbrev pub IsSelectorOf : List ℕ → Option SelectorList → Type 0
+IsSelectorOf text found = MatchOption found (StandsForNothing text) (StandsFor text)
+
 -- What a fault states of the text: that it stands for nothing; an unknown pseudo-class that a colon stands in it, a number that one
 -- past 2147483647 does, a nested `:has` that two colons do, too deep that 65 opening parentheses do
 abbrev pub Refused : List ℕ → SelectorFault → Type 0

@@ -1,12 +1,13 @@
 //! What the line that cleans the tree leaves of it.
 
 ghost use Rattle.std.specs.Prelude.{◌≡◌, [], map, slice_index_or, IfOk, OnErr, OnOk};
-ghost use Rattle.dom_query.specs.Cleaning.{IsCleaned, allow_of, listed_in};
+ghost use Rattle.dom_query.specs.Cleaning.{IsCleaned, allow_of};
 ghost use Rattle.dom_sanitize.specs.Clean.{lists_of};
+ghost use Rattle.dom_script.specs.NameLists.{listed_in};
 
-use crate::script::lists::{listed_in, lists_of};
 use dom_nodes::fault::OutOfMemory;
 use dom_sanitize::sanitize::{Allow, sanitize_tree};
+use dom_script::script::lists::{listed_in, lists_of};
 use dom_trees::tree::Tree;
 use std::alloc::Global;
 

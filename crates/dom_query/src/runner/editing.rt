@@ -3,11 +3,11 @@
 ghost use Rattle.dom_edits.specs.Edits.{edit_at};
 ghost use Rattle.dom_query.specs.Editing.{EditsOrFails, line_edit, targets};
 
-use crate::script::edit_line::{EditLine, names_of};
 use dom_edits::edit::{Edit, edit_each};
 use dom_nodes::fault::EditFault;
 use dom_nodes::node_data::Change;
 use dom_nodes::node_id::NodeId;
+use dom_script::script::edit_line::{EditLine, names_of};
 use dom_trees::tree::Tree;
 
 /// Does it at each of the nodes.

@@ -6,10 +6,10 @@ ghost use Rattle.dom_select.specs.Meaning.{Means};
 ghost use Rattle.dom_select.specs.Selected.{FiltersTo};
 ghost use Rattle.dom_selection.specs.Selections.{ids_of};
 
-use crate::script::{Navigation, QueryKind};
 use dom_index::selecting::select_ids;
 use dom_nodes::fault::OutOfMemory;
 use dom_nodes::node_id::NodeId;
+use dom_script::script::{Navigation, QueryKind};
 use dom_select::matcher::Matcher;
 use dom_selection::selection::Selection;
 use dom_trees::tree::Tree;

@@ -8,12 +8,12 @@ ghost use Rattle.dom_query.specs.Rendering.{first_attr, first_html, node_text, r
 
 use crate::numbers::write_number;
 use crate::runner::RunFault;
-use crate::script::Rendering;
 use dom_markup::serializing::{NodeMarkup, TraversalScope, WriteFault};
 use dom_markup::writing::write_bytes;
 use dom_md::formatting::formatted_node;
 use dom_nodes::fault::OutOfMemory;
 use dom_nodes::node_id::NodeId;
+use dom_script::script::Rendering;
 use dom_trees::node_ref::NodeRef;
 use dom_trees::tree::Tree;
 use std::io::Write;

@@ -2,12 +2,11 @@
 
 ghost use Rattle.std.specs.Prelude.{◌≡◌, ◌≢◌, [], None, Ok, Some, chars};
 ghost use Rattle.std.specs.Prelude.{IfErr, IfOk};
-ghost use Rattle.dom_selectors.specs.Grammar.{Refused};
+ghost use Rattle.dom_selectors.specs.Grammar.{IsSelectorOf, Refused};
 ghost use Rattle.dom_selectors.specs.declared.fault.SelectorFault.TheVariants.{Memory};
 ghost use Rattle.dom_selectors.specs.Spelling.{Decides};
 ghost use Rattle.dom_select.specs.ByText.{ByText, DecidesByText};
 ghost use Rattle.dom_selection.specs.Selecting.{Keeps, MeansSome, TriesText};
-ghost use Rattle.dom_selection.specs.Selecting.{IsSelectorOf};
 
 use crate::selection::{Selection, push_if};
 use dom_nodes::fault::OutOfMemory;

@@ -1,6 +1,7 @@
 use Rattle.std.proofs.Common.{◌∙◌, [], ap, map, subst, OnOk, Bor, List, ℕ}
 use Rattle.std.specs.Prelude.{slice_index_or}
-use Rattle.dom_query.specs.Cleaning.{IsCleaned, listed_in}
+use Rattle.dom_script.specs.NameLists.{listed_in}
+use Rattle.dom_query.specs.Cleaning.{IsCleaned}
 use Rattle.dom_query.proofs.ListLines.{same-lists}
 use Rattle.dom_query.proofs.runner.cleaning.clean.Goals as goal
 

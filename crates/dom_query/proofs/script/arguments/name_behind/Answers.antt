@@ -1,6 +1,0 @@
-use Rattle.std.proofs.Common.{◌∙◌, sym}
-use Rattle.dom_query.proofs.Lines.{no-name}
-use Rattle.dom_query.proofs.script.arguments.name_behind.Goals as goal
-
-pub returns-then-not-is_name : goal.returns-then-not-is_name
-returns-then-not-is_name c = no-name c.args.line.now c.args.word.now c.in-Some.argument.now c.in-Some.ensures (sym c.is_name.ensures ∙ c.if-not-is_name.true)

@@ -1,0 +1,25 @@
+-- Why a line or a text was not read.
+use Rattle.std.specs.Prelude.{ℕ, List}
+use Rattle.dom_markup.specs.Refusals.{BeginsTooManyNodes}
+use Rattle.dom_script.specs.declared.script.ScriptFault.{ScriptFault}
+use Rattle.dom_script.specs.declared.script.ScriptFault.TheVariants.{BadLine, Memory as NoMemory, TooManyNodes as NoNumbers}
+use Rattle.dom_script.specs.EditLine.{HasLargeMarkup}
+use Rattle.dom_script.specs.Script.{HasLargeLine, IsNoScript}
+
+-- a limit that was met where the markup of a line was read
+abbrev pub MarkupLimit : List ℕ → ScriptFault → Type 0
+MarkupLimit text NoNumbers = BeginsTooManyNodes text
+MarkupLimit text NoMemory = Unit {0}
+MarkupLimit text (BadLine number) = ⊥
+
+-- why a line was not read
+abbrev pub LineRefused : List ℕ → ScriptFault → Type 0
+LineRefused line NoNumbers = HasLargeMarkup line
+LineRefused line NoMemory = Unit {0}
+LineRefused line (BadLine number) = ⊥
+
+-- why a text was not read as a script
+abbrev pub ScriptRefused : List ℕ → ScriptFault → Type 0
+ScriptRefused script (BadLine line) = IsNoScript script line
+ScriptRefused script NoNumbers = HasLargeLine script
+ScriptRefused script NoMemory = Unit {0}

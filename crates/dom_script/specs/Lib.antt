@@ -1,0 +1,5 @@
+pub mod Words
+pub mod EditLine
+pub mod NameLists
+pub mod Script
+pub mod Faults
