@@ -91,13 +91,13 @@ impl ActiveFormatting {
     }
 
     /// The third entry since the last marker, from the end, that is the same element.
-    pub fn third_same(&self, tree: &Tree, id: NodeId) -> Option<usize> {
+    pub fn third_same(&self, tree: &Tree, open: &Open) -> Option<usize> {
         let mut same: usize = 0;
         for index in (0..self.entries.len()).rev() {
             let Some(Entry::Element(other)) = self.get(index) else {
                 return None;
             };
-            if are_same(tree, other.id, id) {
+            if open.is_like(&other) && are_same(tree, other.id, open.id) {
                 same = same.saturating_add(1);
                 if same == 3 {
                     return Some(index);

@@ -209,6 +209,7 @@ impl GrowingTree {
             ns,
             name,
             holds_html: false,
+            fingerprint: 0,
         });
     }
 

@@ -3,7 +3,7 @@
 mod after;
 mod body;
 mod body_ends;
-mod groups;
+pub mod groups;
 mod head;
 mod resetting;
 mod select;

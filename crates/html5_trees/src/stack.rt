@@ -29,11 +29,18 @@ pub struct Open {
     pub name: Name,
     /// Whether it is an `annotation-xml` whose encoding is HTML.
     pub holds_html: bool,
+    /// The fingerprint of its attributes, if it is a formatting element; else 0.
+    pub fingerprint: u32,
 }
 
 impl Open {
     pub fn is_html(&self, name: Name) -> bool {
         self.ns == Ns::Html && self.name == name
+    }
+
+    /// Whether it may have the name and the attributes of another formatting element.
+    pub fn is_like(&self, other: &Open) -> bool {
+        self.name == other.name && self.fingerprint == other.fingerprint
     }
 }
 

@@ -184,7 +184,7 @@ impl GrowingTree {
         let Some(open) = self.stack.current() else {
             return Ok(());
         };
-        if let Some(index) = self.formatting.third_same(&self.tree, open.id) {
+        if let Some(index) = self.formatting.third_same(&self.tree, &open) {
             self.remove_entry(index);
         }
         self.push_current()
