@@ -10,6 +10,7 @@ arguments in its place; `markup_hex` and `script_hex` give bytes that are no tex
 stand on standard output and standard error, and `status` is the exit status, 0 if not given. A text may be given as a
 list of pieces, each a text and how often it stands there, with {n} in it for the number of each; an argument may be given
 with how often it stands there. A case of cases/calls is one of the program `calls`, whose arguments are calls of the libraries,
+one of cases/queries one of `queries`, whose arguments ask selectors, indexes and selections, one of cases/times one of `times`,
 one of cases/tour one of `tour`, which is over `dom_query` alone, and one of cases/hq or cases/pages (html5lib's tests of tree construction) is one of `hq`.
 
 refusals.py refuses each request for memory in turn, and asks in ever larger address spaces; hostile.py has texts and nodes read that are changed in every place, and depth.py deep and wide
@@ -47,8 +48,8 @@ from rows import ROOT, SECONDS, built, given, words_of  # noqa: E402
 
 NO_FUNCTION = "no_function_of_this_name"
 SEED, FORESTS, PATHS, WAYS = 1, 2000, 500, 400
-# The memory, in bytes, that must be free for each proof at a time: a crate's took up to 3.2 GB, that of `calls` 4.8. `rt`
-# reckons with up to 9, which leaves processors idle.
+# The memory, in bytes, that must be free for each proof at a time: a crate's took up to 3.2 GB, that of `calls`, before
+# it was split, 4.8. `rt` reckons with up to 9, which leaves processors idle.
 PROOF = 4_000_000_000
 
 
@@ -159,14 +160,9 @@ def table():
     return run_cases("the program's cases", "dq", (ROOT / "cases").glob("*.jsonl"))
 
 
-def calls():
-    """Runs the program `calls` on its cases, and returns how many passed and failed."""
-    return run_cases("cases of calls", "calls", (ROOT / "cases" / "calls").glob("*.jsonl"))
-
-
-def toured():
-    """Runs the program `tour` on its cases, and returns how many passed and failed."""
-    return run_cases("cases of tour", "tour", (ROOT / "cases" / "tour").glob("*.jsonl"))
+def cases_of(name):
+    """What runs the program of that name on its cases, and returns how many passed and failed."""
+    return lambda: run_cases(f"cases of {name}", name, (ROOT / "cases" / name).glob("*.jsonl"))
 
 
 def pages():
@@ -183,14 +179,14 @@ def cleaned():
 
 def asked_each_way():
     """Compares what selectors select in random forests by each way."""
-    passed, failed = ways.compared(built("calls"), SEED, WAYS)
+    passed, failed = ways.compared(built("queries"), SEED, WAYS)
     print(f"selectors in random forests, each way: {passed} passed, {failed} failed")
     return passed, failed
 
 
 def followed():
     """Compares what paths find in random forests with a meaning of our own."""
-    passed, failed = paths.compared(built("calls"), SEED, PATHS)
+    passed, failed = paths.compared(built("queries"), SEED, PATHS)
     print(f"paths in random forests: {passed} passed, {failed} failed")
     return passed, failed
 
@@ -300,7 +296,8 @@ def refused_callers():
 def main():
     clock, cases_alone = Clock(), sys.argv[1:] == ["--cases"]
     counts = [] if cases_alone else gate(clock)
-    tables = [table, calls, toured, pages, cleaned, followed, asked_each_way, streams.streams, snippets, wrong_bodies, coverage.coverage]
+    tables = [table, *map(cases_of, ("calls", "queries", "times", "tour")), pages, cleaned, followed, asked_each_way]
+    tables += [streams.streams, snippets, wrong_bodies, coverage.coverage]
     counts += clock.timed("the cases", lambda: [each() for each in tables])
     hard = [("the hostile inputs", hostile.hostile), ("the refusals", refusals.refusals), ("small address spaces", refusals.limited), ("deep and wide trees", depth.depth)]
     counts += [clock.timed(part, each) for part, each in hard]

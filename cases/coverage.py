@@ -3,12 +3,12 @@
 A public function is one that `dom_query` hands on by the `pub use` lines of its lib.rt: a function, a `pub fn` of a type,
 or a method of a trait. Methods of the traits of std (`fmt`, `from`, `next`) are left out.
 
-It is called where the source of a program or of a test (ROOTS) names it: `name(..)`, in a file that imports the name;
-`Type::name`; or `x.name(..)`, where the text shows what x is. That is read from parameters, from `let`, `for` and patterns,
-from the fields of structs, and from what the functions that are called return by their declarations. The method is the
-type's own, or else that of a trait which it implements, or by which a type parameter is bound. A call whose receiver isn't
-shown so counts for nothing, and neither does one that a function of the libraries makes. What a call answers is compared by
-the rows of cases/; this finds only that it is made.
+It is called where the source of a program or of a test (ROOTS), or of what programs share (SHARED), names it: `name(..)`, in a
+file that imports the name; `Type::name`; or `x.name(..)`, where the text shows what x is. That is read from parameters, from
+`let`, `for` and patterns, from the fields of structs, and from what the functions that are called return by their
+declarations. The method is the type's own, or else that of a trait which it implements, or by which a type parameter is bound.
+A call whose receiver isn't shown so counts for nothing, and neither does one that a function of the libraries makes. What a call
+answers is compared by the rows of cases/; this finds only that it is made.
 
 Of the other public functions of the crates, but for laws, it finds that something calls one of that name, in a library too."""
 import collections
@@ -18,7 +18,7 @@ import re
 import sys
 
 ROOT = pathlib.Path(__file__).resolve().parent.parent
-ROOTS = ("calls", "tour", "dq", "hq")
+ROOTS, SHARED = ("calls", "queries", "times", "tour", "dq", "hq"), "lines"
 # Comments, strings, characters, and imports of specs.
 BLANK = re.compile(r'//[^\n]*|"(?:\\.|[^"\\])*"|\'(?:\\[^\']+|[^\'\\])\'|\bghost use [^;]*;', re.S)
 GENERICS = re.compile(r"<(?:[^<>]|<[^<>]*>)*>")
@@ -391,7 +391,7 @@ def uncalled_below(files, names):
     for file, function in every:
         owner = function.owners[-1] if function.owners else ""
         is_own = function.is_public and len(function.owners) < 2 and "laws" not in file.with_suffix("").parts
-        if is_own and file.relative_to(ROOT / "crates").parts[0] not in ROOTS and (owner or function.name) not in names:
+        if is_own and file.relative_to(ROOT / "crates").parts[0] not in (*ROOTS, SHARED) and (owner or function.name) not in names:
             below.add((owner, function.name))
     return below, {(owner, name) for owner, name in below if name not in called}
 
@@ -400,11 +400,12 @@ def coverage():
     """Prints the public functions that nothing calls, and returns how many are called and how many aren't."""
     crates = ROOT / "crates"
     files = {folder.name: sorted(folder.glob("src/**/*.rt")) for folder in sorted(crates.iterdir())}
-    libraries = [file for name, sources in files.items() if name not in ROOTS for file in sources]
+    libraries = [file for name, sources in files.items() if name not in (*ROOTS, SHARED) for file in sources]
     called, names = set(), set()
     for name in ROOTS:
-        known = Known(libraries, files[name])
-        called.update(calls_of(files[name], known))
+        program = [*files[SHARED], *files[name]]
+        known = Known(libraries, program)
+        called.update(calls_of(program, known))
         names.update(handed_on(known))
     public = set()
     for function in (function for file in libraries for function in functions_of(file)):

@@ -1,4 +1,4 @@
-"""Trees that are deep and trees that are wide. Each call is done by the program `calls bulk time` on a stack of 256 KiB, over so many
+"""Trees that are deep and trees that are wide. Each call is done by the program `times` on a stack of 256 KiB, over so many
 elements nested in one another and over so many side by side, and over ten times as many: it ends, and the processor time of
 the program grows no more than in proportion, with room for what a busy machine adds. `depth.py SMALL` prints the times of the
 calls alone for SMALL elements and ten times as many, which must be at most MOST times as long, as docs/PERFORMANCE.md says."""
@@ -45,7 +45,7 @@ PATHS = ("b", "b b", "b > b", "b + b")
 def time_of(call, selector, markup, runs=1):
     """The nanoseconds that a call took on a small stack, or what went wrong."""
     small = lambda: resource.setrlimit(resource.RLIMIT_STACK, (STACK, STACK))
-    words = [built("calls"), "bulk", "time", call, str(runs), selector]
+    words = [built("times"), call, str(runs), selector]
     try:
         ran = subprocess.run(words, input=markup, capture_output=True, timeout=SECONDS, preexec_fn=small)
     except subprocess.TimeoutExpired:

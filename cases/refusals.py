@@ -26,13 +26,14 @@ MANY = 3_000
 STATE = b"state"
 # The programs, and the files of their rows whose lines are asked.
 FILES = {
-    "calls": "memory apart changes documents indexes minis moves pages reading sanitising selections selectors several sinks texts values".split(),
+    "calls": "memory apart changes documents moves pages reading sanitising sinks texts values".split(),
+    "queries": "indexes minis selections selectors several".split(),
     "tour": ["lines"],
 }
 # What is asked in small address spaces, over so many paragraphs.
-LIMITED = [b"print", b"clone", b"places", b"select p b", b"selection p, b", b"step b", b"find 0 p > b", b"to-fragment 0", b"htmls 0"]
-LIMITED += [b"md 0", b"walk 0", b"nodes 1,5,9 append_html " + b"<i>x</i>" * 2_000]
-LIMITED = [("tour", b"texts"), *(("calls", line) for line in LIMITED)]
+LIMITED = [("tour", b"texts"), *(("calls", line) for line in (b"print", b"clone", b"to-fragment 0", b"htmls 0", b"md 0", b"walk 0"))]
+LIMITED += [("calls", b"nodes 1,5,9 append_html " + b"<i>x</i>" * 2_000)]
+LIMITED += [("queries", line) for line in (b"places", b"select p b", b"selection p, b", b"step b", b"find 0 p > b")]
 PARAGRAPH, PARAGRAPHS = b"<p class='a'>text that a node keeps apart, for it is long<b>b</b></p>", 1_000
 SPACES = 3_900_000, 7_900_000, 65_536
 # Groups of calls whose second word names the call.

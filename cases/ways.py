@@ -1,7 +1,7 @@
 """Asks random selectors below random roots of random forests in each way: the tables of an index, and the choice between them
 and asking, must select what asking each node does.
 
-`ways.py [SEED [COUNT]]` asks so many, over the program `calls` that stands built in the workspace."""
+`ways.py [SEED [COUNT]]` asks so many, over the program `queries` that stands built in the workspace."""
 import random
 import subprocess
 import sys
@@ -66,7 +66,7 @@ def compared(program, seed, count):
 def main():
     seed, count = (int(word) for word in (*sys.argv[1:], *["1", "400"][len(sys.argv) - 1 :]))
     begun = time.monotonic()
-    passed, failed = compared(built("calls"), seed, count)
+    passed, failed = compared(built("queries"), seed, count)
     print(f"ways: seed {seed}, {count} selectors, {passed} as wanted, {failed} not, {time.monotonic() - begun:.1f} s")
     return 1 if failed else 0
 

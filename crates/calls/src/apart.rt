@@ -1,7 +1,5 @@
 //! Values apart from a tree: copies of a node and of what it holds, changed, and what they answer.
 
-use crate::printing::{show, show_flags, show_some};
-use crate::words::node_of;
 use dom_nodes::case_sensitivity::CaseSensitivity;
 use dom_nodes::fault::OutOfMemory;
 use dom_nodes::name::{Attr, LocalName, QualName};
@@ -9,6 +7,8 @@ use dom_nodes::node_data::{Attrs, Change, Element, NodeData, NodeEdit, TreeNode}
 use dom_nodes::node_id::NodeId;
 use dom_nodes::text::Text;
 use dom_trees::tree::Tree;
+use lines::printing::{show, show_flags, show_some};
+use lines::words::node_of;
 use std::alloc::Global;
 use std::fmt::Debug;
 

@@ -4,8 +4,6 @@ ghost use Rattle.std.specs.Prelude.{◌≡◌, IfSome, true};
 ghost use Rattle.dom_links.specs.ListMoves.{CanMove, moving_id};
 ghost use Rattle.dom_links.specs.Sound.{IsSoundArena, target};
 
-use crate::printing::{show, show_read};
-use crate::words::{cut, named, node_of};
 use dom_links::gap::{Gap, Moving};
 use dom_links::iters::{AncestorNodes, ChildNodes, DescendantNodes};
 use dom_links::ops::TreeNodeOps;
@@ -14,6 +12,8 @@ use dom_nodes::node_data::{NodeData, TreeNode};
 use dom_nodes::node_id::NodeId;
 use dom_nodes::text::Text;
 use dom_trees::tree::Tree;
+use lines::printing::{show, show_read};
+use lines::words::{cut, named, node_of};
 use std::alloc::Global;
 
 /// A call that edits nodes.

@@ -1,6 +1,5 @@
 //! A tree that is built by calls of `Tree` alone.
 
-use crate::printing::{show, show_edit, show_read};
 use dom_links::gap::{Gap, Moving, Place};
 use dom_markup::document::sink::ElementFlags;
 use dom_markup::serializing::NodeMarkup;
@@ -10,6 +9,7 @@ use dom_nodes::node_data::{Attrs, Change, Element, NodeData};
 use dom_nodes::node_id::NodeId;
 use dom_nodes::text::Text;
 use dom_trees::tree::Tree;
+use lines::printing::{show, show_edit, show_read};
 use std::alloc::Global;
 
 /// Builds a tree, and prints it; then a fragment of its nodes, and what is refused.

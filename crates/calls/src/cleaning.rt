@@ -1,9 +1,9 @@
 //! What a sanitiser leaves of the document.
 
-use crate::printing::show;
-use crate::words::words_of;
 use dom_markup::document::Document;
 use dom_sanitize::sanitize::{Allow, sanitize};
+use lines::printing::show;
+use lines::words::words_of;
 
 /// Cleans the document by three lists of names: `ELEMENTS;ATTRIBUTES;DROPPED`.
 pub fn clean(rt: &HostRuntime, document: &mut Document, line: &str) -> Option<()> {

@@ -1,6 +1,5 @@
 //! The texts of faults.
 
-use crate::words::cut;
 use dom_edits::edit::SelectionFault;
 use dom_html5::PageFault;
 use dom_links::validation::ValidateFault;
@@ -8,6 +7,7 @@ use dom_markup::serializing::WriteFault;
 use dom_nodes::fault::{EditFault, MarkupFault, MarkupFaultKind, OutOfMemory};
 use dom_selectors::fault::SelectorFault;
 use dom_selectors::mini_selector::fault::MiniFault;
+use lines::words::cut;
 use std::fmt::Display;
 
 const WRITES: [WriteFault; 2] = [WriteFault::Write, WriteFault::Memory];

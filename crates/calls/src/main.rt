@@ -1,40 +1,28 @@
 //! Calls of the libraries, asked at a shell. `calls LINE ..` reads the markup on standard input,
 //! makes the call of each line on the document, in order, and prints what each answers: the rows of
-//! cases/calls. `calls bulk raw` and `calls bulk time ..` make many calls, of what standard input
-//! has.
+//! cases/calls. `calls bulk raw` makes the call of each line on standard input.
 #![tactic(auto)]
 
 mod apart;
 mod arena;
-mod asking;
 mod building;
-mod caches;
 mod cleaning;
-mod css;
 mod faults;
-mod indexes;
 mod many;
-mod minis;
 mod node_calls;
 mod pages;
-mod printing;
 mod raw;
 mod reading;
-mod selecting;
-mod selections;
 mod sinks;
 mod texts;
-mod timing;
 mod trees;
 mod values;
 mod walking;
 mod web;
-mod words;
 
-use crate::words::{cut, input};
 use dom_markup::document::Document;
-use dom_trees::tree::Tree;
-use std::env;
+use lines::printing::print_state;
+use lines::words::{arguments, cut, input};
 use std::process::ExitCode;
 
 /// Makes a call that changes the document.
@@ -73,19 +61,8 @@ fn read(rt: &HostRuntime, document: &Document, group: &str, line: &str) -> Optio
         "print" => pages::print_page(rt, document),
         "html" => pages::print_html(rt, document),
         "clone" => pages::print_copy(rt, document),
-        "state" => values::print_state(rt, document),
+        "state" => print_state(rt, &document.tree, &document.errors),
         "copies" => values::print_copies(rt, &document.tree),
-        "places" => indexes::show_places(rt, &document.tree),
-        "tests" => selecting::count_tests(rt, &document.tree, line, true),
-        "chosen" => selecting::count_tests(rt, &document.tree, line, false),
-        "select" => selecting::select(rt, document, line),
-        "selection" => selections::select(rt, document, line),
-        "step" => selections::step(rt, document, line),
-        "choose" => selections::choose(rt, document, line),
-        "combine" => selections::combine(rt, document, line),
-        "selected" => selections::read(rt, document, line),
-        "path" => minis::follow(rt, document, line),
-        "counted" => caches::count_tests(rt, &document.tree, line),
         _ => return read_nodes(rt, document, group, line),
     }
     Some(())
@@ -110,26 +87,6 @@ fn read_nodes(rt: &HostRuntime, document: &Document, group: &str, line: &str) ->
         "md" => texts::write_node(rt, tree, line),
         "without" => texts::write_without(rt, tree, line),
         "formatted" => texts::format(rt, tree, line),
-        _ => ask(rt, tree, group, line),
-    }
-}
-
-/// Makes a call that asks nodes.
-fn ask(rt: &HostRuntime, tree: &Tree, group: &str, line: &str) -> Option<()> {
-    match group {
-        "select-below" => selecting::select_below_several(rt, tree, line),
-        "ask" => selecting::ask(rt, tree, line),
-        "kinds" => asking::show_kinds(rt, tree, line),
-        "named" => asking::show_named(rt, tree, line),
-        "pseudos" => asking::show_pseudos(rt, tree, line),
-        "index" => indexes::ask(rt, tree, line),
-        "find" => minis::find(rt, tree, line),
-        "names" => minis::find_names(rt, tree, line),
-        "mini-is" => minis::is_meant(rt, tree, line),
-        "mini-ask" => minis::ask(rt, tree, line),
-        "child" => caches::find_child(rt, tree, line),
-        "matches" => caches::match_several(rt, tree, line),
-        "caches" => caches::index(rt, tree, line),
         _ => write(rt, group, line),
     }
 }
@@ -141,11 +98,6 @@ fn write(rt: &HostRuntime, group: &str, line: &str) -> Option<()> {
         "fragment-sink" => pages::print_sink(rt),
         "fragment" => pages::read_fragment(rt, line),
         "tokens" => texts::cut_tokens(rt, line),
-        "fault-of" => selecting::show_fault(rt, line),
-        "css" => css::write_selectors(rt, line),
-        "debug" => css::print_selector(rt, line),
-        "mini" => minis::read(rt, line),
-        "minis" => minis::read_list(rt, line),
         "escape" => texts::escape_value(rt, line),
         "fence" => texts::measure_fence(rt, line),
         "mark" => texts::read_mark(rt, line),
@@ -164,8 +116,6 @@ fn write(rt: &HostRuntime, group: &str, line: &str) -> Option<()> {
 /// Makes a call of a text alone, which it may not fit.
 fn make(rt: &HostRuntime, group: &str, line: &str) -> Option<()> {
     match group {
-        "css-of" => css::write_values(rt, line),
-        "debug-of" => css::print_values(rt, line),
         "chunk" => texts::escape_chunk(rt, line),
         "cell" => texts::escape_cell(rt, line),
         "list" => texts::number_list(rt, line),
@@ -194,22 +144,13 @@ fn call_all(rt: &HostRuntime, lines: &[String]) -> Option<()> {
 fn run(rt: &HostRuntime, words: &[String]) -> Option<()> {
     match words {
         [bulk, word] if bulk.as_str() == "bulk" && word.as_str() == "raw" => raw::check_all(rt),
-        [bulk, word, words @ ..] if bulk.as_str() == "bulk" && word.as_str() == "time" => {
-            timing::time_calls(rt, words)
-        }
         _ => call_all(rt, words),
     }
 }
 
 fn main(rt: HostRuntime) -> ExitCode {
-    let Ok(all) = env::args(&rt) else {
-        return ExitCode::from(64);
-    };
-    let Ok(words) = all.skip(1).collect::<Vec<String>>(rt.alloc()) else {
-        return ExitCode::from(5);
-    };
-    match run(&rt, words.as_slice()) {
-        Some(()) => ExitCode::from(0),
-        None => ExitCode::from(1),
+    match arguments(&rt) {
+        Some(words) if run(&rt, &words).is_some() => ExitCode::from(0),
+        _ => ExitCode::from(1),
     }
 }

@@ -1,11 +1,11 @@
 //! Calls of `SelectionMut`, which change several nodes.
 
-use crate::printing::show_edit;
-use crate::words::{cut, nodes_of, words_of};
 use dom_edits::edit::SelectionFault;
 use dom_edits::selection_mut::SelectionMut;
 use dom_nodes::node_id::NodeId;
 use dom_trees::tree::Tree;
+use lines::printing::show_edit;
+use lines::words::{cut, nodes_of, words_of};
 
 /// A call at nodes: `N,M CALL WORDS`; nodes that are given are written `N,M` too.
 pub fn call(rt: &HostRuntime, tree: &mut Tree, line: &str) -> Option<()> {

@@ -1,6 +1,5 @@
 //! Calls of a node that is lent to be changed: `NodeMut` and `NodeMutMarkup`.
 
-use crate::words::{cut, named, node_of, words_of};
 use dom_markup::setters::NodeMutMarkup;
 use dom_nodes::fault::EditFault;
 use dom_nodes::node_data::NodeEdit;
@@ -8,6 +7,7 @@ use dom_nodes::node_id::NodeId;
 use dom_nodes::text::Text;
 use dom_trees::node_mut::NodeMut;
 use dom_trees::tree::Tree;
+use lines::words::{cut, named, node_of, words_of};
 
 /// Makes the call of a line `N CALL WORDS`; None, where no call has this name.
 pub fn edited(tree: &mut Tree, line: &str) -> Option<Result<(), EditFault>> {

@@ -1,7 +1,5 @@
 //! Calls of `Document` and of the whole `Tree`.
 
-use crate::printing::{show, show_edit, show_node, show_read, show_some};
-use crate::words::{cut, node_of, nodes_of};
 use dom_links::gap::Place;
 use dom_markup::document::Document;
 use dom_markup::document::fragments::NodeFragment;
@@ -9,6 +7,8 @@ use dom_markup::document::snippet::Snippet;
 use dom_markup::serializing::NodeMarkup;
 use dom_nodes::node_id::NodeId;
 use dom_trees::tree::Tree;
+use lines::printing::{show, show_edit, show_node, show_read, show_some};
+use lines::words::{cut, node_of, nodes_of};
 
 /// What a document answers of all of it, and its tree.
 pub fn read(rt: &HostRuntime, document: &Document) {

@@ -1,7 +1,6 @@
 //! Nodes with their links, which may be a forest's: `raw` reads those of its words, and `bulk raw`
 //! those of each line on standard input.
 
-use crate::words::{cut, input, node_of};
 use dom_links::validation::ValidateFault;
 use dom_nodes::link::Link;
 use dom_nodes::name::{LocalName, QualName};
@@ -9,6 +8,7 @@ use dom_nodes::node_data::{Attrs, Element, NodeData, TreeNode};
 use dom_nodes::node_id::NodeId;
 use dom_nodes::text::Text;
 use dom_trees::tree::Tree;
+use lines::words::{cut, input, node_of};
 use std::alloc::Global;
 
 /// What a node is: `document`, `fragment`, `text`, `element`, or an element with these contents.

@@ -1,9 +1,9 @@
 //! What `NodeRef` reads of a node.
 
-use crate::printing::{show, show_flags, show_node, show_read, show_some};
-use crate::words::{cut, node_of};
 use dom_trees::node_ref::NodeRef;
 use dom_trees::tree::Tree;
+use lines::printing::{show, show_flags, show_node, show_read, show_some};
+use lines::words::{cut, node_of};
 
 /// What a node is, has and says: `N`, or `N WORD` for the attribute, class or name of that word.
 pub fn read(rt: &HostRuntime, tree: &Tree, line: &str) -> Option<()> {

@@ -1,15 +1,13 @@
 //! Calls of `TreeSink` on a `Document`.
 
-use crate::printing::{show, show_edit, show_read, show_some};
-use crate::words::{cut, node_of};
 use dom_markup::document::sink::{ElementFlags, NodeOrText, TreeSink};
 use dom_markup::document::{Document, QuirksMode};
 use dom_nodes::fault::EditFault;
-use dom_nodes::name::{Attr, LocalName, NameParts, Namespace, QualName};
-use dom_nodes::node_data::Attrs;
+use dom_nodes::name::Namespace;
 use dom_nodes::node_id::NodeId;
-use dom_nodes::text::Text;
-use std::alloc::Global;
+use lines::names::{attributes, name_of};
+use lines::printing::{show, show_edit, show_read, show_some};
+use lines::words::{cut, node_of};
 
 /// A call that makes a node: `CALL WORDS`.
 pub fn make(rt: &HostRuntime, document: &mut Document, line: &str) -> Option<()> {
@@ -34,58 +32,8 @@ fn element(document: &mut Document, name: &str, attrs: &str) -> Option<Result<No
         template: name == "template",
         mathml_annotation_xml_integration_point: name == "mathml:annotation-xml",
     };
-    let ns = namespace_of(name).unwrap_or(Namespace::Html);
-    let name = named(alloc, ns, local_of(name))?;
+    let name = name_of(alloc, name, Namespace::Html)?;
     Some(document.create_element(name, attrs, flags))
-}
-
-/// The namespace that is written before a colon, if there is one.
-pub fn namespace_of(written: &str) -> Option<Namespace> {
-    let (prefix, _) = written.split_once(':')?;
-    Some(match prefix {
-        "none" => Namespace::None,
-        "html" => Namespace::Html,
-        "svg" => Namespace::Svg,
-        "mathml" => Namespace::MathMl,
-        "xlink" => Namespace::XLink,
-        "xml" => Namespace::Xml,
-        "xmlns" => Namespace::XmlNs,
-        _ => return None,
-    })
-}
-
-/// What is written behind the colon, or all of it.
-pub fn local_of(written: &str) -> &str {
-    match written.split_once(':') {
-        Some((_, local)) => local,
-        None => written,
-    }
-}
-
-/// The name in that namespace.
-fn named(alloc: Global, ns: Namespace, name: &str) -> Option<QualName> {
-    let local = LocalName::new(alloc, name).ok()?;
-    let prefix = None;
-    QualName::new(alloc, NameParts { prefix, ns, local }).ok()
-}
-
-/// The attributes that are written `name=value name=value`.
-fn attributes(alloc: Global, written: &str) -> Option<Attrs> {
-    let mut attrs = Attrs::new(alloc);
-    for attr in written.split(' ') {
-        if !attr.is_empty() {
-            attrs.push(attribute(alloc, attr)?).ok()?;
-        }
-    }
-    Some(attrs)
-}
-
-fn attribute(alloc: Global, written: &str) -> Option<Attr> {
-    let (key, value) = written.split_once('=')?;
-    let ns = namespace_of(key).unwrap_or(Namespace::None);
-    let name = named(alloc, ns, local_of(key))?;
-    let value = Text::new(alloc, value).ok()?;
-    Some(Attr { name, value })
 }
 
 /// A call that puts a node or a text somewhere: `CALL N M`, `CALL N TEXT`, or with another node

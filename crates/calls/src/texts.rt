@@ -1,7 +1,5 @@
 //! Markdown and its pieces, and the tokens of a text.
 
-use crate::printing::{show, show_read, show_some};
-use crate::words::{cut, node_of, words_of};
 use dom_markup::document::{Token, Tokens};
 use dom_md::cells::escape_table_cell_inplace;
 use dom_md::chunks::push_escaped_chunk;
@@ -13,6 +11,8 @@ use dom_md::node_md::NodeMd;
 use dom_md::serializer::{MDSerializer, serialize_md};
 use dom_trees::node_ref::NodeRef;
 use dom_trees::tree::Tree;
+use lines::printing::{show, show_read, show_some};
+use lines::words::{cut, node_of, words_of};
 
 /// The Markdown of a node, by each call: `N`.
 pub fn write_node(rt: &HostRuntime, tree: &Tree, line: &str) -> Option<()> {

@@ -1,8 +1,6 @@
 //! Calls of `Tree` that change it: moves, new nodes, texts and copies.
 
 use crate::node_calls::edited;
-use crate::printing::{show_edit, show_ids_read, show_read};
-use crate::words::{cut, node_of, nodes_of, words_of};
 use dom_links::gap::Place;
 use dom_nodes::fault::EditFault;
 use dom_nodes::name::{LocalName, QualName};
@@ -10,6 +8,8 @@ use dom_nodes::node_data::{NodeData, NodeEdit};
 use dom_nodes::node_id::NodeId;
 use dom_nodes::text::Text;
 use dom_trees::tree::Tree;
+use lines::printing::{show_edit, show_ids_read, show_read};
+use lines::words::{cut, node_of, nodes_of, words_of};
 
 /// A move: `CALL N M`, or `CALL N`.
 pub fn move_nodes(rt: &HostRuntime, tree: &mut Tree, line: &str) -> Option<()> {

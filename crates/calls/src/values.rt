@@ -1,25 +1,17 @@
 //! What nodes hold: names, numbers, copies.
 
 use crate::apart::show_made;
-use crate::css::show_same;
-use crate::printing::{show, show_flags, show_some};
-use crate::sinks::{local_of, namespace_of};
-use crate::words::{cut, node_of};
-use dom_markup::document::Document;
 use dom_nodes::case_sensitivity::CaseSensitivity;
 use dom_nodes::fault::OutOfMemory;
 use dom_nodes::name::{Attr, LocalName, NameParts, Namespace, NamespaceRef, QualName};
 use dom_nodes::node_data::{NodeData, TreeNode};
 use dom_nodes::text::{RareText, Text};
 use dom_trees::tree::Tree;
+use lines::names::{local_of, namespace_of};
+use lines::printing::{show, show_flags, show_same, show_some};
+use lines::words::{cut, node_of};
 use std::alloc::Global;
 use std::mem::size_of;
-
-/// All that a document holds.
-pub fn print_state(rt: &HostRuntime, document: &Document) {
-    let (nodes, errors) = (document.tree.nodes(), &document.errors);
-    println!(rt; "{nodes:?} {errors:?}").ok();
-}
 
 /// Copies of what each node holds, and which of them take no memory.
 pub fn print_copies(rt: &HostRuntime, tree: &Tree) {

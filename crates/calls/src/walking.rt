@@ -1,12 +1,12 @@
 //! Lists of nodes, and calls of `Tree` that read nodes by their numbers.
 
-use crate::printing::{show, show_ids_read, show_node, show_nodes_read, show_some};
-use crate::words::{node_of, nodes_of};
 use dom_links::ops::TreeNodeOps;
 use dom_nodes::node_id::NodeId;
 use dom_trees::iters::{ancestor_nodes, child_nodes, descendant_nodes};
 use dom_trees::node_ref::NodeRef;
 use dom_trees::tree::Tree;
+use lines::printing::{show, show_ids_read, show_node, show_nodes_read, show_some};
+use lines::words::{node_of, nodes_of};
 
 /// The lists of nodes above and below a node, and beside it by number: `N`.
 pub fn walk(rt: &HostRuntime, tree: &Tree, line: &str) -> Option<()> {

@@ -1,6 +1,5 @@
 //! Pages of the web: what texts are read as, and their tokens.
 
-use crate::printing::{show, show_edit, show_read};
 use dom_html5::{
     Context, Options, PageFault, make_page, parse_page, parse_page_bytes, parse_page_fragment,
 };
@@ -8,6 +7,7 @@ use dom_markup::document::Document;
 use dom_trees::tree::Tree;
 use html5_tokens::token::{TagKind, Token};
 use html5_tokens::tokenizer::{Step, Tokenizer};
+use lines::printing::{show, show_edit, show_read};
 
 /// With errors noted tags are read character by character, and calm pages by tree construction.
 const NOTING: Options = Options {

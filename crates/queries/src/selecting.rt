@@ -1,7 +1,5 @@
 //! Selectors: what they select in a document, and what nodes answer to them.
 
-use crate::printing::{begin, end, show, show_ids_read, show_next, show_nodes_read, show_read};
-use crate::words::{cut, node_of, nodes_of};
 use dom_index::index::TreeIndex;
 use dom_index::selecting::select_nodes;
 use dom_markup::document::Document;
@@ -15,6 +13,8 @@ use dom_select::matcher::{MatchNode, Matcher};
 use dom_select::node_select::NodeSelect;
 use dom_trees::node_ref::NodeRef;
 use dom_trees::tree::Tree;
+use lines::printing::{begin, end, show, show_ids_read, show_next, show_nodes_read, show_read};
+use lines::words::{cut, node_of, nodes_of};
 
 /// The matcher of a text; where it is no selector, why is printed.
 pub fn matcher_of(rt: &HostRuntime, text: &str) -> Option<Matcher> {

@@ -1,16 +1,16 @@
 //! Calls of `Selection` and of `DocumentSelect`.
 
-use crate::printing::{
-    show, show_flags, show_ids_read, show_nodes, show_read, show_some, show_some_read,
-};
 use crate::selecting::{matcher_of, show_each};
-use crate::words::cut;
 use dom_markup::document::Document;
 use dom_nodes::fault::OutOfMemory;
 use dom_select::matcher::Matcher;
 use dom_selection::document_select::DocumentSelect;
 use dom_selection::selection::Selection;
 use dom_selectors::fault::SelectorFault;
+use lines::printing::{
+    show, show_flags, show_ids_read, show_nodes, show_read, show_some, show_some_read,
+};
+use lines::words::cut;
 use std::fmt::Display;
 
 /// Prints the nodes of a selection, or the fault in its place.

@@ -1,9 +1,7 @@
 //! What is found and counted on the way to a selection: children by a test, matches below several
 //! nodes, indexes in caches, and tests of compounds.
 
-use crate::printing::{begin, end, show, show_next, show_nodes, show_read, show_some};
 use crate::selecting::{matcher_of, show_each};
-use crate::words::{cut, node_of, nodes_of};
 use dom_index::selecting::select_counted;
 use dom_nodes::indexes::IndexKind;
 use dom_nodes::node_data::TreeNode;
@@ -18,6 +16,8 @@ use dom_selection::selection::Selection;
 use dom_selectors::mini_selector::selector::MiniSelector;
 use dom_trees::node_ref::NodeRef;
 use dom_trees::tree::Tree;
+use lines::printing::{begin, end, show, show_next, show_nodes, show_read, show_some};
+use lines::words::{cut, node_of, nodes_of};
 
 /// The first child of a node that is an element without children, and that of a name: `N NAME`; and
 /// whether the node is an element of that name itself, and empty.

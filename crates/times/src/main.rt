@@ -1,8 +1,8 @@
-//! Times of calls over the markup on standard input, in this process: `bulk time CALL RUNS
-//! SELECTOR` prints the best of so many runs in nanoseconds and what the call counted. `bulk time`
-//! does each call once and prints its count alone.
+//! Times of calls over the markup on standard input, in this process: `times CALL RUNS SELECTOR`
+//! prints the best of so many runs in nanoseconds and what the call counted. `times` does each call
+//! once and prints its count alone.
+#![tactic(auto)]
 
-use crate::words::{input, named, words_of};
 use dom_html5::{Options, parse_page};
 use dom_index::index::TreeIndex;
 use dom_links::gap::Place;
@@ -10,7 +10,7 @@ use dom_markup::document::snippet::Snippet;
 use dom_markup::document::{Document, Tokens};
 use dom_markup::serializing::NodeMarkup;
 use dom_md::node_md::NodeMd;
-use dom_nodes::fault::{EditFault, OutOfMemory};
+use dom_nodes::fault::OutOfMemory;
 use dom_nodes::node_id::NodeId;
 use dom_sanitize::sanitize::{Allow, sanitize, sanitize_tree};
 use dom_select::matcher::Matcher;
@@ -18,7 +18,9 @@ use dom_select::matcher::descendants::select_below;
 use dom_select::mini_selector::extension::MiniSelect;
 use dom_selection::document_select::DocumentSelect;
 use dom_trees::tree::Tree;
+use lines::words::{arguments, input, named, words_of};
 use std::alloc::Global;
+use std::process::ExitCode;
 use std::time::{Duration, Instant};
 
 /// What is timed.
@@ -349,7 +351,7 @@ fn count_all(rt: &HostRuntime, page: &Page<'_>) -> Option<()> {
 }
 
 /// Does what the words say: nothing, or a call, how often, and a selector.
-pub fn time_calls(rt: &HostRuntime, words: &[String]) -> Option<()> {
+fn time_calls(rt: &HostRuntime, words: &[String]) -> Option<()> {
     match words {
         [] => count_all(rt, &Page::read(rt, "*")?),
         [name, runs, selector] => {
@@ -357,5 +359,12 @@ pub fn time_calls(rt: &HostRuntime, words: &[String]) -> Option<()> {
             time(rt, &Page::read(rt, selector.as_str())?, name.as_str(), runs)
         }
         _ => None,
+    }
+}
+
+fn main(rt: HostRuntime) -> ExitCode {
+    match arguments(&rt) {
+        Some(words) if time_calls(&rt, &words).is_some() => ExitCode::from(0),
+        _ => ExitCode::from(1),
     }
 }

@@ -1,12 +1,12 @@
 //! What is written in CSS.
 
-use crate::printing::show;
 use crate::selecting::matcher_of;
 use dom_nodes::fault::OutOfMemory;
 use dom_select::matcher::{InnerSelector, Matcher};
 use dom_selectors::css::{CssLocalName, CssString, ToCss};
 use dom_selectors::mini_selector::selector::MiniSelector;
 use dom_selectors::pseudo_class::{NonTSPseudoClass, PseudoElement};
+use lines::printing::{show, show_same};
 
 /// Prints what is written of a value.
 fn show_css<C: ToCss>(rt: &HostRuntime, what: &str, value: &C) {
@@ -60,19 +60,6 @@ fn print_matcher(rt: &HostRuntime, matcher: &Matcher) {
         let copy = first.try_clone();
         show_same(rt, "the same as a copy", first, &copy);
         show_same(rt, "the same as the last", last, &copy);
-    }
-}
-
-/// Whether a copy is the same as a value.
-pub fn show_same<T: PartialEq>(
-    rt: &HostRuntime,
-    what: &str,
-    value: &T,
-    copy: &Result<T, OutOfMemory>,
-) {
-    match copy {
-        Ok(copy) => show(rt, what, *copy == *value),
-        Err(fault) => show(rt, what, *fault),
     }
 }
 

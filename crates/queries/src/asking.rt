@@ -1,7 +1,5 @@
 //! What `NodeSelect` answers of a node.
 
-use crate::printing::show;
-use crate::words::{cut, node_of};
 use dom_nodes::case_sensitivity::CaseSensitivity;
 use dom_nodes::name::Namespace;
 use dom_select::node_select::NodeSelect;
@@ -9,6 +7,8 @@ use dom_selectors::css::CssLocalName;
 use dom_selectors::pseudo_class::NonTSPseudoClass;
 use dom_trees::node_ref::NodeRef;
 use dom_trees::tree::Tree;
+use lines::printing::show;
+use lines::words::{cut, node_of};
 
 /// What a node is: `N`.
 pub fn show_kinds(rt: &HostRuntime, tree: &Tree, line: &str) -> Option<()> {

@@ -1,11 +1,11 @@
 //! Calls of `TreeIndex`.
 
-use crate::printing::{begin, end, show, show_next, show_some};
-use crate::words::{cut, node_of};
 use dom_index::index::TreeIndex;
 use dom_links::indexes::IndexKind;
 use dom_nodes::node_id::NodeId;
 use dom_trees::tree::Tree;
+use lines::printing::{begin, end, show, show_next, show_some};
+use lines::words::{cut, node_of};
 
 /// What an index answers of two nodes: `N M`.
 pub fn ask(rt: &HostRuntime, tree: &Tree, line: &str) -> Option<()> {

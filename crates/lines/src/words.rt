@@ -1,8 +1,15 @@
-//! The words of a line, and what standard input has.
+//! The words of the command line and of a line, and what standard input has.
 
 use dom_nodes::node_id::NodeId;
 use std::alloc::Global;
+use std::env;
 use std::io::Read;
+
+/// The words that the program is given.
+pub fn arguments(rt: &HostRuntime) -> Option<Vec<String>> {
+    let words = env::args(rt).ok()?.skip(1);
+    words.collect::<Vec<String>>(rt.alloc()).ok()
+}
 
 /// The first word of a line, and what stands behind it.
 pub fn cut(line: &str) -> (&str, &str) {

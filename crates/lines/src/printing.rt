@@ -1,8 +1,10 @@
 //! What calls answer, one answer to a line. A line that can't be printed is missing in the output,
 //! which is compared.
 
+use dom_nodes::fault::OutOfMemory;
 use dom_nodes::node_id::NodeId;
 use dom_trees::node_ref::NodeRef;
+use dom_trees::tree::Tree;
 use std::fmt::Display;
 
 /// Prints a value.
@@ -117,4 +119,23 @@ pub fn show_nodes_read<F: Display + Drop>(
         Ok(nodes) => show_nodes(rt, what, &nodes),
         Err(fault) => show(rt, what, fault),
     }
+}
+
+/// Whether a copy is the same as a value.
+pub fn show_same<T: PartialEq>(
+    rt: &HostRuntime,
+    what: &str,
+    value: &T,
+    copy: &Result<T, OutOfMemory>,
+) {
+    match copy {
+        Ok(copy) => show(rt, what, *copy == *value),
+        Err(fault) => show(rt, what, *fault),
+    }
+}
+
+/// Prints all that a document holds: the nodes of its tree, and the errors that were noted.
+pub fn print_state(rt: &HostRuntime, tree: &Tree, errors: &[String]) {
+    let nodes = tree.nodes();
+    println!(rt; "{nodes:?} {errors:?}").ok();
 }

@@ -1,7 +1,5 @@
 //! Mini selectors and paths of them.
 
-use crate::printing::{show, show_ids_read, show_nodes_read, show_read, show_some};
-use crate::words::{cut, node_of, words_of};
 use dom_markup::document::Document;
 use dom_nodes::node_id::NodeId;
 use dom_select::matcher::MatchNode;
@@ -12,6 +10,8 @@ use dom_selectors::mini_selector::parser::{parse_mini_selector, parse_selector_l
 use dom_selectors::mini_selector::selector::MiniSelector;
 use dom_trees::node_ref::NodeRef;
 use dom_trees::tree::Tree;
+use lines::printing::{show, show_ids_read, show_nodes_read, show_read, show_some};
+use lines::words::{cut, node_of, words_of};
 
 /// Follows a path, and prints the id of each node that it finds, in order, or `-` where a node has
 /// none: `PATH`.
