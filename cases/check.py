@@ -11,7 +11,7 @@ stand on standard output and standard error, and `status` is the exit status, 0 
 list of pieces, each a text and how often it stands there, with {n} in it for the number of each; an argument may be given
 with how often it stands there. A case of cases/calls is one of the program `calls`, whose arguments are calls of the libraries,
 one of cases/queries one of `queries`, whose arguments ask selectors, indexes and selections, one of cases/times one of `times`,
-one of cases/tour one of `tour`, which is over `dom_query` alone, and one of cases/hq or cases/pages (html5lib's tests of tree construction) is one of `hq`.
+one of cases/batch one of `batch`, which is over `dom_query` alone, and one of cases/hq or cases/pages (html5lib's tests of tree construction) is one of `hq`.
 
 refusals.py refuses each request for memory in turn, and asks in ever larger address spaces; hostile.py has texts and nodes read that are changed in every place, and depth.py deep and wide
 trees. What the line `sanitize` leaves of random forests is compared with cases/clean.py, what paths find with cases/paths.py, and
@@ -296,7 +296,7 @@ def refused_callers():
 def main():
     clock, cases_alone = Clock(), sys.argv[1:] == ["--cases"]
     counts = [] if cases_alone else gate(clock)
-    tables = [table, *map(cases_of, ("calls", "queries", "times", "tour")), pages, cleaned, followed, asked_each_way]
+    tables = [table, *map(cases_of, ("calls", "queries", "times", "batch")), pages, cleaned, followed, asked_each_way]
     tables += [streams.streams, snippets, wrong_bodies, coverage.coverage]
     counts += clock.timed("the cases", lambda: [each() for each in tables])
     hard = [("the hostile inputs", hostile.hostile), ("the refusals", refusals.refusals), ("small address spaces", refusals.limited), ("deep and wide trees", depth.depth)]

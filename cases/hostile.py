@@ -1,5 +1,5 @@
 """Hostile inputs. Of each text below, which together use every rule of its grammar, every prefix, every text with one byte
-changed to each of CHANGED, and every text with a byte left out is read by the program `tour bulk` in one process, and the answer
+changed to each of CHANGED, and every text with a byte left out is read by the program `batch bulk` in one process, and the answer
 is compared with that of the grammar in grammars.py: read, with the same result, or refused. A fault has a name that the
 documents have, and a place inside the text.
 
@@ -106,7 +106,7 @@ def is_right(kind, data, answer):
 def texts(kind, whole):
     """Has the program asked each variant of the texts; returns how many answers are right and how many aren't."""
     inputs = sorted(set().union(*(variants(text) for text in whole)))
-    answers = asked("tour", ["batch", kind], [data.hex() for data in inputs])
+    answers = asked("batch", ["inputs", kind], [data.hex() for data in inputs])
     wrong = [(data, answer) for data, answer in zip(inputs, answers) if not is_right(kind, data, answer)]
     for data, answer in wrong[:10]:
         print(f"hostile {kind}: {data!r}: {answer!r}, and the grammar says {wanted_of(kind, data)!r}")
@@ -341,12 +341,12 @@ def pages():
     by each way, and how many aren't. Noting errors, tags are read character by character; so, and in pieces, calm pages are read
     by tree construction."""
     inputs = list(dict.fromkeys(page_inputs()))
-    whole = dict(zip(inputs, asked("tour", ["pages", "whole"], [data.hex() for data in inputs])))
-    ended = dict(zip(PAGE_BYTES, asked("tour", ["pages", "whole"], [(data + "é".encode()).hex() for data in PAGE_BYTES])))
+    whole = dict(zip(inputs, asked("batch", ["pages", "whole"], [data.hex() for data in inputs])))
+    ended = dict(zip(PAGE_BYTES, asked("batch", ["pages", "whole"], [(data + "é".encode()).hex() for data in PAGE_BYTES])))
     passed = failed = 0
     ways = [("noted", [data for data in inputs if is_text(data)], whole), ("mixed", PAGE_BYTES, ended)]
     for way, given, wanted in [*ways, *((size, inputs, whole) for size in ("1", "2", "3", "4", "5", "64"))]:
-        answers = asked("tour", ["pages", way], [data.hex() for data in given])
+        answers = asked("batch", ["pages", way], [data.hex() for data in given])
         wrong = [data for data, answer in zip(given, answers) if not answer.startswith("read ") or answer != wanted.get(data)]
         for data in wrong[:3]:
             print(f"hostile pages, {way}: {data!r} isn't the page that it is whole")

@@ -3,7 +3,7 @@ of a run, and N is counted up until a run meets no refusal. A refusal is reporte
 5; what was written is then a beginning of the output, and all that was asked for is given back. Where a refusal is passed by,
 as that of a cache or of room that was asked for in advance, the answer is the right one.
 
-A line of the programs `calls` and `tour` is asked between two lines `state`, which print all that the document holds and ask for nothing.
+A line of the programs `calls` and `batch` is asked between two lines `state`, which print all that the document holds and ask for nothing.
 Where a request of that line is refused, each line that it prints says so, or is printed with ample memory too, and the
 document is as it was before, or as it is where the line is asked of the first nodes alone.
 
@@ -28,10 +28,10 @@ STATE = b"state"
 FILES = {
     "calls": "memory apart changes documents moves pages reading sanitising sinks texts values".split(),
     "queries": "indexes minis selections selectors several".split(),
-    "tour": ["lines"],
+    "batch": ["lines"],
 }
 # What is asked in small address spaces, over so many paragraphs.
-LIMITED = [("tour", b"texts"), *(("calls", line) for line in (b"print", b"clone", b"to-fragment 0", b"htmls 0", b"md 0", b"walk 0"))]
+LIMITED = [("batch", b"texts"), *(("calls", line) for line in (b"print", b"clone", b"to-fragment 0", b"htmls 0", b"md 0", b"walk 0"))]
 LIMITED += [("calls", b"nodes 1,5,9 append_html " + b"<i>x</i>" * 2_000)]
 LIMITED += [("queries", line) for line in (b"places", b"select p b", b"selection p, b", b"step b", b"find 0 p > b")]
 PARAGRAPH, PARAGRAPHS = b"<p class='a'>text that a node keeps apart, for it is long<b>b</b></p>", 1_000

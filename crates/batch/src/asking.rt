@@ -1,6 +1,6 @@
 //! Lines, each of which asks what `dom_query` adds to the crates below it.
 
-use crate::batch::input;
+use crate::inputs::input;
 use crate::streams::serialize;
 use crate::web::NOTING;
 use dom_query::{
@@ -76,6 +76,12 @@ fn print_errors(rt: &HostRuntime, document: &Document) -> Option<()> {
         println!(rt; "{error}").ok()?;
     }
     Some(())
+}
+
+/// The parse errors that are noted of the page that standard input has.
+pub fn note_input(rt: &HostRuntime) -> Option<()> {
+    let page = input(rt)?;
+    print_noted(rt, page.as_str())
 }
 
 /// All that the document holds.

@@ -1,4 +1,4 @@
-//! Many inputs in one process: `bulk batch KIND` reads them in hexadecimal, one a line on standard
+//! Many inputs in one process: `bulk inputs KIND` reads them in hexadecimal, one a line on standard
 //! input, and prints one answer a line; so does `bulk pages WAY` of pages that are read in that
 //! way.
 

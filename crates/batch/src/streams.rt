@@ -1,7 +1,7 @@
 //! Readers and writers that fail.
 
 use crate::asking::show_read;
-use crate::batch::input;
+use crate::inputs::input;
 use dom_query::{NodeId, NodeRef, RunFault, SerializableNodeRef, TraversalScope, Tree, drive, run};
 use std::alloc::Global;
 use std::io::{self, ErrorKind, Read, Write};
