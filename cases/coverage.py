@@ -3,8 +3,8 @@
 A public function is one that `dom_query` hands on by the `pub use` lines of its lib.rt: a function, a `pub fn` of a type,
 or a method of a trait. Methods of the traits of std (`fmt`, `from`, `next`) are left out.
 
-It is called where the source of a program or of a test (ROOTS), or of what programs share (SHARED), names it: `name(..)`, in a
-file that imports the name; `Type::name`; or `x.name(..)`, where the text shows what x is. That is read from parameters, from
+It is called where the source of a program, of its own library or of a test (ROOTS), or of what programs share (SHARED), names
+it: `name(..)`, in a file that imports the name; `Type::name`; or `x.name(..)`, where the text shows what x is. That is read from parameters, from
 `let`, `for` and patterns, from the fields of structs, and from what the functions that are called return by their
 declarations. The method is the type's own, or else that of a trait which it implements, or by which a type parameter is bound.
 A call whose receiver isn't shown so counts for nothing, and neither does one that a function of the libraries makes. What a call
@@ -18,7 +18,7 @@ import re
 import sys
 
 ROOT = pathlib.Path(__file__).resolve().parent.parent
-ROOTS, SHARED = ("calls", "queries", "times", "tour", "batch", "dq", "hq"), "lines"
+ROOTS, SHARED = ("calls", "queries", "times", "tour", "batch", "dq", "hq", "hq_pages"), "lines"
 # Comments, strings, characters, and imports of specs.
 BLANK = re.compile(r'//[^\n]*|"(?:\\.|[^"\\])*"|\'(?:\\[^\']+|[^\'\\])\'|\bghost use [^;]*;', re.S)
 GENERICS = re.compile(r"<(?:[^<>]|<[^<>]*>)*>")

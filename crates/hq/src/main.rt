@@ -1,23 +1,15 @@
 //! `hq SELECTOR [FILE ..]` prints what a selector matches in pages. `hq --help` lists the options.
 #![tactic(auto)]
 
-mod addresses;
-mod cleaning;
-mod command;
-mod faults;
-mod json;
-mod options;
 mod output;
 mod pages;
-mod tree;
 
 use clap::Error;
-use command::command;
-use faults::{Fault, report, report_in};
-use options::Options;
+use hq_pages::command::{command, words_of};
+use hq_pages::faults::{Fault, report, report_in};
+use hq_pages::options::Options;
 use pages::print_file;
-use std::env;
-use std::io::{BufWriter, ErrorKind, Write};
+use std::io::{BufWriter, Write};
 use std::process::ExitCode;
 
 /// The status where something matched.
@@ -42,15 +34,6 @@ fn obey(rt: &HostRuntime) -> Result<u8, Fault> {
     match command(rt.alloc())?.try_get_matches_from(words.as_slice()) {
         Ok(matches) => print_files(rt, &Options::new(rt.alloc(), &matches)?),
         Err(refused) => Ok(show(rt, &refused)),
-    }
-}
-
-/// The words of the command line, the program's name first.
-fn words_of(rt: &HostRuntime) -> Result<Vec<String>, Fault> {
-    match env::args(rt) {
-        Ok(words) => Ok(words.collect(rt.alloc())?),
-        Err(fault) if fault.kind() == ErrorKind::OutOfMemory => Err(Fault::Memory),
-        Err(_) => Err(Fault::Argument),
     }
 }
 

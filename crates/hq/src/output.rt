@@ -1,12 +1,11 @@
 //! Printing matches.
 
-use crate::addresses::{base_of, joined_value};
-use crate::faults::{Fault, shown};
-use crate::json::{string_json, summary_json};
-use crate::options::{Options, Show};
 use crate::pages::Page;
 use dom_query::{Document, DocumentSelect, Matcher, NodeMarkup, NodeMd, NodeRef, Selection};
-use std::alloc::Global;
+use hq_pages::addresses::{attr_line, base_of};
+use hq_pages::faults::{Fault, shown};
+use hq_pages::json::{shown_as, summary_json};
+use hq_pages::options::{Options, Show};
 use std::io::Write;
 use url::Url;
 
@@ -80,32 +79,6 @@ fn text_of(node: &NodeRef<'_>, show: Show<'_>) -> Result<String, Fault> {
         Show::Markdown => Ok(node.md(None)?),
         _ => Ok(node.html()?),
     }
-}
-
-/// An attribute of a match, if it has it. Of JSON there is a line for each match.
-fn attr_line(
-    node: &NodeRef<'_>,
-    name: &str,
-    options: &Options<'_>,
-    base: &Option<Url>,
-) -> Result<Option<String>, Fault> {
-    let alloc = node.tree.allocator();
-    if let Some(value) = node.attr(name) {
-        let text = joined_value(alloc, base, name, value)?;
-        return Ok(Some(shown_as(alloc, text, options.json)?));
-    }
-    if !options.json {
-        return Ok(None);
-    }
-    Ok(Some(String::from_str(alloc, "null")?))
-}
-
-/// A text as it is, or as JSON.
-fn shown_as(alloc: Global, text: String, json: bool) -> Result<String, Fault> {
-    if json {
-        return string_json(alloc, text.as_str());
-    }
-    Ok(text)
 }
 
 fn print_line<W: Write>(line: &str, out: &mut W) -> Result<(), Fault> {

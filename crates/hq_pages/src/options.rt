@@ -2,7 +2,9 @@
 
 use crate::faults::Fault;
 use clap::ArgMatches;
-use dom_query::{Context, Matcher, SelectorFault};
+use dom_html5::Context;
+use dom_select::matcher::Matcher;
+use dom_selectors::fault::SelectorFault;
 use std::alloc::Global;
 use url::{ParseError, Url};
 

@@ -1,8 +1,8 @@
 //! What can go wrong, and how it is reported.
 
-use dom_query::{
-    EditFault, MarkupFaultKind, OutOfMemory, PageFault, SelectionFault, SelectorFault,
-};
+use dom_html5::PageFault;
+use dom_nodes::fault::{EditFault, MarkupFaultKind, OutOfMemory};
+use dom_selectors::fault::SelectorFault;
 use std::alloc::{AllocError, AllocFailed};
 use std::fmt;
 use std::io::{self, ErrorKind};
@@ -104,9 +104,9 @@ impl From<PageFault> for Fault {
     }
 }
 
-impl From<SelectionFault> for Fault {
-    fn from(refused: SelectionFault) -> Fault {
-        match refused.fault {
+impl From<EditFault> for Fault {
+    fn from(refused: EditFault) -> Fault {
+        match refused {
             EditFault::TooManyNodes => Fault::TooManyNodes,
             // The nodes are those of the tree, so nothing else is left.
             _ => Fault::Memory,

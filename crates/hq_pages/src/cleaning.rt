@@ -1,9 +1,12 @@
-//! What is taken out of a page before it is asked.
+//! What sanitising takes out of a page.
 
 use crate::addresses::is_harmless;
 use crate::faults::Fault;
-use crate::options::Options;
-use dom_query::{Allow, Document, DocumentSelect, NodeId, NodeRef, SelectionMut, sanitize};
+use dom_markup::document::Document;
+use dom_nodes::node_data::Change;
+use dom_nodes::node_id::NodeId;
+use dom_sanitize::sanitize::{Allow, sanitize};
+use dom_trees::node_ref::NodeRef;
 
 /// The elements that sanitising leaves.
 static ELEMENTS: [&str; 73] = [
@@ -144,29 +147,23 @@ static DROPPED: [&str; 25] = [
 /// The attributes whose values are addresses.
 static ADDRESSES: [&str; 3] = ["href", "src", "cite"];
 
-/// Takes out of the document what the options name.
-pub fn clean(document: &mut Document, options: &Options<'_>) -> Result<(), Fault> {
-    for selector in options.removed.as_slice() {
-        let ids = document.select_matcher(selector)?.ids()?;
-        SelectionMut::new(&mut document.tree, ids).remove()?;
-    }
-    if options.sanitizes {
-        let allow = Allow {
-            elements: ELEMENTS.as_slice(),
-            attrs: ATTRS.as_slice(),
-            drop: DROPPED.as_slice(),
-        };
-        sanitize(document, &allow)?;
-        drop_addresses(document)?;
-    }
-    Ok(())
+/// Leaves only harmless elements, attributes and addresses.
+pub fn sanitize_page(document: &mut Document) -> Result<(), Fault> {
+    let allow = Allow {
+        elements: ELEMENTS.as_slice(),
+        attrs: ATTRS.as_slice(),
+        drop: DROPPED.as_slice(),
+    };
+    sanitize(document, &allow)?;
+    drop_addresses(document)
 }
 
 /// Removes the addresses of other schemes than those of the web and of mail.
 fn drop_addresses(document: &mut Document) -> Result<(), Fault> {
     for name in &ADDRESSES {
-        let ids = harmful(document, name)?;
-        SelectionMut::new(&mut document.tree, ids).remove_attr(name)?;
+        for id in harmful(document, name)?.as_slice() {
+            document.tree.try_change_of(id, Change::RemoveAttr(name))?;
+        }
     }
     Ok(())
 }

@@ -1,8 +1,10 @@
-//! Addresses in attributes.
+//! Attributes of matches, and the addresses in them.
 
 use crate::faults::Fault;
+use crate::json::shown_as;
 use crate::options::Options;
-use dom_query::Document;
+use dom_markup::document::Document;
+use dom_trees::node_ref::NodeRef;
 use std::alloc::Global;
 use url::{ParseError, Url};
 
@@ -37,8 +39,26 @@ pub fn base_of(document: &Document, options: &Options<'_>) -> Result<Option<Url>
     joined(given, "")
 }
 
+/// An attribute of a match, if it has it. Of JSON there is a line for each match.
+pub fn attr_line(
+    node: &NodeRef<'_>,
+    name: &str,
+    options: &Options<'_>,
+    base: &Option<Url>,
+) -> Result<Option<String>, Fault> {
+    let alloc = node.tree.allocator();
+    if let Some(value) = node.attr(name) {
+        let text = joined_value(alloc, base, name, value)?;
+        return Ok(Some(shown_as(alloc, text, options.json)?));
+    }
+    if !options.json {
+        return Ok(None);
+    }
+    Ok(Some(String::from_str(alloc, "null")?))
+}
+
 /// The value of an attribute, joined to a base where there is one and the value is an address.
-pub fn joined_value(
+fn joined_value(
     alloc: Global,
     base: &Option<Url>,
     name: &str,

@@ -1,7 +1,10 @@
 //! A tree in the form of html5lib's tests of tree construction.
 
 use crate::faults::Fault;
-use dom_query::{Document, Element, NamespaceRef, NodeData, NodeId, QualName};
+use dom_markup::document::Document;
+use dom_nodes::name::{NamespaceRef, QualName};
+use dom_nodes::node_data::{Element, NodeData};
+use dom_nodes::node_id::NodeId;
 use std::alloc::{AllocError, Global};
 
 /// A node that is still to be written, and how many nodes it lies in.

@@ -1,7 +1,10 @@
 //! The command line.
 
+use crate::faults::Fault;
 use clap::{Arg, ArgAction, ArgGroup, Command};
 use std::alloc::{AllocError, Global};
+use std::env;
+use std::io::ErrorKind;
 
 const USAGE: &str = "hq [OPTIONS] SELECTOR [FILE ..]\n       hq --tree [OPTIONS] [FILE ..]";
 
@@ -32,6 +35,15 @@ static OPTIONS: [(&str, &str, &str, &str); 15] = [
 
 /// The options of which one says what is shown of a match.
 static SHOWS: [&str; 7] = ["html", "inner", "tree", "text", "md", "attr", "count"];
+
+/// The words of the command line, the program's name first.
+pub fn words_of(rt: &HostRuntime) -> Result<Vec<String>, Fault> {
+    match env::args(rt) {
+        Ok(words) => Ok(words.collect(rt.alloc())?),
+        Err(fault) if fault.kind() == ErrorKind::OutOfMemory => Err(Fault::Memory),
+        Err(_) => Err(Fault::Argument),
+    }
+}
 
 /// The command line that the program takes.
 pub fn command<'a>(alloc: Global) -> Result<Command<'a>, AllocError> {

@@ -1,12 +1,22 @@
 //! Matches as JSON.
 
 use crate::faults::Fault;
-use dom_query::{Attr, NodeMarkup, NodeRef, QualName};
+use dom_markup::serializing::NodeMarkup;
+use dom_nodes::name::{Attr, QualName};
+use dom_trees::node_ref::NodeRef;
 use serde_json::{Map, Value};
 use std::alloc::Global;
 
+/// A text as it is, or as JSON.
+pub fn shown_as(alloc: Global, text: String, json: bool) -> Result<String, Fault> {
+    if json {
+        return string_json(alloc, text.as_str());
+    }
+    Ok(text)
+}
+
 /// A text as JSON.
-pub fn string_json(alloc: Global, text: &str) -> Result<String, Fault> {
+fn string_json(alloc: Global, text: &str) -> Result<String, Fault> {
     Ok(Value::try_from_str(alloc, text)?.to_string(alloc)?)
 }
 

@@ -1,0 +1,165 @@
+//! Reading files as pages.
+
+use crate::faults::Fault;
+use crate::options::Reading;
+use dom_html5::{Context, Options as PageOptions, PageParser};
+use dom_markup::document::Document;
+use dom_nodes::fault::{MarkupFault, MarkupFaultKind};
+use dom_nodes::node_id::NodeId;
+use std::alloc::Global;
+use std::fs;
+use std::io::Read;
+
+/// The node whose children are the tree: the root, or the element `html` that a fragment is in.
+pub fn top_of(document: &Document, reading: Reading<'_>) -> NodeId {
+    let root = document.root().id;
+    if !is_of_fragment(reading) {
+        return root;
+    }
+    match document.html_root() {
+        Some(html) => html.id,
+        None => root,
+    }
+}
+
+fn is_of_fragment(reading: Reading<'_>) -> bool {
+    match reading {
+        Reading::Explicit => false,
+        Reading::Page { context, .. } => context.is_some(),
+    }
+}
+
+/// How many bytes are read at once.
+const PIECE: usize = 64 * 1024;
+
+/// The document that a file stands for; `-` is standard input.
+pub fn read_document(
+    rt: &HostRuntime,
+    name: &str,
+    reading: Reading<'_>,
+) -> Result<Document, Fault> {
+    if name == "-" {
+        return read_from(rt.alloc(), &mut rt.stdin(), reading);
+    }
+    match fs::open(rt, name) {
+        Ok(mut file) => read_from(rt.alloc(), &mut file, reading),
+        Err(fault) => Err(Fault::File(fault)),
+    }
+}
+
+/// The document that the bytes of a reader stand for.
+fn read_from<R: Read>(
+    alloc: Global,
+    reader: &mut R,
+    reading: Reading<'_>,
+) -> Result<Document, Fault> {
+    match reading {
+        Reading::Explicit => read_explicit(alloc, reader),
+        Reading::Page { context, scripting } => {
+            let mut parser = parser_of(alloc, context, scripting)?;
+            read_pieces(alloc, reader, &mut parser)?;
+            Ok(parser.finish()?)
+        }
+    }
+}
+
+/// What reads a page, or a fragment in that context.
+fn parser_of(
+    alloc: Global,
+    context: Option<Context<'_>>,
+    scripting: bool,
+) -> Result<PageParser, Fault> {
+    let options = PageOptions {
+        scripting,
+        ..PageOptions::default()
+    };
+    match context {
+        None => Ok(PageParser::new(alloc, options)?),
+        Some(context) => Ok(PageParser::for_fragment(alloc, context, options)?),
+    }
+}
+
+/// Reads a page in pieces.
+fn read_pieces<R: Read>(
+    alloc: Global,
+    reader: &mut R,
+    parser: &mut PageParser,
+) -> Result<(), Fault> {
+    let mut room = vec![in alloc; 0; PIECE]?;
+    for _ in 0..u64::MAX {
+        if !read_piece(reader, &mut room, parser)? {
+            break;
+        }
+    }
+    Ok(())
+}
+
+/// Reads what there is, and returns whether it was something.
+fn read_piece<R: Read>(
+    reader: &mut R,
+    room: &mut [u8],
+    parser: &mut PageParser,
+) -> Result<bool, Fault> {
+    let count = match reader.read(room) {
+        Ok(count) => count,
+        Err(fault) => return Err(Fault::File(fault)),
+    };
+    let Some(piece) = room.get(..count) else {
+        return Ok(false);
+    };
+    parser.feed_bytes(piece)?;
+    Ok(!piece.is_empty())
+}
+
+/// The document that explicit markup spells.
+fn read_explicit<R: Read>(alloc: Global, reader: &mut R) -> Result<Document, Fault> {
+    let mut bytes = Vec::new(alloc);
+    if let Err(fault) = reader.read_to_end(&mut bytes) {
+        return Err(Fault::File(fault));
+    }
+    let text = match str::from_utf8(&bytes) {
+        Ok(text) => text,
+        Err(fault) => return Err(not_utf8(&bytes, fault.valid_up_to())),
+    };
+    match Document::parse(alloc, text) {
+        Ok(document) => Ok(document),
+        Err(fault) => Err(refused(text, fault)),
+    }
+}
+
+/// Why explicit markup is refused.
+fn refused(text: &str, fault: MarkupFault) -> Fault {
+    let (line, column) = fault.line_and_column(text);
+    match fault.kind {
+        MarkupFaultKind::Memory => Fault::Memory,
+        MarkupFaultKind::TooManyNodes => Fault::TooManyNodes,
+        kind => Fault::Markup {
+            kind: Some(kind),
+            line,
+            column,
+        },
+    }
+}
+
+/// Where bytes aren't UTF-8 any more.
+fn not_utf8(bytes: &[u8], at: usize) -> Fault {
+    let front = match bytes.get(..at) {
+        Some(front) => front,
+        None => bytes,
+    };
+    let mut line: usize = 1;
+    let mut column: usize = 1;
+    for byte in front {
+        if *byte == b'\n' {
+            line = line.saturating_add(1);
+            column = 1;
+        } else if byte & 0xc0 != 0x80 {
+            column = column.saturating_add(1);
+        }
+    }
+    Fault::Markup {
+        kind: None,
+        line,
+        column,
+    }
+}
