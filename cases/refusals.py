@@ -35,7 +35,8 @@ LIMITED = [("batch", b"texts"), *(("calls", line) for line in (b"print", b"clone
 LIMITED += [("calls", b"nodes 1,5,9 append_html " + b"<i>x</i>" * 2_000)]
 LIMITED += [("queries", line) for line in (b"places", b"select p b", b"selection p, b", b"step b", b"find 0 p > b")]
 PARAGRAPH, PARAGRAPHS = b"<p class='a'>text that a node keeps apart, for it is long<b>b</b></p>", 1_000
-SPACES = 3_900_000, 7_900_000, 65_536
+# So many bytes more than the program's file has.
+SPACES = range(3_130_000, 7_130_000, 65_536)
 # Groups of calls whose second word names the call.
 NAMED = {b"move", b"make", b"change", b"copy", b"sink-make", b"sink-put", b"sink-change"}
 # A line that says that memory was refused.
@@ -265,8 +266,8 @@ def limited():
     Returns how many lines passed and failed."""
     passed = failed = 0
     for program, line in LIMITED:
-        ample = within(program, line)
-        endings = [ending_within(within(program, line, limit), ample) for limit in range(*SPACES)]
+        ample, size = within(program, line), os.path.getsize(built(program))
+        endings = [ending_within(within(program, line, size + more), ample) for more in SPACES]
         is_well = None not in endings and REFUSED in endings and endings[-1] == DONE
         passed, failed = passed + is_well, failed + (not is_well)
         if not is_well:
