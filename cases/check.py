@@ -33,6 +33,7 @@ import subprocess
 import sys
 import textwrap
 import time
+from concurrent.futures import ThreadPoolExecutor
 
 sys.dont_write_bytecode = True
 import clean  # noqa: E402
@@ -54,7 +55,7 @@ PROOF = 4_000_000_000
 
 
 class Clock:
-    """How long each part of a run took: by the wall, and of a processor, that of the programs that it started."""
+    """How long each part of a run took by the wall, and of a processor the gate and all: that of the programs that were started."""
 
     def __init__(self):
         self.parts, self.begun = [], time.monotonic()
@@ -64,9 +65,9 @@ class Clock:
 
     def timed(self, part, call):
         """Does the call, notes how long it took, and returns what it returns."""
-        begun, before = time.monotonic(), used()
+        begun = time.monotonic()
         counted = call()
-        self.note(part, time.monotonic() - begun, used() - before)
+        self.note(part, time.monotonic() - begun, None)
         return counted
 
     def show(self):
@@ -83,12 +84,12 @@ def used(of=None):
 
 def gate(clock):
     """Runs the gate, shows what it says, and has the edits of each crate tried that it proved. Returns how many of its
-    checks passed and failed, and how many of the edits."""
+    checks passed and failed, and what waits for the edits and returns how many of them did."""
     rt = shutil.which("rt")
     if rt is None:
         print("check: no command rt: the kit's folder bin must be on the PATH")
-        return [(0, 1)]
-    trials, begun, before = edits.Trials(anew="--anew" in sys.argv), time.monotonic(), used()
+        return (0, 1), lambda: (0, 0)
+    trials, begun = edits.Trials(anew="--anew" in sys.argv), time.monotonic()
     # (a kit whose rt keeps nothing shows all anew each time, and has no such word)
     anew = ["--anew"] if "--anew" in sys.argv and trials.refusals.kept else []
     side_by_side = max(1, min(trials.processors, trials.rt.free() // PROOF))
@@ -114,17 +115,12 @@ def gate(clock):
     _, status, of_gate = os.wait4(ran.pid, 0)
     ran.returncode = os.waitstatus_to_exitcode(status)
     ended = time.monotonic()
-    tried = trials.finish()
     clock.note("the gate's proofs", proved_at - begun, None)
     clock.note("the gate's runs behind them", ended - proved_at, None)
     clock.note("the gate", ended - begun, used(of_gate))
-    clock.note("the edits, once the gate had ended", time.monotonic() - ended, None)
-    clock.note("the edits", time.monotonic() - begun, used() - before - used(of_gate))
     counted = re.fullmatch(r"(\d+) passed, (\d+) failed", last)
-    if counted is None:
-        return [(0, 1), tried]
-    passed, failed = int(counted[1]), int(counted[2])
-    return [(passed, failed if ran.returncode == 0 or failed else 1), tried]
+    passed, failed = (int(counted[1]), int(counted[2])) if counted else (0, 1)
+    return (passed, failed if ran.returncode == 0 or failed else 1), trials.finish
 
 
 def fault_of(program, case):
@@ -295,13 +291,19 @@ def refused_callers():
 
 def main():
     clock, cases_alone = Clock(), sys.argv[1:] == ["--cases"]
-    counts = [] if cases_alone else gate(clock)
+    counts, edits_left = (None, lambda: (0, 0)) if cases_alone else gate(clock)
     tables = [table, *map(cases_of, ("calls", "queries", "times", "batch")), pages, cleaned, followed, asked_each_way]
-    tables += [streams.streams, snippets, wrong_bodies, coverage.coverage]
-    counts += clock.timed("the cases", lambda: [each() for each in tables])
-    hard = [("the hostile inputs", hostile.hostile), ("the refusals", refusals.refusals), ("small address spaces", refusals.limited), ("deep and wide trees", depth.depth)]
-    counts += [clock.timed(part, each) for part, each in hard]
-    counts += [clock.timed("the callers that must not compile", refused_callers)]
+    tables += [snippets, wrong_bodies, coverage.coverage, hostile.hostile]
+    counts = [counts] if counts else []
+    with ThreadPoolExecutor() as pool:
+        # (what is done beside the edits neither measures the processor time of others nor changes a child before it starts)
+        beside = [("the edits, once the gate had ended", edits_left), ("the refusals", refusals.refusals)]
+        beside = [pool.submit(clock.timed, *part) for part in beside]
+        counts += [clock.timed("the callers that must not compile", refused_callers)]
+        counts += clock.timed("the cases", lambda: [each() for each in tables])
+        counts += [it.result() for it in beside]
+    alone = [("streams that fail", streams.streams), ("small address spaces", refusals.limited), ("deep and wide trees", depth.depth)]
+    counts += [clock.timed(part, each) for part, each in alone]
     clock.note("all", time.monotonic() - clock.begun, used())
     clock.show()
     passed, failed = (sum(column) for column in zip(*counts))

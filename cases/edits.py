@@ -26,6 +26,7 @@ import re
 import shutil
 import sys
 import tempfile
+import threading
 import time
 from concurrent.futures import ThreadPoolExecutor
 
@@ -382,9 +383,10 @@ class Trials:
     def __init__(self, is_control=False, anew=False):
         self.rt, self.room, self.is_control = toolchain(), tempfile.TemporaryDirectory(prefix="edits-workspace-"), is_control
         self.processors = self.rt.processors()
-        self.lanes, self.is_beside, self.counts = max(1, self.processors // 4), True, []
         # (the gate's own proofs wait for one another, so they go first)
-        self.pool = ThreadPoolExecutor(self.lanes, initializer=os.nice, initargs=(10,))
+        self.lanes, self.is_beside, self.counts = max(1, self.processors // 4), True, []
+        self.turns = threading.Semaphore(self.lanes)
+        self.pool = ThreadPoolExecutor(self.processors, initializer=os.nice, initargs=(10,))
         root = pathlib.Path(self.room.name)
         shutil.copy(ROOT / "crates.txt", root / "crates.txt")
         shutil.copytree(ROOT / "crates", root / "crates", ignore=shutil.ignore_patterns("out", "must-fail"))
@@ -394,7 +396,8 @@ class Trials:
 
     def jobs(self):
         """How many jobs a check may take: one while the gate has the processors."""
-        return 1 if self.is_beside else max(1, self.processors // self.lanes)
+        left = sum(not it.done() for it in self.counts)
+        return 1 if self.is_beside else max(1, self.processors // max(1, left))
 
     def lend(self, name):
         """Takes what the gate built of a crate, if it is a library, into the copy of the workspace."""
@@ -409,7 +412,12 @@ class Trials:
         if name in self.left:
             self.left.remove(name)
             functions = self.refusals.functions(self.crates[name], proved)
-            self.counts.append(self.pool.submit(self.count, self.crates[name], functions))
+            self.counts.append(self.pool.submit(self.count_in_turn, self.crates[name], functions))
+
+    def count_in_turn(self, crate, proved):
+        """Tries a crate's edits when it is its turn: beside the gate few are tried at a time."""
+        with self.turns:
+            return self.count(crate, proved)
 
     def count(self, crate, proved):
         """Tries a crate's edits, and returns how many were refused and how many weren't."""
@@ -436,6 +444,7 @@ class Trials:
         """Waits for the trials, and returns how many edits were refused and how many weren't: a crate that was not built
         counts as one."""
         self.is_beside = False
+        self.turns.release(self.processors)
         counts = [it.result() for it in self.counts]
         for name in sorted(self.left):
             print(f"must-fail {name}: not tried, for the crate isn't built")
