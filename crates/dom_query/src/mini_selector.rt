@@ -1,6 +1,6 @@
 //! Mini selectors: selectors of one step, and paths of them.
 
-pub use dom_select::mini_selector::extension::MiniSelect;
+pub use dom_mini::mini_selector::extension::MiniSelect;
 pub use dom_selectors::mini_selector::fault::MiniFault;
 pub use dom_selectors::mini_selector::parser::{parse_mini_selector, parse_selector_list};
 pub use dom_selectors::mini_selector::selector::{MiniAttr, MiniSelector};

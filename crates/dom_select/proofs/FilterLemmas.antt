@@ -2,8 +2,7 @@
 use Rattle.std.proofs.Common.{ℕ, ◌≡◌, List, [], ◌∷◌, ◌++◌, Bool, true, false, refl, sym, ap, ◌∙◌, subst, inl, inr}
 use Rattle.std.specs.Iterator.{Drains, YieldsFirst}
 use Rattle.dom_selectors.specs.Spelling.{Decides}
-use Rattle.dom_select.specs.PathFlags.{one_if}
-use Rattle.dom_select.specs.Selected.{FiltersTo}
+use Rattle.dom_select.specs.Selected.{FiltersTo, one_if}
 
 module _ (P : ℕ → Type 0) where
   pub filters_last : (ns matched : List ℕ) (n : ℕ) → P n → FiltersTo P ns matched → FiltersTo P (ns ++ n ∷ []) (matched ++ n ∷ [])

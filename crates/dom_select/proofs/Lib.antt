@@ -1,7 +1,6 @@
 pub mod AnswerLemmas
 pub mod AskLemmas
 pub mod ChildRowLemmas
-pub mod DescentLemmas
 pub mod EndLemmas
 pub mod FilterLemmas
 pub mod FollowLemmas
@@ -9,14 +8,9 @@ pub mod HasLemmas
 pub mod JoinedLemmas
 pub mod MatchLemmas
 pub mod MeaningLemmas
-pub mod MiniMatchLemmas
-pub mod OnwardLemmas
-pub mod PathFlagLemmas
-pub mod PathLemmas
 pub mod ReachLemmas
 pub mod RightLemmas
 pub mod RowLemmas
-pub mod SearchLemmas
 pub mod SelectionLemmas
 pub mod SeveralLemmas
 pub mod StepLemmas

@@ -32,6 +32,13 @@ abbrev pub SelectorMatches : Start → CompoundSelector → Steps → Forest →
 SelectorMatches Absolute first steps forest n = ChainMatches (Holds first forest) steps forest n n
 SelectorMatches (Relative k x) first steps forest n = (element_at forest n ≡ true) × ChainMatches (Begins (Relative k x) first forest) steps forest n n
 
+-- all nodes below are right operands
+abbrev pub is_deep : Combinator → Bool
+is_deep Descendant = true
+is_deep Child = false
+is_deep Adjacent = false
+is_deep Sibling = false
+
 -- what it leads to stands in the same list
 abbrev pub is_sideways : Combinator → Bool
 is_sideways Descendant = false

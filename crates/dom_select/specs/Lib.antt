@@ -2,7 +2,6 @@ pub mod Answers
 pub mod ByText
 pub mod Chains
 pub mod Descendants
-pub mod Descents
 pub mod Ends
 pub mod Has
 pub mod KeptIndexes
@@ -11,13 +10,10 @@ pub mod Marks
 pub mod MatcherIters
 pub mod Meaning
 pub mod MiniNodes
-pub mod MiniPaths
 pub mod NodeAnswers
 pub mod Parts
-pub mod PathFlags
 pub mod Roots
 pub mod Selected
 pub mod Subjects
 pub mod Texts
-pub mod Traversals
 pub mod TypeCounts

@@ -1,5 +1,5 @@
 -- Which nodes a selector selects below some roots.
-use Rattle.std.specs.Prelude.{◌≡◌, ℕ, ◌⊎◌, true, List, [], ◌∷◌, if◌then◌else◌}
+use Rattle.std.specs.Prelude.{◌≡◌, ℕ, ◌⊎◌, Bool, true, List, [], ◌∷◌, if◌then◌else◌}
 use Rattle.std.specs.List.{flat_map}
 use Rattle.dom_links.specs.Forest.{Forest}
 use Rattle.dom_links.specs.Lists.{stands_in, IsDistinct}
@@ -17,6 +17,10 @@ first_occurrences before (n ∷ ns) = if stands_in n before then first_occurrenc
 abbrev pub FiltersTo : (ℕ → Type 0) → List ℕ → List ℕ → Type 0
 FiltersTo P [] matched = matched ≡ []
 FiltersTo P (n ∷ ns) matched = (P n × (rest : List ℕ) × (matched ≡ n ∷ rest) × FiltersTo P ns rest) ⊎ ((P n → ⊥) × FiltersTo P ns matched)
+
+-- the number, if that holds
+abbrev pub one_if : Bool → ℕ → List ℕ
+one_if b n = if b then n ∷ [] else []
 
 -- the walks below the roots, one after the other, each node once
 abbrev pub walks_below : Forest → List ℕ → List ℕ

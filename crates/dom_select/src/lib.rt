@@ -5,7 +5,5 @@ pub use dom_selectors::{css, fault, pseudo_class};
 
 pub mod laws;
 pub mod matcher;
-pub mod mini_selector;
 pub mod node_select;
 mod printed;
-pub mod traversal;

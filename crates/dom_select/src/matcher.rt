@@ -6,6 +6,7 @@ use crate::matcher::subjects::subject_types;
 use dom_nodes::fault::OutOfMemory;
 use dom_selectors::copies::copy_selectors;
 use dom_selectors::fault::SelectorFault;
+use dom_selectors::mini_selector::selector::MiniSelector;
 use dom_selectors::parser::parse_selectors;
 use dom_selectors::selector_name::SelectorName;
 pub use dom_selectors::syntax;
@@ -128,6 +129,20 @@ impl Matcher {
 pub trait MatchNode {
     /// Whether it is true of the node; false for an unknown number. It takes no memory.
     fn match_node(&self, node: &NodeRef<'_>) -> bool;
+}
+
+impl MatchNode for MiniSelector<'_> {
+    ghost use Rattle.std.specs.Prelude.{◌≡◌};
+    ghost use Rattle.dom_select.specs.MiniNodes.{mini_holds};
+
+    fn match_node(&self, node: &NodeRef<'_>) -> bool
+        ensures { result ≡ mini_holds self.now node.now.tree.now node.now.id }
+    {
+        match node.tree.tree_node(&node.id) {
+            Some(found) => self.match_data(&found.content),
+            None => false,
+        }
+    }
 }
 
 impl MatchNode for InnerSelector {

@@ -3,6 +3,7 @@
 
 use crate::selecting::{matcher_of, show_each};
 use dom_index::selecting::select_counted;
+use dom_mini::traversal::Traversal;
 use dom_nodes::indexes::IndexKind;
 use dom_nodes::node_data::TreeNode;
 use dom_nodes::node_id::NodeId;
@@ -11,7 +12,6 @@ use dom_select::matcher::caches::SelectorCaches;
 use dom_select::matcher::matcher_iter::MatcherIter;
 use dom_select::matcher::several::Matches;
 use dom_select::node_select::NodeSelect;
-use dom_select::traversal::Traversal;
 use dom_selection::selection::Selection;
 use dom_selectors::mini_selector::selector::MiniSelector;
 use dom_trees::node_ref::NodeRef;

@@ -1,10 +1,10 @@
 //! Mini selectors and paths of them.
 
 use dom_markup::document::Document;
+use dom_mini::mini_selector::extension::MiniSelect;
+use dom_mini::traversal::Traversal;
 use dom_nodes::node_id::NodeId;
 use dom_select::matcher::MatchNode;
-use dom_select::mini_selector::extension::MiniSelect;
-use dom_select::traversal::Traversal;
 use dom_selectors::mini_selector::fault::MiniFault;
 use dom_selectors::mini_selector::parser::{parse_mini_selector, parse_selector_list};
 use dom_selectors::mini_selector::selector::MiniSelector;

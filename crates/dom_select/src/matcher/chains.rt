@@ -5,7 +5,7 @@ ghost use Rattle.dom_links.specs.Laws.{AreLines};
 ghost use Rattle.dom_select.specs.Leftward.{ends_at, left_of};
 ghost use Rattle.dom_select.specs.Meaning.{MayBeOperand, CombinatorHolds};
 ghost use Rattle.dom_select.specs.Chains.{binding_level};
-ghost use Rattle.dom_select.specs.Descents.{is_deep};
+ghost use Rattle.dom_select.specs.Has.{is_deep, is_sideways};
 
 use crate::matcher::parts::element_at;
 use dom_links::iters::{next_sibling_id, parent_id, prev_sibling_id};
@@ -22,6 +22,16 @@ pub fn is_deep(combinator: Combinator) -> bool
     match combinator {
         Combinator::Descendant => true,
         Combinator::Child | Combinator::Adjacent | Combinator::Sibling => false,
+    }
+}
+
+/// Whether the combinator leads to nodes in the same list.
+pub fn is_sideways(combinator: Combinator) -> bool
+    ensures { result ≡ is_sideways combinator }
+{
+    match combinator {
+        Combinator::Descendant | Combinator::Child => false,
+        Combinator::Adjacent | Combinator::Sibling => true,
     }
 }
 

@@ -8,7 +8,7 @@ ghost use Rattle.dom_select.specs.Has.{AreRightOf, IsInRow, IsNear, ends_right, 
 ghost use Rattle.dom_select.specs.Has.{may_be_subject, right_row, row_combinator, search_roots};
 ghost use Rattle.dom_select.specs.Has.{search_roots_from};
 
-use crate::matcher::chains::{combinator_holds, line_laws, may_be_operand};
+use crate::matcher::chains::{combinator_holds, is_sideways, line_laws, may_be_operand};
 use crate::matcher::parts::element_at;
 use dom_links::iters::{first_child_id, next_sibling_id};
 use dom_nodes::node_id::NodeId;
@@ -40,16 +40,6 @@ pub(crate) fn may_be_subject(start: &Start, tree: &Tree, id: NodeId) -> bool
     match start {
         Start::Absolute => true,
         Start::Relative(_, _) => element_at(tree, &id),
-    }
-}
-
-/// Whether the combinator leads to nodes in the same list.
-pub(crate) fn is_sideways(combinator: Combinator) -> bool
-    ensures { result ≡ is_sideways combinator }
-{
-    match combinator {
-        Combinator::Descendant | Combinator::Child => false,
-        Combinator::Adjacent | Combinator::Sibling => true,
     }
 }
 

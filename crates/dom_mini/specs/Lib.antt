@@ -1,0 +1,4 @@
+pub mod MiniPaths
+pub mod PathFlags
+pub mod Descents
+pub mod Traversals

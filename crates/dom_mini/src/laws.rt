@@ -1,0 +1,19 @@
+//! What is true of every path. The function does nothing.
+
+ghost use Rattle.std.specs.Prelude.{◌<◌, ℕ, List, length};
+ghost use Rattle.dom_links.specs.Forest.{Forest};
+ghost use Rattle.dom_links.specs.Sound.{IsForest};
+ghost use Rattle.dom_mini.specs.MiniPaths.{AreLedTo, IsFound};
+ghost use Rattle.dom_selectors.specs.MiniSyntax.{Mini};
+
+use dom_links::laws::{lines_of_a_forest, trees_of_a_forest};
+
+/// What is found from a node are the nodes that the path leads to, each once.
+pub fn found_exactly()
+    ensures { (minis : List Mini) (forest : Forest) (x : ℕ) (found : List ℕ) → IsForest forest
+        → x < length forest.content → IsFound minis forest x found
+        → AreLedTo minis forest x found }
+{
+    lines_of_a_forest();
+    trees_of_a_forest();
+}

@@ -1,6 +1,0 @@
-use Rattle.std.proofs.Common.{◌≡◌, map, take}
-use Rattle.dom_selectors.specs.MiniSyntax.{named, texts_of}
-use Rattle.dom_select.proofs.mini_selector.search.path_of.Given as goal
-
-abbrev pub invariant-loop-name : goal.invariant-loop-name
-invariant-loop-name l = l.path.items ≡ map named (texts_of (take l.name-index l.names))
