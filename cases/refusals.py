@@ -3,7 +3,7 @@ of a run, and N is counted up until a run meets no refusal. A refusal is reporte
 5; what was written is then a beginning of the output, and all that was asked for is given back. Where a refusal is passed by,
 as that of a cache or of room that was asked for in advance, the answer is the right one.
 
-A line of the programs `calls` and `batch` is asked between two lines `state`, which print all that the document holds and ask for nothing.
+A line of the programs `calls`, `queries` and `batch` is asked between two lines `state`, which print all that the document holds and ask for nothing.
 Where a request of that line is refused, each line that it prints says so, or is printed with ample memory too, and the
 document is as it was before, or as it is where the line is asked of the first nodes alone.
 
