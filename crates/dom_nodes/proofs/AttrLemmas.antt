@@ -1,5 +1,5 @@
 -- Attributes found by name, and lists of names.
-use Rattle.std.proofs.Common.{◌≡◌, ℕ, zero, suc, ◌+◌, ◌<◌, List, [], ◌∷◌, ◌++◌, length, Bool, true, false, ◌||◌, cond, map, None, Some, is_some, position, get_or, slice_set, refl, sym, ap, ◌∙◌, inl, inr, arith}
+use Rattle.std.proofs.Common.{◌≡◌, ℕ, zero, suc, ◌+◌, ◌<◌, List, [], ◌∷◌, ◌++◌, length, Bool, true, false, ◌||◌, cond, map, None, Some, is_some, position, get_or, slice_set, take, refl, sym, ap, ◌∙◌, inl, inr, arith}
 use Rattle.std.proofs.lemmas.Bool.{cases_Bool, false≢true}
 use Rattle.std.proofs.lemmas.Iterator.Adapters.{position_from-zero}
 use Rattle.std.proofs.lemmas.List.Quantifiers.{position-Some}
@@ -44,6 +44,30 @@ with_attr-found name value attrs place d at =
     let h = position-Some (is_attr_named name) attrs place d at in
     sym (with_value-at name value attrs place d h.0 h.1 h.2)
     ∙ sym (ap (λ b. cond b (with_value name value attrs) (attrs ++ plain_attr name value ∷ [])) (attr_of-at name attrs place d h.0 h.1))
+
+set_first : {X : Type 0} (xs : List X) (x e : X) → length xs ≡ 2 → x ∷ get_or xs 1 e ∷ [] ≡ slice_set xs 0 x
+set_first [] x e two = absurd (omega arith)
+set_first (a ∷ []) x e two = absurd (omega arith)
+set_first (a ∷ b ∷ []) x e two = refl
+set_first (a ∷ b ∷ c ∷ xs) x e two = absurd (omega arith)
+
+-- what is put into the first or the second place of a pair
+pub put-first : {X : Type 0} (xs : List X) (x : X) → length xs ≡ 2 → take 1 (slice_set xs 0 x) ≡ x ∷ []
+put-first [] x two = absurd (omega arith)
+put-first (a ∷ xs) x two = refl
+
+pub put-second : {X : Type 0} (xs : List X) (x : X) → length xs ≡ 2 → slice_set xs 1 x ≡ take 1 xs ++ x ∷ []
+put-second [] x two = absurd (omega arith)
+put-second (a ∷ []) x two = absurd (omega arith)
+put-second (a ∷ b ∷ []) x two = refl
+put-second (a ∷ b ∷ c ∷ xs) x two = absurd (omega arith)
+
+-- the first of two attributes has the value
+pub with_attr-first : (name value : List ℕ) (attrs : List Attr) (place : ℕ) (d e : Attr) → position (is_attr_named name) attrs ≡ Some place →
+    length attrs ≡ 2 → place ≡ 0 → record (get_or attrs place d) { value = value } ∷ get_or attrs 1 e ∷ [] ≡ with_attr name value attrs
+with_attr-first name value attrs place d e at two start =
+    let changed = record (get_or attrs place d) { value = value } in
+    set_first attrs changed e two ∙ ap (λ i. slice_set attrs i changed) (sym start) ∙ with_attr-found name value attrs place d at
 
 find_none : {X : Type 0} (p : X → Bool) (i : ℕ) (xs : List X) → position_from p i xs ≡ None → find p xs ≡ None
 find_none p i [] none = refl

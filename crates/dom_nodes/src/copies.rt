@@ -1,4 +1,5 @@
-//! Copies of names, attributes and nodes: the same value in memory of its own.
+//! Copies of names, attributes and nodes: the same value. Copies share lists of one or two
+//! attributes; all else lies in memory of its own.
 
 ghost use Rattle.std.specs.Prelude.{◌≡◌, ◌∷◌, ◌++◌, [], IfOk, IfSome, OnOk};
 
@@ -45,20 +46,6 @@ impl Attr {
         let name = self.name.try_clone()?;
         let value = self.value.try_clone()?;
         Ok(Attr { name, value })
-    }
-}
-
-impl Attrs {
-    /// The same attributes in the same order.
-    pub fn try_clone(&self) -> Result<Attrs, OutOfMemory>
-        ensures { IfOk result (λ made. made ≡ self.now) }
-    {
-        let attrs = self.as_slice();
-        let mut made = Vec::with_capacity(self.allocator(), attrs.len())?;
-        for attr in attrs {
-            push_attr(&mut made, attr)?;
-        }
-        Ok(Attrs::of(made))
     }
 }
 
@@ -232,7 +219,7 @@ fn push_with(
 
 /// Adds a copy of an attribute.
 #[inline(always)]
-fn push_attr(made: &mut Vec<Attr>, attr: &Attr) -> Result<(), OutOfMemory>
+pub(crate) fn push_attr(made: &mut Vec<Attr>, attr: &Attr) -> Result<(), OutOfMemory>
     ensures { OnOk result (made.new.items ≡ made.old.items ++ attr.now ∷ []) }
 {
     let Some(name) = attr.name.known_copy() else {

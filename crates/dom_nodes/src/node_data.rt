@@ -1,9 +1,10 @@
 //! The kinds of nodes, and a node with its links.
 
-ghost use Rattle.std.specs.Prelude.{◌≡◌};
+ghost use Rattle.std.specs.Prelude.{◌≡◌, ◌∷◌, ◌++◌, [], OnErr, OnOk};
 
 mod any_node;
 mod attributes;
+mod attrs_form;
 mod changing;
 mod classes;
 mod lending;
@@ -16,80 +17,136 @@ use crate::name::{Attr, QualName};
 use crate::node_id::NodeId;
 use crate::text::{RareText, Text};
 use crate::words::{has_word, is_same_word};
+use attrs_form::AttrsForm;
 pub use changing::Change;
 pub use node_edit::NodeEdit;
 use std::alloc::Global;
+use std::fmt;
 use std::marker::Model;
 
 /// The attributes of an element, in order. A contract sees them as a list.
-#[derive(Debug, Drop)]
 pub struct Attrs {
-    items: Vec<Attr>,
+    form: AttrsForm,
+    alloc: Global,
+}
+
+/// Written out, so that what drops an element has no case for each form.
+impl Drop for Attrs {
+    #[inline(always)]
+    fn drop(self) {
+        let Attrs { form, alloc: _ } = self;
+        drop(form);
+    }
 }
 
 impl Model for Attrs {
     ghost use Rattle.std.specs.Prelude.{List};
     ghost use Rattle.dom_nodes.specs.declared.name.Attr.{Attr};
+    ghost use Rattle.dom_nodes.specs.AttrForms.{form_attrs};
 
     ghost Value = { List Attr };
 
-    ghost view = { λ attrs. attrs.items.items };
+    ghost view = { λ attrs. form_attrs attrs.form };
+}
+
+/// Prints the list of the attributes.
+impl fmt::Debug for Attrs {
+    fn fmt<W: fmt::Write>(&self, f: &mut fmt::Formatter<W>) -> fmt::Result {
+        f.debug_struct("Attrs")
+            .field("items", &self.as_slice())
+            .finish()
+    }
 }
 
 impl Attrs {
-    ghost use Rattle.std.specs.Prelude.{◌≡◌, ◌∷◌, ◌++◌, [], OnErr, OnOk};
+    ghost use Rattle.std.specs.Prelude.{◌≡◌, ◌∷◌, ◌++◌, [], IfOk, OnErr, OnOk};
 
     /// No attributes.
     pub fn new(alloc: Global) -> Attrs
         ensures { result ≡ [] }
     {
         Attrs {
-            items: Vec::new(alloc),
+            form: AttrsForm::None,
+            alloc,
         }
     }
 
-    /// The attributes that a vector holds.
-    pub(crate) fn of(items: Vec<Attr>) -> Attrs
-        ensures { result ≡ items.items }
-    {
-        Attrs { items }
-    }
-
     /// The attributes, in order.
+    #[inline(always)]
     pub fn as_slice(&self) -> &[Attr]
         ensures { result.now ≡ self.now }
     {
-        self.items.as_slice()
+        self.form.as_slice()
+    }
+
+    /// The same attributes in the same order.
+    #[inline(always)]
+    pub fn try_clone(&self) -> Result<Attrs, OutOfMemory>
+        ensures { IfOk result (λ made. made ≡ self.now) }
+    {
+        let form = self.form.try_clone(self.alloc)?;
+        Ok(Attrs {
+            form,
+            alloc: self.alloc,
+        })
     }
 
     /// Makes room for so many more attributes, where there is memory.
     pub fn reserve(&mut self, additional: usize)
         ensures { self.new ≡ self.old }
     {
-        let _ = self.items.reserve_exact(additional);
+        if let AttrsForm::Own(items) = &mut self.form {
+            let _ = items.reserve_exact(additional);
+            return;
+        }
+        let attrs = self.form.as_slice();
+        let form = match attrs.len().saturating_add(additional) {
+            0 | 1 => return,
+            2 if attrs.is_empty() => AttrsForm::room(self.alloc),
+            2 => return,
+            _ => AttrsForm::with_room(self.alloc, attrs, additional),
+        };
+        if let Ok(form) = form {
+            self.form = form;
+        }
     }
 
     /// Gives back the memory past the last attribute.
     pub fn shrink_to_fit(&mut self)
         ensures { self.new ≡ self.old }
     {
-        self.items.shrink_to_fit();
+        self.form.shrink_to_fit();
     }
 
-    /// Adds an attribute at the end. The room doubles from that for one, since most elements have
-    /// one attribute or two.
+    /// Adds an attribute at the end. The list is unchanged after a refusal. The room of more than
+    /// two attributes doubles.
     pub fn push(&mut self, attr: Attr) -> Result<(), OutOfMemory>
         ensures ok { OnOk result (self.new ≡ self.old ++ attr ∷ []) }
         ensures err { OnErr result (self.new ≡ self.old) }
     {
-        let count = self.items.len();
-        if count == self.items.capacity() {
-            self.items
-                .reserve_exact(if count == 0 { 1 } else { count })?;
+        if let AttrsForm::Own(items) = &mut self.form {
+            return push_doubling(items, attr);
         }
-        self.items.push(attr)?;
+        let Some(attr) = self.form.fill(attr) else {
+            return Ok(());
+        };
+        let form = AttrsForm::lengthened(self.alloc, self.form.as_slice(), attr)?;
+        self.form = form;
         Ok(())
     }
+}
+
+/// Adds an attribute at the end. The room doubles.
+fn push_doubling(items: &mut Vec<Attr>, attr: Attr) -> Result<(), OutOfMemory>
+    ensures ok { OnOk result (items.new.items ≡ items.old.items ++ attr ∷ []) }
+    ensures err { OnErr result (items.new.items ≡ items.old.items) }
+{
+    let count = items.len();
+    if count == items.capacity() {
+        items.reserve_exact(if count == 0 { 1 } else { count })?;
+    }
+    items.push(attr)?;
+    Ok(())
 }
 
 /// An element's own data.

@@ -1,22 +1,24 @@
 //! An element's attributes by local name: reading, setting and removing.
 
 ghost use Rattle.std.specs.Prelude.{◌≡◌, map, is_some, position, OnErr, OnOk, IfOk};
-ghost use Rattle.dom_nodes.specs.Changes.{is_attr_named, is_link_name, plain_attr};
+ghost use Rattle.dom_nodes.specs.Changes.{is_attr_named, is_link_name, plain_attr, with_attr};
 
-use super::{Attrs, Element};
+use super::attrs_form::{AttrsForm, Kept};
+use super::{Attrs, Element, push_doubling};
 use crate::fault::OutOfMemory;
 use crate::name::{Attr, LocalName, QualName};
 use crate::text::Text;
-use crate::words::is_one_of;
 use std::alloc::Global;
+use std::mem;
 
 impl Attrs {
-    ghost use Rattle.std.specs.Prelude.{[]};
-    ghost use Rattle.dom_nodes.specs.Changes.{with_attr, without_name, without_names, only_names};
+    ghost use Rattle.std.specs.Prelude.{[], filter};
+    ghost use Rattle.dom_nodes.specs.Kept.{keeps};
+    ghost use Rattle.dom_nodes.specs.Changes.{without_name, without_names, only_names};
 
     /// The allocator of the list.
     pub(crate) fn allocator(&self) -> Global {
-        *self.items.allocator()
+        self.alloc
     }
 
     /// Gives the first attribute of that local name the value, or adds one at the end, without
@@ -25,46 +27,48 @@ impl Attrs {
         ensures ok { OnOk result (self.new ≡ with_attr name.now value self.old) }
         ensures err { OnErr result (self.new ≡ self.old) }
     {
-        match attr_position(self.items.as_slice(), name) {
-            Some(place) => {
-                self.items[place].value = value;
-                Ok(())
-            }
-            None => {
-                let attr = plain_attr(self.allocator(), name, value)?;
-                self.push(attr)
-            }
+        if let AttrsForm::Own(items) = &mut self.form {
+            return set_in(items, self.alloc, name, value);
         }
+        let form = AttrsForm::with_attr(self.alloc, self.form.as_slice(), name, value)?;
+        self.form = form;
+        Ok(())
+    }
+
+    /// Keeps some of the attributes. Asks for no memory.
+    pub(super) fn retain(&mut self, kept: Kept)
+        ensures { self.new ≡ filter (keeps kept.entry) self.old }
+    {
+        let form = mem::replace(&mut self.form, AttrsForm::None);
+        self.form = form.retained(kept);
     }
 
     /// Removes every attribute of that local name.
     pub fn remove(&mut self, name: &str)
         ensures { self.new ≡ without_name name.now self.old }
     {
-        self.items.retain(|attr| attr.name.local().as_str() != name);
+        self.retain(Kept::AllBut(name));
     }
 
     /// Removes every attribute whose local name is one of the names.
     pub fn remove_all_of(&mut self, names: &[&str])
         ensures { self.new ≡ without_names (map (λ name. name.now) names.now) self.old }
     {
-        self.items
-            .retain(|attr| !is_one_of(attr.name.local().as_str(), names));
+        self.retain(Kept::NoneOf(names));
     }
 
     /// Removes every attribute whose local name is none of the names.
     pub fn retain_all_of(&mut self, names: &[&str])
         ensures { self.new ≡ only_names (map (λ name. name.now) names.now) self.old }
     {
-        self.items
-            .retain(|attr| is_one_of(attr.name.local().as_str(), names));
+        self.retain(Kept::OneOf(names));
     }
 
     /// Removes every attribute.
     pub fn clear(&mut self)
         ensures { self.new ≡ [] }
     {
-        self.items.clear();
+        self.form = AttrsForm::None;
     }
 }
 
@@ -151,8 +155,26 @@ impl Element {
     }
 }
 
+/// Gives the first attribute of that local name the value, or adds one at the end. The list is
+/// unchanged after a refusal.
+fn set_in(items: &mut Vec<Attr>, alloc: Global, name: &str, value: Text) -> Result<(), OutOfMemory>
+    ensures ok { OnOk result (items.new.items ≡ with_attr name.now value items.old.items) }
+    ensures err { OnErr result (items.new.items ≡ items.old.items) }
+{
+    match attr_position(items.as_slice(), name) {
+        Some(place) => {
+            items[place].value = value;
+            Ok(())
+        }
+        None => {
+            let attr = plain_attr(alloc, name, value)?;
+            push_doubling(items, attr)
+        }
+    }
+}
+
 /// The place of the first attribute of that local name.
-fn attr_position(attrs: &[Attr], name: &str) -> Option<usize>
+pub(super) fn attr_position(attrs: &[Attr], name: &str) -> Option<usize>
     ensures { result ≡ position (is_attr_named name.now) attrs.now }
 {
     attrs
@@ -161,7 +183,7 @@ fn attr_position(attrs: &[Attr], name: &str) -> Option<usize>
 }
 
 /// An attribute without prefix and namespace.
-fn plain_attr(alloc: Global, name: &str, value: Text) -> Result<Attr, OutOfMemory>
+pub(super) fn plain_attr(alloc: Global, name: &str, value: Text) -> Result<Attr, OutOfMemory>
     ensures { IfOk result (λ made. made ≡ plain_attr name.now value) }
 {
     let local = LocalName::new(alloc, name)?;

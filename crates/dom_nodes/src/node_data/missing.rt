@@ -1,9 +1,10 @@
 //! Attributes that are added where they are missing.
 
-ghost use Rattle.std.specs.Prelude.{◌≡◌, OnErr, OnOk, false, IsOk};
+ghost use Rattle.std.specs.Prelude.{◌≡◌, ◌++◌, OnErr, OnOk, false, IsOk};
 ghost use Rattle.dom_nodes.specs.Changes.{has_attr_named, with_attrs, with_missing};
 ghost use Rattle.dom_nodes.specs.Kinds.{is_element};
 
+use super::attrs_form::Kept;
 use super::{Attrs, Element, NodeData, TreeNode};
 use crate::fault::OutOfMemory;
 use crate::name::{Attr, QualName};
@@ -15,15 +16,29 @@ impl Attrs {
         ensures ok { OnOk result (self.new ≡ with_missing added self.old) }
         ensures err { OnErr result (self.new ≡ self.old) }
     {
-        let here = self.items.as_slice();
-        added.items.retain(|attr| !has_attr_named(here, &attr.name));
-        self.items.append(&mut added.items)?;
+        added.retain(Kept::MissingIn(self.as_slice()));
+        self.append(added.as_slice())
+    }
+
+    /// Adds copies of attributes at the end. The list is unchanged after a refusal.
+    fn append(&mut self, attrs: &[Attr]) -> Result<(), OutOfMemory>
+        ensures ok { OnOk result (self.new ≡ self.old ++ attrs.now) }
+        ensures err { OnErr result (self.new ≡ self.old) }
+    {
+        if attrs.is_empty() {
+            return Ok(());
+        }
+        let mut made = self.try_clone()?;
+        for attr in attrs {
+            made.push(attr.try_clone()?)?;
+        }
+        *self = made;
         Ok(())
     }
 }
 
 /// Whether one of the attributes has the name.
-fn has_attr_named(attrs: &[Attr], name: &QualName) -> bool
+pub(super) fn has_attr_named(attrs: &[Attr], name: &QualName) -> bool
     ensures { result ≡ has_attr_named attrs.now name.now }
 {
     attrs.iter().any(|attr| attr.name.is_same(name))
