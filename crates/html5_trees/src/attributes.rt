@@ -2,7 +2,6 @@
 
 use crate::adjusting::{mathml_attr, svg_attr, svg_tag};
 use crate::fault::PageFault;
-use crate::modes::groups::is_formatting;
 use crate::name::Name;
 use crate::stack::Ns;
 use dom_nodes::name::{Attr, LocalName, NameParts, Namespace, QualName};
@@ -11,7 +10,6 @@ use dom_nodes::text::{RareText, Text};
 use dom_nodes::words::is_one_of;
 use html5_tokens::token::{Tag, TagAttr};
 use std::alloc::Global;
-use std::hash::{DefaultHasher, Hash, Hasher};
 
 fn namespace(ns: Ns) -> Namespace {
     match ns {
@@ -120,26 +118,6 @@ pub fn attrs_of(alloc: Global, ns: Ns, given: &[TagAttr]) -> Result<Attrs, PageF
         attrs.push(attr_of(alloc, ns, attr)?)?;
     }
     Ok(attrs)
-}
-
-/// A number that the same attributes have in whatever order, if a tag's element is a formatting
-/// element; else 0.
-pub fn fingerprint(ns: Ns, name: Name, tag: &Tag) -> u32 {
-    if ns != Ns::Html || !is_formatting(name) {
-        return 0;
-    }
-    let mut sum: u32 = 0;
-    for attr in tag.attrs.as_slice() {
-        sum = sum.wrapping_add(hash_of(attr));
-    }
-    sum
-}
-
-fn hash_of(attr: &TagAttr) -> u32 {
-    let mut hasher = DefaultHasher::new();
-    attr.name.as_str().hash(&mut hasher);
-    attr.value.as_str().hash(&mut hasher);
-    (hasher.finish() & 0xffff_ffff) as u32
 }
 
 /// The value of a tag's attribute.

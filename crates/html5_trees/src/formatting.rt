@@ -8,10 +8,15 @@ ghost use Rattle.html5_trees.specs.declared.formatting.Entry.TheVariants.{Elemen
 use crate::fault::PageFault;
 use crate::name::Name;
 use crate::stack::Open;
+use dom_nodes::name::Attr;
 use dom_nodes::node_data::Element;
 use dom_nodes::node_id::NodeId;
 use dom_trees::tree::Tree;
 use std::alloc::Global;
+use std::hash::{DefaultHasher, Hash, Hasher};
+
+/// Among fewer entries an element is compared with each, without fingerprints.
+const FEW: usize = 8;
 
 /// An entry of the list of active formatting elements.
 #[derive(Clone, Copy, Drop)]
@@ -26,7 +31,7 @@ pub struct ActiveFormatting {
     entries: Vec<Entry>,
 }
 
-fn has_attr(element: &Element, attr: &dom_nodes::name::Attr) -> bool {
+fn has_attr(element: &Element, attr: &Attr) -> bool {
     for also in element.attrs.as_slice() {
         if attr.name.is_same(&also.name) && attr.value.as_str() == also.value.as_str() {
             return true;
@@ -61,6 +66,22 @@ fn are_same(tree: &Tree, one: NodeId, other: NodeId) -> bool {
     }
 }
 
+/// A number that the same attributes have, in whatever order they stand.
+fn fingerprint(element: &Element) -> u32 {
+    let mut sum: u32 = 0;
+    for attr in element.attrs.as_slice() {
+        sum = sum.wrapping_add(hash_of(attr));
+    }
+    sum
+}
+
+fn hash_of(attr: &Attr) -> u32 {
+    let mut hasher = DefaultHasher::new();
+    attr.name.local().as_str().hash(&mut hasher);
+    attr.value.as_str().hash(&mut hasher);
+    (hasher.finish() & 0xffff_ffff) as u32
+}
+
 impl ActiveFormatting {
     pub fn new(alloc: Global) -> ActiveFormatting
         ensures { result.entries.items ≡ [] }
@@ -88,6 +109,21 @@ impl ActiveFormatting {
     {
         self.entries.push(entry)?;
         Ok(())
+    }
+
+    /// The fingerprint of an element that is to be added; 0 where the entries are so few that it is
+    /// sooner compared with them as it is.
+    pub fn fingerprint_for(&self, tree: &Tree, id: NodeId) -> u32 {
+        if self.entries.len() < FEW {
+            return 0;
+        }
+        let Some(node) = tree.tree_node(&id) else {
+            return 0;
+        };
+        match node.content.as_element() {
+            Some(element) => fingerprint(element),
+            None => 0,
+        }
     }
 
     /// The third entry since the last marker, from the end, that is the same element.

@@ -29,7 +29,7 @@ pub struct Open {
     pub name: Name,
     /// Whether it is an `annotation-xml` whose encoding is HTML.
     pub holds_html: bool,
-    /// The fingerprint of its attributes, if it is a formatting element; else 0.
+    /// The fingerprint of its attributes, or 0, where none was taken.
     pub fingerprint: u32,
 }
 
@@ -40,7 +40,10 @@ impl Open {
 
     /// Whether it may have the name and the attributes of another formatting element.
     pub fn is_like(&self, other: &Open) -> bool {
-        self.name == other.name && self.fingerprint == other.fingerprint
+        if self.name != other.name {
+            return false;
+        }
+        self.fingerprint == other.fingerprint || self.fingerprint == 0 || other.fingerprint == 0
     }
 }
 

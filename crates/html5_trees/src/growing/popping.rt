@@ -184,18 +184,26 @@ impl GrowingTree {
         let Some(open) = self.stack.current() else {
             return Ok(());
         };
+        let fingerprint = self.formatting.fingerprint_for(&self.tree, open.id);
+        let open = Open {
+            fingerprint,
+            ..open
+        };
         if let Some(index) = self.formatting.third_same(&self.tree, &open) {
             self.remove_entry(index);
         }
-        self.push_current()
+        self.push_current(fingerprint)
     }
 
-    /// Adds the current node to the list.
-    fn push_current(&mut self) -> Result<(), PageFault> {
+    /// Adds the current node to the list, with that fingerprint.
+    fn push_current(&mut self, fingerprint: u32) -> Result<(), PageFault> {
         let Some(open) = self.stack.current() else {
             return Ok(());
         };
-        self.formatting.push(Entry::Element(open))
+        self.formatting.push(Entry::Element(Open {
+            fingerprint,
+            ..open
+        }))
     }
 
     pub fn push_marker(&mut self) -> Result<(), PageFault> {

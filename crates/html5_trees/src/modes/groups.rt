@@ -161,8 +161,3 @@ fn rare_group_of(name: Name) -> Group {
 pub fn is_metadata(name: Name) -> bool {
     matches!(group_of(name), Group::Metadata | Group::Template)
 }
-
-/// Whether an element of that name is a formatting element.
-pub fn is_formatting(name: Name) -> bool {
-    matches!(group_of(name), Group::A | Group::Formatting | Group::Nobr)
-}
