@@ -1,6 +1,6 @@
 //! Cleaning the comments of users.
 
-use crate::fault::TourFault;
+use crate::fault::SampleFault;
 use dom_query::{Allow, Document, DocumentSelect, NodeMarkup, SelectionMut, sanitize};
 use std::alloc::Global;
 use std::io::Write;
@@ -17,14 +17,14 @@ pub fn print_comments<W: Write>(
     alloc: Global,
     comments: &[&str],
     out: &mut W,
-) -> Result<(), TourFault> {
+) -> Result<(), SampleFault> {
     for comment in comments {
         print_comment(alloc, comment, out)?;
     }
     Ok(())
 }
 
-fn print_comment<W: Write>(alloc: Global, comment: &str, out: &mut W) -> Result<(), TourFault> {
+fn print_comment<W: Write>(alloc: Global, comment: &str, out: &mut W) -> Result<(), SampleFault> {
     let mut document = Document::parse(alloc, comment)?;
     clean(&mut document)?;
     writeln!(out, "{}", document.root().html()?)?;
@@ -32,7 +32,7 @@ fn print_comment<W: Write>(alloc: Global, comment: &str, out: &mut W) -> Result<
 }
 
 /// Keeps what a comment may have, and marks its links.
-fn clean(document: &mut Document) -> Result<(), TourFault> {
+fn clean(document: &mut Document) -> Result<(), SampleFault> {
     let allow = Allow {
         elements: &["a", "b", "br", "code", "em", "i", "li", "p", "strong", "ul"],
         attrs: &["href"],
@@ -47,7 +47,10 @@ fn clean(document: &mut Document) -> Result<(), TourFault> {
 }
 
 /// The nodes that the selectors select, to be changed.
-fn select<'a>(document: &'a mut Document, selectors: &str) -> Result<SelectionMut<'a>, TourFault> {
+fn select<'a>(
+    document: &'a mut Document,
+    selectors: &str,
+) -> Result<SelectionMut<'a>, SampleFault> {
     let ids = document.select(selectors)?.ids()?;
     Ok(SelectionMut::new(&mut document.tree, ids))
 }

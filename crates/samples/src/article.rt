@@ -1,6 +1,6 @@
 //! Finding the article of a page.
 
-use crate::fault::TourFault;
+use crate::fault::SampleFault;
 use dom_query::{Document, DocumentSelect, NodeId, NodeMd, NodeRef, Selection};
 use std::alloc::Global;
 use std::io::Write;
@@ -13,20 +13,20 @@ pub const PAGE: &str = "<html><head><title>Tea | tea.example</title></head><body
     <div id=foot><p>&#169; Tea &amp; co</p></div></body></html>";
 
 /// Prints the title of the page and, as Markdown, the part that has most to read.
-pub fn print_article<W: Write>(alloc: Global, html: &str, out: &mut W) -> Result<(), TourFault> {
+pub fn print_article<W: Write>(alloc: Global, html: &str, out: &mut W) -> Result<(), SampleFault> {
     let document = Document::parse(alloc, html)?;
     print_title(&document, out)?;
     print_longest(&document, out)
 }
 
-fn print_title<W: Write>(document: &Document, out: &mut W) -> Result<(), TourFault> {
+fn print_title<W: Write>(document: &Document, out: &mut W) -> Result<(), SampleFault> {
     let title = document.select_single("title")?;
     writeln!(out, "title: {}", title.text()?)?;
     Ok(())
 }
 
 /// Prints the block with most to read, as Markdown.
-fn print_longest<W: Write>(document: &Document, out: &mut W) -> Result<(), TourFault> {
+fn print_longest<W: Write>(document: &Document, out: &mut W) -> Result<(), SampleFault> {
     let Some(id) = longest(document)? else {
         writeln!(out, "no article")?;
         return Ok(());
@@ -34,14 +34,14 @@ fn print_longest<W: Write>(document: &Document, out: &mut W) -> Result<(), TourF
     print_markdown(&NodeRef::new(id, &document.tree), out)
 }
 
-fn print_markdown<W: Write>(article: &NodeRef<'_>, out: &mut W) -> Result<(), TourFault> {
+fn print_markdown<W: Write>(article: &NodeRef<'_>, out: &mut W) -> Result<(), SampleFault> {
     writeln!(out, "from: {}", article.id_attr().unwrap_or(""))?;
     writeln!(out, "{}", article.md(None)?)?;
     Ok(())
 }
 
 /// The block with most to read in its own paragraphs.
-fn longest(document: &Document) -> Result<Option<NodeId>, TourFault> {
+fn longest(document: &Document) -> Result<Option<NodeId>, SampleFault> {
     let blocks = document.select("article, main, section, div")?;
     let mut best = None;
     let mut most = 0;
@@ -56,7 +56,7 @@ fn longest(document: &Document) -> Result<Option<NodeId>, TourFault> {
 }
 
 /// How many characters there are to read in a block's own paragraphs, but for those in links.
-fn reading(block: &Selection<'_>) -> Result<usize, TourFault> {
+fn reading(block: &Selection<'_>) -> Result<usize, SampleFault> {
     let paragraphs = block.children()?.filter("p")?;
     let links = paragraphs.select("a")?;
     let all = characters(&paragraphs);

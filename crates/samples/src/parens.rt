@@ -2,7 +2,7 @@
 //! written `(name text)`, its attributes behind the name as `name@key=value@key=value`; a space
 //! ends that. Without a name the attributes are added to the element around.
 
-use crate::fault::TourFault;
+use crate::fault::SampleFault;
 use dom_query::{
     Attr, Attrs, Document, ElementFlags, LocalName, NameParts, Namespace, NodeId, NodeMarkup,
     NodeOrText, OutOfMemory, QualName, Text, TreeSink,
@@ -15,7 +15,7 @@ pub fn read<S: TreeSink + Drop>(
     alloc: Global,
     text: &str,
     mut sink: S,
-) -> Result<Document, TourFault> {
+) -> Result<Document, SampleFault> {
     let mut around = Vec::new(alloc);
     let mut here = sink.get_document();
     for (number, piece) in text.split('(').enumerate() {
@@ -50,7 +50,7 @@ fn open<S: TreeSink>(
     sink: &mut S,
     parent: NodeId,
     tag: &str,
-) -> Result<NodeId, TourFault> {
+) -> Result<NodeId, SampleFault> {
     let (name, rest) = tag.split_once('@').unwrap_or((tag, ""));
     let attrs = attributes(alloc, rest)?;
     if name.is_empty() {
@@ -68,7 +68,7 @@ fn open<S: TreeSink>(
 }
 
 /// The attributes that are written behind a name.
-fn attributes(alloc: Global, written: &str) -> Result<Attrs, TourFault> {
+fn attributes(alloc: Global, written: &str) -> Result<Attrs, SampleFault> {
     let mut attrs = Attrs::new(alloc);
     for attr in written.split('@').filter(|attr| !attr.is_empty()) {
         let (key, value) = attr.split_once('=').unwrap_or((attr, ""));
@@ -80,7 +80,7 @@ fn attributes(alloc: Global, written: &str) -> Result<Attrs, TourFault> {
     Ok(attrs)
 }
 
-fn named(alloc: Global, ns: Namespace, name: &str) -> Result<QualName, TourFault> {
+fn named(alloc: Global, ns: Namespace, name: &str) -> Result<QualName, SampleFault> {
     let local = LocalName::new(alloc, name)?;
     let prefix = None;
     let name = QualName::new(alloc, NameParts { prefix, ns, local })?;
@@ -88,7 +88,7 @@ fn named(alloc: Global, ns: Namespace, name: &str) -> Result<QualName, TourFault
 }
 
 /// Prints what is read of a text, and what was wrong with it.
-pub fn print_read<W: Write>(alloc: Global, out: &mut W) -> Result<(), TourFault> {
+pub fn print_read<W: Write>(alloc: Global, out: &mut W) -> Result<(), SampleFault> {
     let text = "(ul@id=teas (li Assam)(li@class=hot Mate(@class=cold@lang=es )))) (template (p x";
     let document = read(alloc, text, Document::new(alloc)?)?;
     writeln!(out, "{}", document.html()?)?;
