@@ -1,7 +1,7 @@
 //! Pages whose bytes come in pieces.
 
-ghost use Rattle.std.specs.Prelude.{◌≡◌, ◌≤◌, length};
-ghost use Rattle.html5_trees.specs.Framed.{IsFramed};
+ghost use Rattle.std.specs.Prelude.{◌≡◌, ◌≤◌, drop, length, take};
+ghost use Rattle.html5_trees.specs.Framed.{IsFramed, byte_order_mark};
 
 use crate::fault::PageFault;
 use crate::reading::PageReader;
@@ -48,7 +48,9 @@ impl Waiting {
 
 /// The bytes without a byte order mark at their beginning. The frame of a calm page has none.
 pub fn without_mark(bytes: &[u8]) -> &[u8]
-    ensures { IsFramed bytes.now → result.now ≡ bytes.now }
+    ensures framed { IsFramed bytes.now → result.now ≡ bytes.now }
+    ensures marked { take 3 bytes.now ≡ byte_order_mark → result.now ≡ drop 3 bytes.now }
+    ensures other { (take 3 bytes.now ≡ byte_order_mark → ⊥) → result.now ≡ bytes.now }
 {
     match bytes.strip_prefix(b"\xef\xbb\xbf") {
         Some(rest) => rest,
