@@ -1,7 +1,7 @@
 //! The list of active formatting elements.
 
-ghost use Rattle.std.specs.Prelude.{◌≡◌, [], ◌∷◌, ◌++◌, Contains, IfSome, OnErr, OnOk};
-ghost use Rattle.std.specs.Prelude.{insert, remove, slice_set};
+ghost use Rattle.std.specs.Prelude.{◌≡◌, [], ◌∷◌, ◌++◌, Contains, IfNone, IfSome, OnErr, OnOk};
+ghost use Rattle.std.specs.Prelude.{insert, remove, slice_get, slice_set};
 ghost use Rattle.std.specs.Option.{option_to_list};
 ghost use Rattle.html5_trees.specs.declared.formatting.Entry.TheVariants.{Element as AnEntry};
 
@@ -96,7 +96,8 @@ impl ActiveFormatting {
     }
 
     pub fn get(&self, index: usize) -> Option<Entry>
-        ensures { IfSome result (Contains self.now.entries.items) }
+        ensures found { IfSome result (Contains self.now.entries.items) }
+        ensures value { result ≡ slice_get self.now.entries.items index }
     {
         self.entries.get(index).copied()
     }
@@ -145,7 +146,8 @@ impl ActiveFormatting {
 
     /// Takes the last entry off the list.
     pub fn take(&mut self) -> Option<Entry>
-        ensures { self.old.entries.items ≡ self.new.entries.items ++ option_to_list result }
+        ensures items { self.old.entries.items ≡ self.new.entries.items ++ option_to_list result }
+        ensures none { IfNone result (self.old.entries.items ≡ []) }
     {
         self.entries.pop()
     }

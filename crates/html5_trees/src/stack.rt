@@ -1,7 +1,7 @@
 //! The stack of open elements.
 
-ghost use Rattle.std.specs.Prelude.{◌≡◌, [], ◌∷◌, ◌++◌, Contains, IfSome, OnErr, OnOk};
-ghost use Rattle.std.specs.Prelude.{◌+◌, insert, remove, slice_get, slice_set, take};
+ghost use Rattle.std.specs.Prelude.{◌≡◌, [], ◌∷◌, ◌++◌, Contains, IfNone, IfSome, OnErr, OnOk};
+ghost use Rattle.std.specs.Prelude.{◌+◌, ◌-◌, insert, length, remove, slice_get, slice_set, take};
 ghost use Rattle.std.specs.Option.{option_to_list};
 
 mod marks;
@@ -105,7 +105,9 @@ impl OpenElements {
 
     /// The current node.
     pub fn current(&self) -> Option<Open>
-        ensures { IfSome result (Contains self.now.elements.items) }
+        ensures found { IfSome result (Contains self.now.elements.items) }
+        ensures value { let elements = self.now.elements.items in
+            result ≡ slice_get elements (length elements - 1) }
     {
         self.elements.last().copied()
     }
@@ -145,7 +147,8 @@ impl OpenElements {
 
     /// Takes the current node off the stack.
     pub fn take(&mut self) -> Option<Open>
-        ensures { self.old.elements.items ≡ self.new.elements.items ++ option_to_list result }
+        ensures items { self.old.elements.items ≡ self.new.elements.items ++ option_to_list result }
+        ensures none { IfNone result (self.old.elements.items ≡ []) }
     {
         let place = self.elements.len().saturating_sub(1);
         self.marks.cut(place, self.elements.as_slice());
