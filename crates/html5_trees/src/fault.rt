@@ -2,6 +2,7 @@
 
 ghost use Rattle.std.specs.Prelude.{◌≡◌, Err, IfErr, MatchResult, Ok};
 ghost use Rattle.html5_trees.specs.Elements.{IsLimit, limit_of};
+ghost use Rattle.html5_trees.specs.declared.fault.PageFault.TheVariants.{Memory as NoMemory};
 
 use dom_nodes::fault::{EditFault, OutOfMemory};
 use dom_nodes::node_id::NodeId;
@@ -30,18 +31,24 @@ impl fmt::Display for PageFault {
 impl Error for PageFault {}
 
 impl From<AllocError> for PageFault {
+    ghost from_gives = { λ _ fault. fault ≡ NoMemory };
+
     fn from(_refused: AllocError) -> PageFault {
         PageFault::Memory
     }
 }
 
 impl<T: Drop> From<AllocFailed<T>> for PageFault {
+    ghost from_gives = { λ _ fault. fault ≡ NoMemory };
+
     fn from(_refused: AllocFailed<T>) -> PageFault {
         PageFault::Memory
     }
 }
 
 impl From<OutOfMemory> for PageFault {
+    ghost from_gives = { λ _ fault. fault ≡ NoMemory };
+
     fn from(_refused: OutOfMemory) -> PageFault {
         PageFault::Memory
     }

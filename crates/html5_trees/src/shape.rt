@@ -1,10 +1,11 @@
 //! The shape of a page: at the top a doctype at most, comments, and one element `html` that holds a
 //! head and then a body, or a frameset with any elements behind it.
 
-ghost use Rattle.std.specs.Prelude.{◌≡◌, IfOk, OnOk};
+ghost use Rattle.std.specs.Prelude.{◌≡◌, IfErr, IfOk, MatchResult, OnOk};
 ghost use Rattle.dom_links.specs.Sound.{IsForest};
 ghost use Rattle.html5_trees.specs.Shape.{IsPage, are_parts, besides_comments, elements_of};
 ghost use Rattle.html5_trees.specs.Shape.{has_parts, is_contents, is_html, is_page, is_top};
+ghost use Rattle.html5_trees.specs.declared.fault.PageFault.TheVariants.{Memory as NoMemory};
 
 use crate::fault::PageFault;
 use dom_nodes::fault::EditFault;
@@ -30,7 +31,8 @@ fn is_html(tree: &Tree, id: NodeId, name: &str) -> bool
 
 /// The children that are no comments.
 fn besides_comments(tree: &Tree, id: NodeId) -> Result<Vec<NodeId>, PageFault>
-    ensures { IfOk result (λ ids. ids.items ≡ besides_comments tree.now id) }
+    ensures ok { IfOk result (λ ids. ids.items ≡ besides_comments tree.now id) }
+    ensures err { IfErr result (λ fault. fault ≡ NoMemory) }
 {
     let children = tree.child_ids_of_it(&id, false);
     let others = children.filter(|child| !NodeRef::new(*child, tree).is_comment());
@@ -39,7 +41,8 @@ fn besides_comments(tree: &Tree, id: NodeId) -> Result<Vec<NodeId>, PageFault>
 
 /// The children that are elements.
 fn elements_of(tree: &Tree, id: NodeId) -> Result<Vec<NodeId>, PageFault>
-    ensures { IfOk result (λ ids. ids.items ≡ elements_of tree.now id) }
+    ensures ok { IfOk result (λ ids. ids.items ≡ elements_of tree.now id) }
+    ensures err { IfErr result (λ fault. fault ≡ NoMemory) }
 {
     let children = tree.child_ids_of_it(&id, false);
     let elements = children.filter(|child| NodeRef::new(*child, tree).is_element());
@@ -75,7 +78,8 @@ fn are_parts(tree: &Tree, parts: &[NodeId]) -> bool
 
 /// Whether a node is an element `html` with its parts.
 fn has_parts(tree: &Tree, id: NodeId) -> Result<bool, PageFault>
-    ensures { IfOk result (λ has. has ≡ has_parts tree.now id) }
+    ensures ok { IfOk result (λ has. has ≡ has_parts tree.now id) }
+    ensures err { IfErr result (λ fault. fault ≡ NoMemory) }
 {
     if !is_html(tree, id, "html") {
         return Ok(false);
@@ -86,7 +90,8 @@ fn has_parts(tree: &Tree, id: NodeId) -> Result<bool, PageFault>
 
 /// Whether these are an element `html` with its parts, or a doctype and such an element.
 fn is_top(tree: &Tree, tops: &[NodeId]) -> Result<bool, PageFault>
-    ensures { IfOk result (λ is. is ≡ is_top tree.now tops.now) }
+    ensures ok { IfOk result (λ is. is ≡ is_top tree.now tops.now) }
+    ensures err { IfErr result (λ fault. fault ≡ NoMemory) }
 {
     let Some((first, rest)) = tops.split_first() else {
         return Ok(false);
@@ -103,9 +108,9 @@ fn is_top(tree: &Tree, tops: &[NodeId]) -> Result<bool, PageFault>
     has_parts(tree, *html)
 }
 
-/// Whether the tree has the shape of a page.
+/// Whether the tree has the shape of a page. Errors where memory is refused.
 pub fn is_page(tree: &Tree) -> Result<bool, PageFault>
-    ensures { IfOk result (λ is. is ≡ is_page tree.now) }
+    ensures { MatchResult result (λ is. is ≡ is_page tree.now) (λ fault. fault ≡ NoMemory) }
 {
     let tops = besides_comments(tree, tree.root_id())?;
     is_top(tree, &tops)
