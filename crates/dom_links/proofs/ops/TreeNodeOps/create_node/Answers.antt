@@ -1,4 +1,5 @@
 use Rattle.std.proofs.Common.{List, subst, arith, rules}
+use Rattle.std.proofs.lemmas.Grind.{common_steps}
 use Rattle.dom_nodes.specs.declared.node_data.TreeNode.{TreeNode}
 use Rattle.dom_links.specs.Forest.{forest_of}
 use Rattle.dom_links.specs.Growth.{HasFreeContents}
@@ -21,3 +22,9 @@ returns-clause-makes c =
         numbered = omega (arith, adds.grown, adds.number);
       };
     }
+
+pub returns-in_err-check_contents-clause-plain : goal.returns-in_err-check_contents-clause-plain
+returns-in_err-check_contents-clause-plain c = grind (arith, common_steps)
+
+pub returns-in_err-id-clause-makes : goal.returns-in_err-id-clause-makes
+returns-in_err-id-clause-makes c = grind (arith, common_steps)

@@ -1,4 +1,5 @@
-use Rattle.std.proofs.Common.{◌∙◌, ap, rules, sym}
+use Rattle.std.proofs.Common.{◌∙◌, ap, rules, sym, arith}
+use Rattle.std.proofs.lemmas.Grind.{common_steps}
 use Rattle.dom_links.specs.Forest.{forest_of}
 use Rattle.dom_links.specs.ListMoves.{element_at}
 use Rattle.dom_links.specs.SetTexts.{is_text_at}
@@ -14,3 +15,6 @@ returns-else-is_text_at c = record {
   cause = search rules;
   sound = search rules;
 }
+
+pub returns-in_ok-contents : goal.returns-in_ok-contents
+returns-in_ok-contents c = grind (arith, common_steps)

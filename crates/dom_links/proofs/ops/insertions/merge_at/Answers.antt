@@ -1,4 +1,5 @@
-use Rattle.std.proofs.Common.{◌∙◌, ◌∷◌, [], ap}
+use Rattle.std.proofs.Common.{◌∙◌, ◌∷◌, [], ap, arith}
+use Rattle.std.proofs.lemmas.Grind.{common_steps}
 use Rattle.dom_links.specs.Forest.{forest_of}
 use Rattle.dom_links.proofs.copies.Fresh.{fresh_here}
 use Rattle.dom_links.proofs.ops.insertions.merge_at.Goals as goal
@@ -22,3 +23,12 @@ pub put_copies-requires-2-clause-allowed : goal.put_copies-requires-2-clause-all
 put_copies-requires-2-clause-allowed c =
     (fresh_here (forest_of c.args.other.now) c.args.ids.now c.args.nodes.now.items c.deref_mut-2.result.now c.args.place c.args.x c.deref.result.now c.requires.other.forest c.requires.sound c.in_ok-made.ensures.allowed c.requires.known c.requires.open
     (ap forest_of c.deref_mut-2.ensures.value ∙ c.in_ok-made.ensures.made) (c.deref.ensures.value ∙ c.in_ok-made.ensures.numbers)).1
+
+pub merge_one-requires-clause-one : goal.merge_one-requires-clause-one
+merge_one-requires-clause-one c = grind (arith, common_steps)
+
+pub returns-in-len1 : goal.returns-in-len1
+returns-in-len1 c = grind (arith, common_steps)
+
+pub returns : goal.returns
+returns c = grind (arith, common_steps)
