@@ -1,4 +1,5 @@
 use Rattle.std.proofs.Common.{◌≡◌, arith, ap, length, rules, ◌∙◌}
+use Rattle.std.proofs.lemmas.Grind.{common_steps}
 use Rattle.std.proofs.lemmas.List.{with_items_is}
 use Rattle.dom_links.specs.Forest.{forest_of, children_of}
 use Rattle.dom_links.specs.Moves.{cut}
@@ -16,3 +17,6 @@ returns c =
       err = search rules;
       cause = search rules;
     }
+
+pub remove_children-requires-clause-known : goal.remove_children-requires-clause-known
+remove_children-requires-clause-known c = grind (arith, common_steps)
