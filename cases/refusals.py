@@ -35,8 +35,10 @@ LIMITED = [("batch", b"texts"), *(("calls", line) for line in (b"print", b"clone
 LIMITED += [("calls", b"nodes 1,5,9 append_html " + b"<i>x</i>" * 2_000)]
 LIMITED += [("queries", line) for line in (b"places", b"select p b", b"selection p, b", b"step b", b"find 0 p > b")]
 PARAGRAPH, PARAGRAPHS = b"<p class='a'>text that a node keeps apart, for it is long<b>b</b></p>", 1_000
-# So many bytes more than the program's file has.
-SPACES = range(3_130_000, 7_130_000, 65_536)
+# Address spaces are told apart by pages. The heap grows by pages too, so that a small request is refused where the space ends.
+PAGE, BELOW, ABOVE = 4096, 64, 4
+LEAST, MOST = 1 << 20, 1 << 24
+BY_PAGES = {"GLIBC_TUNABLES": "glibc.malloc.top_pad=0"}
 # Groups of calls whose second word names the call.
 NAMED = {b"move", b"make", b"change", b"copy", b"sink-make", b"sink-put", b"sink-change"}
 # A line that says that memory was refused.
@@ -245,7 +247,7 @@ def within(program, line, limit=None):
     """How a line is answered over many paragraphs, in an address space of so many bytes."""
     limited_to = (lambda: resource.setrlimit(resource.RLIMIT_AS, (limit, limit))) if limit else None
     words, markup = [built(program), line], PARAGRAPH * PARAGRAPHS
-    return subprocess.run(words, input=markup, capture_output=True, timeout=SECONDS, preexec_fn=limited_to)
+    return subprocess.run(words, input=markup, capture_output=True, timeout=SECONDS, preexec_fn=limited_to, env={**os.environ, **BY_PAGES})
 
 
 def ending_within(ran, ample):
@@ -261,13 +263,22 @@ def ending_within(ran, ample):
     return REFUSED if is_refused else None
 
 
+def endings_of(program, line):
+    """How a line ends in address spaces round the least one, to a page, in which it is answered, from the smallest on."""
+    ample, least, enough = within(program, line), LEAST, MOST
+    ending = lambda limit: ending_within(within(program, line, limit), ample)
+    while enough - least > PAGE:
+        middle = (least + enough) // 2
+        least, enough = (least, middle) if ending(middle) == DONE else (middle, enough)
+    return [ending(enough + pages * PAGE) for pages in range(-BELOW, ABOVE)]
+
+
 def limited():
     """Asks lines in ever larger address spaces, without any counter: each says that memory was refused, and then is answered.
     Returns how many lines passed and failed."""
     passed = failed = 0
     for program, line in LIMITED:
-        ample, size = within(program, line), os.path.getsize(built(program))
-        endings = [ending_within(within(program, line, size + more), ample) for more in SPACES]
+        endings = endings_of(program, line)
         is_well = None not in endings and REFUSED in endings and endings[-1] == DONE
         passed, failed = passed + is_well, failed + (not is_well)
         if not is_well:
