@@ -1,5 +1,6 @@
 use Rattle.std.proofs.Common.{◌≡◌, List, [], length, map, ap, sym, arith}
 use Rattle.std.proofs.lemmas.Bool.{eq-eqb}
+use Rattle.std.proofs.lemmas.Grind.{common_steps}
 use Rattle.dom_trees.specs.declared.node_ref.NodeRef.{NodeRef}
 use Rattle.dom_select.specs.Selected.{walks_below}
 use Rattle.dom_select.proofs.FollowLemmas.{is_nil}
@@ -15,3 +16,9 @@ pub returns-in-empty-clause-all : goal.returns-in-empty-clause-all
 returns-in-empty-clause-all c =
     let no_root : c.args.nodes.now ≡ [] = is_nil c.args.nodes.now (eq-eqb (length c.args.nodes.now) 0 (omega (arith, c.in-empty.len_below))) in
     sym (ap (λ (nodes : List NodeRef). walks_below c.args.tree.now (map (λ node. node.id) nodes)) no_root)
+
+pub returns-in-len1-clause-all : goal.returns-in-len1-clause-all
+returns-in-len1-clause-all c = grind (arith, common_steps)
+
+pub returns-in-len1-clause-selected : goal.returns-in-len1-clause-selected
+returns-in-len1-clause-selected c = grind (arith, common_steps)
