@@ -1,5 +1,6 @@
 use Rattle.std.proofs.Common.{◌∙◌, ap, arith}
 use Rattle.std.specs.Prelude.{◌&&◌}
+use Rattle.std.proofs.lemmas.Grind.{common_steps}
 use Rattle.dom_links.specs.ListMoves.{element_at}
 use Rattle.dom_index.specs.NodeSets.{in_set}
 use Rattle.dom_index.proofs.ListLemmas.{row_cut}
@@ -28,3 +29,12 @@ loop-i-preserved-then-not-is_element_in c =
     let step = row_cut c.loop-i.i c.below-row.result.now id (omega arith) c.index-row-i.is in
     let is = c.is_element_in.ensures ∙ ap (λ t. in_set t id && element_at forest id) c.deref.ensures.value in
     pass_it forest c.loop-i.found.items table _ _ id _ _ c.loop-i.invariant step c.is_element_in.result is c.if-not-is_element_in.true
+
+pub index_mut-requires : goal.index_mut-requires
+index_mut-requires c = grind (arith, common_steps)
+
+pub returns-clause-added : goal.returns-clause-added
+returns-clause-added c = grind (arith, common_steps)
+
+pub returns-clause-left : goal.returns-clause-left
+returns-clause-left c = grind (arith, common_steps)

@@ -1,5 +1,6 @@
 use Rattle.std.proofs.Common.{◌≡◌, ◌++◌, ◌+◌, ◌∙◌, drop, subst, arith}
 use Rattle.std.specs.List.{flat_map}
+use Rattle.std.proofs.lemmas.Grind.{common_steps}
 use Rattle.dom_links.specs.Trees.{walk_below}
 use Rattle.dom_index.specs.Collected.{collected}
 use Rattle.dom_index.proofs.CollectLemmas.{root_collected, roots_cut}
@@ -17,3 +18,6 @@ loop-root-preserved c =
       long = c.collect_below.ensures.long ∙ c.loop-root.invariant.long;
       all = root_collected forest c.loop-root.found.items c.collect_below.new.found.items c.loop-root.table.items c.collect_below.new.table.items (walk_below forest r) (flat_map (walk_below forest) (drop (i + 1) roots)) all c.in_ok-collect_below.ensures.added c.in_ok-collect_below.ensures.left h;
     }
+
+pub returns : goal.returns
+returns c = grind (arith, common_steps)

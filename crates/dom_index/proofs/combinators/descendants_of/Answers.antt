@@ -1,5 +1,6 @@
 use Rattle.std.proofs.Common.{◌+◌, ◌∙◌, subst, arith}
 use Rattle.std.proofs.lemmas.List.{length-set}
+use Rattle.std.proofs.lemmas.Grind.{elements}
 use Rattle.dom_index.specs.Orders.{IsEnd}
 use Rattle.dom_index.proofs.PlaceLemmas.{read_of_order}
 use Rattle.dom_index.proofs.SpanLemmas.{decided_next}
@@ -17,3 +18,12 @@ loop-i-preserved c =
       answer = decided_next forest c.forest_laws.ensures.lines preorder.order.items preorder.places.items preorder.subtree_ends.items preorder.ordered preorder.spans c.args.table.now c.loop-i.flags.items n c.loop-i.i c.loop-i.end
           c.requires c.loop-i.invariant.long read.1 read.2 c.loop-i.invariant.ends c.loop-i.invariant.answer;
     }
+
+pub index_mut-requires : goal.index_mut-requires
+index_mut-requires c = grind (arith, elements)
+
+pub extend_end-end-requires-clause-known : goal.extend_end-end-requires-clause-known
+extend_end-end-requires-clause-known c = grind (arith, elements)
+
+pub extend_end-end-requires-clause-ends : goal.extend_end-end-requires-clause-ends
+extend_end-end-requires-clause-ends c = grind (arith, elements)

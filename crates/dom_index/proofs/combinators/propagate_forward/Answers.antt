@@ -1,5 +1,6 @@
 use Rattle.std.proofs.Common.{◌∙◌, refl, sym, ap, length, arith}
 use Rattle.std.proofs.lemmas.List.{length-set}
+use Rattle.std.proofs.lemmas.Grind.{common_steps, elements}
 use Rattle.dom_index.proofs.ForwardLemmas.{left_known}
 use Rattle.dom_index.specs.NodeSets.{reached_from}
 use Rattle.dom_index.proofs.FillLemmas.{reached_more}
@@ -27,3 +28,12 @@ loop-i-preserved c =
       long = length-set flags n _ ∙ c.loop-i.invariant.long;
       answer = reached_more forest c.forest_laws.ensures.lines preorder.order.items preorder.places.items preorder.ordered c.args.combinator c.args.table.now flags i n _ (omega (arith, same, preorder.ordered.long)) read.0 c.loop-i.invariant.long c.loop-i.invariant.answer is;
     }
+
+pub bounds-above-i : goal.bounds-above-i
+bounds-above-i c = grind (arith, common_steps)
+
+pub left_of-left-requires : goal.left_of-left-requires
+left_of-left-requires c = grind (arith, common_steps)
+
+pub index_mut-requires : goal.index_mut-requires
+index_mut-requires c = grind (arith, elements)

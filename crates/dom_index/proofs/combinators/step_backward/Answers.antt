@@ -1,4 +1,5 @@
 use Rattle.std.proofs.Common.{◌≡◌, ◌+◌, ◌-◌, ◌∙◌, length, refl, sym, ap, subst, arith}
+use Rattle.std.proofs.lemmas.Grind.{common_steps, elements}
 use Rattle.dom_selectors.specs.Spelling.{Decides}
 use Rattle.dom_index.specs.Orders.{number_at}
 use Rattle.dom_index.specs.NodeSets.{propagates, with_node, in_set}
@@ -51,3 +52,15 @@ returns c =
       long = c.loop-i.invariant.long;
       each = decided_all forest c.forest_laws.ensures.lines c.args.combinator c.args.table.now preorder.order.items preorder.places.items preorder.ordered c.loop-i.flags.items (λ m known. subst (λ j. Decides (in_set c.loop-i.flags.items m) (DecidedBy forest c.args.combinator c.args.table.now preorder.places.items j m)) (omega (arith, preorder.ordered.long)) (c.loop-i.invariant.answer m known));
     }
+
+pub loop-i-init : goal.loop-i-init
+loop-i-init c = grind (arith, common_steps)
+
+pub propagates-requires-clause-known : goal.propagates-requires-clause-known
+propagates-requires-clause-known c = grind (arith, elements)
+
+pub bounds-above-place : goal.bounds-above-place
+bounds-above-place c = grind (arith, common_steps)
+
+pub left_of-requires : goal.left_of-requires
+left_of-requires c = grind (arith, common_steps)

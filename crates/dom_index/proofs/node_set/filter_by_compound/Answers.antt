@@ -1,6 +1,7 @@
 use Rattle.std.proofs.Common.{◌<◌, ◌≡◌, ◌+◌, ◌∙◌, sym, ap, map, subst, length, replicate, true, false, arith}
 use Rattle.std.proofs.lemmas.List.{length-map, length-set, get_or_read}
 use Rattle.std.proofs.lemmas.List.Sums.{count_by_more_yes}
+use Rattle.std.proofs.lemmas.Grind.{common_steps}
 use Rattle.dom_select.specs.Answers.{AreAnswers}
 use Rattle.dom_select.specs.Meaning.{Holds}
 use Rattle.dom_selectors.specs.ListsAsTrees.{lists_of}
@@ -46,3 +47,12 @@ loop-n-preserved c =
           (decided_by c.compound_holds.result _ _ (λ holds. (here, holds)) (λ both. both.1) c.compound_holds.ensures.is);
       left = λ m past. written_elsewhere table n m c.compound_holds.result (λ e. omega arith) ∙ c.loop-n.invariant.left m (omega arith);
     }
+
+pub loop-n-preserved-then-not-index : goal.loop-n-preserved-then-not-index
+loop-n-preserved-then-not-index c = grind (arith, common_steps)
+
+pub returns-clause-counted : goal.returns-clause-counted
+returns-clause-counted c = grind (arith, common_steps)
+
+pub returns-clause-tests : goal.returns-clause-tests
+returns-clause-tests c = grind (arith, common_steps)

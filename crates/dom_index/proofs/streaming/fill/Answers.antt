@@ -1,5 +1,6 @@
 use Rattle.std.proofs.Common.{◌≡◌, ◌<◌, ◌+◌, ◌*◌, ◌∙◌, ℕ, List, Bool, ap, arith, false, length, refl, set, subst, sym, true}
 use Rattle.std.proofs.lemmas.List.{get_or_read}
+use Rattle.std.proofs.lemmas.Grind.{common_steps}
 use Rattle.dom_index.specs.NodeSets.{in_set}
 use Rattle.dom_index.proofs.RowLemmas.{IsRowTo, row_more, rows_filled, rows_written}
 use Rattle.dom_index.proofs.streaming.fill.Goals as goal
@@ -38,3 +39,6 @@ returns-clause-following c =
       tracked = rows_filled c.args.chain.now forest rows _ n c.loop-i.invariant.tracked (λ j below. c.loop-i.invariant.row j (omega (arith, below, all))) refl refl (ap (λ (k : ℕ). set rows.filled.items k true) c.value-n.ensures.number);
       caches_are = c.loop-i.invariant.kept ∙ c.requires.following.caches_are;
     }
+
+pub returns-then-index-clause-filled : goal.returns-then-index-clause-filled
+returns-then-index-clause-filled c = grind (arith, common_steps)

@@ -1,5 +1,6 @@
 use Rattle.std.proofs.Common.{◌∙◌, ap, arith, subst, sym}
 use Rattle.std.proofs.lemmas.List.{nil_from_length}
+use Rattle.std.proofs.lemmas.Grind.{common_steps}
 use Rattle.dom_links.specs.Forest.{Forest}
 use Rattle.dom_index.specs.Tracks.{IsFilledAt, left_in}
 use Rattle.dom_index.proofs.RowLemmas.{way_known, way_left, way_whole}
@@ -25,3 +26,6 @@ returns-clause-filled c =
     let missing = c.loop-id.shared.missing.items in
     let none = nil_from_length missing (let empty = c.in_default.ensures.cases.0 in omega (arith, empty)) in
     way_whole c.args.chain.now c.args.visited.now.tree.now k.forest k.lines c.args.visited.now.id c.loop-id.rows.filled.items missing c.loop-id.invariant.way none
+
+pub loop-id-preserved : goal.loop-id-preserved
+loop-id-preserved c = grind (arith, common_steps)

@@ -1,5 +1,6 @@
-use Rattle.std.proofs.Common.{◌≡◌, ◌+◌, ◌*◌, ◌∙◌, ℕ, List, Bool, Option, Some, length, subst, sym, true}
+use Rattle.std.proofs.Common.{◌≡◌, ◌+◌, ◌*◌, ◌∙◌, ℕ, List, Bool, Option, Some, length, subst, sym, true, arith}
 use Rattle.std.specs.Prelude.{slice_range}
+use Rattle.std.proofs.lemmas.Grind.{common_steps}
 use Rattle.dom_index.specs.NodeSets.{in_set}
 use Rattle.dom_index.specs.Tracks.{FlagsRight, IsFilledAt, left_in}
 use Rattle.dom_index.proofs.RowLemmas.{left_inside, row_read}
@@ -20,3 +21,9 @@ returns c =
     let read = subst (λ (bs : List Bool). FlagsRight chain forest (Some left) (slice_range bs (left * w) (left * w + w))) (sym c.deref-2.ensures.value) row in
     let placed = subst (λ (k : ℕ). FlagsRight chain forest (Some left) (slice_range c.deref-2.result.now (k * w) (k * w + w))) (sym c.value.ensures.number) read in
     subst (λ (o : Option ℕ). FlagsRight chain forest o (slice_range c.deref-2.result.now (c.value.result * w) (c.value.result * w + w))) (sym up) placed
+
+pub overflow_mul-start : goal.overflow_mul-start
+overflow_mul-start c = grind (arith, common_steps)
+
+pub overflow_add-result : goal.overflow_add-result
+overflow_add-result c = grind (arith, common_steps)

@@ -2,6 +2,7 @@ use Rattle.std.proofs.Common.{◌≡◌, ◌<◌, ◌∙◌, Some, sym, ap, leng
 use Rattle.std.specs.Prelude.{◌&&◌, not, slice_get, slice_index_or, false}
 use Rattle.std.proofs.Common.{inl, inr}
 use Rattle.std.proofs.lemmas.Option.{slice_get_cases}
+use Rattle.std.proofs.lemmas.Grind.{common_steps}
 use Rattle.dom_selectors.specs.declared.syntax.Combinator.{Combinator}
 use Rattle.dom_selectors.specs.Syntax.{CompoundSelector}
 use Rattle.dom_selectors.specs.ValuesAsTrees.{read_compound, read_step}
@@ -62,3 +63,9 @@ returns-clause-is c = λ s at.
     let test = test_at chain c.requires.at.prepared c.args.i c.index.result.now (omega (arith, c.requires.step)) c.index.ensures in
     step_tested forest c.forest_laws.ensures.forest c.forest_laws.ensures.lines (first_in chain) (steps_in chain) chain.way c.requires.at.prepared.along c.args.visited.now.id c.args.flags.now c.requires.at.flags_are c.args.i s at
     (went_on (goal.at.returns-clause-is c).After-goes_on s at ∙ c.if-on-goes_on.false) (fit (goal.at.returns-clause-is c).After-may_be_operand s at ∙ c.if-not-may_be_operand.false) (sym c.reached_at.ensures ∙ c.if-not-reached_at.false) (read_compound c.index.result.now.compound.now) test.1 c.matches.result c.matches.ensures.is
+
+pub bounds-flags-i : goal.bounds-flags-i
+bounds-flags-i c = grind (arith, common_steps)
+
+pub reached_at-requires : goal.reached_at-requires
+reached_at-requires c = grind (arith, common_steps)
