@@ -4,6 +4,7 @@ use Rattle.std.proofs.lemmas.List.Sums.{prefix_len-le-length}
 use Rattle.std.specs.Prelude.{MatchBool}
 use Rattle.std.specs.List.{prefix_len}
 use Rattle.std.specs.Str.Parse.{digits_value}
+use Rattle.std.proofs.lemmas.Grind.{common_steps}
 use Rattle.dom_selectors.specs.Characters.{begins, is_line_end}
 use Rattle.dom_selectors.specs.Names.{after_space, char_of, hex_len, is_hex, SpellsEscape}
 use Rattle.dom_selectors.proofs.names.take_escape.Goals as goal
@@ -41,3 +42,6 @@ returns-then-is_digit c =
     let whole = take_all (length text - count) (drop count text) (omega (arith, length-drop count text)) in
     digits_escape c.char_of.result text c.after_space.result.now (ap (begins is_hex) c.in-Some.ensures.cases.0 ∙ sym c.if-is_digit.ensures.value)
     (c.char_of.ensures ∙ ap char_of (c.hex_number.ensures ∙ ap (λ n. digits_value 16 (take n text)) len)) (c.after_space.ensures ∙ (ap after_space whole ∙ ap (λ n. after_space (drop n text)) len))
+
+pub slice_bounds-after_space-start : goal.slice_bounds-after_space-start
+slice_bounds-after_space-start c = grind (arith, common_steps)

@@ -1,4 +1,5 @@
-use Rattle.std.proofs.Common.{◌∷◌, [], ◌++◌, sym, ◌∙◌}
+use Rattle.std.proofs.Common.{◌∷◌, [], ◌++◌, sym, ◌∙◌, arith}
+use Rattle.std.proofs.lemmas.Grind.{common_steps}
 use Rattle.dom_selectors.specs.Strings.{SpellsPiece}
 use Rattle.dom_selectors.proofs.Runs.{many_last}
 use Rattle.dom_selectors.proofs.StringLemmas.{string_none, piece_shortens, push_present}
@@ -21,3 +22,6 @@ loop-quote-preserved c =
       push_present _ _ read.1 piece c.in_ok-push_piece.ensures read.2,
       many_last (SpellsPiece c.in-Some.quote.now) read.1 piece _ c.loop-quote.rest.now c.in-Some-take_piece.after.now read.3 c.in-Some-take_piece.ensures,
     )
+
+pub returns : goal.returns
+returns c = grind (arith, common_steps)
