@@ -8,7 +8,7 @@ use Rattle.std.specs.List.{list_any, find, position_from}
 use Rattle.std.specs.Option.{option_map}
 use Rattle.dom_nodes.specs.declared.name.Attr.{Attr}
 use Rattle.dom_nodes.specs.Attrs.{attr_of}
-use Rattle.dom_nodes.specs.Changes.{is_attr_named, with_value, with_attr, plain_attr}
+use Rattle.dom_nodes.specs.Changes.{is_attr_named, with_missing, with_value, with_attr, plain_attr}
 
 pub list_any-map : {X Y : Type 0} (f : X → Y) (p : Y → Bool) (xs : List X) → list_any p (map f xs) ≡ list_any (λ x. p (f x)) xs
 list_any-map f p [] = refl
@@ -93,3 +93,12 @@ with_value-none name value (a ∷ attrs) none =
       | inr f ↦ ap (λ b. cond b (record a { value = value } ∷ attrs) (a ∷ with_value name value attrs)) f
           ∙ ap (λ rest. a ∷ rest) (with_value-none name value attrs (sym (ap (λ b. is_some (option_map (λ attr. attr.value) (cond b (Some a) (find (is_attr_named name) attrs)))) f) ∙ none))
     ]
+
+kept_whole : (added : List Attr) → added ≡ with_missing added []
+kept_whole [] = refl
+kept_whole (a ∷ added) = ap (λ rest. a ∷ rest) (kept_whole added)
+
+-- what is added to no attributes stays whole
+pub with_missing-empty : (added attrs : List Attr) → length attrs ≡ 0 → added ≡ with_missing added attrs
+with_missing-empty added [] none = kept_whole added
+with_missing-empty added (a ∷ attrs) none = absurd (omega arith)

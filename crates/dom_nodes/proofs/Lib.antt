@@ -4,3 +4,4 @@ pub mod ClassLemmas
 pub mod UpdateLemmas
 pub mod LawLemmas
 pub mod KnownLemmas
+pub mod PartLemmas

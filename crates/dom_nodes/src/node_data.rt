@@ -23,6 +23,7 @@ pub use node_edit::NodeEdit;
 use std::alloc::Global;
 use std::fmt;
 use std::marker::Model;
+use std::sync::Arc;
 
 /// The attributes of an element, in order. A contract sees them as a list.
 pub struct Attrs {
@@ -60,6 +61,8 @@ impl fmt::Debug for Attrs {
 
 impl Attrs {
     ghost use Rattle.std.specs.Prelude.{◌≡◌, ◌∷◌, ◌++◌, [], IfOk, OnErr, OnOk};
+    ghost use Rattle.std.specs.Prelude.{◌-◌, drop, take};
+    ghost use Rattle.std.specs.Arc.{arc_value};
 
     /// No attributes.
     pub fn new(alloc: Global) -> Attrs
@@ -69,6 +72,33 @@ impl Attrs {
             form: AttrsForm::None,
             alloc,
         }
+    }
+
+    /// The list of these attributes.
+    pub fn from_items(alloc: Global, mut items: Vec<Attr>) -> Result<Attrs, OutOfMemory>
+        ensures { IfOk result (λ made. made ≡ items.items) }
+    {
+        if items.is_empty() {
+            return Ok(Attrs::new(alloc));
+        }
+        items.shrink_to_fit();
+        let form = AttrsForm::own(alloc, items)?;
+        Ok(Attrs { form, alloc })
+    }
+
+    /// Part of a list: so many attributes as stand from one place up to another. One or two are
+    /// shared with the list, more are copied.
+    pub fn part(
+        alloc: Global,
+        list: &Arc<Vec<Attr>>,
+        from: usize,
+        to: usize,
+    ) -> Result<Attrs, OutOfMemory>
+        ensures { IfOk result (λ made.
+            made ≡ take (to - from) (drop from (arc_value list.now).items)) }
+    {
+        let form = AttrsForm::part_of(alloc, list, from, to)?;
+        Ok(Attrs { form, alloc })
     }
 
     /// The attributes, in order.

@@ -1,10 +1,11 @@
 //! Where an element's attributes lie. Most elements have one or two, in a counted block that copies
-//! of the element share.
+//! of the element share, or in a list that holds those of many elements.
 
 ghost use Rattle.std.specs.Prelude.{◌≡◌, ◌<◌, ◌≤◌, ◌∷◌, ◌++◌, [], IfOk, IfSome, OnErr, OnOk, None, Some};
-ghost use Rattle.std.specs.Prelude.{slice_set};
+ghost use Rattle.std.specs.Prelude.{◌+◌, ◌-◌, drop, slice_set, take};
 ghost use Rattle.std.specs.Arc.{arc_value};
 ghost use Rattle.std.specs.Prelude.{filter, length, position, List, ℕ};
+ghost use Rattle.std.specs.List.{list_any};
 ghost use Rattle.dom_nodes.specs.AttrForms.{form_attrs};
 ghost use Rattle.dom_nodes.specs.Kept.{keeps};
 ghost use Rattle.dom_nodes.specs.Changes.{is_attr_named, with_attr};
@@ -32,10 +33,21 @@ pub(super) enum AttrsForm {
     First(Arc<[Attr; 2]>),
     /// What a removal leaves of two: the second.
     Second(Arc<[Attr; 2]>),
+    /// The one at this place of a list that others share. A place here has more bits than where
+    /// two begin, so that the second of any two has one.
+    OneOf(u32, Arc<Vec<Attr>>),
+    /// The two that begin at this place of a list that others share.
+    TwoOf(u16, Arc<Vec<Attr>>),
     /// Any other list, which nothing shares. It lies behind a pointer, so that the other forms
     /// take no more room than they need.
     Own(Box<Vec<Attr>>),
 }
+
+/// The last place that the form of one attribute of a list can name.
+const MOST_ONE: usize = 4294967295;
+
+/// The last place that the form of two attributes of a list can name.
+const MOST_TWO: usize = 65535;
 
 /// Which attributes a removal keeps.
 #[derive(Clone, Copy)]
@@ -60,6 +72,13 @@ impl Kept<'_> {
             Kept::OneOf(names) => is_one_of(attr.name.local().as_str(), names),
             Kept::MissingIn(attrs) => !has_attr_named(attrs, &attr.name),
         }
+    }
+
+    /// Whether the removal keeps one of the attributes.
+    fn keeps_any(&self, attrs: &[Attr]) -> bool
+        ensures { result ≡ list_any (keeps self.now) attrs.now }
+    {
+        attrs.iter().any(|attr| self.keeps(attr))
     }
 }
 
@@ -118,8 +137,32 @@ impl AttrsForm {
         }
     }
 
+    /// Part of a list, from one place up to another. One or two are shared with the list, more are
+    /// copied.
+    pub(super) fn part_of(
+        alloc: Global,
+        list: &Arc<Vec<Attr>>,
+        from: usize,
+        to: usize,
+    ) -> Result<AttrsForm, OutOfMemory>
+        ensures { IfOk result (λ form.
+            form_attrs form ≡ take (to - from) (drop from (arc_value list.now).items)) }
+    {
+        let count = to.saturating_sub(from);
+        if count == 0 {
+            return Ok(AttrsForm::None);
+        }
+        if count == 1 && from <= MOST_ONE {
+            return Ok(AttrsForm::OneOf(from as u32, Arc::try_clone(list)?));
+        }
+        if count == 2 && from <= MOST_TWO {
+            return Ok(AttrsForm::TwoOf(from as u16, Arc::try_clone(list)?));
+        }
+        AttrsForm::with_room(alloc, stretch(list.as_slice(), from, count), 0)
+    }
+
     /// A list that nothing shares.
-    fn own(alloc: Global, items: Vec<Attr>) -> Result<AttrsForm, OutOfMemory>
+    pub(super) fn own(alloc: Global, items: Vec<Attr>) -> Result<AttrsForm, OutOfMemory>
         ensures { IfOk result (λ form. form_attrs form ≡ items.items) }
     {
         Ok(AttrsForm::Own(Box::new(alloc, items)?))
@@ -140,6 +183,8 @@ impl AttrsForm {
                 let both = &list[..];
                 &both[1..]
             }
+            AttrsForm::OneOf(place, list) => stretch(list.as_slice(), *place as usize, 1),
+            AttrsForm::TwoOf(place, list) => stretch(list.as_slice(), *place as usize, 2),
             AttrsForm::Own(list) => list.as_slice(),
         }
     }
@@ -154,6 +199,8 @@ impl AttrsForm {
             AttrsForm::One(list) => Ok(AttrsForm::One(Arc::try_clone(list)?)),
             AttrsForm::Two(list) => Ok(AttrsForm::Two(Arc::try_clone(list)?)),
             AttrsForm::First(list) => Ok(AttrsForm::First(Arc::try_clone(list)?)),
+            AttrsForm::OneOf(place, list) => Ok(AttrsForm::OneOf(*place, Arc::try_clone(list)?)),
+            AttrsForm::TwoOf(place, list) => Ok(AttrsForm::TwoOf(*place, Arc::try_clone(list)?)),
             _ => self.clone_of_rare(alloc),
         }
     }
@@ -243,7 +290,8 @@ impl AttrsForm {
         }
     }
 
-    /// Gives back the memory past the last attribute, but for the second place of a pair.
+    /// Gives back the memory past the last attribute, but for the second place of a pair and for
+    /// a list that others share.
     pub(super) fn shrink_to_fit(&mut self)
         ensures { form_attrs self.new ≡ form_attrs self.old }
     {
@@ -283,6 +331,8 @@ impl AttrsForm {
                     AttrsForm::None
                 }
             }
+            AttrsForm::OneOf(place, list) => left_of_one(place, list, kept),
+            AttrsForm::TwoOf(place, list) => left_of_two(place, list, kept),
             AttrsForm::Own(mut list) => {
                 list.retain(|attr| kept.keeps(attr));
                 AttrsForm::Own(list)
@@ -305,6 +355,61 @@ fn part(list: Arc<[Attr; 2]>, kept: Kept) -> AttrsForm
         AttrsForm::Second(list)
     } else {
         AttrsForm::None
+    }
+}
+
+/// What a removal leaves of the one attribute at this place of a list.
+fn left_of_one(place: u32, list: Arc<Vec<Attr>>, kept: Kept) -> AttrsForm
+    ensures { form_attrs result
+        ≡ filter (keeps kept.entry) (form_attrs (AttrsForm.OneOf place list)) }
+{
+    if kept.keeps_any(stretch(list.as_slice(), place as usize, 1)) {
+        AttrsForm::OneOf(place, list)
+    } else {
+        AttrsForm::None
+    }
+}
+
+/// What a removal leaves of the two attributes that begin at this place of a list.
+fn left_of_two(place: u16, list: Arc<Vec<Attr>>, kept: Kept) -> AttrsForm
+    ensures { form_attrs result
+        ≡ filter (keeps kept.entry) (form_attrs (AttrsForm.TwoOf place list)) }
+{
+    let first = kept.keeps_any(stretch(list.as_slice(), place as usize, 1));
+    let second = kept.keeps_any(stretch(list.as_slice(), place as usize + 1, 1));
+    if first {
+        if second {
+            AttrsForm::TwoOf(place, list)
+        } else {
+            AttrsForm::OneOf(place as u32, list)
+        }
+    } else if second {
+        AttrsForm::OneOf(place as u32 + 1, list)
+    } else {
+        AttrsForm::None
+    }
+}
+
+/// So many attributes as stand from a place on, or fewer where the list ends before.
+#[inline(always)]
+fn stretch(attrs: &[Attr], from: usize, count: usize) -> &[Attr]
+    ensures { result.now ≡ take count (drop from attrs.now) }
+{
+    if count <= attrs.len() && from <= attrs.len() - count {
+        return &attrs[from..from + count];
+    }
+    last_stretch(attrs, from, count)
+}
+
+/// The same, where the list ends before.
+fn last_stretch(attrs: &[Attr], from: usize, count: usize) -> &[Attr]
+    requires { length attrs.now < from + count }
+    ensures { result.now ≡ take count (drop from attrs.now) }
+{
+    if from < attrs.len() {
+        &attrs[from..]
+    } else {
+        &[]
     }
 }
 

@@ -16,6 +16,10 @@ impl Attrs {
         ensures ok { OnOk result (self.new ≡ with_missing added self.old) }
         ensures err { OnErr result (self.new ≡ self.old) }
     {
+        if self.as_slice().is_empty() {
+            *self = added;
+            return Ok(());
+        }
         added.retain(Kept::MissingIn(self.as_slice()));
         self.append(added.as_slice())
     }
