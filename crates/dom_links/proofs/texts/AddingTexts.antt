@@ -1,5 +1,5 @@
 -- A text comes to a gap.
-use Rattle.std.proofs.Common.{ℕ, ◌≡◌, ◌<◌, true, false, List, Option, Some, None, refl, sym, ap, ◌∙◌, subst, arith, inl, inr, length}
+use Rattle.std.proofs.Common.{ℕ, ◌≡◌, ◌<◌, true, false, List, [], ◌∷◌, Option, Some, None, refl, sym, ap, ◌∙◌, subst, arith, inl, inr, length}
 use Rattle.std.specs.Prelude.{◌==◌, ◌||◌, not}
 use Rattle.std.specs.Option.{option_map_or}
 use Rattle.std.proofs.lemmas.Bool.{ne_eqb}
@@ -10,17 +10,18 @@ use Rattle.dom_nodes.specs.declared.node_data.NodeData.TheVariants.{Text}
 use Rattle.dom_nodes.specs.declared.node_data.TreeNode.{TreeNode}
 use Rattle.dom_links.specs.AddedTexts.{lengthened, text_before, with_more, with_node_at, with_text_at}
 use Rattle.dom_links.specs.Contents.{KeepsKind, with_content}
-use Rattle.dom_links.specs.Forest.{Forest, forest_of}
-use Rattle.dom_links.specs.Growth.{with_node}
+use Rattle.dom_links.specs.Forest.{Forest, StandsOnce, forest_of}
+use Rattle.dom_links.specs.Growth.{MayAppend, with_child, with_node}
 use Rattle.dom_links.specs.ListMoves.{Moves}
-use Rattle.dom_links.specs.Moves.{Gap, end_of, front_of, before_node, after_node}
+use Rattle.dom_links.specs.Moves.{Gap, end_of, front_of, before_node, after_node, put}
 use Rattle.dom_links.specs.declared.gap.Moving.TheVariants.{Node}
-use Rattle.dom_links.specs.Sound.{Allowed, IsForest, IsSoundArena, IsHostAncestor, is_open, one_step, stays, target, then_step}
+use Rattle.dom_links.specs.Sound.{Allowed, IsForest, IsOpenGap, IsSoundArena, IsHostAncestor, is_open, one_step, stays, target, then_step}
 use Rattle.dom_links.proofs.moves.BlockMoves.{moved_one}
+use Rattle.dom_links.proofs.forest.Appends.{cut-alone, new_alone}
 use Rattle.dom_links.proofs.forest.Climbs.{contents_at-known}
 use Rattle.dom_links.proofs.forest.Depth.{parent_inside}
 use Rattle.dom_links.proofs.moves.Dissolving.{still_sound}
-use Rattle.dom_links.proofs.forest.Grown.{contents-more, parent-more, slice_get-before, slice_get-there, test-more}
+use Rattle.dom_links.proofs.forest.Grown.{contents-more, once-more, parent-more, slice_get-before, slice_get-there, test-more}
 
 pub keeps_longer : (more : List ℕ) → KeepsKind (lengthened more)
 keeps_longer more (Text a) = record { top = refl; fragment = refl; parents_allow = refl; contents = refl }
@@ -69,6 +70,24 @@ allowed_at forest now gap x text good known open_here made number =
 -- no text stands before the gap, so a new one is made
 pub none_before : (gap : Gap) (text : List ℕ) (forest : Forest) → text_before gap forest ≡ None → with_node_at gap (Text text) forest ≡ with_text_at gap text forest
 none_before gap text forest none = ap (λ (before : Option ℕ). with_more before gap text forest) (sym none)
+
+-- the same of a new one that is made as the last child: it stood nowhere before
+pub last_child_text : (t : ℕ) (text : List ℕ) (forest : Forest) → StandsOnce forest → text_before (end_of t) forest ≡ None → with_child t (Text text) forest ≡ with_text_at (end_of t) text forest
+last_child_text t text forest once none =
+    let more = with_node (Text text) forest in
+    let n = length forest.content in
+    ap (put (end_of t) (n ∷ [])) (sym (cut-alone more n (once-more (Text text) forest once) (new_alone (Text text) forest once)))
+    ∙ none_before (end_of t) text forest none
+
+-- a text may be made as the last child of a node that may have children
+pub text_may_append : (t : ℕ) (text : List ℕ) (forest : Forest) → IsOpenGap (end_of t) forest → MayAppend forest t (Text text)
+text_may_append t text forest opens = record {
+  target_known = opens.0;
+  open_here = opens.1;
+  no_top = refl;
+  free = λ c named. (let none : None ≡ Some c = named in cc);
+  apart = λ c named at. (let none : None ≡ Some c = named in cc);
+}
 
 pub some_before : (gap : Gap) (text : List ℕ) (forest : Forest) (n : ℕ) → Some n ≡ text_before gap forest → with_content n (lengthened text) forest ≡ with_text_at gap text forest
 some_before gap text forest n some = ap (λ (before : Option ℕ). with_more before gap text forest) some

@@ -6,15 +6,18 @@ ghost use Rattle.dom_links.specs.AddedTexts.{TextCause, lengthened, text_before,
 ghost use Rattle.dom_links.specs.ArenaEdits.{Becomes};
 ghost use Rattle.dom_links.specs.Contents.{Changed};
 ghost use Rattle.dom_links.specs.Forest.{forest_of};
+ghost use Rattle.dom_links.specs.Moves.{before_gap, end_of};
 ghost use Rattle.dom_links.specs.Sound.{IsOpenGap, IsSoundArena, target};
 
 use crate::gap::Gap;
 use crate::ops::TreeNodeOps;
+use crate::ops::create::add_child;
 use crate::ops::moves::{insertion_point_at, put_alone};
 use crate::ops::set_text::{is_text_at, owned_text};
 use dom_nodes::fault::{EditFault, OutOfMemory};
 use dom_nodes::node_data::{NodeData, TreeNode};
 use dom_nodes::node_id::NodeId;
+use dom_nodes::text::Text;
 
 /// Lengthens the text that stands right before the gap, or puts a new text there. Refused as
 /// `Memory`, and as `TooManyNodes` where a new one is to be put; then nothing changes.
@@ -35,14 +38,26 @@ fn text_before(nodes: &[TreeNode], gap: &Gap) -> Option<NodeId>
     requires target_known { target gap.now < length (forest_of nodes.now).content }
     ensures { result ≡ text_before gap.now (forest_of nodes.now) }
 {
-    let room = insertion_point_at(nodes, *gap);
-    let Some(left) = room.left else {
+    let Some(before) = node_before(nodes, gap) else {
         return None;
     };
-    if is_text_at(nodes, left) {
-        room.left
+    if is_text_at(nodes, before) {
+        Some(before)
     } else {
         None
+    }
+}
+
+/// The node that stands right before the gap.
+#[inline(always)]
+fn node_before(nodes: &[TreeNode], gap: &Gap) -> Option<NodeId>
+    requires sound { IsSoundArena nodes.now }
+    requires target_known { target gap.now < length (forest_of nodes.now).content }
+    ensures { result ≡ before_gap gap.now (forest_of nodes.now) }
+{
+    match gap {
+        Gap::EndOf(t) => nodes[t.value()].last_child.get(),
+        _ => insertion_point_at(nodes, *gap).left,
     }
 }
 
@@ -82,6 +97,32 @@ fn put_new_text(nodes: &mut Vec<TreeNode>, gap: Gap, text: &str) -> Result<(), E
     ensures { Becomes result nodes.old nodes.new (with_text_at gap text.now) (TextCause gap) }
 {
     let contents = owned_text(*nodes.allocator(), text)?;
+    match gap {
+        Gap::EndOf(t) => append_text(nodes, t, contents),
+        _ => place_text(nodes, gap, contents),
+    }
+}
+
+/// Makes a text as the last child of a node.
+#[inline(always)]
+fn append_text(nodes: &mut Vec<TreeNode>, t: NodeId, contents: Text) -> Result<(), EditFault>
+    requires sound { IsSoundArena nodes.old.items }
+    requires open { IsOpenGap (end_of t) (forest_of nodes.old.items) }
+    requires alone { text_before (end_of t) (forest_of nodes.old.items) ≡ None }
+    ensures { Becomes result nodes.old nodes.new (with_text_at (end_of t) contents)
+        (TextCause (end_of t)) }
+{
+    add_child(nodes, t, NodeData::Text { contents })?;
+    Ok(())
+}
+
+/// Makes a text that stands alone, and moves it to the gap.
+fn place_text(nodes: &mut Vec<TreeNode>, gap: Gap, contents: Text) -> Result<(), EditFault>
+    requires sound { IsSoundArena nodes.old.items }
+    requires open { IsOpenGap gap (forest_of nodes.old.items) }
+    requires alone { text_before gap (forest_of nodes.old.items) ≡ None }
+    ensures { Becomes result nodes.old nodes.new (with_text_at gap contents) (TextCause gap) }
+{
     let made = TreeNodeOps::create_node(nodes, NodeData::Text { contents })?;
     put_alone(nodes, gap, made);
     Ok(())

@@ -1,4 +1,4 @@
-use Rattle.std.proofs.Common.{ℕ, ◌≡◌, ◌∙◌, ap, arith, length, rules, subst, sym, List, [], ◌∷◌}
+use Rattle.std.proofs.Common.{ℕ, ◌≡◌, ◌∙◌, ap, arith, length, rules, subst, sym, [], ◌∷◌}
 use Rattle.std.proofs.lemmas.List.{with_items_is}
 use Rattle.dom_nodes.specs.declared.node_data.NodeData.TheVariants.{Text}
 use Rattle.dom_links.specs.Forest.{forest_of}
@@ -7,7 +7,7 @@ use Rattle.dom_links.specs.Moves.{moved_to}
 use Rattle.dom_links.specs.Sound.{IsSoundArena}
 use Rattle.dom_links.proofs.texts.AddingTexts.{allowed_at, none_before}
 use Rattle.dom_links.proofs.moves.Cuts.{length-contents}
-use Rattle.dom_links.proofs.ops.add_text.put_new_text.Goals as goal
+use Rattle.dom_links.proofs.ops.add_text.place_text.Goals as goal
 
 pub put_alone-requires-clause-allowed : goal.put_alone-requires-clause-allowed
 put_alone-requires-clause-allowed c =
@@ -23,14 +23,14 @@ returns c =
     let number : c.in_ok-made.made ≡ length forest.content = omega (arith, long, c.in_ok-made.ensures.makes.number) in
     let same : length c.put_alone.new.nodes ≡ length c.deref_mut.result.now = omega arith in
     let whole : length c.put_alone.new.nodes ≡ c.create_node.new.nodes.len = same ∙ c.deref_mut.ensures.len in
-    let old : forest_of c.deref_mut.result.now ≡ with_node (Text c.args.text.now) forest = ap forest_of c.deref_mut.ensures.value ∙ c.in_ok-made.ensures.makes.made ∙ ap (λ (text : List ℕ). with_node (Text text) forest) (search rules) in
+    let old : forest_of c.deref_mut.result.now ≡ with_node (Text c.args.contents) forest = ap forest_of c.deref_mut.ensures.value ∙ c.in_ok-made.ensures.makes.made in
     let items = with_items_is c.create_node.new.nodes c.put_alone.new.nodes whole in
     record {
       made = ap forest_of items
           ∙ c.put_alone.ensures.made
           ∙ ap (λ (x : ℕ). moved_to (x ∷ []) c.args.gap (forest_of c.deref_mut.result.now)) number
           ∙ ap (moved_to (length forest.content ∷ []) c.args.gap) old
-          ∙ none_before c.args.gap c.args.text.now forest c.requires.alone;
+          ∙ none_before c.args.gap c.args.contents forest c.requires.alone;
       err = search rules;
       cause = search rules;
       sound = subst IsSoundArena (sym items) c.put_alone.ensures.sound;
