@@ -3,6 +3,7 @@ pub mod NumberedLemmas
 pub mod Frames
 pub mod AttrLemmas
 pub mod NoteLemmas
+pub mod GrowingLemmas
 pub mod Steps
 pub mod Filling
 pub mod BareRows

@@ -16,8 +16,8 @@ Gains name old new = (other : List ℕ) → contains_text new other ≡ (contain
 
 -- the set has the names of the first attributes, and no other
 pub record IsNoted (kept : KeptAttrs) : Type 0 where
-  pub within : kept.noted ≤ length kept.attrs
-  pub names : (name : List ℕ) → contains_text kept.older name ≡ list_any (is_attr_named name) (take kept.noted kept.attrs)
+  pub within : kept.noted ≤ length kept.attrs.items
+  pub names : (name : List ℕ) → contains_text kept.older name ≡ list_any (is_attr_named name) (take kept.noted kept.attrs.items)
 
 -- behind the attributes that were kept before, this one is kept too, unless one of them has its name
 abbrev pub Keeps : Attribute → List Attr → List Attr → Type 0

@@ -8,6 +8,7 @@ pub mod Escaping
 pub mod FaultKinds
 pub mod Fragments
 pub mod Frames
+pub mod Growing
 pub mod Front
 pub mod Html
 pub mod IdLists

@@ -1,18 +1,16 @@
 -- What a reader has read, and what a step of it does.
-use Rattle.std.specs.Prelude.{◌≡◌, ◌+◌, ◌-◌, ◌++◌, ◌∷◌, ◌⊎◌, [], ℕ, List, None, true, false, Result, length, map, slice_get, MatchResult, if◌then◌else◌}
+use Rattle.std.specs.Prelude.{◌≡◌, ◌+◌, ◌-◌, ◌++◌, ◌∷◌, ◌⊎◌, [], ℕ, List, true, Result, length, map, slice_get, MatchResult, if◌then◌else◌}
 use Rattle.std.specs.Borrow.{Bor}
 use Rattle.std.specs.Option.{option_map_or}
 use Rattle.dom_links.specs.Forest.{Forest}
 use Rattle.dom_links.specs.Growth.{with_child, with_template}
 use Rattle.dom_nodes.specs.declared.fault.MarkupFaultKind.{MarkupFaultKind}
-use Rattle.dom_nodes.specs.declared.fault.MarkupFaultKind.TheVariants.{Memory}
-use Rattle.dom_nodes.specs.declared.name.Attr.{Attr}
-use Rattle.dom_nodes.specs.declared.name.NameParts.{NameParts}
+use Rattle.dom_nodes.specs.declared.fault.MarkupFaultKind.TheVariants.{Memory, Unclosed}
 use Rattle.dom_nodes.specs.declared.node_data.NodeData.{NodeData}
-use Rattle.dom_nodes.specs.declared.node_data.NodeData.TheVariants.{Element, Doctype as ADoctype}
+use Rattle.dom_nodes.specs.declared.node_data.NodeData.TheVariants.{Doctype as ADoctype}
 use Rattle.dom_trees.specs.NewNodes.{element_with, html_name}
 use Rattle.dom_markup.specs.Bytes.{folded}
-use Rattle.dom_markup.specs.Limits.{LacksNumbers}
+use Rattle.dom_markup.specs.Growing.{GrowsTo, plain_element}
 use Rattle.dom_markup.specs.Names.{Mode, is_template}
 use Rattle.dom_markup.specs.ValueTrees.{Attribute, ValueTrees}
 use Rattle.dom_markup.specs.Markup.{Item, AreInPlace, Begins, BeginsNothing, BeginsStart, items_of, mode_after}
@@ -41,9 +39,10 @@ IsReading reader = (items : List Item) × AfterItems items reader
 abbrev pub IsWhole : List Item → Forest → Type 0
 IsWhole items forest = (trees : ValueTrees) × (items ≡ items_of trees) × AreInPlace true trees × (forest ≡ document_of trees)
 
--- where the reader has read these items, they are whole trees, and this is their document; or an element is left open
+-- where the reader has read these items, they are whole trees, and this is their document; or memory was refused, or an
+-- element is left open
 abbrev pub EndsReading : Reader → Result Forest MarkupFaultKind → Type 0
-EndsReading reader result = (items : List Item) → AfterItems items reader → MatchResult result (IsWhole items) (λ _. LeavesSomeOpen items)
+EndsReading reader result = (items : List Item) → AfterItems items reader → MatchResult result (IsWhole items) (λ kind. (kind ≡ Memory) ⊎ ((kind ≡ Unclosed) × LeavesSomeOpen items))
 
 -- the number below which children stand: that of the innermost open element, of its contents where it is a template, or
 -- of the document
@@ -54,17 +53,13 @@ parent_number reader =
 -- the tree has grown to this one, in which the new node's children stand below that number; an Err reports a limit
 pub record Grows (old new : Reader) (result : Result ℕ MarkupFaultKind) (place : ℕ) (tree : Forest) : Type 0 where
   pub stack : new.stack ≡ old.stack
-  pub grown : MatchResult result (λ number. (number ≡ place) × (new.tree ≡ tree)) (λ kind. LacksNumbers place kind)
+  pub grown : GrowsTo result new.tree place tree
 
 -- what was read of a start tag is an element of this name with these attributes
 pub record IsStarted (started : Started) (name : List ℕ) (attributes : List Attribute) : Type 0 where
   pub written : folded started.written.now ≡ name
   pub local : started.local ≡ name
-  pub attrs : started.attrs ≡ map read_attr attributes
-
--- an element without contents
-abbrev pub plain_element : NameParts → List Attr → NodeData
-plain_element name attrs = Element (record { name = name; attrs = attrs; template_contents = None; mathml_annotation_xml_integration_point = false })
+  pub attrs : started.attrs.items ≡ map read_attr attributes
 
 -- the doctype of a name and identifiers as they are written
 abbrev pub doctype_data : Doctype → NodeData
@@ -82,8 +77,8 @@ TakesStarted text result = MatchResult result (λ found. StartsSo text found.0 f
 -- the forest with a new element of a start tag as the last child of p, and a template's contents
 abbrev pub with_started : ℕ → Started → Forest → Forest
 with_started p started forest =
-    if is_template (folded started.written.now) then with_template p (element_with (html_name started.local) started.attrs (length forest.content + 1)) forest
-    else with_child p (plain_element (html_name started.local) started.attrs) forest
+    if is_template (folded started.written.now) then with_template p (element_with (html_name started.local) started.attrs.items (length forest.content + 1)) forest
+    else with_child p (plain_element (html_name started.local) started.attrs.items) forest
 
 -- behind all that was read before, the item is read too, or the fault says why it isn't
 abbrev pub ReadsItem : {T : Type 0} → Item → Reader → Reader → Result T MarkupFaultKind → Type 0

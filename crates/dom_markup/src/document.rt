@@ -14,6 +14,7 @@ mod attributes;
 mod doctypes;
 pub mod fragments;
 mod front;
+mod growing;
 mod id_list;
 mod names;
 mod raw;
@@ -65,7 +66,8 @@ impl Document {
     /// (`MisplacedDoctype`), or an end tag that doesn't end the innermost open element
     /// (`MismatchedEnd`) or where none is open (`StrayEnd`). `Unclosed`: the text ends there in an
     /// open element, or the text of an element begins there that no end tag ends. `TooManyNodes`
-    /// and `Memory` report a limit, met at what begins there.
+    /// and `Memory` report a limit, met at what begins there; `Memory` may also be met at the end
+    /// of the text.
     pub fn parse(alloc: Global, source: &str) -> Result<Document, MarkupFault>
         ensures ok { IfOk result (IsDocumentOf source.now) }
         ensures fault { IfErr result (IsFaultOf source.now Refused IsFaultAt) }

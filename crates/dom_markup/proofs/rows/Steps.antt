@@ -10,10 +10,7 @@ use Rattle.dom_nodes.specs.declared.fault.MarkupFaultKind.{MarkupFaultKind}
 use Rattle.dom_nodes.specs.declared.fault.MarkupFaultKind.TheVariants as kinds
 use Rattle.dom_nodes.specs.declared.node_data.NodeData.{NodeData}
 use Rattle.dom_links.specs.Forest.{Forest}
-use Rattle.dom_nodes.specs.declared.node_data.NodeData.TheVariants.{Element as AnElement}
-use Rattle.dom_nodes.specs.declared.node_data.Element.{Element}
 use Rattle.dom_nodes.specs.declared.name.Attr.{Attr}
-use Rattle.dom_nodes.specs.declared.name.NameParts.{NameParts}
 use Rattle.dom_links.specs.Growth.{DataCause, with_child, with_template}
 use Rattle.dom_links.specs.Sound.{children_allowed_at}
 use Rattle.dom_trees.specs.Refusals.{TemplateCause}
@@ -29,12 +26,13 @@ use Rattle.dom_markup.specs.Numbered.{read_element, document_of}
 use Rattle.dom_markup.specs.Refusals.{nodes_begun, Refused, Declines, StopsBefore, BeginsNothingAt, Cause, IsFaultAt, LeavesSomeOpen, StartCause}
 use Rattle.dom_markup.specs.Front.{BeginsLetter}
 use Rattle.dom_markup.specs.Frames.{HasRead, Opened, opened, is_top, opened_size, with_element, children_place}
+use Rattle.dom_markup.specs.Growing.{MayGrowAt, plain_element}
 use Rattle.dom_markup.specs.Limits.{IsLimit, IsPlainData, LacksNumbers}
-use Rattle.dom_markup.specs.Reader.{AfterItems, Grows, IsStarted, IsWhole, StopsAt, opened_by, parent_number, plain_element, with_started}
+use Rattle.dom_markup.specs.Reader.{AfterItems, Grows, IsReading, IsStarted, IsWhole, StopsAt, opened_by, parent_number, with_started}
 use Rattle.dom_markup.specs.declared.document.reader.Open.{Open}
 use Rattle.dom_markup.specs.declared.document.reader.Reader.{Reader}
 use Rattle.dom_markup.specs.declared.document.reader.Started.{Started}
-use Rattle.dom_markup.proofs.rows.Frames.{nodes_begun-append, nodes_read, IsLeaf, void_leaf, void_plain, reads_leaf, reads_start, last_none, last_split, parent_last, parent_none, no_trees_end, no_trees_stray, no_trees_inside, no_trees_open}
+use Rattle.dom_markup.proofs.rows.Frames.{nodes_begun-append, nodes_read, IsLeaf, void_leaf, void_plain, reads_leaf, reads_start, last_none, last_split, parent_last, parent_none, no_trees_end, no_trees_stray, no_trees_inside, no_trees_open, parent_bears, parent_known}
 use Rattle.dom_markup.proofs.grammar.Items.{Begins-shorter, start_cause}
 use Rattle.dom_markup.proofs.grammar.OneReading.{SpellsItems}
 use Rattle.dom_markup.proofs.grammar.Whole.{mode_past-push, SpellsItems-from_front, SpellsItemsUpTo-push, items_left, first_left, none_left, nothing_left}
@@ -93,6 +91,21 @@ parent_is items reader h = by_last (slice_get stack (length stack - 1)) refl
         sym (ap (map opened_by) split.1 ∙ map-append opened_by split.0 (o ∷ [])) ∙ h.stack_is in
         parent_last (map opened_by split.0) (opened_by o) h.frames shown
 
+-- a node may be made there, but for a limit
+pub may_grow : (reader : Reader) (parent : ℕ) → parent ≡ parent_number reader → IsReading reader → MayGrowAt reader.tree parent
+may_grow reader parent is reading =
+    let place = sym (is ∙ parent_is reading.0 reader reading.1) in
+    record {
+      known = subst (λ (n : ℕ). n < length reader.tree.content) place (parent_known reading.0 _ _ reading.1);
+      open_here = subst (λ (n : ℕ). children_allowed_at reader.tree n ≡ true) place (parent_bears reading.0 _ _ reading.1);
+    }
+
+-- a reader of the same tree and the same open elements has read the same
+pub same_read : (items : List Item) (old new : Reader) → new.tree ≡ old.tree → new.stack ≡ old.stack → AfterItems items old → AfterItems items new
+same_read items old new tree stack h =
+    subst (λ (f : Forest). HasRead items f (map opened_by new.stack.items)) (sym tree)
+    (subst (λ (v : Vec Open Global). HasRead items old.tree (map opened_by v.items)) (sym stack) h)
+
 pub leaf_read : (items : List Item) (old new : Reader) (item : Item) (made content : NodeData) (h : AfterItems items old) → IsLeaf item content (is_top h.frames) → new.tree ≡ with_child (parent_number old) made old.tree → made ≡ content → new.stack ≡ old.stack →
     AfterItems (items ++ item ∷ []) new
 leaf_read items old new item made content h leaf grown is same =
@@ -115,22 +128,14 @@ start_read items old new before stack one name all h made kept pushed number nam
     (subst (λ (f : Forest). HasRead (items ++ start_tag name all ∷ []) f (map opened_by old.stack.items ++ record { number = children_place name old.tree; name = name } ∷ [])) (sym tree)
     (reads_start items old.tree (map opened_by old.stack.items) name all h open_one))
 
-abbrev pub of_parts : NameParts → List Attr → Option ℕ → Element
-of_parts name attrs contents = record { name = name; attrs = attrs; template_contents = contents; mathml_annotation_xml_integration_point = false }
-
-parts_same : (name other : NameParts) (attrs others : List Attr) (contents : Option ℕ) → name ≡ other → attrs ≡ others → of_parts name attrs contents ≡ of_parts other others contents
-parts_same name other attrs others contents e f = ap (λ (n : NameParts). of_parts n attrs contents) e ∙ ap (λ (as' : List Attr). of_parts other as' contents) f
-
 -- an element without contents, and one with
-pub plain_made : (old new : Reader) (result : Result ℕ MarkupFaultKind) (started : Started) (element : Element) → is_template (folded started.written.now) ≡ false → element ≡ of_parts (html_name started.local) started.attrs None →
-    Grows old new result (length old.tree.content) (with_child (parent_number old) (AnElement element) old.tree) → Grows old new result (children_place (folded started.written.now) old.tree) (with_started (parent_number old) started old.tree)
-plain_made old new result started element plain is grows =
-    let made : Grows old new result (length old.tree.content) (with_child (parent_number old) (plain_element (html_name started.local) started.attrs) old.tree) =
-    subst (λ (x : Element). Grows old new result (length old.tree.content) (with_child (parent_number old) (AnElement x) old.tree)) is grows in
-    rw plain made
+pub plain_made : (old new : Reader) (result : Result ℕ MarkupFaultKind) (started : Started) → is_template (folded started.written.now) ≡ false →
+    Grows old new result (length old.tree.content) (with_child (parent_number old) (plain_element (html_name started.local) started.attrs.items) old.tree) →
+    Grows old new result (children_place (folded started.written.now) old.tree) (with_started (parent_number old) started old.tree)
+plain_made old new result started plain grows = rw plain grows
 
 pub template_made : (old new : Reader) (result : Result ℕ MarkupFaultKind) (started : Started) → is_template (folded started.written.now) ≡ true →
-    Grows old new result (length old.tree.content + 1) (with_template (parent_number old) (element_with (html_name started.local) started.attrs (length old.tree.content + 1)) old.tree) →
+    Grows old new result (length old.tree.content + 1) (with_template (parent_number old) (element_with (html_name started.local) started.attrs.items (length old.tree.content + 1)) old.tree) →
     Grows old new result (children_place (folded started.written.now) old.tree) (with_started (parent_number old) started old.tree)
 template_made old new result started template grows = rw template grows
 
@@ -139,7 +144,7 @@ pub started_is : (p : ℕ) (started : Started) (all : List Attribute) (forest : 
 started_is p started all forest same_attrs =
     let name = folded started.written.now in
     let more = length forest.content + 1 in
-    ap (λ (n : List ℕ). cond (is_template name) (with_template p (element_with (html_name n) started.attrs more) forest) (with_child p (plain_element (html_name n) started.attrs) forest)) same_attrs.local
+    ap (λ (n : List ℕ). cond (is_template name) (with_template p (element_with (html_name n) started.attrs.items more) forest) (with_child p (plain_element (html_name n) started.attrs.items) forest)) same_attrs.local
     ∙ ap (λ (as' : List Attr). cond (is_template name) (with_template p (element_with (html_name name) as' more) forest) (with_child p (plain_element (html_name name) as') forest)) same_attrs.attrs
 
 -- a void element has no contents
@@ -232,11 +237,13 @@ stopped source left mode reader kind at p some place (inr (inl nothing)) =
 stopped source left mode reader kind at p some place (inr (inr declined)) =
     fault_before source at kind record { items = p.items; item = declined.0; left = left; rest = declined.1; spelled = p.front; place = place; begins = subst (λ (m : Mode). Begins m left declined.0 declined.1) p.mode_is declined.2; cause = declined.3 }
 
--- an element is open at the end
-pub unclosed : (source left : List ℕ) (mode : Mode) (reader : Reader) (kind : MarkupFaultKind) (p : Progress source left mode reader) → left ≡ [] → kind ≡ kinds.Unclosed → LeavesSomeOpen p.items → IsFaultAt source (length source) kind
-unclosed source left mode reader kind p e is some =
-    subst (IsFaultAt source (length source)) (sym is)
-    (inl record { items = p.items; spelled = subst (λ (t : List ℕ). SpellsItemsUpTo markup source p.items t) e p.front; place = refl; not_closed = some })
+-- at the end memory was refused, or an element is open
+pub unfinished : (source left : List ℕ) (mode : Mode) (reader : Reader) (kind : MarkupFaultKind) (p : Progress source left mode reader) → left ≡ [] →
+    (kind ≡ kinds.Memory) ⊎ ((kind ≡ kinds.Unclosed) × LeavesSomeOpen p.items) → IsFaultAt source (length source) kind
+unfinished source left mode reader kind p e (inl memory) = subst (IsFaultAt source (length source)) (sym memory) tt
+unfinished source left mode reader kind p e (inr open_at_end) =
+    subst (IsFaultAt source (length source)) (sym open_at_end.0)
+    (inl record { items = p.items; spelled = subst (λ (t : List ℕ). SpellsItemsUpTo markup source p.items t) e p.front; place = refl; not_closed = open_at_end.1 })
 
 -- ---- what a fault says of the whole text
 

@@ -7,11 +7,10 @@ ghost use Rattle.dom_markup.specs.Attributes.{Gains, IsNoted, Keeps, AreKept};
 ghost use Rattle.dom_markup.specs.Bytes.{folded};
 ghost use Rattle.dom_markup.specs.ByteClasses.{PastAttributes, attribute_in};
 
-use crate::document::scan::{Written, attribute_at, estimate_attrs};
+use crate::document::scan::{Written, attribute_at};
 use crate::references::decode;
 use dom_nodes::fault::OutOfMemory;
 use dom_nodes::name::{Attr, LocalName, QualName};
-use dom_nodes::node_data::Attrs;
 use dom_nodes::text::Text;
 use std::alloc::Global;
 use std::collections::BTreeSet;
@@ -39,19 +38,18 @@ fn has_attr(attrs: &[Attr], name: &LocalName) -> bool
 /// tag of many attributes is read quickly, whatever their names are.
 #[derive(Drop)]
 struct KeptAttrs {
-    attrs: Attrs,
+    attrs: Vec<Attr>,
     noted: usize,
     older: BTreeSet<String>,
 }
 
 impl KeptAttrs {
-    /// No attributes, and room for so many.
-    fn new(alloc: Global, room: usize) -> KeptAttrs
-        ensures none { result.attrs ≡ [] }
+    /// No attributes yet; they are put into this empty vector.
+    fn new(alloc: Global, attrs: Vec<Attr>) -> KeptAttrs
+        requires { attrs.items ≡ [] }
+        ensures none { result.attrs.items ≡ [] }
         ensures noted { IsNoted result }
     {
-        let mut attrs = Attrs::new(alloc);
-        attrs.reserve(room);
         KeptAttrs {
             attrs,
             noted: 0,
@@ -62,7 +60,7 @@ impl KeptAttrs {
     /// Whether some attribute has the local name.
     fn has(&self, name: &LocalName) -> bool
         requires { IsNoted self.now }
-        ensures { result ≡ list_any (is_attr_named name.now) self.now.attrs }
+        ensures { result ≡ list_any (is_attr_named name.now) self.now.attrs.items }
     {
         let (_, recent) = self.attrs.as_slice().split_at(self.noted);
         self.older.contains(name.as_str()) || has_attr(recent, name)
@@ -99,8 +97,8 @@ impl KeptAttrs {
     fn add(&mut self, alloc: Global, written: Written) -> Result<(), OutOfMemory>
         requires { IsNoted self.old }
         ensures noted { OnOk result (IsNoted self.new) }
-        ensures added { OnOk result (Keeps (attribute_in written.entry) self.old.attrs
-            self.new.attrs) }
+        ensures added { OnOk result (Keeps (attribute_in written.entry) self.old.attrs.items
+            self.new.attrs.items) }
     {
         let local = LocalName::folded(alloc, written.name)?;
         if self.has(&local) {
@@ -114,19 +112,22 @@ impl KeptAttrs {
 }
 
 /// The attributes of a start tag, behind its name, and what follows them; of equal names the first
-/// is kept.
+/// is kept. They are put into the vector, which is empty.
 #[inline(always)]
-pub fn attrs_of(alloc: Global, text: &str) -> Result<(Attrs, &str), OutOfMemory>
+pub fn attrs_of(
+    alloc: Global,
+    text: &str,
+    attrs: Vec<Attr>,
+) -> Result<(Vec<Attr>, &str), OutOfMemory>
+    requires { attrs.items ≡ [] }
     ensures past { IfOk result (λ found. PastAttributes text.now found.1.now) }
-    ensures attrs { IfOk result (λ found. AreKept text.now found.0) }
+    ensures attrs { IfOk result (λ found. AreKept text.now found.0.items) }
 {
-    let mut kept = KeptAttrs::new(alloc, estimate_attrs(text));
+    let mut kept = KeptAttrs::new(alloc, attrs);
     let mut rest = text;
     while let Some((written, after)) = attribute_at(rest) {
         kept.add(alloc, written)?;
         rest = after;
     }
-    let mut attrs = kept.attrs;
-    attrs.shrink_to_fit();
-    Ok((attrs, rest))
+    Ok((kept.attrs, rest))
 }

@@ -1,10 +1,10 @@
 //! Reading tags and texts into a tree.
 
 ghost use Rattle.std.specs.Prelude.{◌≡◌, ◌≢◌, ◌<◌, ◌+◌, ◌++◌, [], None, codes};
-ghost use Rattle.std.specs.Prelude.{IfErr, IfOk, length};
+ghost use Rattle.std.specs.Prelude.{IfOk, length};
 ghost use Rattle.dom_trees.specs.NewNodes.{element_with};
 ghost use Rattle.dom_markup.specs.Bytes.{folded};
-ghost use Rattle.dom_markup.specs.Limits.{IsLimit, IsPlainData, limit_kind};
+ghost use Rattle.dom_markup.specs.Limits.{IsPlainData};
 ghost use Rattle.dom_markup.specs.Names.{markup};
 ghost use Rattle.dom_markup.specs.Reader.{TakesStarted, doctype_data};
 ghost use Rattle.dom_markup.specs.Token.{contents_in, doctype_item, mode_of};
@@ -12,32 +12,39 @@ ghost use Rattle.dom_markup.specs.Token.{contents_in, doctype_item, mode_of};
 use crate::document::attributes::{attrs_of, folded_name};
 use crate::document::doctypes::Doctype;
 use crate::document::front::{Front, front_at};
+use crate::document::growing::Growing;
 use crate::document::names::{is_template, names_element};
 use crate::document::scan::{ByteClass, split_front};
 use crate::document::tags::close_tag;
 use crate::document::within::{Within, within_named};
 use crate::names::is_void_name;
 use crate::references::decode;
-use dom_nodes::fault::{EditFault, MarkupFaultKind, OutOfMemory};
-use dom_nodes::name::{LocalName, QualName};
-use dom_nodes::node_data::{Attrs, Element, NodeData};
+use dom_nodes::fault::{MarkupFaultKind, OutOfMemory};
+use dom_nodes::name::{Attr, LocalName, QualName};
+use dom_nodes::node_data::NodeData;
 use dom_nodes::node_id::NodeId;
 use dom_nodes::text::{RareText, Text};
 use dom_nodes::words::is_same_word;
 use dom_trees::tree::Tree;
 use std::alloc::Global;
+use std::mem;
 
 /// What a start tag holds: the name as it is written, the element's local name, and its attributes.
 #[derive(Drop)]
 struct Started<'a> {
     written: &'a str,
     local: LocalName,
-    attrs: Attrs,
+    attrs: Vec<Attr>,
 }
 
 /// What a start tag holds, which is taken while it is scanned, and what follows it. It stands here
-/// behind its `<`.
-fn start_tag_of(alloc: Global, tag: &str) -> Result<(Started<'_>, &str), MarkupFaultKind>
+/// behind its `<`. Its attributes are put into the vector, which is empty.
+fn start_tag_of(
+    alloc: Global,
+    tag: &str,
+    attrs: Vec<Attr>,
+) -> Result<(Started<'_>, &str), MarkupFaultKind>
+    requires { attrs.items ≡ [] }
     ensures { TakesStarted (codes "<" ++ tag.now) result }
 {
     let (written, behind) = split_front(ByteClass::Name, tag);
@@ -47,7 +54,7 @@ fn start_tag_of(alloc: Global, tag: &str) -> Result<(Started<'_>, &str), MarkupF
     let Ok(local) = LocalName::folded(alloc, written) else {
         return Err(MarkupFaultKind::Memory);
     };
-    let Ok((attrs, close)) = attrs_of(alloc, behind) else {
+    let Ok((attrs, close)) = attrs_of(alloc, behind, attrs) else {
         return Err(MarkupFaultKind::Memory);
     };
     let rest = close_tag(close, is_void_name(&local))?;
@@ -87,18 +94,6 @@ fn contents_of(alloc: Global, text: &str, within: Within) -> Result<Text, OutOfM
     }
 }
 
-/// What a limit that an edit met is called in markup.
-fn limit_of(fault: EditFault) -> MarkupFaultKind
-    requires { IsLimit fault }
-    ensures { result ≡ limit_kind fault }
-{
-    match fault {
-        EditFault::TooManyNodes => MarkupFaultKind::TooManyNodes,
-        EditFault::Memory => MarkupFaultKind::Memory,
-        _ => unreachable!(),
-    }
-}
-
 /// An open element: the number of the node below which its children stand, and its name as it is
 /// written.
 #[derive(Clone, Copy)]
@@ -125,17 +120,19 @@ fn markup_behind(rest: &str) -> Behind<'_>
     }
 }
 
-/// What has been read of a document.
+/// What has been read of a document, and the vector that a tag's attributes are read into.
 #[derive(Drop)]
 pub struct Reader<'a> {
-    pub tree: Tree,
+    pub tree: Growing,
     stack: Vec<Open<'a>>,
+    spare: Vec<Attr>,
 }
 
 impl<'a> Reader<'a> {
     ghost use Rattle.dom_links.specs.Growth.{with_child, with_template};
     ghost use Rattle.dom_markup.specs.Frames.{children_place};
     ghost use Rattle.dom_markup.specs.Front.{BeginsLetter};
+    ghost use Rattle.dom_markup.specs.Growing.{plain_element};
     ghost use Rattle.dom_markup.specs.Markup.{Item};
     ghost use Rattle.dom_markup.specs.Reader.{AfterItems, EndsReading, Grows, IsReading};
     ghost use Rattle.dom_markup.specs.Reader.{ReadsFront, ReadsItem, parent_number, with_started};
@@ -144,12 +141,11 @@ impl<'a> Reader<'a> {
     pub fn new(alloc: Global) -> Result<Reader<'a>, OutOfMemory>
         ensures { IfOk result (λ reader. AfterItems [] reader) }
     {
-        let Ok(tree) = Tree::new(alloc, NodeData::Document) else {
-            return Err(OutOfMemory);
-        };
+        let tree = Growing::new(alloc)?;
         Ok(Reader {
             tree,
             stack: Vec::new(alloc),
+            spare: Vec::new(alloc),
         })
     }
 
@@ -173,26 +169,51 @@ impl<'a> Reader<'a> {
             (with_child (parent_number self.old) content self.old.tree) }
     {
         let parent = self.parent();
-        match self.tree.append_child_data_of(&parent, content) {
-            Ok(number) => Ok(number),
-            Err(fault) => Err(limit_of(fault)),
-        }
+        self.tree.append(&parent, content)
+    }
+
+    /// The empty vector that a tag's attributes are read into.
+    fn take_spare(&mut self, alloc: Global) -> Vec<Attr>
+        ensures empty { result.items ≡ [] }
+        ensures tree { self.new.tree ≡ self.old.tree }
+        ensures stack { self.new.stack ≡ self.old.stack }
+    {
+        let mut attrs = mem::replace(&mut self.spare, Vec::new(alloc));
+        attrs.clear();
+        attrs
+    }
+
+    /// Makes an element without contents as the last child of the innermost open element.
+    fn append_plain(&mut self, name: QualName, attrs: Vec<Attr>) -> Result<NodeId, MarkupFaultKind>
+        requires { IsReading self.old }
+        ensures { Grows self.old self.new result (length self.old.tree.content)
+            (with_child (parent_number self.old) (plain_element name attrs.items) self.old.tree) }
+    {
+        let parent = self.parent();
+        let mut attrs = attrs;
+        let made = self.tree.append_element(&parent, name, &mut attrs);
+        self.spare = attrs;
+        made
     }
 
     /// Makes an element with contents as the last child of the innermost open element, and returns
     /// the contents' number.
-    fn append_template(&mut self, name: QualName, attrs: Attrs) -> Result<NodeId, MarkupFaultKind>
+    fn append_template(
+        &mut self,
+        name: QualName,
+        attrs: Vec<Attr>,
+    ) -> Result<NodeId, MarkupFaultKind>
         requires { IsReading self.old }
         ensures { let contents = length self.old.tree.content + 1 in
-            let element = element_with name attrs contents in
+            let element = element_with name attrs.items contents in
             Grows self.old self.new result contents
             (with_template (parent_number self.old) element self.old.tree) }
     {
         let parent = self.parent();
-        match self.tree.append_template_of(&parent, name, attrs) {
-            Ok((_, contents)) => Ok(contents),
-            Err(fault) => Err(limit_of(fault)),
-        }
+        let mut attrs = attrs;
+        let made = self.tree.append_template(&parent, name, &mut attrs);
+        self.spare = attrs;
+        made
     }
 
     /// Makes an element as the last child of the innermost open element, with contents where it is
@@ -205,8 +226,7 @@ impl<'a> Reader<'a> {
     {
         let name = QualName::html(started.local);
         if !is_template(started.written) {
-            let element = Element::new(name, started.attrs, None, false);
-            return self.append(NodeData::Element(element));
+            return self.append_plain(name, started.attrs);
         }
         self.append_template(name, started.attrs)
     }
@@ -278,7 +298,8 @@ impl<'a> Reader<'a> {
         requires letter { BeginsLetter tag.now }
         ensures { ReadsFront markup (codes "<" ++ tag.now) self.old self.new result }
     {
-        let (started, rest) = start_tag_of(alloc, tag)?;
+        let attrs = self.take_spare(alloc);
+        let (started, rest) = start_tag_of(alloc, tag, attrs)?;
         let name = started.written;
         let void = is_void_name(&started.local);
         let within = within_named(name, &started.local);
@@ -330,13 +351,14 @@ impl<'a> Reader<'a> {
 
     /// The tree, once all is read; `Unclosed` where an element is open.
     pub fn finish(self) -> Result<Tree, MarkupFaultKind>
-        ensures items { EndsReading self.entry result }
-        ensures kind { IfErr result (λ kind. kind ≡ MarkupFaultKind.Unclosed) }
+        ensures { EndsReading self.entry result }
     {
-        if self.stack.is_empty() {
-            Ok(self.tree)
-        } else {
-            Err(MarkupFaultKind::Unclosed)
+        if !self.stack.is_empty() {
+            return Err(MarkupFaultKind::Unclosed);
+        }
+        match self.tree.finish() {
+            Ok(tree) => Ok(tree),
+            Err(_) => Err(MarkupFaultKind::Memory),
         }
     }
 }

@@ -219,28 +219,6 @@ pub fn estimate_nodes(text: &str) -> usize {
     count.saturating_mul(4).saturating_add(count / 4)
 }
 
-/// About how many attributes stand before the end of a tag: as many as the next 64 bytes have `=`
-/// before a `>`. Nothing but room for attributes hangs on it.
-pub fn estimate_attrs(text: &str) -> usize {
-    let bytes = text.as_bytes();
-    if bytes.len() < 64 || bytes[0] == b'>' {
-        return 0;
-    }
-    let ends = places_of(bytes, b'>');
-    let below = ends.wrapping_sub(1) & !ends;
-    (places_of(bytes, b'=') & below).count_ones() as usize
-}
-
-/// At which of the first 64 bytes that byte stands, a bit for each.
-fn places_of(bytes: &[u8], byte: u8) -> u64
-    requires { 64 ≤ length bytes.now }
-{
-    let wanted = u8x32::splat(byte);
-    let low = u8x32::from_slice(bytes).simd_eq(wanted).to_bitmask();
-    let high = u8x32::from_slice(&bytes[32..]).simd_eq(wanted).to_bitmask();
-    low | high << 32
-}
-
 // ---- comments
 
 /// The contents of a comment, behind its `<!--`, and what follows its first `-->`.

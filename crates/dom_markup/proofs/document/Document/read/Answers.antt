@@ -6,7 +6,7 @@ use Rattle.dom_markup.specs.Token.{mode_of}
 use Rattle.std.proofs.lemmas.Bool.{eqb-true, eqb-false}
 use Rattle.dom_markup.proofs.rows.Frames.{nil_from_length0}
 use Rattle.dom_markup.proofs.grammar.Items.{Begins-shorter}
-use Rattle.dom_markup.proofs.rows.Steps.{progress_none, progress_step, stopped, whole_text, unclosed, refused}
+use Rattle.dom_markup.proofs.rows.Steps.{progress_none, progress_step, stopped, whole_text, unfinished, refused}
 use Rattle.dom_markup.proofs.document.Document.read.Goals as goal
 
 pub loop-left-init : goal.loop-left-init
@@ -37,13 +37,12 @@ pub returns-in-Ok-finish-clause-ok : goal.returns-in-Ok-finish-clause-ok
 returns-in-Ok-finish-clause-ok c =
     let progress = c.loop-left.invariant.progress in
     let none = nil_from_length0 c.loop-left.left.now (eqb-true (length c.loop-left.left.now) 0 (sym c.loop-left-test.ensures)) in
-    let read = whole_text _ _ _ _ c.in-Ok-finish.tree progress none (c.in-Ok-finish.ensures.items progress.items progress.read) in
+    let read = whole_text _ _ _ _ c.in-Ok-finish.tree progress none (c.in-Ok-finish.ensures progress.items progress.read) in
     record { spelled = (read.0, read.1, c.whole.ensures.tree ∙ read.2); notes = c.whole.ensures.notes }
 
 pub returns-in-Err-finish-clause-fault : goal.returns-in-Err-finish-clause-fault
 returns-in-Err-finish-clause-fault c =
     let progress = c.loop-left.invariant.progress in
     let none = nil_from_length0 c.loop-left.left.now (eqb-true (length c.loop-left.left.now) 0 (sym c.loop-left-test.ensures)) in
-    let closed = c.in-Err-finish.ensures in
-    let cause = unclosed _ _ _ _ _ progress none closed.kind (closed.items progress.items progress.read) in
+    let cause = unfinished _ _ _ _ _ progress none (c.in-Err-finish.ensures progress.items progress.read) in
     record { refused = refused _ _ _ cause; place = omega arith; cause = cause }

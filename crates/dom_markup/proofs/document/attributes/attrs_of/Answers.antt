@@ -21,4 +21,4 @@ pub returns-clause-past : goal.returns-clause-past
 returns-clause-past c = record { same = c.loop-written.invariant.same; none = c.in_default.ensures.none }
 
 pub returns-clause-attrs : goal.returns-clause-attrs
-returns-clause-attrs c = rw c.shrink_to_fit.ensures (kept_all _ _ _ c.loop-written.invariant.kept c.in_default.ensures.none)
+returns-clause-attrs c = kept_all _ _ _ c.loop-written.invariant.kept c.in_default.ensures.none

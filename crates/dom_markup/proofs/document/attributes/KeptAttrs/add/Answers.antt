@@ -1,4 +1,4 @@
-use Rattle.std.proofs.Common.{◌≡◌, ◌∷◌, ◌++◌, ℕ, List, Bool, [], None, refl, sym, ◌∙◌, ap}
+use Rattle.std.proofs.Common.{Vec, Global, ◌≡◌, ◌∷◌, ◌++◌, ℕ, List, Bool, [], None, refl, sym, ◌∙◌, ap}
 use Rattle.std.specs.List.{list_any}
 use Rattle.std.proofs.lemmas.Result.{on_ok_weaker}
 use Rattle.dom_nodes.specs.declared.name.Attr.{Attr}
@@ -29,7 +29,7 @@ attr_of_read local value name text e f = ap (λ (l : List ℕ). of l value) e �
 
 pub returns-then-has-clause-added : goal.returns-then-has-clause-added
 returns-then-has-clause-added c =
-    left_out c.args.self.now.attrs (attribute_of c.args.written.name.now c.args.written.value.now)
+    left_out c.args.self.now.attrs.items (attribute_of c.args.written.name.now c.args.written.value.now)
     (tested _ _ _ _ _ _ refl c.in_ok-local.ensures c.has.ensures c.if-has.true)
 
 pub returns-clause-added : goal.returns-clause-added
@@ -38,6 +38,6 @@ returns-clause-added c =
     let attr = attr_of_read c.in_ok-local.local c.in_ok-value.value c.args.written.name.now c.args.written.value.now c.in_ok-local.ensures c.in_ok-value.ensures in
     let made : Attr = record { name = c.plain-name.result; value = c.in_ok-value.value } in
     let named : made ≡ of c.in_ok-local.local c.in_ok-value.value = ap (λ (name : NameParts). with_value name c.in_ok-value.value) c.plain-name.ensures in
-    let grown = c.in_ok-push.ensures.ok ∙ ap (λ (a : Attr). c.args.self.now.attrs ++ a ∷ []) named ∙ ap (λ (a : Attr). c.args.self.now.attrs ++ a ∷ []) attr in
-    on_ok_weaker c.note.result (λ _ kept e. c.note.ensures.attrs ∙ grown
-    ∙ added c.args.self.now.attrs (attribute_of c.args.written.name.now c.args.written.value.now) new kept e) c.note.ensures.noted
+    let grown = c.in_ok-push.ensures.items ∙ ap (λ (a : Attr). c.args.self.now.attrs.items ++ a ∷ []) named ∙ ap (λ (a : Attr). c.args.self.now.attrs.items ++ a ∷ []) attr in
+    on_ok_weaker c.note.result (λ _ kept e. ap (λ (v : Vec Attr Global). v.items) c.note.ensures.attrs ∙ grown
+    ∙ added c.args.self.now.attrs.items (attribute_of c.args.written.name.now c.args.written.value.now) new kept e) c.note.ensures.noted

@@ -1,22 +1,18 @@
-use Rattle.std.proofs.Common.{◌≡◌, ◌<◌, ◌+◌, ℕ, length, true, refl, sym, ap, ◌∙◌, subst, rules}
+use Rattle.std.proofs.Common.{refl, ◌+◌, ℕ, length, subst}
 use Rattle.dom_links.specs.Growth.{with_template}
-use Rattle.dom_links.specs.Sound.{children_allowed_at}
 use Rattle.dom_trees.specs.NewNodes.{element_with}
-use Rattle.dom_markup.proofs.rows.Frames.{parent_known, parent_bears}
-use Rattle.dom_markup.proofs.rows.Steps.{template_limits, parent_is}
+use Rattle.dom_markup.specs.Growing.{GrowsTo}
+use Rattle.dom_markup.proofs.rows.Steps.{may_grow}
 use Rattle.dom_markup.proofs.document.reader.Reader.append_template.Goals as goal
 
-pub limit_of-requires : goal.limit_of-requires
-limit_of-requires c =
-    let forest = c.args.self.now.tree in
-    let parent = c.parent-parent.ensures ∙ parent_is c.requires.0 c.args.self.now c.requires.1 in
-    template_limits forest c.parent-parent.result c.in-Err.fault
-    (subst (λ (n : ℕ). n < length forest.content) (sym parent) (parent_known c.requires.0 _ _ c.requires.1))
-    (subst (λ (n : ℕ). children_allowed_at forest n ≡ true) (sym parent) (parent_bears c.requires.0 _ _ c.requires.1))
-    c.in-Err.ensures.edits.cause
+pub append_template-made-requires : goal.append_template-made-requires
+append_template-made-requires c = may_grow c.args.self.now c.parent-parent.result c.parent-parent.ensures c.requires
 
-pub returns-in-Ok : goal.returns-in-Ok
-returns-in-Ok c = record {
-  stack = refl;
-  grown = (search rules, c.in-Ok.ensures.edits.ok ∙ ap (λ (p : ℕ). with_template p (element_with c.args.name c.args.attrs (length c.args.self.now.tree.content + 1)) c.args.self.now.tree) c.parent-parent.ensures);
-}
+pub returns : goal.returns
+returns c =
+    let old = c.args.self.now.tree in
+    let contents = length old.content + 1 in
+    record {
+      stack = refl;
+      grown = subst (λ (p : ℕ). GrowsTo c.append_template-made.result c.append_template-made.new.self contents (with_template p (element_with c.args.name c.args.attrs.items contents) old)) c.parent-parent.ensures c.append_template-made.ensures;
+    }

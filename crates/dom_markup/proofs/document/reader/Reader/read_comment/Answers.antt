@@ -14,4 +14,4 @@ returns-in_err-append c =
 
 pub returns : goal.returns
 returns c = λ items h.
-    leaf_read items _ _ (comment c.args.written.now) _ (Comment c.args.written.now) h (comment_leaf (is_top h.frames) c.args.written.now) c.in_ok-append.ensures.grown.1 (ap Comment c.in-Ok.ensures) c.in_ok-append.ensures.stack
+    leaf_read items c.args.self.now c.append.new.self (comment c.args.written.now) _ (Comment c.args.written.now) h (comment_leaf (is_top h.frames) c.args.written.now) c.in_ok-append.ensures.grown.1 (ap Comment c.in-Ok.ensures) c.in_ok-append.ensures.stack

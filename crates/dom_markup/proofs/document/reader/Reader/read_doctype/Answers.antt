@@ -32,5 +32,5 @@ returns c = λ items h.
     let name = folded read.name.now in
     let nil : c.args.self.now.stack.items ≡ [] = nil_from_length0 _ (sym c.args.self.now.stack.ok.0 ∙ eqb-true _ 0 (sym c.is_empty.ensures ∙ c.if-not-is_empty.false)) in
     let top = top_where_none h.frames (sym (ap (map opened_by) nil) ∙ h.stack_is) in
-    leaf_read items _ _ (doctype name read.public.now read.system.now) _ (Doctype name read.public.now read.system.now) h (doctype_leaf (is_top h.frames) name read.public.now read.system.now top) c.in_ok-append.ensures.grown.1
+    leaf_read items c.args.self.now c.append.new.self (doctype name read.public.now read.system.now) _ (Doctype name read.public.now read.system.now) h (doctype_leaf (is_top h.frames) name read.public.now read.system.now top) c.in_ok-append.ensures.grown.1
     c.in-Ok.ensures.doctype c.in_ok-append.ensures.stack

@@ -16,4 +16,4 @@ returns-in_err-append c =
 pub returns : goal.returns
 returns c =
     let contents = contents_in (mode_of c.args.within) c.args.text.now in
-    λ items h. leaf_read items _ _ (characters contents) _ (Text contents) h (text_leaf (is_top h.frames) contents) c.in_ok-append.ensures.grown.1 (ap Text c.in-Ok.ensures) c.in_ok-append.ensures.stack
+    λ items h. leaf_read items c.args.self.now c.append.new.self (characters contents) _ (Text contents) h (text_leaf (is_top h.frames) contents) c.in_ok-append.ensures.grown.1 (ap Text c.in-Ok.ensures) c.in_ok-append.ensures.stack

@@ -1,0 +1,303 @@
+//! A tree that grows while markup is read.
+
+ghost use Rattle.std.specs.Prelude.{◌≡◌, ◌+◌, ◌++◌, OnErr, OnOk, IfOk, length};
+ghost use Rattle.dom_nodes.specs.Changes.{with_attrs, with_missing};
+ghost use Rattle.dom_nodes.specs.declared.node_data.NodeData.TheVariants as contents;
+ghost use Rattle.dom_links.specs.Contents.{with_content};
+ghost use Rattle.dom_links.specs.Growth.{lone, with_child, with_template};
+ghost use Rattle.dom_trees.specs.NewNodes.{bare_element, element_with};
+ghost use Rattle.dom_markup.specs.Growing.{GrowsTo, MayGrowAt, plain_element, with_lists};
+ghost use Rattle.dom_markup.specs.Limits.{IsLimit, IsPlainData, limit_kind};
+
+use dom_nodes::fault::{EditFault, MarkupFaultKind, OutOfMemory};
+use dom_nodes::name::{Attr, QualName};
+use dom_nodes::node_data::{Attrs, Element, NodeData};
+use dom_nodes::node_id::NodeId;
+use dom_trees::tree::Tree;
+use std::alloc::Global;
+use std::marker::Model;
+use std::mem;
+use std::sync::Arc;
+
+/// How many attributes stand one behind another at most before their elements get them.
+const ROOM: usize = 512;
+
+/// An element that gets its attributes later: its number, and from where up to where they stand.
+#[derive(Clone, Copy)]
+struct Waiting {
+    number: NodeId,
+    from: usize,
+    to: usize,
+}
+
+/// A tree that grows. Elements of one attribute or two get them later: those of many elements
+/// stand one behind another in one list, which the elements then share. A contract sees the forest
+/// in which each element has its attributes.
+#[derive(Drop)]
+pub struct Growing {
+    tree: Tree,
+    attrs: Vec<Attr>,
+    waiting: Vec<Waiting>,
+}
+
+impl Model for Growing {
+    ghost use Rattle.std.specs.Prelude.{length};
+    ghost use Rattle.dom_links.specs.Forest.{Forest};
+    ghost use Rattle.dom_markup.specs.Growing.{AreKnown, with_lists};
+
+    ghost Value = { Forest };
+
+    ghost view = { λ growing. with_lists growing.attrs.items growing.waiting.items growing.tree };
+
+    ghost invariant = { λ growing. AreKnown (length growing.tree.content)
+        (length growing.attrs.items) growing.waiting.items };
+}
+
+impl Growing {
+    /// A document without children.
+    pub fn new(alloc: Global) -> Result<Growing, OutOfMemory>
+        ensures { IfOk result (λ growing. growing ≡ lone contents.Document) }
+    {
+        let Ok(tree) = Tree::new(alloc, NodeData::Document) else {
+            return Err(OutOfMemory);
+        };
+        Ok(Growing {
+            tree,
+            attrs: Vec::new(alloc),
+            waiting: Vec::new(alloc),
+        })
+    }
+
+    /// Makes room for so many more nodes, where there is memory.
+    pub fn reserve(&mut self, additional: usize)
+        ensures { self.new ≡ self.old }
+    {
+        self.tree.reserve(additional);
+    }
+
+    /// Makes a node as the last child of another.
+    #[inline(always)]
+    pub fn append(&mut self, parent: &NodeId, content: NodeData) -> Result<NodeId, MarkupFaultKind>
+        requires may { MayGrowAt self.old parent.now }
+        requires plain { IsPlainData content }
+        ensures { GrowsTo result self.new (length self.old.content)
+            (with_child parent.now content self.old) }
+    {
+        append_node(&mut self.tree, parent, content)
+    }
+
+    /// Makes an element with contents as the last child of a node, and returns the contents'
+    /// number. It takes its attributes out of the list.
+    pub fn append_template(
+        &mut self,
+        parent: &NodeId,
+        name: QualName,
+        attrs: &mut Vec<Attr>,
+    ) -> Result<NodeId, MarkupFaultKind>
+        requires { MayGrowAt self.old parent.now }
+        ensures { let contents = length self.old.content + 1 in
+            GrowsTo result self.new contents
+            (with_template parent.now (element_with name attrs.old.items contents) self.old) }
+    {
+        let alloc = self.tree.allocator();
+        let Ok(attrs) = taken(alloc, attrs) else {
+            return Err(MarkupFaultKind::Memory);
+        };
+        append_template_node(&mut self.tree, parent, name, attrs)
+    }
+
+    /// Makes an element as the last child of a node. It takes its attributes out of the list.
+    pub fn append_element(
+        &mut self,
+        parent: &NodeId,
+        name: QualName,
+        attrs: &mut Vec<Attr>,
+    ) -> Result<NodeId, MarkupFaultKind>
+        requires { MayGrowAt self.old parent.now }
+        ensures { GrowsTo result self.new (length self.old.content)
+            (with_child parent.now (plain_element name attrs.old.items) self.old) }
+    {
+        if attrs.is_empty() {
+            let bare = bare_of(self.tree.allocator(), name);
+            return self.append(parent, bare);
+        }
+        if attrs.len() <= 2 {
+            return self.append_waiting(parent, name, attrs);
+        }
+        let Ok(attrs) = taken(self.tree.allocator(), attrs) else {
+            return Err(MarkupFaultKind::Memory);
+        };
+        self.append(parent, element_of(name, attrs))
+    }
+
+    /// The same of an element that gets its attributes later.
+    fn append_waiting(
+        &mut self,
+        parent: &NodeId,
+        name: QualName,
+        attrs: &mut Vec<Attr>,
+    ) -> Result<NodeId, MarkupFaultKind>
+        requires { MayGrowAt self.old parent.now }
+        ensures { GrowsTo result self.new (length self.old.content)
+            (with_child parent.now (plain_element name attrs.old.items) self.old) }
+    {
+        let from = self.attrs.as_slice().len();
+        let Ok(()) = move_behind(&mut self.attrs, attrs) else {
+            return Err(MarkupFaultKind::Memory);
+        };
+        let to = self.attrs.as_slice().len();
+        let bare = bare_of(self.tree.allocator(), name);
+        let number = append_node(&mut self.tree, parent, bare)?;
+        let Ok(()) = self.waiting.push(Waiting { number, from, to }) else {
+            return Err(MarkupFaultKind::Memory);
+        };
+        if to <= ROOM - 2 {
+            return Ok(number);
+        }
+        match self.settle() {
+            Ok(()) => Ok(number),
+            Err(_) => Err(MarkupFaultKind::Memory),
+        }
+    }
+
+    /// Gives the elements that wait their attributes.
+    fn settle(&mut self) -> Result<(), OutOfMemory>
+        ensures { OnOk result (self.new ≡ self.old) }
+    {
+        let next = Vec::with_capacity(self.tree.allocator(), ROOM)?;
+        let attrs = mem::replace(&mut self.attrs, next);
+        let given = give(&mut self.tree, attrs, self.waiting.as_slice());
+        self.waiting.clear();
+        given
+    }
+
+    /// The tree, in which each element has its attributes.
+    pub fn finish(self) -> Result<Tree, OutOfMemory>
+        ensures { IfOk result (λ tree. tree ≡ self) }
+    {
+        let Growing {
+            mut tree,
+            mut attrs,
+            waiting,
+        } = self;
+        attrs.shrink_to_fit();
+        give(&mut tree, attrs, waiting.as_slice())?;
+        Ok(tree)
+    }
+}
+
+/// What a limit that an edit met is called in markup.
+fn limit_of(fault: EditFault) -> MarkupFaultKind
+    requires { IsLimit fault }
+    ensures { result ≡ limit_kind fault }
+{
+    match fault {
+        EditFault::TooManyNodes => MarkupFaultKind::TooManyNodes,
+        EditFault::Memory => MarkupFaultKind::Memory,
+        _ => unreachable!(),
+    }
+}
+
+/// An element without contents.
+#[inline(always)]
+fn element_of(name: QualName, attrs: Attrs) -> NodeData
+    ensures is { result ≡ plain_element name attrs }
+    ensures plain { IsPlainData result }
+{
+    NodeData::Element(Element::new(name, attrs, None, false))
+}
+
+/// An element without attributes and contents.
+#[inline(always)]
+fn bare_of(alloc: Global, name: QualName) -> NodeData
+    ensures is { result ≡ bare_element name }
+    ensures plain { IsPlainData result }
+{
+    element_of(name, Attrs::new(alloc))
+}
+
+/// Moves all attributes of a list behind those of another. One that has no memory yet takes over
+/// the list's.
+fn move_behind(list: &mut Vec<Attr>, attrs: &mut Vec<Attr>) -> Result<(), OutOfMemory>
+    ensures ok { OnOk result (list.new.items ≡ list.old.items ++ attrs.old.items) }
+    ensures err { OnErr result (list.new.items ≡ list.old.items) }
+{
+    if list.is_empty() && list.capacity() == 0 {
+        mem::swap(list, attrs);
+        return Ok(());
+    }
+    list.append(attrs)?;
+    Ok(())
+}
+
+/// Takes all attributes out of a list.
+fn taken(alloc: Global, attrs: &mut Vec<Attr>) -> Result<Attrs, OutOfMemory>
+    ensures { IfOk result (λ made. made ≡ attrs.old.items) }
+{
+    Attrs::from_items(alloc, mem::replace(attrs, Vec::new(alloc)))
+}
+
+/// Makes a node as the last child of another.
+#[inline(always)]
+fn append_node(
+    tree: &mut Tree,
+    parent: &NodeId,
+    content: NodeData,
+) -> Result<NodeId, MarkupFaultKind>
+    requires may { MayGrowAt tree.old parent.now }
+    requires plain { IsPlainData content }
+    ensures grows { GrowsTo result tree.new (length tree.old.content)
+        (with_child parent.now content tree.old) }
+    ensures err { OnErr result (tree.new ≡ tree.old) }
+{
+    match tree.append_child_data_of(parent, content) {
+        Ok(number) => Ok(number),
+        Err(fault) => Err(limit_of(fault)),
+    }
+}
+
+/// Makes an element with contents as the last child of a node, and returns the contents' number.
+fn append_template_node(
+    tree: &mut Tree,
+    parent: &NodeId,
+    name: QualName,
+    attrs: Attrs,
+) -> Result<NodeId, MarkupFaultKind>
+    requires { MayGrowAt tree.old parent.now }
+    ensures grows { let contents = length tree.old.content + 1 in
+        GrowsTo result tree.new contents
+        (with_template parent.now (element_with name attrs contents) tree.old) }
+    ensures err { OnErr result (tree.new ≡ tree.old) }
+{
+    match tree.append_template_of(parent, name, attrs) {
+        Ok((_, contents)) => Ok(contents),
+        Err(fault) => Err(limit_of(fault)),
+    }
+}
+
+/// Gives each element that waits its attributes, which it shares with the list.
+fn give(tree: &mut Tree, attrs: Vec<Attr>, waiting: &[Waiting]) -> Result<(), OutOfMemory>
+    ensures { OnOk result (tree.new ≡ with_lists attrs.items waiting.now tree.old) }
+{
+    if waiting.is_empty() {
+        return Ok(());
+    }
+    let alloc = tree.allocator();
+    let list = Arc::new(alloc, attrs)?;
+    for one in waiting {
+        let part = Attrs::part(alloc, &list, one.from, one.to)?;
+        add_attrs(tree, &one.number, part)?;
+    }
+    Ok(())
+}
+
+/// Adds attributes to an element.
+fn add_attrs(tree: &mut Tree, number: &NodeId, attrs: Attrs) -> Result<(), OutOfMemory>
+    ensures { OnOk result (tree.new
+        ≡ with_content number.now (with_attrs (with_missing attrs)) tree.old) }
+{
+    match tree.add_missing_attrs_of(number, attrs) {
+        Ok(()) => Ok(()),
+        Err(_) => Err(OutOfMemory),
+    }
+}
