@@ -1,6 +1,6 @@
 -- Ways between nodes, after the edits that tree construction makes.
 use Rattle.std.proofs.Common.{ℕ, ◌≡◌, ◌<◌, ◌⊎◌, zero, suc, true, false, List, [], ◌∷◌, ◌++◌, Option, Some, None, Result, Ok, Err, refl, sym, ap, ◌∙◌, subst, arith, inl, inr, length}
-use Rattle.std.specs.Prelude.{MatchResult, slice_get, option_and_then}
+use Rattle.std.specs.Prelude.{IfOk, MatchResult, slice_get, option_and_then}
 use Rattle.std.proofs.lemmas.Bool.{cases_Bool, cond-false}
 use Rattle.std.proofs.lemmas.List.{length_push}
 use Rattle.dom_nodes.specs.Kinds.{contents_named, is_fragment, is_top}
@@ -8,7 +8,8 @@ use Rattle.dom_nodes.specs.Changes.{with_attrs, with_missing}
 use Rattle.dom_nodes.specs.declared.fault.EditFault.{EditFault}
 use Rattle.dom_nodes.specs.declared.name.Attr.{Attr}
 use Rattle.dom_nodes.specs.declared.node_data.NodeData.{NodeData}
-use Rattle.dom_nodes.specs.declared.node_data.NodeData.TheVariants.{Fragment, Text}
+use Rattle.dom_nodes.specs.declared.node_data.Element.{Element}
+use Rattle.dom_nodes.specs.declared.node_data.NodeData.TheVariants.{Element as AnElement, Fragment, Text}
 use Rattle.dom_links.specs.AddedTexts.{lengthened, text_before, with_more}
 use Rattle.dom_links.specs.Contents.{KeepsKind, changed_at, with_content}
 use Rattle.dom_links.specs.Forest.{Forest, StandsOnce, children_of, parent, siblings}
@@ -416,14 +417,19 @@ pub attrs_call : (r : Result Unit EditFault) (f g : Forest) (x : ℕ) (attrs : L
 attrs_call (Ok done) f g x attrs edits = grows_changed f g x (with_attrs (with_missing attrs)) (kind_with_attrs (with_missing attrs)) (keeps_attrs f g x (with_missing attrs) edits.ok) edits.ok
 attrs_call (Err fault) f g x attrs edits = grows_same f g edits.err
 
--- a node that is made as the last child of another
+-- a node without contents that stands alone is a forest's
+forest_alone : (f : Forest) (content : NodeData) → IsForest f → contents_named content ≡ None → IsForest (with_node content f)
+forest_alone f content good plain = forest-more content f good (λ c named. (let none : None ≡ Some c = sym plain ∙ named in cc))
+
+-- to make it as the last child of another is to make it and to put it there
+child_put : (f : Forest) (t : ℕ) (content : NodeData) → IsForest f → contents_named content ≡ None → with_child t content f ≡ moved_to (length f.content ∷ []) (end_of t) (with_node content f)
+child_put f t content good plain =
+    ap (put (end_of t) (length f.content ∷ [])) (sym (cut-alone (with_node content f) (length f.content) (forest_alone f content good plain).once (new_alone content f good.once)))
+
 pub grows_child : (f g : Forest) (t : ℕ) (content : NodeData) → IsForest f → IsOpenGap (end_of t) f → contents_named content ≡ None → is_top content ≡ false → g ≡ with_child t content f → Grows f g
 grows_child f g t content good opens plain low e =
     let new : IsNew f (with_node content f) (length f.content) = record { content = content; number = refl; movable = low; made = inl (plain, refl) } in
-    let after = forest-more content f good (λ c named. (let none : None ≡ Some c = sym plain ∙ named in cc)) in
-    let same : with_child t content f ≡ moved_to (length f.content ∷ []) (end_of t) (with_node content f) =
-    ap (put (end_of t) (length f.content ∷ [])) (sym (cut-alone (with_node content f) (length f.content) after.once (new_alone content f good.once))) in
-    grows_put f (with_node content f) g (length f.content) (end_of t) good after new opens (e ∙ same)
+    grows_put f (with_node content f) g (length f.content) (end_of t) good (forest_alone f content good plain) new opens (e ∙ child_put f t content good plain)
 
 -- a node without contents that is made as the last child of another
 pub child_call : (r : Result ℕ PageFault) (call : Result ℕ EditFault) (f g : Forest) (t : ℕ) (content : NodeData) → MatchResult r (λ n. call ≡ Ok n) (λ fault. call ≡ Err (limit_of fault)) → Makes call f g (appending t content) →
@@ -434,6 +440,17 @@ child_call (Ok n) call f g t content is makes good opens plain low =
 child_call (Err fault) call f g t content is makes good opens plain low =
     let done = subst (λ (k : Result ℕ EditFault). Makes k f g (appending t content)) is makes in
     grows_same f g done.err
+
+-- an element is no other's then
+pub fresh_call : (r : Result ℕ PageFault) (call : Result ℕ EditFault) (f g : Forest) (t : ℕ) (element : Element) → MatchResult r (λ n. call ≡ Ok n) (λ fault. call ≡ Err (limit_of fault)) → Makes call f g (appending t (AnElement element)) →
+    IsForest f → IsOpenGap (end_of t) f → element.template_contents ≡ None → IfOk r (IsFresh f g)
+fresh_call (Ok n) call f g t element is makes good opens plain =
+    let content = AnElement element in
+    let done = subst (λ (k : Result ℕ EditFault). Makes k f g (appending t content)) is makes in
+    let new : IsNew f (with_node content f) n = record { content = content; number = done.number; movable = refl; made = inl (plain, refl) } in
+    fresh_made f (with_node content f) g n (end_of t) good (forest_alone f content good plain) (record { node = new; element = refl }) opens
+    (done.ok ∙ child_put f t content good plain ∙ ap (λ (k : ℕ). moved_to (k ∷ []) (end_of t) (with_node content f)) (sym done.number))
+fresh_call (Err fault) call f g t element is makes good opens plain = tt
 
 step_cut : (f : Forest) (moved : List ℕ) (m n : ℕ) → IsParentOrHost (cut moved f) m n → IsParentOrHost f m n
 step_cut f moved m n (inr held) = inr held

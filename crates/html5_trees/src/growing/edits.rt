@@ -1,10 +1,11 @@
 //! Edits of the tree that tree construction makes. Limits alone refuse them, and elements stay
 //! elements.
 
-ghost use Rattle.std.specs.Prelude.{◌≡◌, ◌∷◌, [], IfOk, OnErr, Some, false};
+ghost use Rattle.std.specs.Prelude.{◌≡◌, ◌∷◌, [], IfOk, None, OnErr, Some, false};
 ghost use Rattle.dom_links.specs.ListMoves.{reparented};
 ghost use Rattle.dom_links.specs.Moves.{moved_to};
 ghost use Rattle.dom_links.specs.Sound.{IsForest, IsOpenGap};
+ghost use Rattle.dom_links.specs.declared.gap.Gap.TheVariants.{EndOf};
 ghost use Rattle.dom_links.specs.declared.gap.Moving.TheVariants.{Node};
 ghost use Rattle.dom_trees.specs.Edits.{MayMove, MayReparentOf};
 ghost use Rattle.html5_trees.specs.Elements.{Grows, IsAround, IsCopy, IsElement, IsFresh, IsInside};
@@ -16,7 +17,7 @@ use crate::name::Name;
 use crate::stack::{Ns, Open};
 use dom_links::gap::{Gap, Moving};
 use dom_nodes::name::QualName;
-use dom_nodes::node_data::{Attrs, Element};
+use dom_nodes::node_data::{Attrs, Element, NodeData};
 use dom_nodes::node_id::NodeId;
 use dom_trees::tree::{ElementFlags, Tree};
 use html5_tokens::token::Tag;
@@ -130,25 +131,6 @@ fn flags_of(ns: Ns, name: Name, tag: &Tag) -> ElementFlags {
     }
 }
 
-/// Makes the element of a tag; it stands alone.
-fn create_for(tree: &mut Tree, ns: Ns, name: Name, tag: &Tag) -> Result<Open, PageFault>
-    ensures ok { IfOk result (λ made. IsMade tree.old tree.new made.id) }
-    ensures err { OnErr result (tree.new ≡ tree.old) }
-{
-    let alloc = tree.allocator();
-    let flags = flags_of(ns, name, tag);
-    let attrs = attrs_of(alloc, ns, tag.attrs.as_slice())?;
-    let written = element_name(alloc, ns, name, tag)?;
-    let id = create(tree, written, attrs, flags)?;
-    Ok(Open {
-        id,
-        ns,
-        name,
-        holds_html: flags.mathml_annotation_xml_integration_point,
-        fingerprint: 0,
-    })
-}
-
 /// Puts the element of a tag at a gap.
 pub fn put_element(
     tree: &mut Tree,
@@ -161,11 +143,70 @@ pub fn put_element(
     ensures grows { Grows tree.old tree.new }
     ensures element { IfOk result (λ made. IsFresh tree.old tree.new made.id) }
 {
+    let alloc = tree.allocator();
+    let flags = flags_of(ns, name, tag);
+    let attrs = attrs_of(alloc, ns, tag.attrs.as_slice())?;
+    let written = element_name(alloc, ns, name, tag)?;
+    let id = put_new(tree, gap, written, attrs, flags)?;
+    Ok(Open {
+        id,
+        ns,
+        name,
+        holds_html: flags.mathml_annotation_xml_integration_point,
+        fingerprint: 0,
+    })
+}
+
+/// Puts a new element at a gap.
+fn put_new(
+    tree: &mut Tree,
+    gap: Gap,
+    name: QualName,
+    attrs: Attrs,
+    flags: ElementFlags,
+) -> Result<NodeId, PageFault>
+    requires { IsOpenGap gap tree.old }
+    ensures grows { Grows tree.old tree.new }
+    ensures element { IfOk result (IsFresh tree.old tree.new) }
+{
+    if flags.template {
+        return put_made(tree, gap, name, attrs, flags);
+    }
+    let Gap::EndOf(parent) = gap else {
+        return put_made(tree, gap, name, attrs, flags);
+    };
+    let mathml = flags.mathml_annotation_xml_integration_point;
+    append(tree, parent, Element::new(name, attrs, None, mathml))
+}
+
+/// Makes an element, which stands alone, and then puts it at a gap.
+fn put_made(
+    tree: &mut Tree,
+    gap: Gap,
+    name: QualName,
+    attrs: Attrs,
+    flags: ElementFlags,
+) -> Result<NodeId, PageFault>
+    requires { IsOpenGap gap tree.old }
+    ensures grows { Grows tree.old tree.new }
+    ensures element { IfOk result (IsFresh tree.old tree.new) }
+{
     is_forest(tree);
-    let made = create_for(tree, ns, name, tag)?;
+    let made = create(tree, name, attrs, flags)?;
     is_forest(tree);
-    move_to(tree, gap, made.id);
+    move_to(tree, gap, made);
     Ok(made)
+}
+
+/// Makes an element without contents as the last child of a node.
+fn append(tree: &mut Tree, parent: NodeId, element: Element) -> Result<NodeId, PageFault>
+    requires open { IsOpenGap (EndOf parent) tree.old }
+    requires plain { element.template_contents ≡ None }
+    ensures grows { Grows tree.old tree.new }
+    ensures element { IfOk result (IsFresh tree.old tree.new) }
+{
+    is_forest(tree);
+    made(tree.append_child_data_of(&parent, NodeData::Element(element)))
 }
 
 /// The name and the attributes of an element.

@@ -1,6 +1,6 @@
 use Rattle.html5_trees.proofs.MadeNodes.{new_moves}
 use Rattle.html5_trees.proofs.Ways.{fresh_made, grows_put}
-use Rattle.html5_trees.proofs.growing.edits.put_element.Goals as goal
+use Rattle.html5_trees.proofs.growing.edits.put_made.Goals as goal
 
 pub move_to-requires : goal.move_to-requires
 move_to-requires c = new_moves _ _ _ _ c.is_forest.ensures c.in_ok-made.ensures.ok.node c.requires
