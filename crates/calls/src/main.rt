@@ -11,6 +11,7 @@ mod faults;
 mod many;
 mod node_calls;
 mod pages;
+mod parts;
 mod raw;
 mod reading;
 mod sinks;
@@ -82,6 +83,7 @@ fn read_nodes(rt: &HostRuntime, document: &Document, group: &str, line: &str) ->
         "htmls" => pages::write_html(rt, tree, line),
         "apart" => apart::change(rt, tree, line),
         "apart-ask" => apart::ask(rt, tree, line),
+        "parts" => parts::show(rt, tree, line),
         "arena" => arena::edit(rt, tree, line),
         "arena-ask" => arena::ask(rt, tree, line),
         "md" => texts::write_node(rt, tree, line),
