@@ -8,8 +8,8 @@ pub mod Escaping
 pub mod FaultKinds
 pub mod Fragments
 pub mod Frames
-pub mod Growing
 pub mod Front
+pub mod Growing
 pub mod Html
 pub mod IdLists
 pub mod Joining
