@@ -1,6 +1,7 @@
 use Rattle.std.proofs.Common.{◌≡◌, ◌≤◌, ◌+◌, ◌*◌, ℕ, List, [], ◌∷◌, true, length, map, drop, replicate, ap, refl, sym, ◌∙◌, subst, arith}
 use Rattle.std.specs.Result.{IfOk}
 use Rattle.std.proofs.lemmas.List.{at_drop_all, nil_from_length}
+use Rattle.std.proofs.lemmas.Grind.{common_steps}
 use Rattle.dom_selectors.specs.declared.syntax.Selector.{Selector}
 use Rattle.dom_selectors.specs.ListsAsTrees.{lists_of, steps_of}
 use Rattle.dom_selectors.specs.Syntax.{no_steps}
@@ -253,3 +254,33 @@ selector_set-returns-clause-counted t c =
     let none : left ≡ no_steps = ap (λ ss. steps_of (map read_step ss)) (nil_from_length c.loop-step.left.now c.in_default.ensures.cases) in
     ok_both c.compound_set-2.result _ _ _ (λ new asked counted. asking_end c.args.tests.now c.loop-step.tests c.compound_set-2.new.tests _ (NextAsks last left forest here c.args.wanted.now) c.loop-step.invariant.asking
     (counted.0, asks_last forest last left here c.args.wanted.now none both new.items c.loop-step.invariant.arrived.long c.intersect.ensures asked counted.0 counted.1, counted.2)) c.compound_set-2.ensures.table c.compound_set-2.ensures.counted
+
+pub compound_set-returns-then-filter_by_type-clause-tests : goal.compound_set-returns-then-filter_by_type-clause-tests
+compound_set-returns-then-filter_by_type-clause-tests t c = grind (arith, common_steps)
+
+pub has_set-loop-selector-init : goal.has_set-loop-selector-init
+has_set-loop-selector-init t c = grind (arith, common_steps)
+
+pub has_set-returns-clause-table : goal.has_set-returns-clause-table
+has_set-returns-clause-table t c = grind (arith, common_steps)
+
+pub list_set-loop-selector-init : goal.list_set-loop-selector-init
+list_set-loop-selector-init t c = grind (arith, common_steps)
+
+pub list_set-returns-clause-table : goal.list_set-returns-clause-table
+list_set-returns-clause-table t c = grind (arith, common_steps)
+
+pub lists_set-nested_set-requires : goal.lists_set-nested_set-requires
+lists_set-nested_set-requires t c = grind (arith, common_steps)
+
+pub lists_set-returns-in_err-answer-clause-tests : goal.lists_set-returns-in_err-answer-clause-tests
+lists_set-returns-in_err-answer-clause-tests t c = grind (arith, common_steps)
+
+pub lists_set-returns-clause-table : goal.lists_set-returns-clause-table
+lists_set-returns-clause-table t c = grind (arith, common_steps)
+
+pub rest_set-returns-clause-table : goal.rest_set-returns-clause-table
+rest_set-returns-clause-table t c = grind (arith, common_steps)
+
+pub rest_set-returns-clause-counted : goal.rest_set-returns-clause-counted
+rest_set-returns-clause-counted t c = grind (arith, common_steps)
