@@ -6,6 +6,7 @@ use Rattle.dom_select.specs.Chains.{BeginsChain, binding_level}
 use Rattle.dom_select.specs.Has.{Begins, CompoundsMatch, CompoundsMatchFrom, right_row, row_combinator, search_roots_from}
 use Rattle.dom_select.specs.declared.matcher.has.Start.TheVariants.{Relative}
 use Rattle.std.proofs.lemmas.Bool.Decides.{when_true}
+use Rattle.std.proofs.lemmas.Grind.{common_steps}
 use Rattle.dom_select.proofs.ChildRowLemmas.{shorter}
 use Rattle.dom_select.proofs.EndLemmas.{not_reached}
 use Rattle.dom_select.proofs.ReachLemmas.{IsMeant, left_ends, left_farther, left_nowhere, line_some, to_line}
@@ -331,3 +332,18 @@ compounds_match-returns-in-Some-clause-is t c = c.in-Some.ensures c.args.caches.
 pub compounds_match-returns-then-is_empty-clause-is : goal.compounds_match-returns-then-is_empty-clause-is
 compounds_match-returns-then-is_empty-clause-is t c =
     alone_matches c.args.first.now c.args.steps.now c.args.caches.now c.args.id c.holds_of.result (sym c.is_empty.ensures ∙ c.if-is_empty.true) c.holds_of.ensures.is
+
+pub has_holds-returns-clause-is : goal.has_holds-returns-clause-is
+has_holds-returns-clause-is t c = grind (arith, common_steps)
+
+pub holds_of-list_holds-requires : goal.holds_of-list_holds-requires
+holds_of-list_holds-requires t c = grind (arith, common_steps)
+
+pub holds_of-loop-list-preserved : goal.holds_of-loop-list-preserved
+holds_of-loop-list-preserved t c = grind (arith, common_steps)
+
+pub last_holds-returns-in-None-clause-is : goal.last_holds-returns-in-None-clause-is
+last_holds-returns-in-None-clause-is t c = grind (arith, common_steps)
+
+pub means_node-returns-clause-is : goal.means_node-returns-clause-is
+means_node-returns-clause-is t c = grind (arith, common_steps)
