@@ -32,3 +32,6 @@ returns-clause-ok c =
     c.deref.result.now c.deref-2.result.now c.deref-3.result.now c.cut_out.new.tree c.put_back.new.tree c.clear_attrs.new.tree
     (c.deref.ensures.value ∙ c.in_ok-steps.ensures) (c.deref-2.ensures.value ∙ c.in_ok-steps.ensures) (c.deref-3.ensures.value ∙ c.in_ok-steps.ensures) c.cut_out.ensures c.put_back.ensures c.clear_attrs.ensures
     (subst IsForest c.nodes-2.ensures.value c.nodes-2.ensures.sound.forest)
+
+pub returns-clause-err : goal.returns-clause-err
+returns-clause-err c = tt
