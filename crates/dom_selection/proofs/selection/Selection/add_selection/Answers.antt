@@ -1,4 +1,5 @@
-use Rattle.std.proofs.Common.{◌∙◌, ◌++◌, ◌+◌, List, ap, drop, not, sym, subst}
+use Rattle.std.proofs.Common.{◌∙◌, ◌++◌, ◌+◌, List, ap, arith, drop, not, sym, subst}
+use Rattle.std.proofs.lemmas.Grind.{common_steps}
 use Rattle.dom_links.specs.Lists.{stands_in, without}
 use Rattle.dom_trees.specs.declared.node_ref.NodeRef.{NodeRef}
 use Rattle.dom_selection.specs.Selections.{HasOneTree, ids_of, refs_in}
@@ -21,3 +22,6 @@ pub of_one_tree-requires : goal.of_one_tree-requires
 of_one_tree-requires c =
     let all = added_all c.args.self.now c.loop-node.all.items c.nodes-node-items.result.now _ c.loop-node.node-index c.loop-node-test.false c.loop-node.invariant in
     subst HasOneTree (sym all) (one_tree-added c.args.self.now c.nodes-node-items.result.now c.nodes.ensures.one_tree)
+
+pub returns-in_default : goal.returns-in_default
+returns-in_default c = grind (arith, common_steps)
