@@ -1,4 +1,4 @@
-"""The test command. It runs the gate, `rt ci`, which proves every crate from nothing and runs the programs, and beside it
+"""The test command. It runs the gate, `rt ci` (cases/gate.py), which proves every crate from nothing and runs the programs, and beside it
 tries the must-fail edits over each crate that the gate has proved (cases/edits.py). Then it runs the program that the
 gate built on the cases in cases/ and on streams that fail, compares the snippets of the documents with those
 of crates `tour` and `samples`, and tries the callers that must not compile. Its last line counts all, and its status is 0
@@ -96,7 +96,8 @@ def gate(clock):
     anew = ["--anew"] if "--anew" in sys.argv and trials.refusals.kept else []
     side_by_side = max(1, min(trials.processors, trials.rt.free() // PROOF))
     env = {"RT_JOBS": str(side_by_side), **os.environ}
-    ran = subprocess.Popen([rt, "ci", *anew], cwd=ROOT, env=env, stdout=subprocess.PIPE, stderr=subprocess.STDOUT, text=True)
+    command = [sys.executable, ROOT / "cases" / "gate.py", *anew]
+    ran = subprocess.Popen(command, cwd=ROOT, env=env, stdout=subprocess.PIPE, stderr=subprocess.STDOUT, text=True)
     last, proved_at, functions = "", begun, []
     for line in ran.stdout:
         function = re.match(r"fn (\w+)::(\S+): proved", line)
