@@ -91,7 +91,12 @@ fn named(alloc: Global, ns: Namespace, name: &str) -> Result<QualName, SampleFau
 pub fn print_read<W: Write>(alloc: Global, out: &mut W) -> Result<(), SampleFault> {
     let text = "(ul@id=teas (li Assam)(li@class=hot Mate(@class=cold@lang=es )))) (template (p x";
     let document = read(alloc, text, Document::new(alloc)?)?;
-    writeln!(out, "{}", document.html()?)?;
+    print_document(&document, out)
+}
+
+fn print_document<W: Write>(document: &Document, out: &mut W) -> Result<(), SampleFault> {
+    let html = document.html()?;
+    writeln!(out, "{html}")?;
     for error in document.errors.as_slice() {
         writeln!(out, "{error}")?;
     }
