@@ -22,10 +22,19 @@ fn run(rt: &HostRuntime, words: &[String]) -> Option<()> {
 
 /// Does what the words behind `bulk` say.
 fn read_many(rt: &HostRuntime, words: &[String]) -> Option<()> {
+    let (word, words) = words.split_first()?;
+    match word.as_str() {
+        "inputs" => inputs::answer_all(rt, only(words)?),
+        "pages" => inputs::read_pages(rt, only(words)?),
+        "streams" => streams::drive_all(rt, words),
+        _ => None,
+    }
+}
+
+/// The word that stands alone.
+fn only(words: &[String]) -> Option<&str> {
     match words {
-        [word, kind] if word.as_str() == "inputs" => inputs::answer_all(rt, kind.as_str()),
-        [word, way] if word.as_str() == "pages" => inputs::read_pages(rt, way.as_str()),
-        [word, words @ ..] if word.as_str() == "streams" => streams::drive_all(rt, words),
+        [word] => Some(word.as_str()),
         _ => None,
     }
 }

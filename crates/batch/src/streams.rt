@@ -74,10 +74,15 @@ fn drive_into<R: Read>(
     Some(status)
 }
 
-/// How drives with these words end: where the reader fails, where there is no memory for it, where
-/// the writer takes no byte, and for each number of bytes that it takes, until those are enough.
+/// How drives with these words and runs of the first end, over the markup that standard input has.
 pub fn drive_all(rt: &HostRuntime, words: &[String]) -> Option<()> {
     let markup = input(rt)?;
+    drive_over(rt, words, markup.as_str())
+}
+
+/// How drives with these words end: where the reader fails, where there is no memory for it, where
+/// the writer takes no byte, and for each number of bytes that it takes, until those are enough.
+fn drive_over(rt: &HostRuntime, words: &[String], markup: &str) -> Option<()> {
     for kind in &[ErrorKind::BrokenPipe, ErrorKind::OutOfMemory] {
         drive_into(rt, words, &mut NoReader(*kind), (9, 9))?;
     }
@@ -87,7 +92,7 @@ pub fn drive_all(rt: &HostRuntime, words: &[String]) -> Option<()> {
             break;
         }
     }
-    run_all(rt, markup.as_str(), words.first()?)
+    run_all(rt, markup, words.first()?)
 }
 
 /// How a run ends whose writer takes so many writes of so many bytes, and what that got.

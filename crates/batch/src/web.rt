@@ -27,9 +27,13 @@ fn in_pieces(alloc: Global, bytes: &[u8], size: usize) -> Result<Document, PageF
 /// The page of bytes and the text `é` behind them.
 fn mixed(alloc: Global, bytes: &[u8]) -> Result<Document, PageFault> {
     let mut parser = PageParser::new(alloc, Options::default())?;
-    parser.feed_bytes(bytes)?;
-    parser.feed("é")?;
+    feed_mixed(&mut parser, bytes)?;
     parser.finish()
+}
+
+fn feed_mixed(parser: &mut PageParser, bytes: &[u8]) -> Result<(), PageFault> {
+    parser.feed_bytes(bytes)?;
+    parser.feed("é")
 }
 
 /// The page of bytes, read in the way of that name; None where the bytes aren't read so.
@@ -42,9 +46,17 @@ fn read_by(alloc: Global, way: &str, bytes: &[u8]) -> Option<Result<Document, Pa
     }
 }
 
-/// Prints how many nodes a page has below its root, and its HTML.
+/// Prints what bytes are read as in the way of that name.
 pub fn show_bytes(rt: &HostRuntime, way: &str, bytes: &[u8]) -> Option<()> {
-    let page = read_by(rt.alloc(), way, bytes)?.ok()?;
-    let (count, html) = (page.root().descendants_it().count(), page.html().ok()?);
+    match read_by(rt.alloc(), way, bytes)? {
+        Ok(page) => show_page(rt, &page),
+        Err(_) => None,
+    }
+}
+
+/// Prints how many nodes a page has below its root, and its HTML.
+fn show_page(rt: &HostRuntime, page: &Document) -> Option<()> {
+    let count = page.root().descendants_it().count();
+    let html = page.html().ok()?;
     println!(rt; "read {count} {html:?}").ok()
 }
