@@ -16,19 +16,39 @@ pub fn print_matches<W: Write>(
     options: &Options<'_>,
     out: &mut W,
 ) -> Result<bool, Fault> {
-    let document = &page.document;
-    let found = found_in(document, selector, options.first)?;
+    let found = found_in(&page.document, selector, options.first)?;
+    print_found(page, &found, options, out)
+}
+
+/// Prints how many matches there are, or each, and returns whether there is one.
+fn print_found<W: Write>(
+    page: &Page<'_>,
+    found: &Selection<'_>,
+    options: &Options<'_>,
+    out: &mut W,
+) -> Result<bool, Fault> {
     if let Show::Count = options.show {
         print_count(page.name, found.length(), options, out)?;
         return Ok(found.exists());
     }
-    let base = base_of(document, options)?;
+    let base = base_of(&page.document, options)?;
     for node in found.nodes() {
-        if let Some(line) = line_of(node, options, &base)? {
-            print_line(line.as_str(), out)?;
-        }
+        print_match(node, options, &base, out)?;
     }
     Ok(found.exists())
+}
+
+/// Prints the line that shows a match, if there is one.
+fn print_match<W: Write>(
+    node: &NodeRef<'_>,
+    options: &Options<'_>,
+    base: &Option<Url>,
+    out: &mut W,
+) -> Result<(), Fault> {
+    match line_of(node, options, base)? {
+        Some(line) => print_line(line.as_str(), out),
+        None => Ok(()),
+    }
 }
 
 /// What a selector matches in a document, or the first match alone.
