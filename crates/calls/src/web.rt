@@ -65,9 +65,9 @@ fn show_token(rt: &HostRuntime, token: &Token) {
     println!(rt; "{kind}: {text}").ok();
 }
 
-fn show_step(rt: &HostRuntime, what: &str, step: &Step) {
+fn show_step(rt: &HostRuntime, what: &str, step: Step) {
     match step {
-        Ok(Some(token)) => show_token(rt, token),
+        Ok(Some(token)) => show_token(rt, &token),
         Ok(None) => show(rt, what, "-"),
         Err(_) => show(rt, what, "out of memory"),
     }
@@ -78,19 +78,20 @@ fn show_step(rt: &HostRuntime, what: &str, step: &Step) {
 pub fn cut_stretches(rt: &HostRuntime, text: &str) {
     let mut tokens = Tokenizer::new(rt.alloc());
     for stretch in text.split_inclusive('>') {
-        show_step(rt, "read_stretch", &tokens.read_stretch(stretch));
+        show_step(rt, "read_stretch", tokens.read_stretch(stretch));
     }
     show(rt, "text", tokens.take_text());
-    show_step(rt, "end", &tokens.end());
+    show_step(rt, "end", tokens.end());
     first_token(rt, text);
 }
 
 /// The first token, and what follows it.
 fn first_token(rt: &HostRuntime, text: &str) {
+    let mut tokens = Tokenizer::new(rt.alloc());
     let mut token = None;
-    match Tokenizer::new(rt.alloc()).read_token(text, &mut token) {
+    match tokens.read_token(text, &mut token) {
         Ok(rest) => show(rt, "rest", rest),
         Err(_) => show(rt, "rest", "out of memory"),
     }
-    show_step(rt, "read_token", &Ok(token));
+    show_step(rt, "read_token", Ok(token));
 }
