@@ -34,8 +34,8 @@ pub fn find_child(rt: &HostRuntime, tree: &Tree, line: &str) -> Option<()> {
         "is_empty",
         NodeSelect::is_empty(&NodeRef::new(id, tree)),
     );
-    let named = MiniSelector::named(rt.alloc(), name);
     let node = nodes.get(id.value())?;
+    let named = MiniSelector::named(rt.alloc(), name);
     show(rt, "match_data", named.match_data(&node.content));
     Some(())
 }

@@ -82,13 +82,18 @@ pub fn find(rt: &HostRuntime, tree: &Tree, line: &str) -> Option<()> {
 /// What names, each of a step, find below a node: `N NAME NAME`.
 pub fn find_names(rt: &HostRuntime, tree: &Tree, line: &str) -> Option<()> {
     let (word, words) = cut(line);
-    let (id, names) = (node_of(word)?, words_of(rt.alloc(), words)?);
-    show_nodes_read(rt, "find", NodeRef::new(id, tree).find(&names));
-    let one = Traversal::find_descendant_element(tree.nodes(), id, &names);
-    show_some(rt, "find_descendant_element", one.map(NodeId::value));
-    let all = Traversal::find_descendant_elements(rt.alloc(), tree.nodes(), id, &names);
-    show_ids_read(rt, "find_descendant_elements", all);
+    let id = node_of(word)?;
+    let names = words_of(rt.alloc(), words)?;
+    find_steps(rt, tree, id, &names);
     Some(())
+}
+
+fn find_steps(rt: &HostRuntime, tree: &Tree, id: NodeId, names: &[&str]) {
+    show_nodes_read(rt, "find", NodeRef::new(id, tree).find(names));
+    let one = Traversal::find_descendant_element(tree.nodes(), id, names);
+    show_some(rt, "find_descendant_element", one.map(NodeId::value));
+    let all = Traversal::find_descendant_elements(rt.alloc(), tree.nodes(), id, names);
+    show_ids_read(rt, "find_descendant_elements", all);
 }
 
 /// Whether a text is a mini selector that means a node: `N TEXT`.
