@@ -1,5 +1,6 @@
 use Rattle.std.proofs.Common.{sym, ap, map, [], length, ◌∙◌, subst, arith, rules}
 use Rattle.dom_links.specs.Forest.{Forest}
+use Rattle.std.proofs.lemmas.Grind.{common_steps}
 use Rattle.dom_markup.specs.Frames.{HasRead}
 use Rattle.dom_markup.specs.Reader.{opened_by}
 use Rattle.dom_markup.specs.Token.{mode_of}
@@ -46,3 +47,30 @@ returns-in-Err-finish-clause-fault c =
     let none = nil_from_length0 c.loop-left.left.now (eqb-true (length c.loop-left.left.now) 0 (sym c.loop-left-test.ensures)) in
     let cause = unfinished _ _ _ _ _ progress none (c.in-Err-finish.ensures progress.items progress.read) in
     record { refused = refused _ _ _ cause; place = omega arith; cause = cause }
+
+pub returns-in_default-clause-ok : goal.returns-in_default-clause-ok
+returns-in_default-clause-ok c = grind (arith, common_steps)
+
+pub returns-in_default-clause-fault : goal.returns-in_default-clause-fault
+returns-in_default-clause-fault c = grind (arith, common_steps)
+
+pub is_empty-requires-text-self : goal.is_empty-requires-text-self
+is_empty-requires-text-self c = grind (arith, common_steps)
+
+pub read-requires-clause-reading : goal.read-requires-clause-reading
+read-requires-clause-reading c = grind (arith, common_steps)
+
+pub read-requires-clause-some : goal.read-requires-clause-some
+read-requires-clause-some c = grind (arith, common_steps)
+
+pub overflow_sub-result : goal.overflow_sub-result
+overflow_sub-result c = grind (arith, common_steps)
+
+pub returns-in-Err-clause-ok : goal.returns-in-Err-clause-ok
+returns-in-Err-clause-ok c = grind (arith, common_steps)
+
+pub returns-in-Ok-finish-clause-fault : goal.returns-in-Ok-finish-clause-fault
+returns-in-Ok-finish-clause-fault c = grind (arith, common_steps)
+
+pub returns-in-Err-finish-clause-ok : goal.returns-in-Err-finish-clause-ok
+returns-in-Err-finish-clause-ok c = grind (arith, common_steps)

@@ -1,5 +1,6 @@
-use Rattle.std.proofs.Common.{[], refl, rules}
+use Rattle.std.proofs.Common.{[], refl, rules, arith}
 use Rattle.std.proofs.lemmas.Result.{err_from_is_err_and}
+use Rattle.std.proofs.lemmas.Grind.{common_steps}
 use Rattle.dom_markup.specs.Bytes.{folded}
 use Rattle.dom_markup.specs.Markup.{NamesElement, kept_after}
 use Rattle.dom_markup.proofs.grammar.Items.{start_closes, start_fails, start_unnamed}
@@ -19,3 +20,15 @@ returns c =
     let names : NamesElement c.split_front.result.0.now (folded c.split_front.result.0.now) = search rules in
     let closed = start_closes _ _ _ _ _ _ c.split_front.ensures names refl c.attributes_end.ensures c.in_ok-rest.ensures in
     (kept_after [] closed.0, closed.2)
+
+pub names_element-requires-text-name : goal.names_element-requires-text-name
+names_element-requires-text-name c = grind (arith, common_steps)
+
+pub names_element-requires : goal.names_element-requires
+names_element-requires c = grind (arith, common_steps)
+
+pub attributes_end-requires-text-text : goal.attributes_end-requires-text-text
+attributes_end-requires-text-text c = grind (arith, common_steps)
+
+pub close_named-requires-text-name : goal.close_named-requires-text-name
+close_named-requires-text-name c = grind (arith, common_steps)

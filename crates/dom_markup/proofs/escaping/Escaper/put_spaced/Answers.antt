@@ -1,5 +1,6 @@
-use Rattle.std.proofs.Common.{rules}
+use Rattle.std.proofs.Common.{rules, arith}
 use Rattle.std.proofs.lemmas.Result.{err_from_is_err_and}
+use Rattle.std.proofs.lemmas.Grind.{common_steps}
 use Rattle.dom_markup.specs.Escaping.{spaced}
 use Rattle.dom_markup.proofs.html.CutLemmas.{fault_before, fault_name, cut_whole, cut_written}
 use Rattle.dom_markup.proofs.escaping.Escaper.put_spaced.Goals as goal
@@ -21,3 +22,21 @@ loop-named-preserved g c = record {
   written = cut_written _ _ _ _ _ _ c.loop-named.invariant.whole c.in-Some.ensures.whole _ _ _ _ c.loop-named.invariant.written c.in_ok-put.ensures c.in_ok-put-2.ensures;
   utf8 = search rules;
 }
+
+pub loop-named-init : goal.loop-named-init
+loop-named-init g c = grind (arith, common_steps)
+
+pub cut_spaced-requires-text-text : goal.cut_spaced-requires-text-text
+cut_spaced-requires-text-text g c = grind (arith, common_steps)
+
+pub put-requires-text-text : goal.put-requires-text-text
+put-requires-text-text g c = grind (arith, common_steps)
+
+pub put-requires-in-Some-text-text : goal.put-requires-in-Some-text-text
+put-requires-in-Some-text-text g c = grind (arith, common_steps)
+
+pub loop-named-smaller : goal.loop-named-smaller
+loop-named-smaller g c = grind (arith, common_steps)
+
+pub returns : goal.returns
+returns g c = grind (arith, common_steps)

@@ -2,6 +2,7 @@ use Rattle.std.proofs.Common.{◌≡◌, ◌++◌, ◌+◌, ◌∙◌, ap, sym, 
 use Rattle.std.specs.Prelude.{codes}
 use Rattle.std.specs.List.{flat_map}
 use Rattle.std.proofs.lemmas.Result.{err_from_is_err_and}
+use Rattle.std.proofs.lemmas.Grind.{common_steps}
 use Rattle.dom_markup.specs.Html.{attr_text}
 use Rattle.dom_markup.proofs.grammar.TagLemmas.{tag-first, tag-attr, tag-last}
 use Rattle.dom_markup.proofs.html.WritingLemmas.{fault-first, fault-inside, then-writes, flat_map-split}
@@ -30,3 +31,15 @@ returns g c =
     let done : take c.loop-attr.attr-index items ≡ items = take_all c.loop-attr.attr-index items (omega (arith, c.loop-attr-test.false)) in
     then-writes _ _ _ c.put.result _ _ _ c.loop-attr.invariant c.put.ensures
     (tag-last c.args.element.now.name.local (flat_map attr_text c.args.element.now.attrs) _ (codes ">") (ap (flat_map attr_text) (done ∙ c.as_slice-attr-items.ensures)))
+
+pub slice_bounds-put_parts-end-2 : goal.slice_bounds-put_parts-end-2
+slice_bounds-put_parts-end-2 g c = grind (arith, common_steps)
+
+pub loop-attr-init : goal.loop-attr-init
+loop-attr-init g c = grind (arith, common_steps)
+
+pub offset_bounds-attr-items-attr-index : goal.offset_bounds-attr-items-attr-index
+offset_bounds-attr-items-attr-index g c = grind (arith, common_steps)
+
+pub loop-attr-preserved : goal.loop-attr-preserved
+loop-attr-preserved g c = grind (arith, common_steps)

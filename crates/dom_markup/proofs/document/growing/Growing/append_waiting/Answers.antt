@@ -2,6 +2,7 @@ use Rattle.std.proofs.Common.{length, ◌∷◌, ◌∙◌, [], sym, ap, subst, 
 use Rattle.std.proofs.lemmas.List.{length-append}
 use Rattle.std.proofs.lemmas.Result.{err_from_is_err_and}
 use Rattle.dom_links.specs.Forest.{Forest}
+use Rattle.std.proofs.lemmas.Grind.{common_steps}
 use Rattle.dom_markup.specs.Growing.{AreKnown, MayGrowAt}
 use Rattle.dom_markup.specs.Limits.{LacksNumbers}
 use Rattle.dom_markup.specs.declared.document.growing.Waiting.{Waiting}
@@ -68,3 +69,18 @@ returns-in-Ok-settle c =
           ∙ waits_seen c.args.name old.attrs.items c.args.attrs.now.items c.move_behind.new.list.items old.waiting.items c.push.new.self.items one c.args.parent.now c.bare_of-bare.result old.tree c.append_node.new.tree c.args.self.now
           c.self.view_is c.self.invariant c.in-Ok.ensures.ok c.in-Ok-push.ensures.items c.in_ok-number.ensures.grows.0 (ap length c.as_slice-from.ensures.value) (ap length c.as_slice-to.ensures.value) c.bare_of-bare.ensures.is c.in_ok-number.ensures.grows.1,
     )
+
+pub invariant_of-self : goal.invariant_of-self
+invariant_of-self c = grind (arith, common_steps)
+
+pub returns-in_default : goal.returns-in_default
+returns-in_default c = grind (arith, common_steps)
+
+pub append_node-requires-clause-plain : goal.append_node-requires-clause-plain
+append_node-requires-clause-plain c = grind (arith, common_steps)
+
+pub returns-in_default-push : goal.returns-in_default-push
+returns-in_default-push c = grind (arith, common_steps)
+
+pub returns-in-Err : goal.returns-in-Err
+returns-in-Err c = grind (arith, common_steps)
