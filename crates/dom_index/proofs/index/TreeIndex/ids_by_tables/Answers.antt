@@ -4,9 +4,11 @@ use Rattle.std.specs.Result.{IfOk}
 use Rattle.std.proofs.lemmas.List.{get_or-replicate}
 use Rattle.std.proofs.lemmas.Result.{IfOk-weaker}
 use Rattle.dom_links.specs.Trees.{walk_below}
+use Rattle.dom_selectors.specs.ValuesAsTrees.{read_list}
 use Rattle.dom_select.specs.Meaning.{Means}
 use Rattle.dom_select.specs.Selected.{Selected}
 use Rattle.dom_index.specs.Index.{Indexed}
+use Rattle.dom_index.specs.TestCounts.{AddsTests, Counts, SelectionTests, SelectorsTests}
 use Rattle.dom_index.specs.Collected.{collected}
 use Rattle.dom_index.specs.NodeSets.{IsSetOf, in_set}
 use Rattle.dom_index.proofs.ListLemmas.{decided_anywhere}
@@ -25,3 +27,13 @@ returns-clause-found c =
     let selected = collected_selected forest c.args.matcher.now c.args.roots.now table (walks_inside forest c.args.roots.now c.walk_laws.ensures) answer in
     subst (λ (it : Indexed). IfOk c.collect_matches.result (λ found. Selected it.tree.now c.args.roots.now c.args.matcher.now found.items)) c.self.view_is
     (IfOk-weaker c.collect_matches.result _ _ (λ found e. subst (Selected forest c.args.roots.now c.args.matcher.now) (sym e) selected) c.collect_matches.ensures)
+
+pub returns-clause-asked : goal.returns-clause-asked
+returns-clause-asked c =
+    let forest = c.self.inside.preorder.tree.now in
+    let long : c.len.result ≡ length forest.content = omega (arith, c.len.ensures, c.self.inside.preorder.ordered.long) in
+    let filled : c.deref.result.now ≡ replicate (length forest.content) true = (c.deref.ensures.value ∙ c.in_ok-all.ensures.items_if_clones_equal (λ y h. h)) ∙ ap (λ n. replicate n true) long in
+    let among = subst (λ cells. AddsTests 0 c.list_set.new.tests (SelectorsTests (read_list c.selectors.result.now) forest cells)) filled c.in_ok-table.ensures.counted in
+    let asked = subst (λ list. AddsTests 0 c.list_set.new.tests (SelectionTests list forest)) c.selectors.ensures among in
+    subst (λ (it : Indexed). Counts c.collect_matches.result 0 c.list_set.new.tests (SelectionTests c.args.matcher.now it.tree.now)) c.self.view_is
+    (IfOk-weaker c.collect_matches.result _ _ (λ _ _. asked) c.collect_matches.ensures)
