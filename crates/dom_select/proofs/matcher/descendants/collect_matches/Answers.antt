@@ -1,4 +1,5 @@
 use Rattle.std.proofs.Common.{subst, sym, ◌∙◌, ◌++◌, ◌∷◌, [], List, ℕ}
+use Rattle.std.specs.Iterator.{Yields}
 use Rattle.dom_links.specs.Forest.{Forest}
 use Rattle.dom_select.specs.Descendants.{IsMatch}
 use Rattle.dom_select.specs.Selected.{FiltersTo}
@@ -23,3 +24,8 @@ loop-id-preserved g c = record {
       let meant : P n = subst (λ (forest : Forest). IsMatch c.args.matcher.now forest n) c.loop-id.invariant.kept c.if-not-is_match_of_types.ensures.is in
       subst (λ (ns : List ℕ). FiltersTo P (c.loop-id.yielded ++ n ∷ []) ns) {x = c.loop-id.matched.items ++ n ∷ []} (sym c.in_ok-push.ensures.items) (filters_last P c.loop-id.yielded c.loop-id.matched.items n meant c.loop-id.invariant.so_far);
 }
+
+pub returns : goal.returns
+returns g c =
+    let yields = subst (λ (it : g.row.I.Denot). Yields g.I.Iterator.next_gives it c.loop-id.yielded c.loop-id.id-iterator) c.into_iter-id-iterator.ensures.into_iter_gives c.loop-id.yielded_by in
+    (c.loop-id.yielded, (c.next.new.self, (c.loop-id.id-iterator, yields, c.in-None.ensures.steps)), c.loop-id.invariant.so_far)
