@@ -40,6 +40,7 @@ FUNCTION = re.compile(r"fn (\S+): (?:no proof|not proved)")
 CYCLE = re.compile(r"\s*#\[cycle\((\w+)\)")
 CALLS = re.compile(r"it calls `.*`, which (?:is|are) not proved|a call of `.*`, which has no proof")
 OWN = re.compile(r"did not prove `|it stands on `")
+STANDS = re.compile(r"`Rattle\.\w+\.proofs\.([^`]+)`")
 MET = r'"(?:part/)?Rattle-{0}-proofs\.([\w.]+)\.Met"'
 
 
@@ -183,7 +184,16 @@ class Edit:
             if note and note[1] == self.path and any(it and it[1] < int(note[2]) <= it[2] + 1 for it in self.places):
                 return line
         reported = (FUNCTION.match(line) for line in own)
-        return next((it.string for it in reported if it and it[1] in self.functions), None)
+        return next((it.string for it in reported if it and it[1] in self.functions and is_of_itself(it.string, it[1])), None)
+
+
+def is_of_itself(line, function):
+    """Whether the function is refused for an answer of its own, where the line names answers, and not for those of another
+    function that an edit turned in the same copy alone. A function of a cycle has its answers in the cycle's file."""
+    answers, path = STANDS.findall(line), function.split("::")[1:]
+    return not answers or any(
+        it.startswith(f"{'.'.join(path)}.") or re.search(rf"\.\+\w+\.Answers\.{path[-1]}-", it) for it in answers
+    )
 
 
 def apart(edits):
