@@ -12,17 +12,17 @@ import edits  # noqa: E402
 FIRST = {"dom_nodes", "dom_links", "dom_trees"}
 
 
-def takes(call, *names):
-    """Whether the call's parameters have these names."""
-    return tuple(inspect.signature(call).parameters) == names
+def has(owner, call, *names):
+    """Whether there is a call of that name whose parameters have these names."""
+    return callable(getattr(owner, call, None)) and tuple(inspect.signature(getattr(owner, call)).parameters) == names
 
 
 def main():
     rt = edits.toolchain()
-    plain = rt.Crate.build_rlib
-    if not takes(plain, "self", "flags", "anew") or not takes(rt.main, "words"):
+    if not has(rt, "main", "words") or not has(rt.Crate, "build_rlib", "self", "flags", "anew"):
         os.execv(shutil.which("rt"), ["rt", "ci", *sys.argv[1:]])
     if rt.processors() >= 4:
+        plain = rt.Crate.build_rlib
         rt.Crate.build_rlib = lambda crate, flags, anew: plain(
             crate, ["--jobs", "2"] if crate.name in FIRST else flags, anew
         )
