@@ -39,8 +39,19 @@ pub fn change(rt: &HostRuntime, tree: &Tree, line: &str) -> Option<()> {
 
 fn change_element(rt: &HostRuntime, element: &Element) {
     show_made(rt, "changed element", changed_element(element));
-    let attrs = changed_attrs(rt.alloc(), &element.attrs);
+    show_made(rt, "other parts", with_other_parts(rt.alloc(), element));
+    let flag = element.mathml_annotation_xml_integration_point();
+    show(rt, "flag", flag);
+    let attrs = changed_attrs(rt.alloc(), element.attrs());
     show_made(rt, "changed attributes", attrs);
+}
+
+/// A copy with another name, other attributes and other template contents.
+fn with_other_parts(alloc: Global, element: &Element) -> Result<Element, OutOfMemory> {
+    let mut other = element.try_clone()?.with_template_contents(NodeId::new(7));
+    other.set_name(QualName::plain(LocalName::new(alloc, "o")?));
+    other.set_attrs(given(alloc)?);
+    Ok(other)
 }
 
 /// The attributes `class` and `z`.

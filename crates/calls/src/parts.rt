@@ -56,7 +56,7 @@ fn copies(alloc: Global, attrs: &[Attr]) -> Result<Vec<Attr>, OutOfMemory> {
 
 /// A part of a list of the element's attributes.
 fn part(alloc: Global, element: &Element, from: usize, to: usize) -> Result<Attrs, OutOfMemory> {
-    let list = Arc::new(alloc, copies(alloc, element.attrs.as_slice())?)?;
+    let list = Arc::new(alloc, copies(alloc, element.attrs().as_slice())?)?;
     Attrs::part(alloc, &list, from, to)
 }
 

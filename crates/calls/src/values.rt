@@ -3,7 +3,7 @@
 use crate::apart::show_made;
 use dom_nodes::case_sensitivity::CaseSensitivity;
 use dom_nodes::fault::OutOfMemory;
-use dom_nodes::name::{Attr, LocalName, NameParts, Namespace, NamespaceRef, QualName};
+use dom_nodes::name::{Attr, LocalName, NameParts, NameRef, Namespace, NamespaceRef, QualName};
 use dom_nodes::node_data::{NodeData, TreeNode};
 use dom_nodes::text::{RareText, Text};
 use dom_trees::tree::Tree;
@@ -60,7 +60,8 @@ pub fn compare_names(rt: &HostRuntime, line: &str) -> Option<()> {
     let name = name_of(rt.alloc(), first)?;
     let other = name_of(rt.alloc(), second)?;
     show_names(rt, &name, &other);
-    rename(rt, name, other.local().try_clone().ok()?)
+    show_lent(rt, &name.by_ref(), &other.by_ref());
+    rename(rt, name, other.local().try_clone(rt.alloc()).ok()?)
 }
 
 fn show_names(rt: &HostRuntime, name: &QualName, other: &QualName) {
@@ -74,6 +75,20 @@ fn show_names(rt: &HostRuntime, name: &QualName, other: &QualName) {
     ];
     show_flags(rt, &flags);
     show_same(rt, "the same as a copy", name, &name.try_clone());
+}
+
+/// The same of names that are lent.
+fn show_lent(rt: &HostRuntime, name: &NameRef<'_>, other: &NameRef<'_>) {
+    show_some(rt, "lent prefix", name.prefix());
+    let (local, also) = (name.local(), other.local());
+    let flags = [
+        ("lent is_same", name.is_same(other)),
+        ("lent in one namespace", name.ns().is_same(&other.ns())),
+        ("lent local is_same", local.is_same(&also)),
+        ("lent local of one number", local.number() == also.number()),
+    ];
+    show_flags(rt, &flags);
+    show_made(rt, "lent copy", name.try_clone());
 }
 
 fn rename(rt: &HostRuntime, mut name: QualName, local: LocalName) -> Option<()> {
@@ -110,10 +125,12 @@ fn show_folded(rt: &HostRuntime, name: &LocalName, other: &LocalName) {
     show(rt, "folded", name.as_str());
     let flags = [
         ("is_same", name.is_same(other)),
+        ("lent is_same", name.by_ref().is_same(&other.by_ref())),
         ("has a number", number.is_some()),
         ("the same number", number == another),
     ];
     show_flags(rt, &flags);
+    show_made(rt, "copy", name.try_clone());
 }
 
 /// Copies of the parts of a name, of an attribute of that name and of its value, which grows alone:

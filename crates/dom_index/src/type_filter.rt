@@ -25,7 +25,7 @@ pub(crate) fn type_byte(node: &NodeData) -> u8
     let NodeData::Element(element) = node else {
         return NO_ELEMENT;
     };
-    match element.name.local().number() {
+    match element.name().local().number() {
         Some(number) => number,
         None => UNKNOWN,
     }

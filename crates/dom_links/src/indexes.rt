@@ -131,7 +131,7 @@ pub fn are_of_one_type(node: &NodeData, other: &NodeData) -> bool
 {
     match node {
         NodeData::Element(element) => match other {
-            NodeData::Element(also) => element.name.is_same(&also.name),
+            NodeData::Element(also) => element.name().is_same(&also.name()),
             _ => false,
         },
         _ => false,

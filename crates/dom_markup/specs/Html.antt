@@ -7,7 +7,7 @@ use Rattle.dom_nodes.specs.declared.name.Attr.{Attr}
 use Rattle.dom_nodes.specs.declared.name.NameParts.{NameParts}
 use Rattle.dom_nodes.specs.declared.name.Namespace.{Namespace}
 use Rattle.dom_nodes.specs.declared.name.Namespace.TheVariants.{None as NoNamespace, Html, XLink, Xml, XmlNs}
-use Rattle.dom_nodes.specs.declared.node_data.Element.{Element}
+use Rattle.dom_nodes.specs.Elements.{Element}
 use Rattle.dom_nodes.specs.declared.node_data.NodeData.{NodeData}
 use Rattle.dom_nodes.specs.declared.node_data.NodeData.TheVariants.{Document, Fragment, Doctype, Text, Comment, Element as AnElement, ProcessingInstruction}
 use Rattle.dom_links.specs.Forest.{Forest, children_of, parent}

@@ -6,7 +6,7 @@ ghost use Rattle.std.specs.Str.{bytes_eq};
 ghost use Rattle.dom_nodes.specs.Words.{is_among};
 ghost use Rattle.dom_markup.specs.Names.{raw_names, void_names};
 
-use dom_nodes::name::LocalName;
+use dom_nodes::name::LocalRef;
 
 /// The elements that are a start tag alone.
 pub(crate) const VOID_NAMES: [&str; 18] = [
@@ -49,7 +49,7 @@ const IS_VOID: u8 = 1;
 const IS_RAW: u8 = 2;
 
 /// Whether an element of that name is a start tag alone. Known names are compared by number.
-pub(crate) fn is_void_name(name: &LocalName) -> bool
+pub(crate) fn is_void_name(name: &LocalRef<'_>) -> bool
     ensures { result ≡ is_among name.now void_names }
 {
     match name.number() {
@@ -59,7 +59,7 @@ pub(crate) fn is_void_name(name: &LocalName) -> bool
 }
 
 /// Whether the texts in an element of that name are read and written as they are.
-pub(crate) fn is_raw_name(name: &LocalName) -> bool
+pub(crate) fn is_raw_name(name: &LocalRef<'_>) -> bool
     ensures { result ≡ is_among name.now raw_names }
 {
     match name.number() {

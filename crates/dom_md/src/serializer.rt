@@ -28,7 +28,7 @@ use crate::serializer::tasks::{Item, Task};
 use crate::serializer::texts::trim_space;
 use crate::serializer::words::push_words;
 use dom_nodes::fault::OutOfMemory;
-use dom_nodes::name::LocalName;
+use dom_nodes::name::LocalRef;
 use dom_nodes::node_id::NodeId;
 use dom_trees::node_ref::NodeRef;
 use dom_trees::tree::Tree;
@@ -223,7 +223,7 @@ impl<'a> Writer<'a> {
     }
 
     /// Whether elements of that name are left out.
-    fn is_skipped(&self, name: &LocalName) -> bool {
+    fn is_skipped(&self, name: &LocalRef<'_>) -> bool {
         match self.skip_tags {
             Some(names) => names.iter().any(|skipped| *skipped == name.as_str()),
             None => is_default_skipped(name),

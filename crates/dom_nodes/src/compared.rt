@@ -6,7 +6,7 @@ ghost use Rattle.std.specs.Str.{bytes_eq};
 ghost use Rattle.dom_nodes.specs.Names.{same_name};
 ghost use Rattle.dom_nodes.specs.NameLaws.{same_name-equiv};
 
-use crate::name::{LocalName, QualName};
+use crate::name::{LocalName, LocalRef, NameRef, QualName};
 use crate::text::{RareText, Text};
 use std::fmt;
 
@@ -85,13 +85,25 @@ impl Eq for QualName {
     ghost laws = { same_name-equiv };
 }
 
-/// Prints the parts of the name.
 impl fmt::Debug for QualName {
+    fn fmt<W: fmt::Write>(&self, f: &mut fmt::Formatter<W>) -> fmt::Result {
+        fmt::Debug::fmt(&self.by_ref(), f)
+    }
+}
+
+/// Prints the parts of the name.
+impl fmt::Debug for NameRef<'_> {
     fn fmt<W: fmt::Write>(&self, f: &mut fmt::Formatter<W>) -> fmt::Result {
         f.debug_struct("QualName")
             .field("prefix", &self.prefix())
             .field("ns", &self.ns())
-            .field("local", self.local())
+            .field("local", &self.local())
             .finish()
+    }
+}
+
+impl fmt::Debug for LocalRef<'_> {
+    fn fmt<W: fmt::Write>(&self, f: &mut fmt::Formatter<W>) -> fmt::Result {
+        fmt::Debug::fmt(&self.as_str(), f)
     }
 }

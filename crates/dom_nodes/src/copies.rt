@@ -54,14 +54,9 @@ impl Element {
     pub fn try_clone(&self) -> Result<Element, OutOfMemory>
         ensures { IfOk result (λ made. made ≡ self.now) }
     {
-        let name = self.name.try_clone()?;
+        let form = self.form.try_clone()?;
         let attrs = self.attrs.try_clone()?;
-        Ok(Element::new(
-            name,
-            attrs,
-            self.template_contents(),
-            self.mathml_annotation_xml_integration_point,
-        ))
+        Ok(Element { form, attrs })
     }
 }
 
@@ -97,9 +92,9 @@ impl NodeData {
         if !element.attrs.as_slice().is_empty() {
             return None;
         }
-        let name = element.name.known_copy()?;
+        let form = element.form.known_copy()?;
         let attrs = Attrs::new(element.attrs.allocator());
-        Some(NodeData::Element(element.with(name, attrs)))
+        Some(NodeData::Element(Element { form, attrs }))
     }
 
     /// The same data.
@@ -187,12 +182,12 @@ fn push_element(
     requires { node.now.content ≡ NodeData.Element element.now }
     ensures { OnOk result (made.new.items ≡ made.old.items ++ node.now ∷ []) }
 {
-    let Some(name) = element.name.known_copy() else {
+    let Some(form) = element.form.known_copy() else {
         let element = element.try_clone()?;
         return push_with(made, node, NodeData::Element(element));
     };
     let attrs = element.attrs.try_clone()?;
-    push_with(made, node, NodeData::Element(element.with(name, attrs)))
+    push_with(made, node, NodeData::Element(Element { form, attrs }))
 }
 
 /// Adds a node with the number and the links of another one.
@@ -244,7 +239,11 @@ fn copied(text: &Option<RareText>) -> Result<Option<RareText>, OutOfMemory>
     }
 }
 
-fn doctype(name: &Text, public_id: &RareText, system_id: &RareText) -> Result<NodeData, OutOfMemory>
+fn doctype(
+    name: &RareText,
+    public_id: &RareText,
+    system_id: &RareText,
+) -> Result<NodeData, OutOfMemory>
     ensures { IfOk result (λ made. made ≡ NodeData.Doctype name.now public_id.now system_id.now) }
 {
     let name = name.try_clone()?;
@@ -257,7 +256,7 @@ fn doctype(name: &Text, public_id: &RareText, system_id: &RareText) -> Result<No
     })
 }
 
-fn instruction(target: &RareText, contents: &Text) -> Result<NodeData, OutOfMemory>
+fn instruction(target: &RareText, contents: &RareText) -> Result<NodeData, OutOfMemory>
     ensures { IfOk result (λ made. made ≡ NodeData.ProcessingInstruction target.now contents.now) }
 {
     let target = target.try_clone()?;

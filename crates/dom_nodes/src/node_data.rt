@@ -13,7 +13,7 @@ mod node_edit;
 
 use crate::fault::OutOfMemory;
 use crate::link::Link;
-use crate::name::{Attr, QualName};
+use crate::name::{Attr, NameForm, NameRef, QualName};
 use crate::node_id::NodeId;
 use crate::text::{RareText, Text};
 use crate::words::{has_word, is_same_word};
@@ -179,13 +179,46 @@ fn push_doubling(items: &mut Vec<Attr>, attr: Attr) -> Result<(), OutOfMemory>
     Ok(())
 }
 
-/// An element's own data.
-#[derive(Debug, Drop)]
+/// An element's own data: its name, its attributes, the contents of a template, and a flag. A
+/// contract sees it as those four.
 pub struct Element {
-    pub name: QualName,
-    pub attrs: Attrs,
-    template_contents: Link,
-    pub mathml_annotation_xml_integration_point: bool,
+    pub(crate) form: NameForm,
+    pub(crate) attrs: Attrs,
+}
+
+/// Written out, so that what drops a node has no case for each form.
+impl Drop for Element {
+    #[inline(always)]
+    fn drop(self) {
+        let Element { form, attrs } = self;
+        drop(form);
+        drop(attrs);
+    }
+}
+
+impl Model for Element {
+    ghost use Rattle.dom_nodes.specs.Elements.{Element};
+    ghost use Rattle.dom_nodes.specs.ElementForms.{element_of_form};
+    ghost use Rattle.dom_nodes.specs.QualForms.{IsCanonicalName};
+
+    ghost Value = { Element };
+
+    ghost view = { λ element. element_of_form element.form element.attrs };
+
+    ghost invariant = { λ element. IsCanonicalName element.form };
+}
+
+/// Prints the four parts.
+impl fmt::Debug for Element {
+    fn fmt<W: fmt::Write>(&self, f: &mut fmt::Formatter<W>) -> fmt::Result {
+        let flag = self.mathml_annotation_xml_integration_point();
+        f.debug_struct("Element")
+            .field("name", &self.name())
+            .field("attrs", &self.attrs)
+            .field("template_contents", &self.template_contents())
+            .field("mathml_annotation_xml_integration_point", &flag)
+            .finish()
+    }
 }
 
 impl Element {
@@ -208,32 +241,69 @@ impl Element {
           mathml_annotation_xml_integration_point = mathml_annotation_xml_integration_point;
         } }
     {
+        let contents = Link::new(template_contents);
+        let form = name
+            .into_form()
+            .beside(mathml_annotation_xml_integration_point, contents);
+        Element { form, attrs }
+    }
+
+    /// The name, with prefix and namespace.
+    #[inline(always)]
+    pub fn name(&self) -> NameRef<'_>
+        ensures { result ≡ self.now.name }
+    {
+        NameRef::of_form(&self.form)
+    }
+
+    /// The attributes.
+    #[inline(always)]
+    pub fn attrs(&self) -> &Attrs
+        ensures { result.now ≡ self.now.attrs }
+    {
+        &self.attrs
+    }
+
+    /// Whether an element `annotation-xml` of MathML holds HTML.
+    #[inline(always)]
+    pub fn mathml_annotation_xml_integration_point(&self) -> bool
+        ensures { result ≡ self.now.mathml_annotation_xml_integration_point }
+    {
+        self.form.flag()
+    }
+
+    /// The element with other template contents.
+    pub fn with_template_contents(self, contents: Option<NodeId>) -> Element
+        ensures { result ≡ record self { template_contents = contents } }
+    {
+        let Element { form, attrs } = self;
+        let flag = form.flag();
         Element {
-            name,
+            form: form.beside(flag, Link::new(contents)),
             attrs,
-            template_contents: Link::new(template_contents),
-            mathml_annotation_xml_integration_point,
         }
     }
 
-    /// The element with another name and other attributes.
-    #[inline(always)]
-    pub(crate) fn with(&self, name: QualName, attrs: Attrs) -> Element
-        ensures { result ≡ record self.now { name = name; attrs = attrs } }
+    /// Gives the element another name.
+    pub fn set_name(&mut self, name: QualName)
+        ensures { self.new ≡ record self.old { name = name } }
     {
-        Element {
-            name,
-            attrs,
-            template_contents: self.template_contents,
-            mathml_annotation_xml_integration_point: self.mathml_annotation_xml_integration_point,
-        }
+        let contents = self.form.contents();
+        self.form = name.into_form().beside(self.form.flag(), contents);
+    }
+
+    /// Gives the element other attributes.
+    pub fn set_attrs(&mut self, attrs: Attrs)
+        ensures { self.new ≡ record self.old { attrs = attrs } }
+    {
+        self.attrs = attrs;
     }
 
     /// The local name.
     pub fn node_name(&self) -> &str
         ensures { result.now ≡ self.now.name.local }
     {
-        self.name.local().as_str()
+        self.name().local().as_str()
     }
 
     /// The value of the first attribute of that local name.
@@ -272,10 +342,11 @@ impl Element {
     }
 
     /// The fragment that holds a template's contents.
+    #[inline(always)]
     pub fn template_contents(&self) -> Option<NodeId>
         ensures { result ≡ self.now.template_contents }
     {
-        self.template_contents.get()
+        self.form.contents().get()
     }
 }
 
@@ -285,7 +356,7 @@ pub enum NodeData {
     Document,
     Fragment,
     Doctype {
-        name: Text,
+        name: RareText,
         public_id: RareText,
         system_id: RareText,
     },
@@ -298,7 +369,7 @@ pub enum NodeData {
     Element(Element),
     ProcessingInstruction {
         target: RareText,
-        contents: Text,
+        contents: RareText,
     },
 }
 

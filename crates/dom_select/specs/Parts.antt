@@ -8,7 +8,7 @@ use Rattle.dom_nodes.specs.declared.indexes.Nth.{Nth}
 use Rattle.dom_nodes.specs.declared.name.Attr.{Attr}
 use Rattle.dom_nodes.specs.declared.name.Namespace.{Namespace}
 use Rattle.dom_nodes.specs.declared.name.Namespace.TheVariants.{Html}
-use Rattle.dom_nodes.specs.declared.node_data.Element.{Element}
+use Rattle.dom_nodes.specs.Elements.{Element}
 use Rattle.dom_nodes.specs.declared.node_data.NodeData.{NodeData}
 use Rattle.dom_nodes.specs.declared.node_data.NodeData.TheVariants.{Element as AnElement}
 use Rattle.dom_nodes.specs.Words.{class_words, is_among}

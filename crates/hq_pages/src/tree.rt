@@ -2,7 +2,7 @@
 
 use crate::faults::Fault;
 use dom_markup::document::Document;
-use dom_nodes::name::{NamespaceRef, QualName};
+use dom_nodes::name::{NameRef, NamespaceRef, QualName};
 use dom_nodes::node_data::{Element, NodeData};
 use dom_nodes::node_id::NodeId;
 use std::alloc::{AllocError, Global};
@@ -84,6 +84,10 @@ fn doctype_pieces<'a>(name: &'a str, public: &'a str, system: &'a str) -> [&'a s
     ["<!DOCTYPE ", name, " \"", public, "\" \"", system, "\">"]
 }
 
+fn tag_pieces<'a>(prefix: &'a str, local: &'a str) -> [&'a str; 7] {
+    ["<", prefix, local, ">", "", "", ""]
+}
+
 /// Writes the tag of an element, and its attributes in the order of their names.
 fn add_element(
     alloc: Global,
@@ -91,8 +95,8 @@ fn add_element(
     depth: usize,
     text: &mut String,
 ) -> Result<(), Fault> {
-    let name = &element.name;
-    let tag = ["<", prefix_of(name), name.local().as_str(), ">", "", "", ""];
+    let name = element.name();
+    let tag = tag_pieces(prefix_of(&name), name.local().as_str());
     add_line(text, depth, tag)?;
     let depth = depth.saturating_add(1);
     for (name, value) in attrs_of(alloc, element)?.as_slice() {
@@ -108,7 +112,7 @@ fn add_attr(text: &mut String, depth: usize, name: &str, value: &str) -> Result<
 /// The whole names and the values of an element's attributes, in the order of the names.
 fn attrs_of(alloc: Global, element: &Element) -> Result<Vec<(String, &str)>, Fault> {
     let mut attrs = Vec::new(alloc);
-    for attr in element.attrs.as_slice() {
+    for attr in element.attrs().as_slice() {
         attrs.push((name_of(alloc, &attr.name)?, attr.value.as_str()))?;
     }
     attrs.sort()?;
@@ -116,13 +120,13 @@ fn attrs_of(alloc: Global, element: &Element) -> Result<Vec<(String, &str)>, Fau
 }
 
 fn name_of(alloc: Global, name: &QualName) -> Result<String, Fault> {
-    let mut whole = String::from_str(alloc, prefix_of(name))?;
+    let mut whole = String::from_str(alloc, prefix_of(&name.by_ref()))?;
     whole.push_str(name.local().as_str())?;
     Ok(whole)
 }
 
 /// What stands before a name that isn't one of HTML.
-fn prefix_of(name: &QualName) -> &str {
+fn prefix_of<'a>(name: &NameRef<'a>) -> &'a str {
     match name.ns() {
         NamespaceRef::Svg => "svg ",
         NamespaceRef::MathMl => "math ",

@@ -7,7 +7,7 @@ ghost use Rattle.html5_trees.specs.ElementKinds.{may_hold, names_of, role_of};
 ghost use Rattle.dom_nodes.specs.Words.{is_among};
 
 use crate::name::KNOWN;
-use dom_nodes::name::LocalName;
+use dom_nodes::name::LocalRef;
 use dom_nodes::words::is_one_of;
 
 /// The kind of an element, by its name.
@@ -106,7 +106,7 @@ const NAMED: [Kind; 24] = [
 
 impl Kind {
     /// The kind of the elements of that name.
-    pub fn of(name: &LocalName) -> Kind
+    pub fn of(name: &LocalRef<'_>) -> Kind
         ensures { result ≡ kind_of name.now }
     {
         match name.number() {

@@ -32,7 +32,7 @@ pub struct ActiveFormatting {
 }
 
 fn has_attr(element: &Element, attr: &Attr) -> bool {
-    for also in element.attrs.as_slice() {
+    for also in element.attrs().as_slice() {
         if attr.name.is_same(&also.name) && attr.value.as_str() == also.value.as_str() {
             return true;
         }
@@ -42,13 +42,13 @@ fn has_attr(element: &Element, attr: &Attr) -> bool {
 
 /// Whether two elements have the same name and the same attributes, in whatever order.
 fn is_same_element(one: &Element, other: &Element) -> bool {
-    if !one.name.is_same(&other.name) {
+    if !one.name().is_same(&other.name()) {
         return false;
     }
-    if one.attrs.as_slice().len() != other.attrs.as_slice().len() {
+    if one.attrs().as_slice().len() != other.attrs().as_slice().len() {
         return false;
     }
-    for attr in one.attrs.as_slice() {
+    for attr in one.attrs().as_slice() {
         if !has_attr(other, attr) {
             return false;
         }
@@ -69,7 +69,7 @@ fn are_same(tree: &Tree, one: NodeId, other: NodeId) -> bool {
 /// A number that the same attributes have, in whatever order they stand.
 fn fingerprint(element: &Element) -> u32 {
     let mut sum: u32 = 0;
-    for attr in element.attrs.as_slice() {
+    for attr in element.attrs().as_slice() {
         sum = sum.wrapping_add(hash_of(attr));
     }
     sum

@@ -34,7 +34,7 @@ impl TreeBuilder {
         self.skip_line_feed = false;
         self.flush_table_text();
         match LocalName::new(self.alloc, tag.name.as_str()) {
-            Ok(local) => self.process(Token::Tag(Name::of(&local), tag)),
+            Ok(local) => self.process(Token::Tag(Name::of(&local.by_ref()), tag)),
             Err(_) => self.keep(Err(PageFault::Memory)),
         }
     }

@@ -1,7 +1,7 @@
 //! The names of elements that rules of tree construction name.
 
 use crate::element_kinds::Kind;
-use dom_nodes::name::LocalName;
+use dom_nodes::name::LocalRef;
 
 /// The name of an element; `Other` stands for all that no rule names.
 #[derive(Clone, Copy, PartialEq, Eq, Drop)]
@@ -225,7 +225,7 @@ static RARE: [(&str, Name); 15] = [
 
 impl Name {
     /// The name that a local name in lower case is.
-    pub fn of(local: &LocalName) -> Name {
+    pub fn of(local: &LocalRef<'_>) -> Name {
         match local.number() {
             Some(number) => KNOWN[number as usize].0,
             None => Name::rare(local.as_str()),

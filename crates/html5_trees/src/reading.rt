@@ -227,7 +227,7 @@ impl TreeBuilder {
             Context::MathMl(name) => (Ns::MathMl, name),
         };
         match LocalName::folded(self.alloc, written) {
-            Ok(local) => self.begin_in(ns, Name::of(&local)),
+            Ok(local) => self.begin_in(ns, Name::of(&local.by_ref())),
             Err(_) => self.keep(Err(PageFault::Memory)),
         }
     }

@@ -80,7 +80,7 @@ impl Scope {
                 self.held(holds_comment(self.parent, contents.as_str()))
             }
             NodeData::Doctype { .. } => self.held(self.parent.holds_doctype()),
-            NodeData::Element(element) => self.below_element(Kind::of(element.name.local())),
+            NodeData::Element(element) => self.below_element(Kind::of(&element.name().local())),
             _ => None,
         }
     }

@@ -4,7 +4,7 @@ use Rattle.std.specs.Prelude.{◌==◌, ◌||◌, slice_get, slice_set, option_a
 use Rattle.std.specs.Option.{option_map_or}
 use Rattle.std.proofs.lemmas.Option.{slice_get_past}
 use Rattle.dom_nodes.specs.declared.name.Attr.{Attr}
-use Rattle.dom_nodes.specs.declared.node_data.Element.{Element}
+use Rattle.dom_nodes.specs.Elements.{Element}
 use Rattle.dom_nodes.specs.declared.node_data.NodeData.{NodeData}
 use Rattle.dom_nodes.specs.declared.node_data.NodeData.TheVariants.{Text, Comment, Element as AnElement}
 use Rattle.dom_nodes.specs.declared.node_data.TreeNode.{TreeNode}

@@ -393,12 +393,9 @@ fn with_contents(content: NodeData, contents: NodeId) -> NodeData
     ensures { result ≡ with_contents (Some contents) content }
 {
     match content {
-        NodeData::Element(element) => NodeData::Element(Element::new(
-            element.name,
-            element.attrs,
-            Some(contents),
-            element.mathml_annotation_xml_integration_point,
-        )),
+        NodeData::Element(element) => {
+            NodeData::Element(element.with_template_contents(Some(contents)))
+        }
         same => same,
     }
 }

@@ -5,7 +5,7 @@ use Rattle.std.proofs.lemmas.Option.{same_Some}
 use Rattle.dom_nodes.specs.declared.name.Attr.{Attr}
 use Rattle.dom_nodes.specs.declared.node_data.NodeData.{NodeData}
 use Rattle.dom_nodes.specs.declared.node_data.NodeData.TheVariants.{Element as AnElement}
-use Rattle.dom_nodes.specs.declared.node_data.Element.{Element as ElementData}
+use Rattle.dom_nodes.specs.Elements.{Element as ElementData}
 use Rattle.dom_links.specs.Forest.{Forest, children_of}
 use Rattle.dom_markup.specs.Names.{is_template}
 use Rattle.dom_markup.specs.ValueTrees.{Attribute, ValueTrees}

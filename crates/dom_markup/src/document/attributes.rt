@@ -11,7 +11,7 @@ use crate::document::scan::{Written, attribute_at};
 use crate::references::decode;
 use dom_nodes::fault::OutOfMemory;
 use dom_nodes::name::{Attr, LocalName, QualName};
-use dom_nodes::text::Text;
+use dom_nodes::text::RareText;
 use std::alloc::Global;
 use std::collections::BTreeSet;
 
@@ -19,19 +19,21 @@ use std::collections::BTreeSet;
 const RECENT: usize = 16;
 
 /// The name with A to Z in lower case.
-pub fn folded_name(alloc: Global, name: &str) -> Result<Text, OutOfMemory>
+pub fn folded_name(alloc: Global, name: &str) -> Result<RareText, OutOfMemory>
     ensures { IfOk result (λ text. text ≡ folded name.now) }
 {
     let mut letters = String::from_str(alloc, name)?;
     letters.make_ascii_lowercase();
-    Ok(Text::from(letters))
+    RareText::new(alloc, letters.as_str())
 }
 
 /// Whether some attribute has the local name.
 fn has_attr(attrs: &[Attr], name: &LocalName) -> bool
     ensures { result ≡ list_any (is_attr_named name.now) attrs.now }
 {
-    attrs.iter().any(|attr| attr.name.local().is_same(name))
+    attrs
+        .iter()
+        .any(|attr| attr.name.local().is_same(&name.by_ref()))
 }
 
 /// The attributes of a tag so far. The names of all but the last few stand in a set too, so that a

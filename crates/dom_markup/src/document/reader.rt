@@ -57,7 +57,7 @@ fn start_tag_of(
     let Ok((attrs, close)) = attrs_of(alloc, behind, attrs) else {
         return Err(MarkupFaultKind::Memory);
     };
-    let rest = close_tag(close, is_void_name(&local))?;
+    let rest = close_tag(close, is_void_name(&local.by_ref()))?;
     Ok((
         Started {
             written,
@@ -301,8 +301,9 @@ impl<'a> Reader<'a> {
         let attrs = self.take_spare(alloc);
         let (started, rest) = start_tag_of(alloc, tag, attrs)?;
         let name = started.written;
-        let void = is_void_name(&started.local);
-        let within = within_named(name, &started.local);
+        let local = started.local.by_ref();
+        let void = is_void_name(&local);
+        let within = within_named(name, &local);
         let number = self.append_element(started)?;
         let behind = Behind { rest, within };
         if void {

@@ -6,7 +6,7 @@ ghost use Rattle.dom_markup.specs.Sinks.{gap_by_parent};
 use crate::document::{Document, QuirksMode};
 use dom_links::gap::{Gap, Moving};
 use dom_nodes::fault::{EditFault, OutOfMemory};
-use dom_nodes::name::QualName;
+use dom_nodes::name::{NameRef, QualName};
 use dom_nodes::node_data::Attrs;
 use dom_nodes::node_id::NodeId;
 pub use dom_trees::tree::ElementFlags;
@@ -23,7 +23,6 @@ pub enum NodeOrText<'a> {
 /// refusal the tree is as it was.
 pub trait TreeSink {
     ghost use Rattle.std.specs.Prelude.{◌≡◌, ◌==◌, Some};
-    ghost use Rattle.std.specs.Option.{option_copied};
     ghost use Rattle.dom_links.specs.Sound.{contents_at};
     ghost use Rattle.dom_links.specs.declared.gap.Gap.TheVariants.{Before, EndOf};
     ghost use Rattle.dom_trees.specs.Edits.{appending, making, removing, reparenting};
@@ -60,8 +59,8 @@ pub trait TreeSink {
         ensures { result ≡ (x.now == y.now) };
 
     /// The name of an element.
-    fn elem_name(&self, target: &NodeId) -> Option<&QualName>
-        ensures { option_copied result ≡ node_qual_name (document self.now).tree target.now };
+    fn elem_name(&self, target: &NodeId) -> Option<NameRef<'_>>
+        ensures { result ≡ node_qual_name (document self.now).tree target.now };
 
     /// Makes an element that stands alone. With the flag `template` it has contents: a new fragment
     /// at the next number. Refused as `TooManyNodes` or `Memory`; then none of the two is made.
@@ -172,7 +171,7 @@ impl TreeSink for Document {
         x == y
     }
 
-    fn elem_name(&self, target: &NodeId) -> Option<&QualName> {
+    fn elem_name(&self, target: &NodeId) -> Option<NameRef<'_>> {
         self.tree.get_name(target)
     }
 

@@ -7,7 +7,7 @@ ghost use Rattle.dom_markup.specs.Token.{mode_of};
 
 use crate::document::names::{holds_text, is_raw};
 use crate::names::is_raw_name;
-use dom_nodes::name::LocalName;
+use dom_nodes::name::LocalRef;
 
 /// What is read next: markup, or the text of an element, whose name stands here as its start tag
 /// has it. The references in a `Text` are read, a `RawText` is read as it is.
@@ -32,7 +32,7 @@ pub fn within_element(name: &str) -> Within<'_>
 }
 
 /// The same of an element whose local name is known too.
-pub fn within_named<'a>(written: &'a str, name: &LocalName) -> Within<'a>
+pub fn within_named<'a>(written: &'a str, name: &LocalRef<'_>) -> Within<'a>
     requires { name.now ≡ folded written.now }
     ensures { mode_of result ≡ mode_in name.now }
 {

@@ -57,7 +57,7 @@ fn put_start_tag<P: PutText<W>, W>(
     ensures { Writes (P.written w.old) (P.written w.new) result (start_tag element.now) }
 {
     put_parts::<P, W>(w, &["<", element.node_name()])?;
-    for attr in element.attrs.as_slice() {
+    for attr in element.attrs().as_slice() {
         put_attr::<P, W>(w, escaper, attr)?;
     }
     P::put(w, ">")
@@ -90,8 +90,8 @@ fn before_local(name: &QualName) -> &str
 pub(super) fn is_void(element: &Element) -> bool
     ensures { result ≡ is_void element.now }
 {
-    match element.name.ns() {
-        NamespaceRef::Html => is_void_name(element.name.local()),
+    match element.name().ns() {
+        NamespaceRef::Html => is_void_name(&element.name().local()),
         _ => false,
     }
 }
@@ -120,8 +120,8 @@ pub(super) fn keeps_texts(content: &NodeData) -> bool
 fn is_raw(element: &Element) -> bool
     ensures { result ≡ is_raw element.now }
 {
-    match element.name.ns() {
-        NamespaceRef::Html => is_raw_name(element.name.local()),
+    match element.name().ns() {
+        NamespaceRef::Html => is_raw_name(&element.name().local()),
         _ => false,
     }
 }

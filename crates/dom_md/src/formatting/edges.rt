@@ -16,7 +16,7 @@ use dom_links::edges::{Descent, Edge, Entered, NodeEdges};
 use dom_links::iters::find_node;
 use dom_links::ops::TreeNodeOps;
 use dom_nodes::fault::OutOfMemory;
-use dom_nodes::name::LocalName;
+use dom_nodes::name::LocalRef;
 use dom_nodes::node_data::{NodeData, TreeNode};
 use dom_nodes::node_id::NodeId;
 use dom_trees::tree::Tree;
@@ -32,7 +32,7 @@ impl Descent for OutsidePre {
     fn inside(content: &NodeData) -> Entered {
         match content {
             NodeData::Document | NodeData::Fragment => Entered::Children,
-            NodeData::Element(element) => inside_element(element.name.local()),
+            NodeData::Element(element) => inside_element(&element.name().local()),
             _ => Entered::Nothing,
         }
     }
@@ -44,7 +44,7 @@ impl Descent for OutsidePre {
 
 /// What is entered of an element of that name.
 #[inline(always)]
-fn inside_element(name: &LocalName) -> Entered
+fn inside_element(name: &LocalRef<'_>) -> Entered
     ensures { result ≡ inside_element name.now }
 {
     if is_pre(name) {
@@ -124,7 +124,7 @@ fn open_node(
     match content {
         NodeData::Text { contents } => Ok(add_text(text, contents.as_str())?),
         NodeData::Element(element) => {
-            let name = element.name.local();
+            let name = &element.name().local();
             open_element(text, name)?;
             if is_pre(name) {
                 keep_text(nodes, id, text)?;
@@ -141,7 +141,7 @@ fn close_node(content: &NodeData, text: &mut String) -> Result<(), OutOfMemory>
     ensures { Formats text.old text.new result (close_events content.now) }
 {
     match content {
-        NodeData::Element(element) => Ok(close_element(text, element.name.local())?),
+        NodeData::Element(element) => Ok(close_element(text, &element.name().local())?),
         _ => Ok(()),
     }
 }

@@ -5,7 +5,7 @@ ghost use Rattle.std.specs.Str.{bytes_eq};
 ghost use Rattle.dom_nodes.specs.Words.{is_among};
 ghost use Rattle.dom_md.specs.Formatted.{block_names, cell_names, line_names};
 
-use dom_nodes::name::LocalName;
+use dom_nodes::name::LocalRef;
 
 /// What the known name of each number is: 1 of a block, 2 of a line, 3 of a cell.
 #[rattlefmt::skip]
@@ -25,7 +25,7 @@ const PRE: u8 = 49;
 
 /// Whether the element keeps its text as it is.
 #[inline(always)]
-pub(super) fn is_pre(name: &LocalName) -> bool
+pub(super) fn is_pre(name: &LocalRef<'_>) -> bool
     ensures { result ≡ bytes_eq name.now (codes "pre") }
 {
     match name.number() {
@@ -35,7 +35,7 @@ pub(super) fn is_pre(name: &LocalName) -> bool
 }
 
 /// Whether the element stands in lines of its own, with a blank line behind it.
-pub(super) fn is_block(name: &LocalName) -> bool
+pub(super) fn is_block(name: &LocalRef<'_>) -> bool
     ensures { result ≡ is_among name.now block_names }
 {
     match name.number() {
@@ -45,7 +45,7 @@ pub(super) fn is_block(name: &LocalName) -> bool
 }
 
 /// Whether a line ends with the element.
-pub(super) fn is_line(name: &LocalName) -> bool
+pub(super) fn is_line(name: &LocalRef<'_>) -> bool
     ensures { result ≡ is_among name.now line_names }
 {
     match name.number() {
@@ -55,7 +55,7 @@ pub(super) fn is_line(name: &LocalName) -> bool
 }
 
 /// Whether a space parts the element from the next.
-pub(super) fn is_cell(name: &LocalName) -> bool
+pub(super) fn is_cell(name: &LocalRef<'_>) -> bool
     ensures { result ≡ is_among name.now cell_names }
 {
     match name.number() {

@@ -17,12 +17,12 @@ ghost use Rattle.dom_md.specs.Adding.{Adds, EachFrom, KeepsFront};
 
 use crate::formatting::names::{is_block, is_cell, is_line};
 use crate::lanes::{at_most, load, past_spaces, unmarked_len};
-use dom_nodes::name::LocalName;
+use dom_nodes::name::LocalRef;
 use std::alloc::AllocError;
 use std::simd::prelude::*;
 
 /// An element opens.
-pub(super) fn open_element(text: &mut String, name: &LocalName) -> Result<(), AllocError>
+pub(super) fn open_element(text: &mut String, name: &LocalRef<'_>) -> Result<(), AllocError>
     ensures { OnOk result (string_bytes text.new ≡ with_open (string_bytes text.old) name.now) }
 {
     if is_block(name) && !is_parted(text.as_str()) {
@@ -32,7 +32,7 @@ pub(super) fn open_element(text: &mut String, name: &LocalName) -> Result<(), Al
 }
 
 /// An element closes.
-pub(super) fn close_element(text: &mut String, name: &LocalName) -> Result<(), AllocError>
+pub(super) fn close_element(text: &mut String, name: &LocalRef<'_>) -> Result<(), AllocError>
     ensures { OnOk result (string_bytes text.new ≡ with_close (string_bytes text.old) name.now) }
 {
     if is_parted(text.as_str()) {

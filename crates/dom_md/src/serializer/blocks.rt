@@ -10,7 +10,7 @@ use crate::serializer::texts::{
     add_linebreaks, escape_closing_hashes, push_block_space, push_text, trim_end_spaces,
 };
 use dom_nodes::fault::OutOfMemory;
-use dom_nodes::name::LocalName;
+use dom_nodes::name::LocalRef;
 use dom_nodes::node_data::NodeData;
 use dom_nodes::node_id::NodeId;
 use dom_trees::node_ref::NodeRef;
@@ -47,7 +47,7 @@ impl<'a> Writer<'a> {
         };
         match &node.content {
             NodeData::Text { contents } => push_text(&mut self.text, contents.as_str(), opts),
-            NodeData::Element(element) => self.open_element(id, element.name.local(), opts),
+            NodeData::Element(element) => self.open_element(id, &element.name().local(), opts),
             _ => Ok(()),
         }
     }
@@ -55,7 +55,7 @@ impl<'a> Writer<'a> {
     fn open_element(
         &mut self,
         id: NodeId,
-        name: &LocalName,
+        name: &LocalRef<'_>,
         opts: FormatOpts,
     ) -> Result<(), OutOfMemory> {
         if self.is_skipped(name) {
@@ -122,7 +122,7 @@ impl<'a> Writer<'a> {
 
     /// Writes the end of an element.
     pub(super) fn close_node(&mut self, id: NodeId, opts: FormatOpts) -> Result<(), OutOfMemory> {
-        let Some(name) = local_name(&NodeRef::new(id, self.tree)) else {
+        let Some(name) = &local_name(&NodeRef::new(id, self.tree)) else {
             return Ok(());
         };
         let double = if opts.table_cell { "<br><br>" } else { "\n\n" };

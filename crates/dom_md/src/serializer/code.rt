@@ -9,7 +9,7 @@ use crate::serializer::nodes::contents;
 use crate::serializer::tasks::Task;
 use crate::serializer::texts::push_block_space;
 use dom_nodes::fault::OutOfMemory;
-use dom_nodes::name::LocalName;
+use dom_nodes::name::LocalRef;
 use dom_nodes::node_data::NodeData;
 use dom_nodes::node_id::NodeId;
 use dom_trees::node_ref::NodeRef;
@@ -75,14 +75,14 @@ impl<'a> Writer<'a> {
             }
             match &child.content {
                 NodeData::Text { contents } => return as_word(contents.as_str()),
-                NodeData::Element(element) if self.is_plain(element.name.local()) => at = first,
+                NodeData::Element(element) if self.is_plain(&element.name().local()) => at = first,
                 _ => return None,
             }
         }
         None
     }
 
-    fn is_plain(&self, name: &LocalName) -> bool {
+    fn is_plain(&self, name: &LocalRef<'_>) -> bool {
         !self.is_skipped(name) && !tag_of(name).has_end()
     }
 

@@ -83,7 +83,7 @@ impl<'a> Writer<'a> {
 
     fn is_left_out(&self, node: &NodeRef<'_>) -> bool {
         match local_name(node) {
-            Some(name) => self.is_skipped(name),
+            Some(name) => self.is_skipped(&name),
             None => false,
         }
     }

@@ -109,10 +109,10 @@ fn address_in(element: &Element) -> Option<&str>
     ensures { option_copied result ≡ attr_of element.now.attrs (codes "href") }
 {
     element
-        .attrs
+        .attrs()
         .as_slice()
         .iter()
-        .find(|attr| is_href(attr.name.local()))
+        .find(|attr| is_href(&attr.name.local()))
         .map(|attr| attr.value.as_str())
 }
 
@@ -120,10 +120,10 @@ fn title_in(element: &Element) -> Option<&str>
     ensures { option_copied result ≡ attr_of element.now.attrs (codes "title") }
 {
     element
-        .attrs
+        .attrs()
         .as_slice()
         .iter()
-        .find(|attr| is_title(attr.name.local()))
+        .find(|attr| is_title(&attr.name.local()))
         .map(|attr| attr.value.as_str())
 }
 

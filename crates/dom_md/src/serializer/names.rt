@@ -7,7 +7,7 @@ ghost use Rattle.dom_md.specs.declared.serializer.names.Tag.TheVariants.{Other};
 ghost use Rattle.dom_md.specs.Names.{is_skipped_number, skipped_names};
 ghost use Rattle.dom_md.specs.Tags.{inner_numbered, tag_named, tag_numbered};
 
-use dom_nodes::name::LocalName;
+use dom_nodes::name::LocalRef;
 
 // The numbers of some known names. The proofs hold each to its name.
 const HREF: u8 = 71;
@@ -73,7 +73,7 @@ const H1: u8 = 14;
 const H6: u8 = 19;
 
 /// Whether the name is `href`.
-pub(super) fn is_href(name: &LocalName) -> bool
+pub(super) fn is_href(name: &LocalRef<'_>) -> bool
     ensures { result ≡ bytes_eq name.now (codes "href") }
 {
     match name.number() {
@@ -83,7 +83,7 @@ pub(super) fn is_href(name: &LocalName) -> bool
 }
 
 /// Whether the name is `title`.
-pub(super) fn is_title(name: &LocalName) -> bool
+pub(super) fn is_title(name: &LocalRef<'_>) -> bool
     ensures { result ≡ bytes_eq name.now (codes "title") }
 {
     match name.number() {
@@ -93,7 +93,7 @@ pub(super) fn is_title(name: &LocalName) -> bool
 }
 
 /// Whether the element is left out where no others are named: `script`, `style`, `meta`, `head`.
-pub(super) fn is_default_skipped(name: &LocalName) -> bool
+pub(super) fn is_default_skipped(name: &LocalRef<'_>) -> bool
     ensures { result ≡ is_among name.now skipped_names }
 {
     match name.number() {
@@ -141,7 +141,7 @@ pub(super) enum Tag {
 }
 
 /// What an element of that name is. All names that are more than `Other` are known.
-pub(super) fn tag_of(name: &LocalName) -> Tag
+pub(super) fn tag_of(name: &LocalRef<'_>) -> Tag
     ensures { result ≢ Other → result ≡ tag_named name.now }
 {
     match name.number() {

@@ -5,22 +5,22 @@ ghost use Rattle.dom_md.specs.Words.{holds_texts};
 
 use crate::serializer::lists::parse_list_number;
 use crate::serializer::names::{Tag, tag_of};
-use dom_nodes::name::LocalName;
+use dom_nodes::name::LocalRef;
 use dom_nodes::node_data::NodeData;
 use dom_trees::node_ref::NodeRef;
 
 /// What the node is to Markdown.
 pub(super) fn tag(node: &NodeRef<'_>) -> Tag {
     match local_name(node) {
-        Some(name) => tag_of(name),
+        Some(name) => tag_of(&name),
         None => Tag::Other,
     }
 }
 
 /// The local name of an element.
-pub(super) fn local_name<'a>(node: &NodeRef<'a>) -> Option<&'a LocalName> {
+pub(super) fn local_name<'a>(node: &NodeRef<'a>) -> Option<LocalRef<'a>> {
     match &node.tree.tree_node(&node.id)?.content {
-        NodeData::Element(element) => Some(element.name.local()),
+        NodeData::Element(element) => Some(element.name().local()),
         _ => None,
     }
 }

@@ -6,7 +6,7 @@ ghost use Rattle.dom_nodes.specs.Changes.{is_attr_named, is_link_name, plain_att
 use super::attrs_form::{AttrsForm, Kept};
 use super::{Attrs, Element, push_doubling};
 use crate::fault::OutOfMemory;
-use crate::name::{Attr, LocalName, QualName};
+use crate::name::{Attr, LocalName, QualName, set_local};
 use crate::text::Text;
 use std::alloc::Global;
 use std::mem;
@@ -150,7 +150,7 @@ impl Element {
         ensures err { OnErr result (self.new ≡ self.old) }
     {
         let local = LocalName::new(self.attrs.allocator(), name)?;
-        self.name.set_local(local);
+        set_local(&mut self.form, local);
         Ok(())
     }
 }

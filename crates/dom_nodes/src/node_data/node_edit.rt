@@ -3,7 +3,7 @@
 ghost use Rattle.std.specs.Prelude.{◌≡◌, []};
 ghost use Rattle.std.specs.Fn.{FnOnceReturnsAtMut};
 
-use super::{Attrs, NodeData, TreeNode};
+use super::{Attrs, Element, NodeData, TreeNode};
 use crate::name::{LocalName, QualName};
 use crate::text::Text;
 use std::alloc::Global;
@@ -33,6 +33,18 @@ impl NodeEdit {
     }
 }
 
+impl Element {
+    /// Gives the element another name and hands back the one that it had.
+    fn replace_name(&mut self, name: QualName) -> QualName
+        ensures new { self.new ≡ record self.old { name = name } }
+        ensures old { result ≡ self.old.name }
+    {
+        let contents = self.form.contents();
+        let form = name.into_form().beside(self.form.flag(), contents);
+        QualName::of_form(mem::replace(&mut self.form, form))
+    }
+}
+
 impl NodeData {
     ghost use Rattle.dom_nodes.specs.Updates.{IsUpdated, edit_of, empty_edit, with_edit};
 
@@ -56,7 +68,7 @@ impl NodeData {
         let mut edit = NodeEdit::new(alloc);
         match self {
             NodeData::Element(element) => {
-                mem::swap(&mut element.name, &mut edit.name);
+                edit.name = element.replace_name(QualName::plain(LocalName::empty()));
                 mem::swap(&mut element.attrs, &mut edit.attrs);
             }
             NodeData::Text { contents } => mem::swap(contents, &mut edit.contents),
@@ -77,8 +89,8 @@ impl NodeData {
         } = edit;
         match self {
             NodeData::Element(element) => {
-                element.name = name;
-                element.attrs = attrs;
+                element.set_name(name);
+                element.set_attrs(attrs);
             }
             NodeData::Text { contents } => *contents = changed,
             NodeData::Comment { contents } => *contents = changed,

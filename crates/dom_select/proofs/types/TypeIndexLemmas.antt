@@ -9,7 +9,7 @@ use Rattle.dom_nodes.specs.Attrs.{element_of}
 use Rattle.dom_nodes.specs.NameLaws.{same_name-equiv}
 use Rattle.dom_nodes.specs.Names.{same_name}
 use Rattle.dom_nodes.specs.declared.name.NameParts.{NameParts}
-use Rattle.dom_nodes.specs.declared.node_data.Element.{Element as AnElement}
+use Rattle.dom_nodes.specs.Elements.{Element as AnElement}
 use Rattle.dom_nodes.specs.declared.node_data.NodeData.{NodeData}
 use Rattle.dom_nodes.specs.declared.node_data.NodeData.TheVariants.{Element}
 use Rattle.dom_links.specs.Forest.{Forest, StandsOnce, siblings}

@@ -15,7 +15,7 @@ use crate::matcher::caches::SelectorCaches;
 use crate::matcher::joined::contains_joined;
 use crate::matcher::positions::has_position;
 use crate::matcher::texts::{has_text, is_empty, is_only_text};
-use dom_nodes::name::{Attr, LocalName, NamespaceRef};
+use dom_nodes::name::{Attr, LocalRef, NamespaceRef};
 use dom_nodes::node_data::{Element, NodeData};
 use dom_nodes::node_id::NodeId;
 use dom_selectors::comparisons::passes;
@@ -41,7 +41,7 @@ pub(crate) fn is_named_node(node: &NodeData, name: &SelectorName) -> bool
     ensures { result ≡ node_passes (Part.«Type» name.now) node.now }
 {
     match node {
-        NodeData::Element(element) => is_named(element.name.ns(), element.name.local(), name),
+        NodeData::Element(element) => is_named(element.name().ns(), &element.name().local(), name),
         _ => false,
     }
 }
@@ -120,8 +120,8 @@ fn element_passes(part: &Part, element: &Element) -> bool
 {
     match part {
         Part::Universal => true,
-        Part::Type(name) => is_named(element.name.ns(), element.name.local(), name),
-        Part::Id(value) => has_attr(element.attrs.as_slice(), "id", value.as_str()),
+        Part::Type(name) => is_named(element.name().ns(), &element.name().local(), name),
+        Part::Id(value) => has_attr(element.attrs().as_slice(), "id", value.as_str()),
         Part::Class(word) => element.has_class(word.as_str()),
         Part::Attribute(asked) => attrs_pass(asked, element),
         Part::Root => false,
@@ -137,18 +137,18 @@ fn element_passes(part: &Part, element: &Element) -> bool
 
 /// Whether a local name is a selector's name: with A to Z folded in HTML, as written elsewhere.
 #[inline(always)]
-fn is_named(ns: NamespaceRef<'_>, local: &LocalName, name: &SelectorName) -> bool
+fn is_named(ns: NamespaceRef<'_>, local: &LocalRef<'_>, name: &SelectorName) -> bool
     ensures { result ≡ bytes_eq local.now (name_within (namespace_of ns.entry) name.now) }
 {
     match ns {
-        NamespaceRef::Html => is_folded(local, name.folded()),
+        NamespaceRef::Html => is_folded(local, &name.folded().by_ref()),
         _ => is_written(local, name),
     }
 }
 
 /// Whether the names are the same. Known ones, which most are, are compared by number.
 #[inline(always)]
-fn is_folded(local: &LocalName, folded: &LocalName) -> bool
+fn is_folded(local: &LocalRef<'_>, folded: &LocalRef<'_>) -> bool
     ensures { result ≡ bytes_eq local.now folded.now }
 {
     if let Some(number) = local.number() {
@@ -161,7 +161,7 @@ fn is_folded(local: &LocalName, folded: &LocalName) -> bool
 
 #[cold]
 #[inline(never)]
-fn is_spelled(local: &LocalName, other: &LocalName) -> bool
+fn is_spelled(local: &LocalRef<'_>, other: &LocalRef<'_>) -> bool
     ensures { result ≡ bytes_eq local.now other.now }
 {
     local.is_same(other)
@@ -170,7 +170,7 @@ fn is_spelled(local: &LocalName, other: &LocalName) -> bool
 /// Whether a local name is a selector's name as written.
 #[cold]
 #[inline(never)]
-fn is_written(local: &LocalName, name: &SelectorName) -> bool
+fn is_written(local: &LocalRef<'_>, name: &SelectorName) -> bool
     ensures { result ≡ bytes_eq local.now name.now }
 {
     local.as_str() == name.as_str()
@@ -192,9 +192,9 @@ fn is_attr(attr: &Attr, name: &str, value: &str) -> bool
 fn attrs_pass(asked: &Attribute, element: &Element) -> bool
     ensures { result ≡ list_any (attr_passes element.now.name.ns asked.now) element.now.attrs }
 {
-    let ns = element.name.ns();
+    let ns = element.name().ns();
     element
-        .attrs
+        .attrs()
         .as_slice()
         .iter()
         .any(|attr| attr_passes(ns, asked, attr))
@@ -206,7 +206,7 @@ fn attr_passes(ns: NamespaceRef<'_>, asked: &Attribute, attr: &Attr) -> bool
     if !is_without(attr.name.ns()) {
         return false;
     }
-    if !is_named(ns, attr.name.local(), &asked.name) {
+    if !is_named(ns, &attr.name.local(), &asked.name) {
         return false;
     }
     comparison_passes(&asked.comparison, attr.value.as_str())

@@ -47,10 +47,10 @@ fn may_bear(types: &[bool; 256], node: &NodeData) -> bool
     let NodeData::Element(element) = node else {
         return false;
     };
-    let NamespaceRef::Html = element.name.ns() else {
+    let NamespaceRef::Html = element.name().ns() else {
         return true;
     };
-    match element.name.local().number() {
+    match element.name().local().number() {
         Some(number) => types[number as usize],
         None => true,
     }

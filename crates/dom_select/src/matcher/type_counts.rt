@@ -4,7 +4,7 @@ ghost use Rattle.std.specs.Prelude.{◌≡◌};
 ghost use Rattle.dom_nodes.specs.Names.{namespace_of};
 ghost use Rattle.dom_select.specs.TypeCounts.{CountsOne, name_of, namespace_in};
 
-use dom_nodes::name::{NamespaceRef, QualName};
+use dom_nodes::name::{NameRef, NamespaceRef};
 use std::collections::BTreeMap;
 
 /// How many elements of each type were counted.
@@ -34,7 +34,7 @@ enum TypeNamespace<'t> {
 
 impl<'t> TypeName<'t> {
     /// The name as a key.
-    pub(crate) fn of(name: &'t QualName) -> TypeName<'t>
+    pub(crate) fn of(name: &NameRef<'t>) -> TypeName<'t>
         ensures { name_of result ≡ name.now }
     {
         TypeName {

@@ -103,7 +103,7 @@ fn note_line(tree: &Tree, end: NodeId, from_first: bool, known: &mut [u32])
             return;
         };
         if let Some(element) = node.as_element() {
-            let Some(index) = count_one(&mut counts, TypeName::of(&element.name)) else {
+            let Some(index) = count_one(&mut counts, TypeName::of(&element.name())) else {
                 return;
             };
             note(known, at, index);

@@ -70,7 +70,7 @@ fn asked_holds(asked: &MiniAttr<'_>, element: &Element) -> bool
     let Some((operator, wanted)) = asked.test else {
         return element.attr(asked.key).is_some();
     };
-    any_passes(asked.key, operator, wanted, element.attrs.as_slice())
+    any_passes(asked.key, operator, wanted, element.attrs().as_slice())
 }
 
 fn attrs_hold(attrs: &[MiniAttr<'_>], element: &Element) -> bool

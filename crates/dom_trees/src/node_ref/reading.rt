@@ -17,7 +17,7 @@ use crate::node_ref::NodeRef;
 use dom_links::iters::parent_id;
 use dom_links::ops::TreeNodeOps;
 use dom_nodes::fault::OutOfMemory;
-use dom_nodes::name::{Attr, QualName};
+use dom_nodes::name::{Attr, NameRef};
 use dom_nodes::node_data::{Element, NodeData, TreeNode};
 use dom_nodes::words::is_blank;
 
@@ -125,8 +125,8 @@ impl<'a> NodeRef<'a> {
     }
 
     /// The name of the element that the node is.
-    pub fn qual_name_ref(&self) -> Option<&'a QualName>
-        ensures { option_copied result ≡ node_qual_name self.now.tree.now self.now.id }
+    pub fn qual_name_ref(&self) -> Option<NameRef<'a>>
+        ensures { result ≡ node_qual_name self.now.tree.now self.now.id }
     {
         self.tree.get_name(&self.id)
     }
@@ -157,7 +157,7 @@ impl<'a> NodeRef<'a> {
         ensures { result.now ≡ node_attrs self.now.tree.now self.now.id }
     {
         match self.element_ref() {
-            Some(element) => element.attrs.as_slice(),
+            Some(element) => element.attrs().as_slice(),
             None => &[],
         }
     }

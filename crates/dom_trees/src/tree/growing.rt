@@ -63,7 +63,7 @@ impl Tree {
     {
         check_room(&self.nodes)?;
         let target = rare_text(self.allocator(), target)?;
-        let contents = owned_text(self.allocator(), contents)?;
+        let contents = rare_text(self.allocator(), contents)?;
         self.create_node(NodeData::ProcessingInstruction { target, contents })
     }
 
@@ -80,7 +80,7 @@ impl Tree {
             (appending id.now (doctype_node name.now public_id.now system_id.now)) }
     {
         check_room(&self.nodes)?;
-        let name = owned_text(self.allocator(), name)?;
+        let name = rare_text(self.allocator(), name)?;
         let public_id = rare_text(self.allocator(), public_id)?;
         let system_id = rare_text(self.allocator(), system_id)?;
         self.append_child_data_of(

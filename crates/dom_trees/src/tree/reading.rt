@@ -7,7 +7,7 @@ ghost use Rattle.dom_trees.specs.Views.{IsAnswerOf, IsAnswerOfTwo, is_integratio
 ghost use Rattle.dom_trees.specs.Views.{node_element, node_qual_name};
 
 use crate::tree::Tree;
-use dom_nodes::name::QualName;
+use dom_nodes::name::NameRef;
 use dom_nodes::node_data::{Element, NodeData, TreeNode};
 use dom_nodes::node_id::NodeId;
 
@@ -58,18 +58,19 @@ impl Tree {
     }
 
     /// The name of the element that the node is.
-    pub fn get_name(&self, id: &NodeId) -> Option<&QualName>
-        ensures { option_copied result ≡ node_qual_name self.now id.now }
+    pub fn get_name(&self, id: &NodeId) -> Option<NameRef<'_>>
+        ensures { result ≡ node_qual_name self.now id.now }
     {
-        Some(&self.element(id)?.name)
+        Some(self.element(id)?.name())
     }
 
     /// Whether the node is an element that is flagged as a MathML annotation's integration point.
     pub fn is_mathml_annotation_xml_integration_point(&self, node_id: &NodeId) -> bool
         ensures { result ≡ is_integration_point self.now node_id.now }
     {
-        self.element(node_id)
-            .is_some_and(|element| element.mathml_annotation_xml_integration_point)
+        self.element(node_id).is_some_and(
+            |element| element.mathml_annotation_xml_integration_point(),
+        )
     }
 
     /// What the node is.

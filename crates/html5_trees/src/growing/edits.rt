@@ -210,7 +210,7 @@ fn append(tree: &mut Tree, parent: NodeId, element: Element) -> Result<NodeId, P
 }
 
 /// The name and the attributes of an element.
-fn copied(tree: &Tree, id: NodeId) -> Result<Element, PageFault>
+fn copied(tree: &Tree, id: NodeId) -> Result<(QualName, Attrs), PageFault>
     requires { IsElement tree.now id }
 {
     let Some(node) = tree.tree_node(&id) else {
@@ -219,7 +219,7 @@ fn copied(tree: &Tree, id: NodeId) -> Result<Element, PageFault>
     let Some(element) = node.content.as_element() else {
         unreachable!();
     };
-    Ok(element.try_clone()?)
+    Ok((element.name().try_clone()?, element.attrs().try_clone()?))
 }
 
 /// The same element again, alone: its name and attributes.
@@ -230,12 +230,12 @@ fn copy_of(tree: &mut Tree, element: Open) -> Result<Open, PageFault>
     ensures err { OnErr result (tree.new ≡ tree.old) }
 {
     is_forest(tree);
-    let copy = copied(tree, element.id)?;
+    let (name, attrs) = copied(tree, element.id)?;
     let flags = ElementFlags {
         template: false,
         mathml_annotation_xml_integration_point: false,
     };
-    let id = create(tree, copy.name, copy.attrs, flags)?;
+    let id = create(tree, name, attrs, flags)?;
     Ok(Open {
         id,
         ns: element.ns,

@@ -21,7 +21,7 @@ returns-in_err-put_attr g c =
     let split = flat_map-split attr_text items c.loop-attr.attr-index c.attr-item.result c.loop-attr-test.true in
     let one : flat_map attr_text items ≡ (flat_map attr_text (take c.loop-attr.attr-index items) ++ attr_text c.attr-item.result) ++ flat_map attr_text (drop (c.loop-attr.attr-index + 1) items) =
     split ∙ ap (λ x. (flat_map attr_text (take c.loop-attr.attr-index items) ++ attr_text x) ++ flat_map attr_text (drop (c.loop-attr.attr-index + 1) items)) (sym c.attr-item.is) in
-    let all : flat_map attr_text c.args.element.now.attrs ≡ flat_map attr_text items = ap (flat_map attr_text) (sym c.as_slice-attr-items.ensures) in
+    let all : flat_map attr_text c.args.element.now.attrs ≡ flat_map attr_text items = ap (flat_map attr_text) (sym (c.as_slice-attr-items.ensures ∙ c.attrs.ensures)) in
     rw e.1 (fault-first _ _ _ _ _ (fault-inside _ _ _ _ _ _ c.loop-attr.invariant c.in_err-put_attr.ensures refl)
     (tag-attr c.args.element.now.name.local (flat_map attr_text c.args.element.now.attrs) _ _ (flat_map attr_text (drop (c.loop-attr.attr-index + 1) items)) (codes ">") (all ∙ one)))
 
@@ -30,7 +30,7 @@ returns g c =
     let items = c.as_slice-attr-items.result.now in
     let done : take c.loop-attr.attr-index items ≡ items = take_all c.loop-attr.attr-index items (omega (arith, c.loop-attr-test.false)) in
     then-writes _ _ _ c.put.result _ _ _ c.loop-attr.invariant c.put.ensures
-    (tag-last c.args.element.now.name.local (flat_map attr_text c.args.element.now.attrs) _ (codes ">") (ap (flat_map attr_text) (done ∙ c.as_slice-attr-items.ensures)))
+    (tag-last c.args.element.now.name.local (flat_map attr_text c.args.element.now.attrs) _ (codes ">") (ap (flat_map attr_text) (done ∙ (c.as_slice-attr-items.ensures ∙ c.attrs.ensures))))
 
 pub slice_bounds-put_parts-end-2 : goal.slice_bounds-put_parts-end-2
 slice_bounds-put_parts-end-2 g c = grind (arith, common_steps)

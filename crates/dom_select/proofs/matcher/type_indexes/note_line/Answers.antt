@@ -15,7 +15,7 @@ counted c =
     elim c.match-as_element.branch [
       | in-Some-as_element+in-Some-count_one w ↦ subst (λ counts. AreCounted forest before counts c.onward-next.result) (sym w.counts-is)
           (element_passed forest before c.in-Some.at _ here c.loop-next.counts w.count_one.new.counts w.of.result w.in-Some-as_element.element.now w.in-Some-count_one.index c.onward-next.result
-          (sym w.in-Some-as_element.ensures) w.of.ensures w.in-Some-count_one.ensures so_far c.onward-next.ensures.passed)
+          (sym w.in-Some-as_element.ensures) (w.of.ensures ∙ w.name.ensures) w.in-Some-count_one.ensures so_far c.onward-next.ensures.passed)
       | in_default-as_element w ↦ subst (λ counts. AreCounted forest before counts c.onward-next.result) (sym w.counts-is)
           (other_passed forest before c.in-Some.at _ here c.loop-next.counts c.onward-next.result (sym w.in_default-as_element.ensures) so_far c.onward-next.ensures.passed)
     ]
@@ -28,7 +28,7 @@ right c =
     elim c.match-as_element.branch [
       | in-Some-as_element+in-Some-count_one w ↦ subst (AreIndexes kind forest) (sym (w.known-is ∙ w.note.ensures))
           (noted forest kind c.loop-next.known c.in-Some.at w.in-Some-count_one.index c.loop-next.invariant.right
-          (next_index forest c.in-Some.at _ w.in-Some-as_element.element.now c.in-Some-tree_node.ensures.content_is (sym w.in-Some-as_element.ensures) c.args.from_first c.loop-next.counts w.count_one.new.counts w.of.result w.in-Some-count_one.index w.of.ensures w.in-Some-count_one.ensures so_far))
+          (next_index forest c.in-Some.at _ w.in-Some-as_element.element.now c.in-Some-tree_node.ensures.content_is (sym w.in-Some-as_element.ensures) c.args.from_first c.loop-next.counts w.count_one.new.counts w.of.result w.in-Some-count_one.index (w.of.ensures ∙ w.name.ensures) w.in-Some-count_one.ensures so_far))
       | in_default-as_element w ↦ subst (AreIndexes kind forest) (sym w.known-is) c.loop-next.invariant.right
     ]
 

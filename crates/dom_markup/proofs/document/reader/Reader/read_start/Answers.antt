@@ -37,10 +37,10 @@ returns-then-void c =
     let grows = c.in_ok-number.ensures in
     let made = grows.grown.1 ∙ started_is (parent_number old) c.in_ok-started.started tag.0 old.tree tag.2 in
     let name = folded c.in_ok-started.started.written.now in
-    let void = ap (λ (n : List ℕ). is_among n void_names) (sym tag.2.local) ∙ (sym c.is_void_name-void.ensures ∙ c.if-void.true) in
+    let void = ap (λ (n : List ℕ). is_among n void_names) (sym (c.by_ref-local.ensures ∙ tag.2.local)) ∙ (sym c.is_void_name-void.ensures ∙ c.if-void.true) in
     λ items h.
     let read = same_read items c.args.self.now old kept.tree kept.stack h in
-    (start_tag name tag.0, tag.1, c.within_named-within.ensures ∙ ap mode_in tag.2.local, void_read items old c.append_element.new.self name tag.0 read made grows.stack void)
+    (start_tag name tag.0, tag.1, c.within_named-within.ensures ∙ ap mode_in (c.by_ref-local.ensures ∙ tag.2.local), void_read items old c.append_element.new.self name tag.0 read made grows.stack void)
 
 pub returns-in-Ok : goal.returns-in-Ok
 returns-in-Ok c =
@@ -52,11 +52,11 @@ returns-in-Ok c =
     let grows = c.in_ok-number.ensures in
     let made = grows.grown.1 ∙ started_is (parent_number old) started tag.0 old.tree tag.2 in
     let one : Open = record { number = c.in_ok-number.number; name = started.written } in
-    let open_one = ap (λ (n : List ℕ). is_among n void_names) (sym tag.2.local) ∙ (sym c.is_void_name-void.ensures ∙ c.if-void.false) in
+    let open_one = ap (λ (n : List ℕ). is_among n void_names) (sym (c.by_ref-local.ensures ∙ tag.2.local)) ∙ (sym c.is_void_name-void.ensures ∙ c.if-void.false) in
     λ items h.
     let read = same_read items c.args.self.now old kept.tree kept.stack h in (
       start_tag name tag.0,
       tag.1,
-      c.within_named-within.ensures ∙ ap mode_in tag.2.local,
+      c.within_named-within.ensures ∙ ap mode_in (c.by_ref-local.ensures ∙ tag.2.local),
       start_read items old _ _ _ one name tag.0 read made grows.stack c.in-Ok.ensures.items grows.grown.0 refl open_one,
     )
