@@ -84,6 +84,13 @@ def used(of=None):
     return of.ru_utime + of.ru_stime
 
 
+def clear_empty():
+    """Removes empty folders of built libraries: a gate that was killed leaves some, and `rt ci` puts back what it found."""
+    for folder in ROOT.glob("crates/*/out/rlib"):
+        if not any(folder.iterdir()):
+            folder.rmdir()
+
+
 def gate(clock):
     """Runs the gate, shows what it says, and has the edits of each crate tried that it proved. Returns how many of its
     checks passed and failed, and what waits for the edits and returns how many of them did."""
@@ -91,6 +98,7 @@ def gate(clock):
     if rt is None:
         print("check: no command rt: the kit's folder bin must be on the PATH")
         return (0, 1), lambda: (0, 0)
+    clear_empty()
     trials, begun = edits.Trials(anew="--anew" in sys.argv), time.monotonic()
     # (a kit whose rt keeps nothing shows all anew each time, and has no such word)
     anew = ["--anew"] if "--anew" in sys.argv and trials.refusals.kept else []
