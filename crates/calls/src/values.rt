@@ -80,6 +80,7 @@ fn show_names(rt: &HostRuntime, name: &QualName, other: &QualName) {
 /// The same of names that are lent.
 fn show_lent(rt: &HostRuntime, name: &NameRef<'_>, other: &NameRef<'_>) {
     show_some(rt, "lent prefix", name.prefix());
+    show_some(rt, "lent number in HTML", name.html_number());
     let (local, also) = (name.local(), other.local());
     let flags = [
         ("lent is_same", name.is_same(other)),

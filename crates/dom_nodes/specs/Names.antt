@@ -1,11 +1,12 @@
--- Namespaces that are lent, and when two names are the same.
-use Rattle.std.specs.Prelude.{ℕ, Bool, true, false, ◌&&◌, List, Option, Some}
+-- Namespaces that are lent, when two names are the same, and numbers of names in HTML.
+use Rattle.std.specs.Prelude.{ℕ, ◌≡◌, Bool, true, false, ◌&&◌, List, Option, Some}
 use Rattle.std.specs.Str.{bytes_eq}
 use Rattle.dom_nodes.specs.declared.name.Namespace.{Namespace}
 use Rattle.dom_nodes.specs.declared.name.Namespace.TheVariants.{Html, Svg, MathMl, XLink, Xml, XmlNs, Other}
 use Rattle.dom_nodes.specs.declared.name.NamespaceRef.{NamespaceRef}
 use Rattle.dom_nodes.specs.declared.name.NamespaceRef.TheVariants.{Html as HtmlRef, Svg as SvgRef, MathMl as MathMlRef, XLink as XLinkRef, Xml as XmlRef, XmlNs as XmlNsRef, Other as OtherRef}
 use Rattle.dom_nodes.specs.declared.name.NameParts.{NameParts}
+use Rattle.dom_nodes.specs.KnownNames.{HasNumber, IsUnknown}
 
 -- the namespace that is lent
 abbrev pub namespace_of : NamespaceRef → Namespace
@@ -37,3 +38,11 @@ same_prefix _ _ = false
 -- prefix, namespace and local name are the same
 abbrev pub same_name : NameParts → NameParts → Bool
 same_name name other = same_prefix name.prefix other.prefix && same_namespace name.ns other.ns && bytes_eq name.local other.local
+
+-- the name is in the HTML namespace, and the number is that of its local name
+abbrev pub HasHtmlNumber : NameParts → ℕ → Type 0
+HasHtmlNumber name number = (name.ns ≡ Html) × HasNumber name.local number
+
+-- the name is in another namespace, or no number is that of its local name
+abbrev pub HasNoHtmlNumber : NameParts → Type 0
+HasNoHtmlNumber name = name.ns ≡ Html → IsUnknown name.local

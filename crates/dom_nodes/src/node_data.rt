@@ -288,8 +288,7 @@ impl Element {
     pub fn set_name(&mut self, name: QualName)
         ensures { self.new ≡ record self.old { name = name } }
     {
-        let contents = self.form.contents();
-        self.form = name.into_form().beside(self.form.flag(), contents);
+        drop(self.replace_name(name));
     }
 
     /// Gives the element other attributes.

@@ -1,13 +1,13 @@
 //! A name in 16 bytes, with room for what an element holds beside its name and its attributes.
 
-ghost use Rattle.std.specs.Prelude.{◌≡◌, IfOk, IfSome, None};
+ghost use Rattle.std.specs.Prelude.{◌≡◌, IfOk, IfSome, MatchOption, None};
 ghost use Rattle.std.specs.Option.{option_copied};
-ghost use Rattle.dom_nodes.specs.Names.{namespace_of};
+ghost use Rattle.dom_nodes.specs.Names.{HasHtmlNumber, HasNoHtmlNumber, namespace_of};
 ghost use Rattle.dom_nodes.specs.Changes.{plain_name};
 ghost use Rattle.dom_nodes.specs.QualForms.{IsCanonicalName, form_contents, form_flag, form_name};
 ghost use Rattle.dom_nodes.specs.QualForms.{html_name};
 
-use super::{LocalForm, LocalName, LocalRef, NameParts, NamespaceRef, prefix_text};
+use super::{LocalForm, LocalName, LocalRef, NameParts, Namespace, NamespaceRef, prefix_text};
 use crate::fault::OutOfMemory;
 use crate::link::Link;
 use crate::text::RareText;
@@ -106,6 +106,20 @@ impl NameForm {
         }
     }
 
+    /// The number of the name, where it is a known one in the HTML namespace.
+    #[inline(always)]
+    pub(crate) fn html_number(&self) -> Option<u8>
+        requires { IsCanonicalName self.now }
+        ensures { MatchOption result (HasNoHtmlNumber (form_name self.now))
+            (HasHtmlNumber (form_name self.now)) }
+    {
+        match self {
+            NameForm::Html(_, number, _) => Some(*number),
+            NameForm::Other(_, _, parts) => parts.html_number(),
+            _ => None,
+        }
+    }
+
     /// The namespace.
     #[inline(always)]
     pub(crate) fn ns(&self) -> NamespaceRef<'_>
@@ -195,5 +209,18 @@ impl NameForm {
                 NameForm::Other(*flag, *contents, Box::new(alloc, parts.try_clone()?)?)
             }
         })
+    }
+}
+
+impl NameParts {
+    /// The number of the name, where it is a known one in the HTML namespace.
+    #[cold]
+    fn html_number(&self) -> Option<u8>
+        ensures { MatchOption result (HasNoHtmlNumber self.now) (HasHtmlNumber self.now) }
+    {
+        match self.ns {
+            Namespace::Html => self.local.number(),
+            _ => None,
+        }
     }
 }

@@ -35,7 +35,8 @@ impl NodeEdit {
 
 impl Element {
     /// Gives the element another name and hands back the one that it had.
-    fn replace_name(&mut self, name: QualName) -> QualName
+    #[inline(always)]
+    pub(super) fn replace_name(&mut self, name: QualName) -> QualName
         ensures new { self.new ≡ record self.old { name = name } }
         ensures old { result ≡ self.old.name }
     {

@@ -41,7 +41,7 @@ pub(crate) fn is_named_node(node: &NodeData, name: &SelectorName) -> bool
     ensures { result ≡ node_passes (Part.«Type» name.now) node.now }
 {
     match node {
-        NodeData::Element(element) => is_named(element.name().ns(), &element.name().local(), name),
+        NodeData::Element(element) => bears(element, name),
         _ => false,
     }
 }
@@ -120,7 +120,7 @@ fn element_passes(part: &Part, element: &Element) -> bool
 {
     match part {
         Part::Universal => true,
-        Part::Type(name) => is_named(element.name().ns(), &element.name().local(), name),
+        Part::Type(name) => bears(element, name),
         Part::Id(value) => has_attr(element.attrs().as_slice(), "id", value.as_str()),
         Part::Class(word) => element.has_class(word.as_str()),
         Part::Attribute(asked) => attrs_pass(asked, element),
@@ -135,36 +135,29 @@ fn element_passes(part: &Part, element: &Element) -> bool
     }
 }
 
-/// Whether a local name is a selector's name: with A to Z folded in HTML, as written elsewhere.
+/// Whether the element bears the name as a type. Known names in HTML, which most are, are compared
+/// by number.
 #[inline(always)]
+fn bears(element: &Element, name: &SelectorName) -> bool
+    ensures { result ≡ bytes_eq element.now.name.local
+        (name_within element.now.name.ns name.now) }
+{
+    if let Some(number) = element.name().html_number() {
+        if let Some(other) = name.folded().number() {
+            return number == other;
+        }
+    }
+    is_named(element.name().ns(), &element.name().local(), name)
+}
+
+/// Whether a local name is a selector's name: with A to Z folded in HTML, as written elsewhere.
 fn is_named(ns: NamespaceRef<'_>, local: &LocalRef<'_>, name: &SelectorName) -> bool
     ensures { result ≡ bytes_eq local.now (name_within (namespace_of ns.entry) name.now) }
 {
     match ns {
-        NamespaceRef::Html => is_folded(local, &name.folded().by_ref()),
+        NamespaceRef::Html => local.is_same(&name.folded().by_ref()),
         _ => is_written(local, name),
     }
-}
-
-/// Whether the names are the same. Known ones, which most are, are compared by number.
-#[inline(always)]
-fn is_folded(local: &LocalRef<'_>, folded: &LocalRef<'_>) -> bool
-    ensures { result ≡ bytes_eq local.now folded.now }
-{
-    if let Some(number) = local.number() {
-        if let Some(other) = folded.number() {
-            return number == other;
-        }
-    }
-    is_spelled(local, folded)
-}
-
-#[cold]
-#[inline(never)]
-fn is_spelled(local: &LocalRef<'_>, other: &LocalRef<'_>) -> bool
-    ensures { result ≡ bytes_eq local.now other.now }
-{
-    local.is_same(other)
 }
 
 /// Whether a local name is a selector's name as written.

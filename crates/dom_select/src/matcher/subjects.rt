@@ -6,7 +6,6 @@ ghost use Rattle.dom_selectors.specs.ValuesAsTrees.{read_list};
 ghost use Rattle.dom_select.specs.Subjects.{MayBeSubject, MayBear, SubjectIsAmong};
 
 use crate::matcher::matches::subject_type;
-use dom_nodes::name::NamespaceRef;
 use dom_nodes::node_data::NodeData;
 use dom_selectors::syntax::Selector;
 
@@ -47,10 +46,7 @@ fn may_bear(types: &[bool; 256], node: &NodeData) -> bool
     let NodeData::Element(element) = node else {
         return false;
     };
-    let NamespaceRef::Html = element.name().ns() else {
-        return true;
-    };
-    match element.name().local().number() {
+    match element.name().html_number() {
         Some(number) => types[number as usize],
         None => true,
     }
