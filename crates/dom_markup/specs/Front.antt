@@ -1,5 +1,5 @@
 -- The item at the front of a text, as it is written.
-use Rattle.std.specs.Prelude.{◌≡◌, ℕ, List, ◌∷◌, true, Result, MatchResult}
+use Rattle.std.specs.Prelude.{◌≡◌, ℕ, List, ◌∷◌, ◌++◌, codes, true, Result, MatchResult}
 use Rattle.std.specs.Borrow.{Bor}
 use Rattle.dom_nodes.specs.Ascii.{less_than}
 use Rattle.dom_nodes.specs.declared.fault.MarkupFaultKind.{MarkupFaultKind}
@@ -10,8 +10,9 @@ use Rattle.dom_markup.specs.Names.{Mode, markup}
 use Rattle.dom_markup.specs.Refusals.{Cause, StartCause}
 use Rattle.dom_markup.specs.Token.{contents_in, doctype_item}
 use Rattle.dom_markup.specs.ValueTrees.{Attribute}
+use Rattle.dom_markup.specs.declared.document.doctypes.Doctype.{Doctype}
 use Rattle.dom_markup.specs.declared.document.front.Front.{Front}
-use Rattle.dom_markup.specs.declared.document.front.Front.TheVariants.{StartTag, Text, EndTag, Comment, Doctype}
+use Rattle.dom_markup.specs.declared.document.front.Front.TheVariants.{StartTag, Text, EndTag, Comment, Declaration}
 
 abbrev pub BeginsLetter : List ℕ → Type 0
 BeginsLetter tag = (b : ℕ) × (more : List ℕ) × (tag ≡ b ∷ more) × (is_letter b ≡ true)
@@ -20,17 +21,29 @@ BeginsLetter tag = (b : ℕ) × (more : List ℕ) × (tag ≡ b ∷ more) × (is
 abbrev pub OpensTag : List ℕ → List ℕ → Type 0
 OpensTag text rest = (text ≡ less_than ∷ rest) × BeginsLetter rest
 
+-- what follows a `<!` begins no comment
+abbrev pub IsNoComment : List ℕ → Type 0
+IsNoComment tag = (more : List ℕ) → tag ≡ codes "--" ++ more → ⊥
+
+-- a declaration may begin: the text is `<!` and then rest, and is no comment
+abbrev pub OpensDeclaration : List ℕ → List ℕ → Type 0
+OpensDeclaration text rest = (text ≡ codes "<!" ++ rest) × IsNoComment rest
+
 -- the item is so written at the front of the text, and then rest follows
 abbrev pub IsFront : Mode → List ℕ → Front → List ℕ → Type 0
 IsFront mode text StartTag rest = (mode ≡ markup) × OpensTag text rest
 IsFront mode text (Text written) rest = Begins mode text (characters (contents_in mode written.now)) rest
 IsFront mode text (EndTag name) rest = Begins mode text (end_tag (folded name.now)) rest
 IsFront mode text (Comment contents) rest = Begins mode text (comment contents.now) rest
-IsFront mode text (Doctype read) rest = Begins mode text (doctype_item read) rest
+IsFront mode text Declaration rest = (mode ≡ markup) × OpensDeclaration text rest
 
 -- the item at the front and what follows it, or why none begins there
 abbrev pub TakesFront : Mode → List ℕ → Result (Front × Bor (List ℕ)) MarkupFaultKind → Type 0
 TakesFront mode text result = MatchResult result (λ found. IsFront mode text found.0 found.1.now) (λ kind. BeginsNothing mode text × Cause mode text kind)
+
+-- the doctype at the front and what follows it, or why no item begins there
+abbrev pub TakesDoctype : List ℕ → Result (Doctype × Bor (List ℕ)) MarkupFaultKind → Type 0
+TakesDoctype text result = MatchResult result (λ found. Begins markup text (doctype_item found.0) found.1.now) (λ kind. BeginsNothing markup text × Cause markup text kind)
 
 -- the name of the start tag at the front, as it is written, and what follows the tag; or why none begins there
 abbrev pub TakesStart : List ℕ → Result (Bor (List ℕ) × Bor (List ℕ)) MarkupFaultKind → Type 0

@@ -2,7 +2,7 @@
 
 ghost use Rattle.std.specs.Prelude.{◌≢◌, ◌++◌, [], codes};
 ghost use Rattle.dom_markup.specs.Bytes.{folded};
-ghost use Rattle.dom_markup.specs.Front.{OpensTag, TakesFront};
+ghost use Rattle.dom_markup.specs.Front.{IsNoComment, OpensTag, TakesDoctype, TakesFront};
 ghost use Rattle.dom_markup.specs.Names.{markup};
 ghost use Rattle.dom_markup.specs.Taking.{Leaves};
 ghost use Rattle.dom_markup.specs.Token.{IsTextIn, mode_of};
@@ -15,15 +15,16 @@ use crate::document::tags::end_tag_end;
 use crate::document::within::Within;
 use dom_nodes::fault::MarkupFaultKind;
 
-/// An item as it is written: a text, the name of an end tag, the contents of a comment, a doctype.
-/// Of a start tag only its `<` is taken: what a reader needs of it is taken while it is scanned.
+/// An item as it is written: a text, the name of an end tag, the contents of a comment. Of a start
+/// tag only its `<` is taken, and of a declaration only its `<!`: what a reader needs of them is
+/// taken while they are scanned.
 #[derive(Clone, Copy)]
 pub enum Front<'a> {
     StartTag,
     Text(&'a str),
     EndTag(&'a str),
     Comment(&'a str),
-    Doctype(Doctype<'a>),
+    Declaration,
 }
 
 /// What follows the `<` of a start tag that may begin here: a letter stands behind it.
@@ -67,12 +68,20 @@ fn markup_front(text: &str) -> Result<(Front<'_>, &str), MarkupFaultKind>
         return Ok((Front::Comment(contents), rest));
     }
     if let Some(tag) = strip_all(text, "<!") {
-        let Some((written, rest)) = doctype_at(tag) else {
-            return Err(MarkupFaultKind::BadDeclaration);
-        };
-        return Ok((Front::Doctype(written), rest));
+        return Ok((Front::Declaration, tag));
     }
     Err(MarkupFaultKind::Instruction)
+}
+
+/// The doctype that a declaration is, which stands here behind its `<!`, and what follows it.
+pub fn declared_doctype(tag: &str) -> Result<(Doctype<'_>, &str), MarkupFaultKind>
+    requires { IsNoComment tag.now }
+    ensures { TakesDoctype (codes "<!" ++ tag.now) result }
+{
+    match doctype_at(tag) {
+        Some(found) => Ok(found),
+        None => Err(MarkupFaultKind::BadDeclaration),
+    }
 }
 
 /// The item at the front of the text of an element of this name: the text, or where none is left

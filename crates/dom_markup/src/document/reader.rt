@@ -11,7 +11,7 @@ ghost use Rattle.dom_markup.specs.Token.{contents_in, doctype_item, mode_of};
 
 use crate::document::attributes::{attrs_of, folded_name};
 use crate::document::doctypes::Doctype;
-use crate::document::front::{Front, front_at};
+use crate::document::front::{Front, declared_doctype, front_at};
 use crate::document::growing::Growing;
 use crate::document::names::{is_template, names_element};
 use crate::document::scan::{ByteClass, split_front};
@@ -131,7 +131,7 @@ pub struct Reader<'a> {
 impl<'a> Reader<'a> {
     ghost use Rattle.dom_links.specs.Growth.{with_child, with_template};
     ghost use Rattle.dom_markup.specs.Frames.{children_place};
-    ghost use Rattle.dom_markup.specs.Front.{BeginsLetter};
+    ghost use Rattle.dom_markup.specs.Front.{BeginsLetter, IsNoComment};
     ghost use Rattle.dom_markup.specs.Growing.{plain_element};
     ghost use Rattle.dom_markup.specs.Markup.{Item};
     ghost use Rattle.dom_markup.specs.Reader.{AfterItems, EndsReading, Grows, IsReading};
@@ -276,6 +276,22 @@ impl<'a> Reader<'a> {
         Ok(())
     }
 
+    /// Reads a declaration, which stands here behind its `<!`. Doctypes are the only ones.
+    #[inline(never)]
+    fn read_declaration(
+        &mut self,
+        alloc: Global,
+        tag: &'a str,
+    ) -> Result<Behind<'a>, MarkupFaultKind>
+        requires reading { IsReading self.old }
+        requires declaration { IsNoComment tag.now }
+        ensures { ReadsFront markup (codes "<!" ++ tag.now) self.old self.new result }
+    {
+        let (written, rest) = declared_doctype(tag)?;
+        self.read_doctype(alloc, written)?;
+        Ok(markup_behind(rest))
+    }
+
     /// Reads an end tag of this name.
     fn read_end(&mut self, name: &str) -> Result<(), MarkupFaultKind>
         ensures { ReadsItem (Item.end_tag (folded name.now)) self.old self.new result }
@@ -343,10 +359,7 @@ impl<'a> Reader<'a> {
                 self.read_comment(alloc, contents)?;
                 Ok(markup_behind(rest))
             }
-            Front::Doctype(written) => {
-                self.read_doctype(alloc, written)?;
-                Ok(markup_behind(rest))
-            }
+            Front::Declaration => self.read_declaration(alloc, rest),
         }
     }
 

@@ -1,12 +1,13 @@
 //! Markup as a row of tags, texts, comments and doctypes.
 
 ghost use Rattle.std.specs.Prelude.{◌≡◌, ◌++◌, ◌≢◌, [], List, ℕ, codes, length, MatchResult};
+ghost use Rattle.dom_markup.specs.Front.{IsNoComment};
 ghost use Rattle.dom_markup.specs.Names.{markup};
 ghost use Rattle.dom_markup.specs.Refusals.{StartCause};
 ghost use Rattle.dom_markup.specs.Token.{kind_of_text, mode_of};
 ghost use Rattle.dom_markup.specs.Tokens.{IsFound, TakesItem};
 
-use crate::document::front::{Front, front_at};
+use crate::document::front::{Front, declared_doctype, front_at};
 use crate::document::tags::start_tag_end;
 use crate::document::within::{Within, within_element};
 use dom_nodes::fault::{MarkupFault, MarkupFaultKind};
@@ -68,6 +69,15 @@ fn start_at(tag: &str) -> Result<Found<'_>, MarkupFaultKind>
     })
 }
 
+/// The declaration behind its `<!`.
+fn declaration_at(tag: &str) -> Result<Found<'_>, MarkupFaultKind>
+    requires { IsNoComment tag.now }
+    ensures { TakesItem markup (codes "<!" ++ tag.now) result }
+{
+    let (_, rest) = declared_doctype(tag)?;
+    Ok(then_markup(TokenKind::Doctype, rest))
+}
+
 /// The item at the front.
 fn item_at<'a>(text: &'a str, within: Within<'a>) -> Result<Found<'a>, MarkupFaultKind>
     requires { text.now ≢ [] }
@@ -83,7 +93,7 @@ fn item_at<'a>(text: &'a str, within: Within<'a>) -> Result<Found<'a>, MarkupFau
         }),
         Front::EndTag(_) => Ok(then_markup(TokenKind::EndTag, rest)),
         Front::Comment(_) => Ok(then_markup(TokenKind::Comment, rest)),
-        Front::Doctype(_) => Ok(then_markup(TokenKind::Doctype, rest)),
+        Front::Declaration => declaration_at(rest),
     }
 }
 

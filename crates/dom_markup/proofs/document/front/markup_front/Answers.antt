@@ -1,8 +1,9 @@
-use Rattle.std.proofs.Common.{◌≡◌, ℕ, List, refl, sym, ap, subst, true, false}
+use Rattle.std.proofs.Common.{◌≡◌, ◌∙◌, ◌++◌, ℕ, List, refl, sym, ap, subst, true, false}
+use Rattle.std.specs.Prelude.{codes}
 use Rattle.dom_markup.specs.Bytes.{folded}
 use Rattle.dom_markup.specs.References.{decoded}
-use Rattle.dom_markup.specs.Markup.{BeginsDoctype, BeginsEnd, begins_markup}
-use Rattle.dom_markup.proofs.grammar.Items.{asks, some_text, no_comment, no_declaration, no_end_tag, no_instruction, no_slash}
+use Rattle.dom_markup.specs.Markup.{BeginsEnd, begins_markup}
+use Rattle.dom_markup.proofs.grammar.Items.{asks, some_text, no_comment, no_end_tag, no_instruction, no_slash}
 use Rattle.dom_markup.proofs.document.front.markup_front.Goals as goal
 
 pub returns-then-not-begins_markup : goal.returns-then-not-begins_markup
@@ -30,14 +31,8 @@ returns-in_default-comment_at c =
 
 pub returns-in-Some-strip_all-3 : goal.returns-in-Some-strip_all-3
 returns-in-Some-strip_all-3 c =
-    let found = c.in-Some-doctype_at.written in
-    subst (λ (t : List ℕ). BeginsDoctype t (folded found.name.now) found.public.now found.system.now c.in-Some-doctype_at.rest.now) (sym c.in-Some-strip_all-3.ensures.some) c.in-Some-doctype_at.ensures.some
-
-pub returns-in_default-doctype_at : goal.returns-in_default-doctype_at
-returns-in_default-doctype_at c =
     let is = c.in-Some-strip_all-3.ensures.some in
-    let other = c.in_default-strip_all-2.ensures.none in
-    (no_declaration c.args.text.now _ (search) is other c.in_default-doctype_at.ensures.none, (refl, _, is, other))
+    (refl, (is, λ more e. c.in_default-strip_all-2.ensures.none more (is ∙ ap (λ (t : List ℕ). codes "<!" ++ t) e)))
 
 pub returns : goal.returns
 returns c =
