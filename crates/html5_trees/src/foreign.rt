@@ -95,7 +95,7 @@ impl TreeBuilder {
             self.tree.pop_foreign();
             return self.html_tag(name, tag);
         }
-        match self.tree.foreign_end(tag.name.as_str()) {
+        match self.tree.foreign_end(name, tag.name.as_str()) {
             ForeignEnd::At(place) => {
                 self.tree.truncate(place);
                 Next::Done

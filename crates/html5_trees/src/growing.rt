@@ -150,14 +150,6 @@ impl GrowingTree {
         self.formatting.named(name)
     }
 
-    /// Whether the local name of an element is that one, whatever the case.
-    pub fn has_name(&self, element: &Open, name: &str) -> bool {
-        match self.tree.get_name(&element.id) {
-            Some(known) => known.local().as_str().eq_ignore_ascii_case(name),
-            None => false,
-        }
-    }
-
     pub fn set_quirks_mode(&mut self, mode: QuirksMode) {
         self.quirks_mode = mode;
     }
@@ -179,6 +171,14 @@ impl GrowingTree {
         }
     }
 
+    /// The number of an element's name, if no rule names that, else 0.
+    fn number_of(&mut self, name: Name, written: &str) -> Result<u32, PageFault>
+        ensures { self.new ≡ self.old }
+    {
+        let alloc = self.tree.allocator();
+        self.stack.number_of(alloc, name, written)
+    }
+
     /// Inserts the element of a tag, and opens it.
     pub fn insert(
         &mut self,
@@ -187,9 +187,10 @@ impl GrowingTree {
         name: Name,
         tag: &Tag,
     ) -> Result<(), PageFault> {
+        let number = self.number_of(name, tag.name.as_str())?;
         let gap = self.gap(placing);
         let open = put_element(&mut self.tree, gap, ns, name, tag)?;
-        self.stack.push(&open)
+        self.stack.push(&Open { number, ..open })
     }
 
     /// Puts the element `html` at the top, and opens it.
@@ -208,6 +209,7 @@ impl GrowingTree {
             id: root.id,
             ns,
             name,
+            number: 0,
             holds_html: false,
             fingerprint: 0,
         });

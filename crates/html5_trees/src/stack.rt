@@ -5,12 +5,14 @@ ghost use Rattle.std.specs.Prelude.{◌+◌, ◌-◌, insert, length, remove, sl
 ghost use Rattle.std.specs.Option.{option_to_list};
 
 mod marks;
+mod others;
 
 use crate::fault::PageFault;
 use crate::name::Name;
 use crate::sets::{Scope, ends_select_scope, is_special};
 use dom_nodes::node_id::NodeId;
 use marks::Marks;
+use others::OtherNames;
 use std::alloc::Global;
 
 /// The namespace of an element.
@@ -27,6 +29,8 @@ pub struct Open {
     pub id: NodeId,
     pub ns: Ns,
     pub name: Name,
+    /// The number of a name that no rule names, else 0.
+    pub number: u32,
     /// Whether it is an `annotation-xml` whose encoding is HTML.
     pub holds_html: bool,
     /// The fingerprint of its attributes, or 0, where none was taken.
@@ -54,6 +58,7 @@ const HEADINGS: [Name; 6] = [Name::H1, Name::H2, Name::H3, Name::H4, Name::H5, N
 pub struct OpenElements {
     elements: Vec<Open>,
     marks: Marks,
+    others: OtherNames,
 }
 
 impl OpenElements {
@@ -63,6 +68,7 @@ impl OpenElements {
         OpenElements {
             elements: Vec::new(alloc),
             marks: Marks::new(alloc),
+            others: OtherNames::new(alloc),
         }
     }
 
@@ -132,6 +138,19 @@ impl OpenElements {
         ensures { self.new.elements ≡ self.old.elements }
     {
         self.marks.fill(self.elements.as_slice());
+    }
+
+    /// The number of an element's name, if no rule names that, else 0. Memory for its marks is
+    /// there then.
+    pub fn number_of(&mut self, alloc: Global, name: Name, written: &str) -> Result<u32, PageFault>
+        ensures { self.new.elements ≡ self.old.elements }
+    {
+        if name != Name::Other {
+            return Ok(0);
+        }
+        let number = self.others.number_of(alloc, written)?;
+        self.marks.make_room(number)?;
+        Ok(number)
     }
 
     pub fn push(&mut self, element: &Open) -> Result<(), PageFault>
@@ -289,20 +308,29 @@ impl OpenElements {
     }
 
     /// Where the topmost HTML element of that name stands, unless below a special one.
-    pub fn last_named(&self, name: Name) -> Option<usize> {
-        self.place_from_special(self.marks.top(name))
-    }
-
-    /// The same of the next element of the same name below a place.
-    pub fn named_before(&self, place: usize) -> Option<usize> {
-        self.place_from_special(self.marks.same(place))
-    }
-
-    fn place_from_special(&self, top: usize) -> Option<usize> {
+    pub fn last_named(&self, name: Name, written: &str) -> Option<usize> {
+        let top = match name {
+            Name::Other => self.marks.top_other(self.others.get(written)?).html,
+            _ => self.marks.top(name),
+        };
         if top < self.marks.special() {
             return None;
         }
         top.checked_sub(1)
+    }
+
+    /// The topmost foreign element of that name: its place with one added, or 0.
+    pub fn top_foreign(&self, name: Name, written: &str) -> usize {
+        match (name, self.others.get(written)) {
+            (Name::Other, Some(number)) => self.marks.top_other(number).foreign,
+            (Name::Other, None) => 0,
+            _ => self.marks.top_foreign(name),
+        }
+    }
+
+    /// The topmost HTML element: its place with one added, or 0.
+    pub fn top_html(&self) -> usize {
+        self.marks.html()
     }
 
     /// Where the special element nearest above a place of the stack stands.

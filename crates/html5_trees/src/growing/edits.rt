@@ -152,6 +152,7 @@ pub fn put_element(
         id,
         ns,
         name,
+        number: 0,
         holds_html: flags.mathml_annotation_xml_integration_point,
         fingerprint: 0,
     })
@@ -240,6 +241,7 @@ fn copy_of(tree: &mut Tree, element: Open) -> Result<Open, PageFault>
         id,
         ns: element.ns,
         name: element.name,
+        number: element.number,
         holds_html: false,
         fingerprint: element.fingerprint,
     })

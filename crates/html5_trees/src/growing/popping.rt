@@ -7,7 +7,7 @@ use crate::fault::PageFault;
 use crate::formatting::Entry;
 use crate::name::Name;
 use crate::sets::{Context, Scope, has_implied_end};
-use crate::stack::{Ns, Open};
+use crate::stack::Open;
 use dom_nodes::node_id::NodeId;
 
 /// What an end tag in foreign content comes to.
@@ -56,19 +56,15 @@ impl GrowingTree {
         self.pop_if(Name::Optgroup);
     }
 
-    /// Where an end tag in foreign content ends an element.
-    pub fn foreign_end(&self, written: &str) -> ForeignEnd {
-        let count = self.stack.len();
-        for place in (0..count).rev() {
-            match self.stack.get(place) {
-                Some(open) if open.ns == Ns::Html && place.saturating_add(1) < count => {
-                    return ForeignEnd::Html;
-                }
-                Some(open) if place > 0 && self.has_name(&open, written) => {
-                    return ForeignEnd::At(place);
-                }
-                _ => {}
-            }
+    /// Where an end tag in foreign content, where the current node is foreign, ends an element.
+    pub fn foreign_end(&self, name: Name, written: &str) -> ForeignEnd {
+        let html = self.stack.top_html();
+        let top = self.stack.top_foreign(name, written);
+        if top > html {
+            return ForeignEnd::At(top - 1);
+        }
+        if html < self.stack.len() {
+            return ForeignEnd::Html;
         }
         ForeignEnd::Nowhere
     }
@@ -127,26 +123,9 @@ impl GrowingTree {
     /// Any other end tag: what is open up to an element of that name is closed, unless a special
     /// one lies between.
     pub fn close_named(&mut self, name: Name, written: &str) {
-        if let Some(place) = self.named_above_special(name, written) {
+        if let Some(place) = self.stack.last_named(name, written) {
             self.truncate(place);
         }
-    }
-
-    /// Where the last element of that name stands, unless a special one is above it. Elements that
-    /// no rule names are compared one by one.
-    fn named_above_special(&self, name: Name, written: &str) -> Option<usize> {
-        let mut place = self.stack.last_named(name)?;
-        if name != Name::Other {
-            return Some(place);
-        }
-        for _ in 0..self.stack.len() {
-            let open = self.stack.get(place)?;
-            if self.has_name(&open, written) {
-                return Some(place);
-            }
-            place = self.stack.named_before(place)?;
-        }
-        None
     }
 
     /// Leaves foreign content: pops elements up to one whose contents are read as HTML.

@@ -10,8 +10,10 @@ use std::alloc::Global;
 /// none.
 #[derive(Clone, Copy, Drop)]
 pub struct Mark {
-    /// The next HTML element of the same name below an HTML element.
+    /// The next element of the same name below it that is an HTML element, or foreign, as it is.
     same: usize,
+    /// The topmost HTML element, it or one below.
+    html: usize,
     /// The topmost special element, it or one below.
     special: usize,
     /// The topmost one that ends the default scope.
@@ -23,6 +25,7 @@ pub struct Mark {
 /// The mark where nothing is open.
 const NOTHING: Mark = Mark {
     same: 0,
+    html: 0,
     special: 0,
     ends: 0,
     item_ends: 0,
@@ -33,20 +36,42 @@ fn topmost_of(is_one: bool, top: usize, below: usize) -> usize {
     if is_one { top } else { below }
 }
 
+/// The topmost elements of a name, the HTML one and the foreign one.
+#[derive(Clone, Copy, Drop)]
+pub struct Tops {
+    pub html: usize,
+    pub foreign: usize,
+}
+
+/// No elements of a name.
+const NONE: Tops = Tops {
+    html: 0,
+    foreign: 0,
+};
+
+fn put(all: &mut [Tops], index: usize, tops: Tops) {
+    if let Some(entry) = all.get_mut(index) {
+        *entry = tops;
+    }
+}
+
 /// The marks of the open elements, the outermost first. Those from a place on may be missing while
 /// elements there change.
 #[derive(Drop)]
 pub struct Marks {
     rows: Vec<Mark>,
-    /// For each name the topmost HTML element that has a mark.
-    tops: [usize; COUNT],
+    /// For each name the topmost elements that have marks.
+    tops: [Tops; COUNT],
+    /// The same for each number of a name that no rule names.
+    others: Vec<Tops>,
 }
 
 impl Marks {
     pub fn new(alloc: Global) -> Marks {
         Marks {
             rows: Vec::new(alloc),
-            tops: [0; COUNT],
+            tops: [NONE; COUNT],
+            others: Vec::new(alloc),
         }
     }
 
@@ -69,9 +94,28 @@ impl Marks {
         self.last().item_ends
     }
 
-    /// The topmost HTML element of that name.
+    /// The topmost HTML element.
+    pub fn html(&self) -> usize {
+        self.last().html
+    }
+
+    fn tops(&self, name: Name) -> Tops {
+        self.tops.get(name as usize).copied().unwrap_or(NONE)
+    }
+
+    /// The topmost HTML element of that name, which a rule names.
     pub fn top(&self, name: Name) -> usize {
-        self.tops.get(name as usize).copied().unwrap_or(0)
+        self.tops(name).html
+    }
+
+    /// The topmost foreign element of that name, which a rule names.
+    pub fn top_foreign(&self, name: Name) -> usize {
+        self.tops(name).foreign
+    }
+
+    /// The topmost elements of the name that has that number.
+    pub fn top_other(&self, number: u32) -> Tops {
+        self.others.get(number as usize).copied().unwrap_or(NONE)
     }
 
     /// The topmost HTML element that has one of these names.
@@ -91,13 +135,35 @@ impl Marks {
         }
     }
 
+    /// The topmost elements of an element's name.
+    fn tops_of(&self, open: &Open) -> Tops {
+        match open.name {
+            Name::Other => self.top_other(open.number),
+            _ => self.tops(open.name),
+        }
+    }
+
     fn set_top(&mut self, open: &Open, top: usize) {
-        if open.ns != Ns::Html {
-            return;
+        let old = self.tops_of(open);
+        let tops = match open.ns {
+            Ns::Html => Tops { html: top, ..old },
+            _ => Tops {
+                foreign: top,
+                ..old
+            },
+        };
+        match open.name {
+            Name::Other => put(self.others.as_mut_slice(), open.number as usize, tops),
+            _ => put(&mut self.tops, open.name as usize, tops),
         }
-        if let Some(entry) = self.tops.get_mut(open.name as usize) {
-            *entry = top;
+    }
+
+    /// Takes memory for the topmost elements of the name that has that number.
+    pub fn make_room(&mut self, number: u32) -> Result<(), PageFault> {
+        if number as usize >= self.others.len() {
+            self.others.push(NONE)?;
         }
+        Ok(())
     }
 
     /// Takes memory for the marks of so many elements.
@@ -138,8 +204,11 @@ impl Marks {
     fn mark_of(&self, open: &Open, top: usize) -> Mark {
         let below = self.last();
         let special = is_special(open);
+        let is_html = open.ns == Ns::Html;
+        let same = self.tops_of(open);
         Mark {
-            same: self.top(open.name),
+            same: if is_html { same.html } else { same.foreign },
+            html: topmost_of(is_html, top, below.html),
             special: topmost_of(special, top, below.special),
             ends: topmost_of(ends_default_scope(open), top, below.ends),
             item_ends: topmost_of(special && !is_crossed_by_items(open), top, below.item_ends),
