@@ -150,7 +150,7 @@ pub(crate) enum Item {
 }
 
 /// A pseudo-class without parentheses.
-#[derive(Clone, Copy, PartialEq, Eq, Debug, Drop)]
+#[derive(Clone, Copy, Drop)]
 pub(crate) enum Bare {
     Root,
     Link,
@@ -164,7 +164,7 @@ pub(crate) enum Bare {
 }
 
 /// What a pseudo-class asks of its list.
-#[derive(Clone, Copy, PartialEq, Eq, Debug, Drop)]
+#[derive(Clone, Copy, Drop)]
 pub(crate) enum Quantifier {
     SomeOf,
     NoneOf,
@@ -172,7 +172,7 @@ pub(crate) enum Quantifier {
 }
 
 /// Which texts a pseudo-class asks for a string.
-#[derive(Clone, Copy, PartialEq, Eq, Debug, Drop)]
+#[derive(Clone, Copy, Drop)]
 pub(crate) enum TextTest {
     /// One text at or below the node.
     InOne,
@@ -181,7 +181,7 @@ pub(crate) enum TextTest {
 }
 
 /// What a pseudo-class is, and so what follows its name.
-#[derive(Clone, Copy, PartialEq, Eq, Debug, Drop)]
+#[derive(Clone, Copy, Drop)]
 pub(crate) enum Pseudo {
     Plain(Bare),
     Listed(Quantifier),
@@ -190,7 +190,7 @@ pub(crate) enum Pseudo {
 }
 
 /// Where in a selector's text something stands.
-#[derive(Clone, Copy, PartialEq, Eq, Debug, Drop)]
+#[derive(Clone, Copy, Drop)]
 pub(crate) struct ParseContext {
     /// How many parentheses may still open.
     pub depth: usize,

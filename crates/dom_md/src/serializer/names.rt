@@ -116,7 +116,7 @@ fn is_skipped_text(name: &str) -> bool
 }
 
 /// What an element is to Markdown.
-#[derive(Clone, Copy, PartialEq, Eq, Debug, Drop)]
+#[derive(Clone, Copy, PartialEq, Eq, Drop)]
 pub(super) enum Tag {
     /// A heading, from 1 to 6.
     Heading(u8),

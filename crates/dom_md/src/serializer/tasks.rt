@@ -43,7 +43,7 @@ pub(super) enum Task {
 }
 
 /// What stands round an emphasis.
-#[derive(Clone, Copy, PartialEq, Eq, Debug, Drop)]
+#[derive(Clone, Copy, Drop)]
 pub(super) enum Marker {
     Strong,
     Light,
