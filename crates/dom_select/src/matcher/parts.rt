@@ -143,9 +143,10 @@ fn bears(element: &Element, name: &SelectorName) -> bool
         (name_within element.now.name.ns name.now) }
 {
     if let Some(number) = element.name().html_number() {
-        if let Some(other) = name.folded().number() {
-            return number == other;
-        }
+        return match name.folded().number() {
+            Some(other) => number == other,
+            None => false,
+        };
     }
     is_named(element.name().ns(), &element.name().local(), name)
 }
