@@ -84,11 +84,10 @@ def used(of=None):
     return of.ru_utime + of.ru_stime
 
 
-def clear_empty():
-    """Removes empty folders of built libraries: a gate that was killed leaves some, and `rt ci` puts back what it found."""
+def clear_built():
+    """Removes what was built of the libraries: `rt ci` puts back what it found, beside which what it builds itself may not fit."""
     for folder in ROOT.glob("crates/*/out/rlib"):
-        if not any(folder.iterdir()):
-            folder.rmdir()
+        shutil.rmtree(folder)
 
 
 def gate(clock):
@@ -98,7 +97,7 @@ def gate(clock):
     if rt is None:
         print("check: no command rt: the kit's folder bin must be on the PATH")
         return (0, 1), lambda: (0, 0)
-    clear_empty()
+    clear_built()
     trials, begun = edits.Trials(anew="--anew" in sys.argv), time.monotonic()
     # (a kit whose rt keeps nothing shows all anew each time, and has no such word)
     anew = ["--anew"] if "--anew" in sys.argv and trials.refusals.kept else []
@@ -301,6 +300,9 @@ def refused_callers():
 
 
 def main():
+    if sys.argv[1:] not in ([], ["--cases"], ["--anew"]):
+        print("usage: check [--cases | --anew]: what it does stands at the head of cases/check.py", file=sys.stderr)
+        return 2
     clock, cases_alone = Clock(), sys.argv[1:] == ["--cases"]
     counts, edits_left = (None, lambda: (0, 0)) if cases_alone else gate(clock)
     tables = [table, *map(cases_of, ("calls", "queries", "times", "batch")), pages, cleaned, followed, asked_each_way]

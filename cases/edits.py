@@ -218,6 +218,12 @@ def texts_with(edits, folder):
     return texts
 
 
+def name_of_functions(crate):
+    """The name under which the paths of a crate's functions are kept: a sum of its sources, which alone say what these are."""
+    files = sorted((pathlib.Path(crate.folder) / "src").rglob("*.rt"))
+    return hashlib.sha256(repr((crate.name, "functions", [it.read_bytes() for it in files])).encode()).hexdigest()
+
+
 class Refusals:
     """What earlier runs on this machine had refused, where `rt` keeps what it proved; a kit whose `rt` keeps nothing has every
     edit tried. The name of an entry is a sum of the edit, of the crate with those below it, and of this script. The paths of
@@ -250,8 +256,9 @@ class Refusals:
         self.keep_tried(self.name(crate, edit.name, edit.text, self.script), line)
 
     def functions(self, crate, proved):
-        """The paths of the crate's functions: those that the gate has just proved, or else those that it proved before."""
-        name = self.name(crate, "functions")
+        """The paths of the crate's functions: those that the gate has just proved, or else those that it proved before of the
+        same sources, whatever the crates below were then."""
+        name = name_of_functions(crate)
         if proved:
             self.keep_tried(name, json.dumps(proved))
         return proved or json.loads(self.tried(name) or "[]")
