@@ -1,5 +1,5 @@
 -- The classes of bytes in markup, and what runs of them stand for.
-use Rattle.std.specs.Prelude.{◌≡◌, ◌≢◌, ℕ, List, [], ◌++◌, Bool, true, false, ◌⊎◌}
+use Rattle.std.specs.Prelude.{◌≡◌, ◌≢◌, ℕ, List, [], ◌∷◌, ◌++◌, Bool, true, false, ◌⊎◌}
 use Rattle.std.specs.List.{list_all}
 use Rattle.dom_markup.specs.Bytes.{is_whitespace, is_name_byte, folded}
 use Rattle.dom_markup.specs.References.{decoded}
@@ -15,6 +15,11 @@ abbrev pub passes : ByteClass → ℕ → Bool
 passes Whitespace = is_whitespace
 passes Name = is_name_byte
 passes Bare = is_bare_byte
+
+-- whether whitespace stands at the front
+abbrev pub begins_space : List ℕ → Bool
+begins_space [] = false
+begins_space (b ∷ bs) = is_whitespace b
 
 -- the attribute of a name and a value as they are written; the references in the value are read
 abbrev pub attribute_of : List ℕ → List ℕ → Attribute

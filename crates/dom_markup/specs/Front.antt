@@ -12,7 +12,7 @@ use Rattle.dom_markup.specs.Token.{contents_in, doctype_item}
 use Rattle.dom_markup.specs.ValueTrees.{Attribute}
 use Rattle.dom_markup.specs.declared.document.doctypes.Doctype.{Doctype}
 use Rattle.dom_markup.specs.declared.document.front.Front.{Front}
-use Rattle.dom_markup.specs.declared.document.front.Front.TheVariants.{StartTag, Text, EndTag, Comment, Declaration}
+use Rattle.dom_markup.specs.declared.document.front.Front.TheVariants.{StartTag, Text, Plain, EndTag, Comment, Declaration}
 
 abbrev pub BeginsLetter : List ℕ → Type 0
 BeginsLetter tag = (b : ℕ) × (more : List ℕ) × (tag ≡ b ∷ more) × (is_letter b ≡ true)
@@ -33,6 +33,7 @@ OpensDeclaration text rest = (text ≡ codes "<!" ++ rest) × IsNoComment rest
 abbrev pub IsFront : Mode → List ℕ → Front → List ℕ → Type 0
 IsFront mode text StartTag rest = (mode ≡ markup) × OpensTag text rest
 IsFront mode text (Text written) rest = Begins mode text (characters (contents_in mode written.now)) rest
+IsFront mode text (Plain written) rest = Begins mode text (characters written.now) rest
 IsFront mode text (EndTag name) rest = Begins mode text (end_tag (folded name.now)) rest
 IsFront mode text (Comment contents) rest = Begins mode text (comment contents.now) rest
 IsFront mode text Declaration rest = (mode ≡ markup) × OpensDeclaration text rest

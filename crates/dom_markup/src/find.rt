@@ -1,6 +1,6 @@
 //! Where a byte first stands in a text.
 
-ghost use Rattle.std.specs.Prelude.{◌≡◌, ◌≤◌, ◌<◌, ◌+◌, length, map};
+ghost use Rattle.std.specs.Prelude.{◌≡◌, ◌≤◌, ◌<◌, ◌+◌, IfSome, Some, length, map};
 ghost use Rattle.std.specs.Simd.Lanes.{mask_l};
 ghost use Rattle.memchr.specs.Find.{IsFirst, IsFirstByte, Nowhere, Passes, is_byte};
 
@@ -60,4 +60,25 @@ pub fn find_byte(byte: u8, bytes: &[u8]) -> Option<usize>
         at += 16;
     }
     find_at_end(byte, bytes, at)
+}
+
+/// The first place of the byte, if the other byte doesn't stand before it. Where fewer than sixteen
+/// bytes are left, it isn't looked for.
+#[inline(always)]
+pub fn find_before(byte: u8, other: u8, bytes: &[u8]) -> Option<usize>
+    ensures first { IfSome result (λ at. IsFirstByte (is_byte byte) bytes.now (Some at)) }
+    ensures other { IfSome result (λ at. Nowhere (Passes (is_byte other) bytes.now) 0 at) }
+{
+    let mut at = 0;
+    while bytes.len() - at >= 16 {
+        let found = find_in_lanes(byte, bytes, at);
+        let stop = find_in_lanes(other, bytes, at);
+        match (found, stop) {
+            (None, None) => at += 16,
+            (Some(found), None) => return Some(found),
+            (Some(found), Some(stop)) if found < stop => return Some(found),
+            _ => return None,
+        }
+    }
+    None
 }

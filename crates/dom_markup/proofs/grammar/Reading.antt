@@ -8,10 +8,10 @@ use Rattle.dom_nodes.specs.Words.{is_among}
 use Rattle.dom_markup.specs.Names.{markup, void_names}
 use Rattle.dom_markup.specs.References.{decoded}
 use Rattle.dom_markup.specs.ValueTrees.{Attribute}
-use Rattle.dom_markup.specs.Markup.{IsSpace, after_space, is_bare_byte, Fails, BeginsValue, begins_equals, HasValue, IsTagName, NamesElement, BeginsAttribute, Closes, EndsTag, BeginsStart, BeginsEnd, EndsAtMark, Begins, begins_markup, kept_after}
+use Rattle.dom_markup.specs.Markup.{IsSpace, after_space, is_bare_byte, Fails, BeginsValue, begins_equals, HasValue, IsTagName, NamesElement, BeginsAttribute, BeginsNoAttribute, Closes, EndsTag, BeginsStart, BeginsEnd, EndsAtMark, Begins, begins_markup, kept_after}
 use Rattle.dom_markup.specs.Markup.Item.{comment}
 use Rattle.dom_markup.specs.Refusals.{BeginsNoStart, EndsInSlash}
-use Rattle.dom_markup.specs.ByteClasses.{Splits, SameEnd}
+use Rattle.dom_markup.specs.ByteClasses.{Splits, SameEnd, begins_space}
 use Rattle.dom_markup.proofs.grammar.Spans.{span_same, letter-name, space-name, name-space}
 
 -- a non-empty front of name bytes begins with no whitespace
@@ -293,6 +293,15 @@ attribute_made text space inner name behind value rest s n some_space some_name 
   folds = refl;
   valued = valued;
 }
+
+spaced : (space more text : List ℕ) → text ≡ space ++ more → IsSpace space → space ≢ [] → begins_space text ≡ false → ⊥
+spaced [] more text is all some plain = some refl
+spaced (b ∷ bs) more text is all some plain =
+    true≢false (sym (and_parts (is_whitespace b) (list_all is_whitespace bs) all).0 ∙ sym (ap begins_space is) ∙ plain)
+
+-- where no whitespace stands, no attribute does
+pub no_space_begins : (text : List ℕ) → begins_space text ≡ false → BeginsNoAttribute text
+no_space_begins text plain a rest h = spaced h.space _ text h.is h.is_space h.some_space plain
 
 -- ---- how far attributes go
 

@@ -168,6 +168,12 @@ decoded-none text none =
     let lack : lacks 38 text ≡ true = lacks_from 38 text (λ k below is. none k (omega arith) below (eq-eqb (get_or text k 0) 38 is)) in
     ap decoded (sym (append-nil text)) ∙ (decoded-plain text [] lack ∙ append-nil text)
 
+-- a front in which no `&` stands is what it stands for
+pub decoded-front : (text : List ℕ) (n : ℕ) → Nowhere (Passes (is_byte 38) text) 0 n → decoded (take n text) ≡ take n text
+decoded-front text n none = decoded-none (take n text) (λ k low below passes.
+    let short : k < n = omega (arith, below, length-take n text) in
+    none k low short (sym (ap (is_byte 38) (get_or-take n text k 0 short)) ∙ passes))
+
 pub decoded-first : (text before after rest : List ℕ) (at : ℕ) (found : Reference) → NoneBefore (Passes (is_byte 38) text) 0 (length text) at → Passes (is_byte 38) text at →
     before ≡ slice_range text 0 at → after ≡ drop (at + 1) text → found ≡ unwrap_or (reference after) bare → rest ≡ drop found.len after → decoded text ≡ before ++ (encode_utf8 found.character ++ decoded rest)
 decoded-first text before after rest at found first passes begin end is left =

@@ -89,6 +89,12 @@ pub front_ends : (text : List ℕ) (at found : ℕ) → at ≤ length text → l
 front_ends text at found within same first begins =
     omega (arith, to_less text at found within same first, ap length (no_front (drop (at + found) text) begins))
 
+-- markup begins at the first `<`, and there the text ends
+pub plain_ends : (text : List ℕ) (found : ℕ) → NoneBefore (Passes (is_byte 60) text) 0 (length text) found → begins_markup (drop found text) ≡ true → found ≡ length (text_front text)
+plain_ends text found first begins =
+    let plain = front_plain found text (omega (arith, first.high)) (λ k below is. first.before k (omega arith) below (eq-eqb _ 60 is)) in
+    omega (arith, plain, ap length (no_front (drop found text) begins))
+
 pub front_goes_on : (text : List ℕ) (at found : ℕ) → at ≤ length text → length (text_front text) ≡ at + length (text_front (drop at text)) → NoneBefore (Passes (is_byte 60) (drop at text)) 0 (length (drop at text)) found → begins_markup (drop (at + found) text) ≡ false →
     length (text_front text) ≡ at + found + 1 + length (text_front (drop (at + found + 1) text))
 front_goes_on text at found within same first begins =

@@ -1,6 +1,5 @@
 -- The edges of trees are written as the trees.
-use Rattle.std.proofs.Common.{◌≡◌, ℕ, Bool, true, false, List, [], ◌∷◌, ◌++◌, Option, Some, None, refl, sym, ◌∙◌, ap, append_assoc, append-nil, slice_get, inl, inr}
-use Rattle.std.specs.Io.KnownBytes.{Appends}
+use Rattle.std.proofs.Common.{◌≡◌, ℕ, Bool, true, false, List, [], ◌∷◌, ◌++◌, Some, refl, sym, ◌∙◌, ap, append_assoc, append-nil, slice_get, inl, inr}
 use Rattle.std.proofs.lemmas.Bool.{cases_Bool}
 use Rattle.std.proofs.lemmas.Grind.{flat_map-append}
 use Rattle.std.proofs.lemmas.Option.{slice_get_cases}
@@ -10,10 +9,9 @@ use Rattle.dom_links.specs.Forest.{Forest, children_of}
 use Rattle.dom_links.specs.Trees.{Trees, NoTrees, Tree, trees}
 use Rattle.dom_markup.specs.Html.{end_tag, following, html_of, inner_html_of, is_bare, is_void, keeps_texts, opening, trees_text}
 use Rattle.dom_markup.specs.EdgeTexts.{edge_text, edges_text, entered, written_nodes}
-use Rattle.dom_markup.specs.Writing.{AppendsBeginning}
 use Rattle.dom_links.specs.Edges.{child_edges, edges, edges_inside, mark_below, mark_of, node_edges}
 use Rattle.dom_links.specs.declared.edges.Edge.{Edge}
-use Rattle.dom_links.specs.declared.edges.Edge.TheVariants.{Open, Close}
+use Rattle.dom_links.specs.declared.edges.Edge.TheVariants.{Close}
 
 inside-text : (forest : Forest) (n : ℕ) (content : NodeData) (contents children : List Edge) → slice_get forest.content n ≡ Some content →
     edges_text forest (edges_inside n (entered content) contents children) ≡ following content (edges_text forest contents) (edges_text forest children)

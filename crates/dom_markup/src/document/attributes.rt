@@ -7,7 +7,7 @@ ghost use Rattle.dom_markup.specs.Attributes.{Gains, IsNoted, Keeps, AreKept};
 ghost use Rattle.dom_markup.specs.Bytes.{folded};
 ghost use Rattle.dom_markup.specs.ByteClasses.{PastAttributes, attribute_in};
 
-use crate::document::scan::{Written, attribute_at};
+use crate::document::scan::{Written, attribute_at, begins_space};
 use crate::references::decode;
 use dom_nodes::fault::OutOfMemory;
 use dom_nodes::name::{Attr, LocalName, QualName};
@@ -125,6 +125,9 @@ pub fn attrs_of(
     ensures past { IfOk result (λ found. PastAttributes text.now found.1.now) }
     ensures attrs { IfOk result (λ found. AreKept text.now found.0.items) }
 {
+    if !begins_space(text) {
+        return Ok((attrs, text));
+    }
     let mut kept = KeptAttrs::new(alloc, attrs);
     let mut rest = text;
     while let Some((written, after)) = attribute_at(rest) {

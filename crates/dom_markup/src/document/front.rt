@@ -1,8 +1,8 @@
 //! The item at the front of a text, as it is written.
 
-ghost use Rattle.std.specs.Prelude.{◌≢◌, ◌++◌, [], codes};
+ghost use Rattle.std.specs.Prelude.{◌≢◌, ◌++◌, [], codes, IfSome};
 ghost use Rattle.dom_markup.specs.Bytes.{folded};
-ghost use Rattle.dom_markup.specs.Front.{IsNoComment, OpensTag, TakesDoctype, TakesFront};
+ghost use Rattle.dom_markup.specs.Front.{IsFront, IsNoComment, OpensTag, TakesDoctype, TakesFront};
 ghost use Rattle.dom_markup.specs.Names.{markup};
 ghost use Rattle.dom_markup.specs.Taking.{Leaves};
 ghost use Rattle.dom_markup.specs.Token.{IsTextIn, mode_of};
@@ -10,18 +10,19 @@ ghost use Rattle.dom_markup.specs.Token.{IsTextIn, mode_of};
 use crate::document::doctypes::{Doctype, doctype_at};
 use crate::document::names::is_letter;
 use crate::document::raw::{after_end, split_raw};
-use crate::document::scan::{begins_markup, comment_at, split_text, strip, strip_all};
+use crate::document::scan::{begins_markup, comment_at, split_plain, split_text, strip, strip_all};
 use crate::document::tags::end_tag_end;
 use crate::document::within::Within;
 use dom_nodes::fault::MarkupFaultKind;
 
-/// An item as it is written: a text, the name of an end tag, the contents of a comment. Of a start
-/// tag only its `<` is taken, and of a declaration only its `<!`: what a reader needs of them is
-/// taken while they are scanned.
+/// An item as it is written: a text, one that stands for itself, the name of an end tag, the
+/// contents of a comment. Of a start tag only its `<` is taken, and of a declaration only its `<!`:
+/// what a reader needs of them is taken while they are scanned.
 #[derive(Clone, Copy)]
 pub enum Front<'a> {
     StartTag,
     Text(&'a str),
+    Plain(&'a str),
     EndTag(&'a str),
     Comment(&'a str),
     Declaration,
@@ -43,7 +44,6 @@ fn opened_tag(text: &str) -> Option<&str>
 }
 
 /// The item at the front of markup, and what follows it.
-#[inline(always)]
 fn markup_front(text: &str) -> Result<(Front<'_>, &str), MarkupFaultKind>
     requires { text.now ≢ [] }
     ensures { TakesFront markup text.now result }
@@ -103,8 +103,39 @@ fn front_in_text<'a>(
     Ok((Front::Text(contents), rest))
 }
 
-/// The item at the front, and what follows it. What `front_in_text` finds is taken apart and put
-/// together again, so that what stands at the front of markup needs no place in memory.
+/// The item at the front, and what follows it, whatever it is.
+#[inline(never)]
+fn any_front<'a>(text: &'a str, within: Within<'a>) -> Result<(Front<'a>, &'a str), MarkupFaultKind>
+    requires { text.now ≢ [] }
+    ensures { TakesFront (mode_of within.entry) text.now result }
+{
+    match within {
+        Within::Markup => markup_front(text),
+        Within::Text(name) => front_in_text(text, name, within),
+        Within::RawText(name) => front_in_text(text, name, within),
+    }
+}
+
+/// The start tag, plain text or end tag at the front of markup, if one of these is found there.
+#[inline(always)]
+fn common_front(text: &str) -> Option<(Front<'_>, &str)>
+    requires { text.now ≢ [] }
+    ensures { IfSome result (λ found. IsFront markup text.now found.0 found.1.now) }
+{
+    if let Some(tag) = opened_tag(text) {
+        return Some((Front::StartTag, tag));
+    }
+    if !begins_markup(text.as_bytes()) {
+        let (contents, rest) = split_plain(text)?;
+        return Some((Front::Plain(contents), rest));
+    }
+    let tag = strip_all(text, "</")?;
+    let (name, rest) = end_tag_end(tag)?;
+    Some((Front::EndTag(name), rest))
+}
+
+/// The item at the front, and what follows it. What is common is found without a call, and what a
+/// call finds is taken apart and put together again, so that neither needs a place in memory.
 #[inline(always)]
 pub fn front_at<'a>(
     text: &'a str,
@@ -113,15 +144,11 @@ pub fn front_at<'a>(
     requires { text.now ≢ [] }
     ensures { TakesFront (mode_of within.entry) text.now result }
 {
-    match within {
-        Within::Markup => markup_front(text),
-        Within::Text(name) => {
-            let (front, rest) = front_in_text(text, name, within)?;
-            Ok((front, rest))
-        }
-        Within::RawText(name) => {
-            let (front, rest) = front_in_text(text, name, within)?;
-            Ok((front, rest))
+    if let Within::Markup = within {
+        if let Some((front, rest)) = common_front(text) {
+            return Ok((front, rest));
         }
     }
+    let (front, rest) = any_front(text, within)?;
+    Ok((front, rest))
 }

@@ -249,6 +249,18 @@ impl<'a> Reader<'a> {
         Ok(())
     }
 
+    /// Reads a text that stands for itself.
+    fn read_plain(&mut self, alloc: Global, text: &str) -> Result<(), MarkupFaultKind>
+        requires { IsReading self.old }
+        ensures { ReadsItem (Item.characters text.now) self.old self.new result }
+    {
+        let Ok(contents) = Text::new(alloc, text) else {
+            return Err(MarkupFaultKind::Memory);
+        };
+        self.append(NodeData::Text { contents })?;
+        Ok(())
+    }
+
     /// Reads a comment of these contents.
     fn read_comment(&mut self, alloc: Global, written: &str) -> Result<(), MarkupFaultKind>
         requires { IsReading self.old }
@@ -351,6 +363,10 @@ impl<'a> Reader<'a> {
                 self.read_text(alloc, text, within)?;
                 Ok(Behind { rest, within })
             }
+            Front::Plain(text) => {
+                self.read_plain(alloc, text)?;
+                Ok(Behind { rest, within })
+            }
             Front::EndTag(name) => {
                 self.read_end(name)?;
                 Ok(markup_behind(rest))
@@ -359,7 +375,10 @@ impl<'a> Reader<'a> {
                 self.read_comment(alloc, contents)?;
                 Ok(markup_behind(rest))
             }
-            Front::Declaration => self.read_declaration(alloc, rest),
+            Front::Declaration => {
+                let behind = self.read_declaration(alloc, rest)?;
+                Ok(behind)
+            }
         }
     }
 

@@ -4,6 +4,7 @@ ghost use Rattle.std.specs.Prelude.{◌≡◌, ◌≤◌, ◌<◌, not, true, Li
 ghost use Rattle.std.specs.Prelude.{IfNone, IfSome, codes, drop, length, map};
 ghost use Rattle.std.specs.Simd.Lanes.{chunk, mask_l};
 ghost use Rattle.std.specs.List.{prefix_len};
+ghost use Rattle.memchr.specs.Find.{Nowhere, Passes, is_byte};
 ghost use Rattle.dom_nodes.specs.Ascii.{slash};
 ghost use Rattle.dom_markup.specs.Bytes.{is_letter, is_low, is_name_byte, is_whitespace};
 ghost use Rattle.dom_markup.specs.References.{decoded};
@@ -11,11 +12,11 @@ ghost use Rattle.dom_markup.specs.Markup.{BeginsAttribute, BeginsValue, Closes, 
 ghost use Rattle.dom_markup.specs.Markup.{HasValue, begins_markup, text_front, BeginsNoAttribute};
 ghost use Rattle.dom_markup.specs.Markup.{EndsAtByte, opens_markup};
 ghost use Rattle.dom_markup.specs.Taking.{Leaves, Takes};
-ghost use Rattle.dom_markup.specs.ByteClasses.{passes, PastAttributes, Splits, attribute_in};
+ghost use Rattle.dom_markup.specs.ByteClasses.{passes, PastAttributes, Splits, attribute_in, begins_space};
 ghost use Rattle.dom_markup.specs.Plain.{HoldsNoClose};
 
 use crate::document::names::is_letter;
-use crate::find::find_byte;
+use crate::find::{find_before, find_byte};
 use std::simd::prelude::*;
 
 /// A class of bytes, of which runs of markup are made.
@@ -203,6 +204,31 @@ pub fn split_text(text: &str) -> (&str, &str)
     text.split_at(text_len(text.as_bytes()))
 }
 
+/// How many bytes stand before the first `<`, if markup begins there and no `&` stands before it.
+#[inline(always)]
+fn plain_len(bytes: &[u8]) -> Option<usize>
+    ensures len { IfSome result (λ len. len ≡ length (text_front bytes.now)) }
+    ensures plain { IfSome result (λ len. Nowhere (Passes (is_byte 38) bytes.now) 0 len) }
+{
+    let at = find_before(b'<', b'&', bytes)?;
+    if !begins_markup(bytes_from(bytes, at)) {
+        return None;
+    }
+    Some(at)
+}
+
+/// The same as `split_text`, if the text has no `<` and no reference and sixteen bytes or more
+/// follow.
+#[inline(always)]
+pub fn split_plain(text: &str) -> Option<(&str, &str)>
+    ensures front { IfSome result (λ found. found.0.now ≡ text_front text.now) }
+    ensures whole { IfSome result (λ found. text.now ≡ found.0.now ++ found.1.now) }
+    ensures plain { IfSome result (λ found. decoded found.0.now ≡ found.0.now) }
+{
+    let len = plain_len(text.as_bytes())?;
+    Some(text.split_at(len))
+}
+
 /// About how many nodes the text has: as many as it has `<`, for an element with a text has two of
 /// both. Only the room reserved for nodes depends on it, so a quarter of the text is counted, and
 /// four times that count and a little more is returned.
@@ -287,9 +313,9 @@ pub struct Written<'a> {
     pub value: &'a str,
 }
 
-/// The attribute at the front, and what follows it.
-#[inline(always)]
-pub fn attribute_at(text: &str) -> Option<(Written<'_>, &str)>
+/// The attribute at the front, behind its whitespace, and what follows it.
+#[inline(never)]
+fn spaced_attribute(text: &str) -> Option<(Written<'_>, &str)>
     ensures some { IfSome result (λ f. BeginsAttribute text.now (attribute_in f.0) f.1.now) }
     ensures none { IfNone result (BeginsNoAttribute text.now) }
 {
@@ -303,6 +329,30 @@ pub fn attribute_at(text: &str) -> Option<(Written<'_>, &str)>
     }
     let (value, rest) = value_behind(behind)?;
     Some((Written { name, value }, rest))
+}
+
+/// Whether whitespace stands at the front.
+#[inline(always)]
+pub fn begins_space(text: &str) -> bool
+    ensures { result ≡ begins_space text.now }
+{
+    match text.as_bytes() {
+        [first, ..] => is_whitespace(*first),
+        [] => false,
+    }
+}
+
+/// The attribute at the front, and what follows it. Most tags end where no whitespace stands.
+#[inline(always)]
+pub fn attribute_at(text: &str) -> Option<(Written<'_>, &str)>
+    ensures some { IfSome result (λ f. BeginsAttribute text.now (attribute_in f.0) f.1.now) }
+    ensures none { IfNone result (BeginsNoAttribute text.now) }
+{
+    if !begins_space(text) {
+        return None;
+    }
+    let (written, rest) = spaced_attribute(text)?;
+    Some((written, rest))
 }
 
 /// What follows the end of a tag at the front, which may be a slash and `>`.

@@ -86,7 +86,7 @@ fn item_at<'a>(text: &'a str, within: Within<'a>) -> Result<Found<'a>, MarkupFau
     let (front, rest) = front_at(text, within)?;
     match front {
         Front::StartTag => start_at(rest),
-        Front::Text(_) => Ok(Found {
+        Front::Text(_) | Front::Plain(_) => Ok(Found {
             kind: kind_of_text(within),
             rest,
             within,

@@ -1,8 +1,7 @@
 use Rattle.std.proofs.Common.{◌∙◌, sym}
-use Rattle.std.proofs.lemmas.Result.{err_from_is_err_and}
 use Rattle.dom_links.specs.Forest.{forest_of}
 use Rattle.dom_markup.proofs.html.EdgeTextLemmas.{bare-text, children-text}
-use Rattle.dom_markup.proofs.html.WritingLemmas.{nothing-begun, nothing-written}
+use Rattle.dom_markup.proofs.html.WritingLemmas.{nothing-written}
 use Rattle.dom_markup.proofs.serializing.edges.put_children.Goals as goal
 
 pub returns-then-is_bare : goal.returns-then-is_bare

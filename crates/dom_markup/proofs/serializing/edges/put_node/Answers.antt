@@ -1,7 +1,5 @@
-use Rattle.std.proofs.lemmas.Result.{err_from_is_err_and}
 use Rattle.dom_links.specs.Forest.{forest_of}
 use Rattle.dom_markup.proofs.html.EdgeTextLemmas.{node-text}
-use Rattle.dom_markup.proofs.html.WritingLemmas.{nothing-begun}
 use Rattle.dom_markup.proofs.serializing.edges.put_node.Goals as goal
 
 pub returns : goal.returns

@@ -1,4 +1,4 @@
-use Rattle.std.proofs.Common.{ℕ, List, length, ◌+◌, ◌∷◌, ◌∙◌, [], sym, ap, subst, arith}
+use Rattle.std.proofs.Common.{List, length, ◌+◌, ◌∷◌, [], sym, subst, arith}
 use Rattle.std.proofs.lemmas.List.{length-append}
 use Rattle.dom_nodes.specs.declared.name.Attr.{Attr}
 use Rattle.dom_nodes.specs.declared.node_data.NodeData.TheVariants.{Fragment}

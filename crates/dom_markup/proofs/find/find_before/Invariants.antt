@@ -1,0 +1,13 @@
+use Rattle.std.proofs.Common.{◌-◌, ◌≤◌, length}
+use Rattle.memchr.specs.Find.{Nowhere, Passes, is_byte}
+use Rattle.dom_markup.proofs.find.find_before.Given as goal
+
+abbrev pub invariant-loop-at : goal.invariant-loop-at
+invariant-loop-at l = record {
+  within : l.at ≤ length l.bytes;
+  passed : Nowhere (Passes (is_byte l.byte) l.bytes) 0 l.at;
+  clear : Nowhere (Passes (is_byte l.other) l.bytes) 0 l.at;
+}
+
+abbrev pub decreases-loop-at : goal.decreases-loop-at
+decreases-loop-at l = length l.bytes - l.at
