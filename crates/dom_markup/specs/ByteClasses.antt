@@ -29,6 +29,10 @@ attribute_of name value = record { name = folded name; value = decoded value }
 abbrev pub attribute_in : Written → Attribute
 attribute_in written = attribute_of written.name.now written.value.now
 
+-- where its value is marked as plain, that stands for itself
+abbrev pub MarksPlain : Written → Type 0
+MarksPlain written = written.is_plain ≡ true → decoded written.value.now ≡ written.value.now
+
 -- text is front, whose bytes pass, and then behind, which goes on with none that does
 pub record Splits (p : ℕ → Bool) (text front behind : List ℕ) : Type 0 where
   pub is : text ≡ front ++ behind

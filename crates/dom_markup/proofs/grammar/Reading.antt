@@ -8,7 +8,7 @@ use Rattle.dom_nodes.specs.Words.{is_among}
 use Rattle.dom_markup.specs.Names.{markup, void_names}
 use Rattle.dom_markup.specs.References.{decoded}
 use Rattle.dom_markup.specs.ValueTrees.{Attribute}
-use Rattle.dom_markup.specs.Markup.{IsSpace, after_space, is_bare_byte, Fails, BeginsValue, begins_equals, HasValue, IsTagName, NamesElement, BeginsAttribute, BeginsNoAttribute, Closes, EndsTag, BeginsStart, BeginsEnd, EndsAtMark, Begins, begins_markup, kept_after}
+use Rattle.dom_markup.specs.Markup.{IsSpace, EndsAtByte, after_space, is_bare_byte, Fails, BeginsValue, begins_equals, HasValue, IsTagName, NamesElement, BeginsAttribute, BeginsNoAttribute, Closes, EndsTag, BeginsStart, BeginsEnd, EndsAtMark, Begins, begins_markup, kept_after}
 use Rattle.dom_markup.specs.Markup.Item.{comment}
 use Rattle.dom_markup.specs.Refusals.{BeginsNoStart, EndsInSlash}
 use Rattle.dom_markup.specs.ByteClasses.{Splits, SameEnd, begins_space}
@@ -302,6 +302,10 @@ spaced (b ∷ bs) more text is all some plain =
 -- where no whitespace stands, no attribute does
 pub no_space_begins : (text : List ℕ) → begins_space text ≡ false → BeginsNoAttribute text
 no_space_begins text plain a rest h = spaced h.space _ text h.is h.is_space h.some_space plain
+
+-- a value in double quotes right behind `=`
+pub quoted_value : (after inner written rest : List ℕ) → after ≡ 61 ∷ 34 ∷ inner → EndsAtByte 34 inner written rest → HasValue after (decoded written) rest
+quoted_value after inner written rest is ends = rw is (written, ends, refl)
 
 -- ---- how far attributes go
 

@@ -5,13 +5,14 @@ ghost use Rattle.std.specs.List.{list_any};
 ghost use Rattle.dom_nodes.specs.Changes.{is_attr_named};
 ghost use Rattle.dom_markup.specs.Attributes.{Gains, IsNoted, Keeps, AreKept};
 ghost use Rattle.dom_markup.specs.Bytes.{folded};
-ghost use Rattle.dom_markup.specs.ByteClasses.{PastAttributes, attribute_in};
+ghost use Rattle.dom_markup.specs.ByteClasses.{MarksPlain, PastAttributes, attribute_in};
+ghost use Rattle.dom_markup.specs.References.{decoded};
 
 use crate::document::scan::{Written, attribute_at, begins_space};
 use crate::references::decode;
 use dom_nodes::fault::OutOfMemory;
 use dom_nodes::name::{Attr, LocalName, QualName};
-use dom_nodes::text::RareText;
+use dom_nodes::text::{RareText, Text};
 use std::alloc::Global;
 use std::collections::BTreeSet;
 
@@ -25,6 +26,18 @@ pub fn folded_name(alloc: Global, name: &str) -> Result<RareText, OutOfMemory>
     let mut letters = String::from_str(alloc, name)?;
     letters.make_ascii_lowercase();
     RareText::new(alloc, letters.as_str())
+}
+
+/// What the value stands for, as it is written.
+#[inline(always)]
+fn value_of(alloc: Global, written: Written) -> Result<Text, OutOfMemory>
+    requires { MarksPlain written }
+    ensures { IfOk result (λ value. value ≡ decoded written.entry.value.now) }
+{
+    if written.is_plain {
+        return Text::new(alloc, written.value);
+    }
+    decode(alloc, written.value)
 }
 
 /// Whether some attribute has the local name.
@@ -97,7 +110,8 @@ impl KeptAttrs {
     /// Adds an attribute, unless one of its name is there.
     #[inline(always)]
     fn add(&mut self, alloc: Global, written: Written) -> Result<(), OutOfMemory>
-        requires { IsNoted self.old }
+        requires noted { IsNoted self.old }
+        requires plain { MarksPlain written }
         ensures noted { OnOk result (IsNoted self.new) }
         ensures added { OnOk result (Keeps (attribute_in written.entry) self.old.attrs.items
             self.new.attrs.items) }
@@ -106,7 +120,7 @@ impl KeptAttrs {
         if self.has(&local) {
             return Ok(());
         }
-        let value = decode(alloc, written.value)?;
+        let value = value_of(alloc, written)?;
         let name = QualName::plain(local);
         self.attrs.push(Attr { name, value })?;
         self.note(alloc)

@@ -12,7 +12,7 @@ ghost use Rattle.dom_markup.specs.Markup.{BeginsAttribute, BeginsValue, Closes, 
 ghost use Rattle.dom_markup.specs.Markup.{HasValue, begins_markup, text_front, BeginsNoAttribute};
 ghost use Rattle.dom_markup.specs.Markup.{EndsAtByte, opens_markup};
 ghost use Rattle.dom_markup.specs.Taking.{Leaves, Takes};
-ghost use Rattle.dom_markup.specs.ByteClasses.{passes, PastAttributes, Splits, attribute_in, begins_space};
+ghost use Rattle.dom_markup.specs.ByteClasses.{passes, PastAttributes, Splits, attribute_in, begins_space, MarksPlain};
 ghost use Rattle.dom_markup.specs.Plain.{HoldsNoClose};
 
 use crate::document::names::is_letter;
@@ -306,17 +306,42 @@ fn value_behind(after: &str) -> Option<(&str, &str)>
     Some(found)
 }
 
-/// An attribute as it is written.
+/// The value in double quotes that ends here and stands for itself, behind its first quote, and
+/// what follows it. It isn't found where fewer than sixteen bytes follow.
+#[inline(always)]
+fn split_plain_value(text: &str) -> Option<(&str, &str)>
+    ensures some { IfSome result (λ found. EndsAtByte 34 text.now found.0.now found.1.now) }
+    ensures plain { IfSome result (λ found. decoded found.0.now ≡ found.0.now) }
+{
+    let at = find_before(b'"', b'&', text.as_bytes())?;
+    Some((&text[..at], &text[at + 1..]))
+}
+
+/// The value that is written in the common way right behind an attribute's name, if it stands for
+/// itself, and what follows it.
+#[inline(always)]
+fn plain_value(after: &str) -> Option<(&str, &str)>
+    ensures some { IfSome result (λ found. HasValue after.now (decoded found.0.now) found.1.now) }
+    ensures plain { IfSome result (λ found. decoded found.0.now ≡ found.0.now) }
+{
+    let inner = strip_all(after, "=\"")?;
+    let (value, rest) = split_plain_value(inner)?;
+    Some((value, rest))
+}
+
+/// An attribute as it is written, and whether its value is known to stand for itself.
 #[derive(Clone, Copy)]
 pub struct Written<'a> {
     pub name: &'a str,
     pub value: &'a str,
+    pub is_plain: bool,
 }
 
 /// The attribute at the front, behind its whitespace, and what follows it.
 #[inline(never)]
 fn spaced_attribute(text: &str) -> Option<(Written<'_>, &str)>
     ensures some { IfSome result (λ f. BeginsAttribute text.now (attribute_in f.0) f.1.now) }
+    ensures plain { IfSome result (λ f. MarksPlain f.0) }
     ensures none { IfNone result (BeginsNoAttribute text.now) }
 {
     let (space, behind) = split_front(ByteClass::Whitespace, text);
@@ -327,8 +352,27 @@ fn spaced_attribute(text: &str) -> Option<(Written<'_>, &str)>
     if name.is_empty() {
         return None;
     }
+    if let Some((value, rest)) = plain_value(behind) {
+        let is_plain = true;
+        return Some((
+            Written {
+                name,
+                value,
+                is_plain,
+            },
+            rest,
+        ));
+    }
     let (value, rest) = value_behind(behind)?;
-    Some((Written { name, value }, rest))
+    let is_plain = false;
+    Some((
+        Written {
+            name,
+            value,
+            is_plain,
+        },
+        rest,
+    ))
 }
 
 /// Whether whitespace stands at the front.
@@ -346,6 +390,7 @@ pub fn begins_space(text: &str) -> bool
 #[inline(always)]
 pub fn attribute_at(text: &str) -> Option<(Written<'_>, &str)>
     ensures some { IfSome result (λ f. BeginsAttribute text.now (attribute_in f.0) f.1.now) }
+    ensures plain { IfSome result (λ f. MarksPlain f.0) }
     ensures none { IfNone result (BeginsNoAttribute text.now) }
 {
     if !begins_space(text) {
