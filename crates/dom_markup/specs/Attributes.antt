@@ -8,16 +8,16 @@ use Rattle.dom_nodes.specs.declared.name.Attr.{Attr}
 use Rattle.dom_markup.specs.Markup.{EndsTag, kept_after}
 use Rattle.dom_markup.specs.Numbered.{read_attr}
 use Rattle.dom_markup.specs.ValueTrees.{Attribute}
-use Rattle.dom_markup.specs.declared.document.attributes.KeptAttrs.{KeptAttrs}
+use Rattle.dom_markup.specs.declared.document.attributes.Noted.{Noted}
 
 -- the new set has the name, and what the old one has
 abbrev pub Gains : {A : Type 0} → List ℕ → BTreeSet (String A) → BTreeSet (String A) → Type 0
 Gains name old new = (other : List ℕ) → contains_text new other ≡ (contains_text old other || bytes_eq name other)
 
--- the set has the names of the first attributes, and no other
-pub record IsNoted (kept : KeptAttrs) : Type 0 where
-  pub within : kept.noted ≤ length kept.attrs.items
-  pub names : (name : List ℕ) → contains_text kept.older name ≡ list_any (is_attr_named name) (take kept.noted kept.attrs.items)
+-- the set has the names of the first of these attributes, and no other
+pub record IsNoted (noted : Noted) (attrs : List Attr) : Type 0 where
+  pub within : noted.count ≤ length attrs
+  pub names : (name : List ℕ) → contains_text noted.names name ≡ list_any (is_attr_named name) (take noted.count attrs)
 
 -- behind the attributes that were kept before, this one is kept too, unless one of them has its name
 abbrev pub Keeps : Attribute → List Attr → List Attr → Type 0

@@ -78,6 +78,14 @@ no_instruction text more m e (doctype n p s) r h = other_second text 63 33 _ _ e
 pub no_less : (text : List ℕ) → begins_markup text ≡ true → ((r : List ℕ) → text ≡ 60 ∷ r → ⊥) → ⊥
 no_less text m none = let is = begins_less text m in none is.0 is.1
 
+-- no markup begins where no `<` stands
+pub no_markup : (text : List ℕ) → ((r : List ℕ) → text ≡ 60 ∷ r → ⊥) → begins_markup text ≡ false
+no_markup text none = go (begins_markup text) refl
+  where
+    go : (b : Bool) → begins_markup text ≡ b → begins_markup text ≡ false
+    go false e = e
+    go true e = absurd (no_less text e none)
+
 -- ---- what is found at the front of markup
 
 -- an item that markup follows

@@ -100,12 +100,6 @@ may_grow reader parent is reading =
       open_here = subst (λ (n : ℕ). children_allowed_at reader.tree n ≡ true) place (parent_bears reading.0 _ _ reading.1);
     }
 
--- a reader of the same tree and the same open elements has read the same
-pub same_read : (items : List Item) (old new : Reader) → new.tree ≡ old.tree → new.stack ≡ old.stack → AfterItems items old → AfterItems items new
-same_read items old new tree stack h =
-    subst (λ (f : Forest). HasRead items f (map opened_by new.stack.items)) (sym tree)
-    (subst (λ (v : Vec Open Global). HasRead items old.tree (map opened_by v.items)) (sym stack) h)
-
 pub leaf_read : (items : List Item) (old new : Reader) (item : Item) (made content : NodeData) (h : AfterItems items old) → IsLeaf item content (is_top h.frames) → new.tree ≡ with_child (parent_number old) made old.tree → made ≡ content → new.stack ≡ old.stack →
     AfterItems (items ++ item ∷ []) new
 leaf_read items old new item made content h leaf grown is same =
@@ -129,22 +123,22 @@ start_read items old new before stack one name all h made kept pushed number nam
     (reads_start items old.tree (map opened_by old.stack.items) name all h open_one))
 
 -- an element without contents, and one with
-pub plain_made : (old new : Reader) (result : Result ℕ MarkupFaultKind) (started : Started) → is_template (folded started.written.now) ≡ false →
-    Grows old new result (length old.tree.content) (with_child (parent_number old) (plain_element (html_name started.local) started.attrs.items) old.tree) →
-    Grows old new result (children_place (folded started.written.now) old.tree) (with_started (parent_number old) started old.tree)
-plain_made old new result started plain grows = rw plain grows
+pub plain_made : (old new : Reader) (result : Result ℕ MarkupFaultKind) (started : Started) (attrs : List Attr) → is_template (folded started.written.now) ≡ false →
+    Grows old new result (length old.tree.content) (with_child (parent_number old) (plain_element (html_name started.local) attrs) old.tree) →
+    Grows old new result (children_place (folded started.written.now) old.tree) (with_started (parent_number old) started attrs old.tree)
+plain_made old new result started attrs plain grows = rw plain grows
 
-pub template_made : (old new : Reader) (result : Result ℕ MarkupFaultKind) (started : Started) → is_template (folded started.written.now) ≡ true →
-    Grows old new result (length old.tree.content + 1) (with_template (parent_number old) (element_with (html_name started.local) started.attrs.items (length old.tree.content + 1)) old.tree) →
-    Grows old new result (children_place (folded started.written.now) old.tree) (with_started (parent_number old) started old.tree)
-template_made old new result started template grows = rw template grows
+pub template_made : (old new : Reader) (result : Result ℕ MarkupFaultKind) (started : Started) (attrs : List Attr) → is_template (folded started.written.now) ≡ true →
+    Grows old new result (length old.tree.content + 1) (with_template (parent_number old) (element_with (html_name started.local) attrs (length old.tree.content + 1)) old.tree) →
+    Grows old new result (children_place (folded started.written.now) old.tree) (with_started (parent_number old) started attrs old.tree)
+template_made old new result started attrs template grows = rw template grows
 
 -- what is made of a start tag is the element that it begins
-pub started_is : (p : ℕ) (started : Started) (all : List Attribute) (forest : Forest) → IsStarted started (folded started.written.now) all → with_started p started forest ≡ with_element p (folded started.written.now) all forest
-started_is p started all forest same_attrs =
+pub started_is : (p : ℕ) (started : Started) (attrs : List Attr) (all : List Attribute) (forest : Forest) → IsStarted started attrs (folded started.written.now) all → with_started p started attrs forest ≡ with_element p (folded started.written.now) all forest
+started_is p started attrs all forest same_attrs =
     let name = folded started.written.now in
     let more = length forest.content + 1 in
-    ap (λ (n : List ℕ). cond (is_template name) (with_template p (element_with (html_name n) started.attrs.items more) forest) (with_child p (plain_element (html_name n) started.attrs.items) forest)) same_attrs.local
+    ap (λ (n : List ℕ). cond (is_template name) (with_template p (element_with (html_name n) attrs more) forest) (with_child p (plain_element (html_name n) attrs) forest)) same_attrs.local
     ∙ ap (λ (as' : List Attr). cond (is_template name) (with_template p (element_with (html_name name) as' more) forest) (with_child p (plain_element (html_name name) as') forest)) same_attrs.attrs
 
 -- a void element has no contents

@@ -28,7 +28,7 @@ pub fn folded_name(alloc: Global, name: &str) -> Result<RareText, OutOfMemory>
     RareText::new(alloc, letters.as_str())
 }
 
-/// What the value stands for, as it is written.
+/// What the value that is written stands for.
 #[inline(always)]
 fn value_of(alloc: Global, written: Written) -> Result<Text, OutOfMemory>
     requires { MarksPlain written }
@@ -49,104 +49,102 @@ fn has_attr(attrs: &[Attr], name: &LocalName) -> bool
         .any(|attr| attr.name.local().is_same(&name.by_ref()))
 }
 
-/// The attributes of a tag so far. The names of all but the last few stand in a set too, so that a
-/// tag of many attributes is read quickly, whatever their names are.
+/// The names of a tag's attributes that stand in a set too: those of so many, all but the last few.
+/// So a tag of many attributes is read quickly, whatever their names are.
 #[derive(Drop)]
-struct KeptAttrs {
-    attrs: Vec<Attr>,
-    noted: usize,
-    older: BTreeSet<String>,
+struct Noted {
+    count: usize,
+    names: BTreeSet<String>,
 }
 
-impl KeptAttrs {
-    /// No attributes yet; they are put into this empty vector.
-    fn new(alloc: Global, attrs: Vec<Attr>) -> KeptAttrs
-        requires { attrs.items ≡ [] }
-        ensures none { result.attrs.items ≡ [] }
-        ensures noted { IsNoted result }
+impl Noted {
+    /// No names yet.
+    fn new(alloc: Global) -> Noted
+        ensures { IsNoted result [] }
     {
-        KeptAttrs {
-            attrs,
-            noted: 0,
-            older: BTreeSet::new(alloc),
+        Noted {
+            count: 0,
+            names: BTreeSet::new(alloc),
         }
     }
 
     /// Whether some attribute has the local name.
-    fn has(&self, name: &LocalName) -> bool
-        requires { IsNoted self.now }
-        ensures { result ≡ list_any (is_attr_named name.now) self.now.attrs.items }
+    fn has(&self, attrs: &[Attr], name: &LocalName) -> bool
+        requires { IsNoted self.now attrs.now }
+        ensures { result ≡ list_any (is_attr_named name.now) attrs.now }
     {
-        let (_, recent) = self.attrs.as_slice().split_at(self.noted);
-        self.older.contains(name.as_str()) || has_attr(recent, name)
+        let (_, recent) = attrs.split_at(self.count);
+        self.names.contains(name.as_str()) || has_attr(recent, name)
     }
 
     /// Puts a name into the set.
-    fn insert_older(&mut self, name: String) -> Result<(), OutOfMemory>
-        ensures attrs { self.new.attrs ≡ self.old.attrs }
-        ensures noted { self.new.noted ≡ self.old.noted }
-        ensures names { OnOk result (Gains (string_bytes name) self.old.older self.new.older) }
+    fn insert(&mut self, name: String) -> Result<(), OutOfMemory>
+        ensures count { self.new.count ≡ self.old.count }
+        ensures names { OnOk result (Gains (string_bytes name) self.old.names self.new.names) }
     {
-        self.older.insert(name)?;
+        self.names.insert(name)?;
         Ok(())
     }
 
     /// Puts the oldest name that isn't in the set there, where many aren't.
-    fn note(&mut self, alloc: Global) -> Result<(), OutOfMemory>
-        requires { IsNoted self.old }
-        ensures noted { OnOk result (IsNoted self.new) }
-        ensures attrs { self.new.attrs ≡ self.old.attrs }
+    fn note(&mut self, alloc: Global, attrs: &[Attr]) -> Result<(), OutOfMemory>
+        requires { IsNoted self.old attrs.now }
+        ensures { OnOk result (IsNoted self.new attrs.now) }
     {
-        let attrs = self.attrs.as_slice();
-        if attrs.len() - self.noted < RECENT {
+        if attrs.len() - self.count < RECENT {
             return Ok(());
         }
-        let name = String::from_str(alloc, attrs[self.noted].name.local().as_str())?;
-        self.insert_older(name)?;
-        self.noted += 1;
+        let name = String::from_str(alloc, attrs[self.count].name.local().as_str())?;
+        self.insert(name)?;
+        self.count += 1;
         Ok(())
     }
 
-    /// Adds an attribute, unless one of its name is there.
+    /// Adds an attribute to those of the tag, unless one of its name is there.
     #[inline(always)]
-    fn add(&mut self, alloc: Global, written: Written) -> Result<(), OutOfMemory>
-        requires noted { IsNoted self.old }
+    fn add(
+        &mut self,
+        alloc: Global,
+        attrs: &mut Vec<Attr>,
+        written: Written,
+    ) -> Result<(), OutOfMemory>
+        requires noted { IsNoted self.old attrs.old.items }
         requires plain { MarksPlain written }
-        ensures noted { OnOk result (IsNoted self.new) }
-        ensures added { OnOk result (Keeps (attribute_in written.entry) self.old.attrs.items
-            self.new.attrs.items) }
+        ensures noted { OnOk result (IsNoted self.new attrs.new.items) }
+        ensures added { OnOk result (Keeps (attribute_in written.entry) attrs.old.items
+            attrs.new.items) }
     {
         let local = LocalName::folded(alloc, written.name)?;
-        if self.has(&local) {
+        if self.has(attrs.as_slice(), &local) {
             return Ok(());
         }
         let value = value_of(alloc, written)?;
         let name = QualName::plain(local);
-        self.attrs.push(Attr { name, value })?;
-        self.note(alloc)
+        attrs.push(Attr { name, value })?;
+        self.note(alloc, attrs.as_slice())
     }
 }
 
-/// The attributes of a start tag, behind its name, and what follows them; of equal names the first
-/// is kept. They are put into the vector, which is empty.
+/// Reads the attributes of a start tag, behind its name, into a vector that is empty, and returns
+/// what follows them; of equal names the first is kept.
 #[inline(always)]
-pub fn attrs_of(
+pub fn attrs_of<'a>(
     alloc: Global,
-    text: &str,
-    attrs: Vec<Attr>,
-) -> Result<(Vec<Attr>, &str), OutOfMemory>
-    requires { attrs.items ≡ [] }
-    ensures past { IfOk result (λ found. PastAttributes text.now found.1.now) }
-    ensures attrs { IfOk result (λ found. AreKept text.now found.0.items) }
+    text: &'a str,
+    attrs: &mut Vec<Attr>,
+) -> Result<&'a str, OutOfMemory>
+    requires { attrs.old.items ≡ [] }
+    ensures past { IfOk result (λ rest. PastAttributes text.now rest.now) }
+    ensures attrs { OnOk result (AreKept text.now attrs.new.items) }
 {
     if !begins_space(text) {
-        return Ok((attrs, text));
+        return Ok(text);
     }
-    let mut kept = KeptAttrs::new(alloc, attrs);
+    let mut noted = Noted::new(alloc);
     let mut rest = text;
     while let Some((written, after)) = attribute_at(rest) {
-        kept.add(alloc, written)?;
+        noted.add(alloc, attrs, written)?;
         rest = after;
     }
-    Ok((kept.attrs, rest))
+    Ok(rest)
 }

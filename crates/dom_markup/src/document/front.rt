@@ -116,6 +116,20 @@ fn any_front<'a>(text: &'a str, within: Within<'a>) -> Result<(Front<'a>, &'a st
     }
 }
 
+/// The same. What the call returns has a place in memory, which is set up where this begins: what is
+/// found without the call needs none.
+#[inline(always)]
+fn other_front<'a>(
+    text: &'a str,
+    within: Within<'a>,
+) -> Result<(Front<'a>, &'a str), MarkupFaultKind>
+    requires { text.now ≢ [] }
+    ensures { TakesFront (mode_of within.entry) text.now result }
+{
+    let (front, rest) = any_front(text, within)?;
+    Ok((front, rest))
+}
+
 /// The start tag, plain text or end tag at the front of markup, if one of these is found there.
 #[inline(always)]
 fn common_front(text: &str) -> Option<(Front<'_>, &str)>
@@ -125,17 +139,16 @@ fn common_front(text: &str) -> Option<(Front<'_>, &str)>
     if let Some(tag) = opened_tag(text) {
         return Some((Front::StartTag, tag));
     }
-    if !begins_markup(text.as_bytes()) {
+    let Some(behind) = strip(text, '<') else {
         let (contents, rest) = split_plain(text)?;
         return Some((Front::Plain(contents), rest));
-    }
-    let tag = strip_all(text, "</")?;
+    };
+    let tag = strip(behind, '/')?;
     let (name, rest) = end_tag_end(tag)?;
     Some((Front::EndTag(name), rest))
 }
 
-/// The item at the front, and what follows it. What is common is found without a call, and what a
-/// call finds is taken apart and put together again, so that neither needs a place in memory.
+/// The item at the front, and what follows it. What is common is found without a call.
 #[inline(always)]
 pub fn front_at<'a>(
     text: &'a str,
@@ -149,6 +162,5 @@ pub fn front_at<'a>(
             return Ok((front, rest));
         }
     }
-    let (front, rest) = any_front(text, within)?;
-    Ok((front, rest))
+    other_front(text, within)
 }

@@ -1,6 +1,6 @@
 //! Reading tags and texts into a tree.
 
-ghost use Rattle.std.specs.Prelude.{◌≡◌, ◌≢◌, ◌<◌, ◌+◌, ◌++◌, [], None, codes};
+ghost use Rattle.std.specs.Prelude.{◌≡◌, ◌≢◌, ◌<◌, ◌+◌, ◌++◌, [], None, Some, codes};
 ghost use Rattle.std.specs.Prelude.{IfOk, length};
 ghost use Rattle.dom_trees.specs.NewNodes.{element_with};
 ghost use Rattle.dom_markup.specs.Bytes.{folded};
@@ -27,25 +27,25 @@ use dom_nodes::text::{RareText, Text};
 use dom_nodes::words::is_same_word;
 use dom_trees::tree::Tree;
 use std::alloc::Global;
-use std::mem;
 
-/// What a start tag holds: the name as it is written, the element's local name, and its attributes.
+/// What a start tag holds besides attributes: the name as it is written, the element's local name,
+/// and whether the element is void.
 #[derive(Drop)]
 struct Started<'a> {
     written: &'a str,
     local: LocalName,
-    attrs: Vec<Attr>,
+    void: bool,
 }
 
 /// What a start tag holds, which is taken while it is scanned, and what follows it. It stands here
 /// behind its `<`. Its attributes are put into the vector, which is empty.
-fn start_tag_of(
+fn start_tag_of<'a>(
     alloc: Global,
-    tag: &str,
-    attrs: Vec<Attr>,
-) -> Result<(Started<'_>, &str), MarkupFaultKind>
-    requires { attrs.items ≡ [] }
-    ensures { TakesStarted (codes "<" ++ tag.now) result }
+    tag: &'a str,
+    attrs: &mut Vec<Attr>,
+) -> Result<(Started<'a>, &'a str), MarkupFaultKind>
+    requires { attrs.old.items ≡ [] }
+    ensures { TakesStarted (codes "<" ++ tag.now) attrs.new.items result }
 {
     let (written, behind) = split_front(ByteClass::Name, tag);
     if !names_element(written) {
@@ -54,15 +54,16 @@ fn start_tag_of(
     let Ok(local) = LocalName::folded(alloc, written) else {
         return Err(MarkupFaultKind::Memory);
     };
-    let Ok((attrs, close)) = attrs_of(alloc, behind, attrs) else {
+    let Ok(close) = attrs_of(alloc, behind, attrs) else {
         return Err(MarkupFaultKind::Memory);
     };
-    let rest = close_tag(close, is_void_name(&local.by_ref()))?;
+    let void = is_void_name(&local.by_ref());
+    let rest = close_tag(close, void)?;
     Ok((
         Started {
             written,
             local,
-            attrs,
+            void,
         },
         rest,
     ))
@@ -120,7 +121,7 @@ fn markup_behind(rest: &str) -> Behind<'_>
     }
 }
 
-/// What has been read of a document, and the vector that a tag's attributes are read into.
+/// What has been read of a document, and the vector into which a tag's attributes are read.
 #[derive(Drop)]
 pub struct Reader<'a> {
     pub tree: Growing,
@@ -135,7 +136,7 @@ impl<'a> Reader<'a> {
     ghost use Rattle.dom_markup.specs.Growing.{plain_element};
     ghost use Rattle.dom_markup.specs.Markup.{Item};
     ghost use Rattle.dom_markup.specs.Reader.{AfterItems, EndsReading, Grows, IsReading};
-    ghost use Rattle.dom_markup.specs.Reader.{ReadsFront, ReadsItem, parent_number, with_started};
+    ghost use Rattle.dom_markup.specs.Reader.{ReadsFront, ReadsItem, leaf_item, parent_number, with_started};
 
     /// A reader that has read nothing.
     pub fn new(alloc: Global) -> Result<Reader<'a>, OutOfMemory>
@@ -172,63 +173,58 @@ impl<'a> Reader<'a> {
         self.tree.append(&parent, content)
     }
 
-    /// The empty vector that a tag's attributes are read into.
-    fn take_spare(&mut self, alloc: Global) -> Vec<Attr>
-        ensures empty { result.items ≡ [] }
-        ensures tree { self.new.tree ≡ self.old.tree }
-        ensures stack { self.new.stack ≡ self.old.stack }
-    {
-        let mut attrs = mem::replace(&mut self.spare, Vec::new(alloc));
-        attrs.clear();
-        attrs
-    }
-
-    /// Makes an element without contents as the last child of the innermost open element.
-    fn append_plain(&mut self, name: QualName, attrs: Vec<Attr>) -> Result<NodeId, MarkupFaultKind>
+    /// Makes an element without contents, with the attributes that were read, as the last child of
+    /// the innermost open element.
+    fn append_plain(&mut self, name: QualName) -> Result<NodeId, MarkupFaultKind>
         requires { IsReading self.old }
-        ensures { Grows self.old self.new result (length self.old.tree.content)
-            (with_child (parent_number self.old) (plain_element name attrs.items) self.old.tree) }
+        ensures { let element = plain_element name self.old.spare.items in
+            Grows self.old self.new result (length self.old.tree.content)
+            (with_child (parent_number self.old) element self.old.tree) }
     {
         let parent = self.parent();
-        let mut attrs = attrs;
-        let made = self.tree.append_element(&parent, name, &mut attrs);
-        self.spare = attrs;
-        made
+        self.tree.append_element(&parent, name, &mut self.spare)
     }
 
-    /// Makes an element with contents as the last child of the innermost open element, and returns
-    /// the contents' number.
-    fn append_template(
-        &mut self,
-        name: QualName,
-        attrs: Vec<Attr>,
-    ) -> Result<NodeId, MarkupFaultKind>
+    /// Makes an element with contents, with the attributes that were read, as the last child of the
+    /// innermost open element, and returns the contents' number.
+    fn append_template(&mut self, name: QualName) -> Result<NodeId, MarkupFaultKind>
         requires { IsReading self.old }
         ensures { let contents = length self.old.tree.content + 1 in
-            let element = element_with name attrs.items contents in
+            let element = element_with name self.old.spare.items contents in
             Grows self.old self.new result contents
             (with_template (parent_number self.old) element self.old.tree) }
     {
         let parent = self.parent();
-        let mut attrs = attrs;
-        let made = self.tree.append_template(&parent, name, &mut attrs);
-        self.spare = attrs;
-        made
+        self.tree.append_template(&parent, name, &mut self.spare)
     }
 
-    /// Makes an element as the last child of the innermost open element, with contents where it is
-    /// a template, and returns below which number its children stand.
+    /// Makes an element with the attributes that were read as the last child of the innermost open
+    /// element, with contents where it is a template, and returns below which number its children
+    /// stand.
     fn append_element(&mut self, started: Started) -> Result<NodeId, MarkupFaultKind>
         requires { IsReading self.old }
         ensures { Grows self.old self.new result
             (children_place (folded started.entry.written.now) self.old.tree)
-            (with_started (parent_number self.old) started.entry self.old.tree) }
+            (with_started (parent_number self.old) started.entry self.old.spare.items
+            self.old.tree) }
     {
         let name = QualName::html(started.local);
         if !is_template(started.written) {
-            return self.append_plain(name, started.attrs);
+            return self.append_plain(name);
         }
-        self.append_template(name, started.attrs)
+        self.append_template(name)
+    }
+
+    /// Reads the text or the comment of this content.
+    #[inline(always)]
+    fn read_leaf(&mut self, content: NodeData) -> Result<(), MarkupFaultKind>
+        requires reading { IsReading self.old }
+        requires plain { IsPlainData content }
+        ensures { (item : Item) → leaf_item content ≡ Some item
+            → ReadsItem item self.old self.new result }
+    {
+        self.append(content)?;
+        Ok(())
     }
 
     /// Reads a text.
@@ -245,8 +241,7 @@ impl<'a> Reader<'a> {
         let Ok(contents) = contents_of(alloc, text, within) else {
             return Err(MarkupFaultKind::Memory);
         };
-        self.append(NodeData::Text { contents })?;
-        Ok(())
+        self.read_leaf(NodeData::Text { contents })
     }
 
     /// Reads a text that stands for itself.
@@ -257,8 +252,7 @@ impl<'a> Reader<'a> {
         let Ok(contents) = Text::new(alloc, text) else {
             return Err(MarkupFaultKind::Memory);
         };
-        self.append(NodeData::Text { contents })?;
-        Ok(())
+        self.read_leaf(NodeData::Text { contents })
     }
 
     /// Reads a comment of these contents.
@@ -269,8 +263,7 @@ impl<'a> Reader<'a> {
         let Ok(contents) = Text::new(alloc, written) else {
             return Err(MarkupFaultKind::Memory);
         };
-        self.append(NodeData::Comment { contents })?;
-        Ok(())
+        self.read_leaf(NodeData::Comment { contents })
     }
 
     /// Reads a doctype, which stands where no element is open.
@@ -304,6 +297,17 @@ impl<'a> Reader<'a> {
         Ok(markup_behind(rest))
     }
 
+    /// The same. What the call returns has a place in memory, which is set up where this begins.
+    #[inline(always)]
+    fn read_declared(&mut self, alloc: Global, tag: &'a str) -> Result<Behind<'a>, MarkupFaultKind>
+        requires reading { IsReading self.old }
+        requires declaration { IsNoComment tag.now }
+        ensures { ReadsFront markup (codes "<!" ++ tag.now) self.old self.new result }
+    {
+        let behind = self.read_declaration(alloc, tag)?;
+        Ok(behind)
+    }
+
     /// Reads an end tag of this name.
     fn read_end(&mut self, name: &str) -> Result<(), MarkupFaultKind>
         ensures { ReadsItem (Item.end_tag (folded name.now)) self.old self.new result }
@@ -321,17 +325,17 @@ impl<'a> Reader<'a> {
     }
 
     /// Reads a start tag, which stands here behind its `<`.
+    #[inline(always)]
     fn read_start(&mut self, alloc: Global, tag: &'a str) -> Result<Behind<'a>, MarkupFaultKind>
         requires reading { IsReading self.old }
         requires letter { BeginsLetter tag.now }
         ensures { ReadsFront markup (codes "<" ++ tag.now) self.old self.new result }
     {
-        let attrs = self.take_spare(alloc);
-        let (started, rest) = start_tag_of(alloc, tag, attrs)?;
+        self.spare.clear();
+        let (started, rest) = start_tag_of(alloc, tag, &mut self.spare)?;
         let name = started.written;
-        let local = started.local.by_ref();
-        let void = is_void_name(&local);
-        let within = within_named(name, &local);
+        let void = started.void;
+        let within = within_named(name, &started.local.by_ref());
         let number = self.append_element(started)?;
         let behind = Behind { rest, within };
         if void {
@@ -375,10 +379,7 @@ impl<'a> Reader<'a> {
                 self.read_comment(alloc, contents)?;
                 Ok(markup_behind(rest))
             }
-            Front::Declaration => {
-                let behind = self.read_declaration(alloc, rest)?;
-                Ok(behind)
-            }
+            Front::Declaration => { self.read_declared(alloc, rest) }
         }
     }
 

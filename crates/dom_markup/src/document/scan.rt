@@ -306,8 +306,8 @@ fn value_behind(after: &str) -> Option<(&str, &str)>
     Some(found)
 }
 
-/// The value in double quotes that ends here and stands for itself, behind its first quote, and
-/// what follows it. It isn't found where fewer than sixteen bytes follow.
+/// What stands before the first `"`, if no `&` stands in it, and what follows that quote. It isn't
+/// found where fewer than sixteen bytes are left.
 #[inline(always)]
 fn split_plain_value(text: &str) -> Option<(&str, &str)>
     ensures some { IfSome result (λ found. EndsAtByte 34 text.now found.0.now found.1.now) }
@@ -337,9 +337,47 @@ pub struct Written<'a> {
     pub is_plain: bool,
 }
 
-/// The attribute at the front, behind its whitespace, and what follows it.
+/// Whether whitespace stands at the front.
+#[inline(always)]
+pub fn begins_space(text: &str) -> bool
+    ensures { result ≡ begins_space text.now }
+{
+    match text.as_bytes() {
+        [first, ..] => is_whitespace(*first),
+        [] => false,
+    }
+}
+
+/// The attribute at the front, if it is written in the common way and its value stands for itself,
+/// and what follows it.
+#[inline(always)]
+fn plain_attribute(text: &str) -> Option<(Written<'_>, &str)>
+    ensures some { IfSome result (λ f. BeginsAttribute text.now (attribute_in f.0) f.1.now) }
+    ensures plain { IfSome result (λ f. MarksPlain f.0) }
+{
+    let (space, behind) = split_front(ByteClass::Whitespace, text);
+    if space.is_empty() {
+        return None;
+    }
+    let (name, behind) = split_front(ByteClass::Name, behind);
+    if name.is_empty() {
+        return None;
+    }
+    let (value, rest) = plain_value(behind)?;
+    let is_plain = true;
+    Some((
+        Written {
+            name,
+            value,
+            is_plain,
+        },
+        rest,
+    ))
+}
+
+/// The attribute at the front, however it is written, and what follows it.
 #[inline(never)]
-fn spaced_attribute(text: &str) -> Option<(Written<'_>, &str)>
+fn any_attribute(text: &str) -> Option<(Written<'_>, &str)>
     ensures some { IfSome result (λ f. BeginsAttribute text.now (attribute_in f.0) f.1.now) }
     ensures plain { IfSome result (λ f. MarksPlain f.0) }
     ensures none { IfNone result (BeginsNoAttribute text.now) }
@@ -351,17 +389,6 @@ fn spaced_attribute(text: &str) -> Option<(Written<'_>, &str)>
     let (name, behind) = split_front(ByteClass::Name, behind);
     if name.is_empty() {
         return None;
-    }
-    if let Some((value, rest)) = plain_value(behind) {
-        let is_plain = true;
-        return Some((
-            Written {
-                name,
-                value,
-                is_plain,
-            },
-            rest,
-        ));
     }
     let (value, rest) = value_behind(behind)?;
     let is_plain = false;
@@ -375,18 +402,20 @@ fn spaced_attribute(text: &str) -> Option<(Written<'_>, &str)>
     ))
 }
 
-/// Whether whitespace stands at the front.
+/// The same. What the call returns has a place in memory, which is set up where this begins: an
+/// attribute that is found without the call needs none.
 #[inline(always)]
-pub fn begins_space(text: &str) -> bool
-    ensures { result ≡ begins_space text.now }
+fn other_attribute(text: &str) -> Option<(Written<'_>, &str)>
+    ensures some { IfSome result (λ f. BeginsAttribute text.now (attribute_in f.0) f.1.now) }
+    ensures plain { IfSome result (λ f. MarksPlain f.0) }
+    ensures none { IfNone result (BeginsNoAttribute text.now) }
 {
-    match text.as_bytes() {
-        [first, ..] => is_whitespace(*first),
-        [] => false,
-    }
+    let (written, rest) = any_attribute(text)?;
+    Some((written, rest))
 }
 
-/// The attribute at the front, and what follows it. Most tags end where no whitespace stands.
+/// The attribute at the front, and what follows it. Most tags end where no whitespace stands, and
+/// most attributes are plain.
 #[inline(always)]
 pub fn attribute_at(text: &str) -> Option<(Written<'_>, &str)>
     ensures some { IfSome result (λ f. BeginsAttribute text.now (attribute_in f.0) f.1.now) }
@@ -396,7 +425,9 @@ pub fn attribute_at(text: &str) -> Option<(Written<'_>, &str)>
     if !begins_space(text) {
         return None;
     }
-    let (written, rest) = spaced_attribute(text)?;
+    let Some((written, rest)) = plain_attribute(text) else {
+        return other_attribute(text);
+    };
     Some((written, rest))
 }
 

@@ -5,7 +5,7 @@ use Rattle.dom_markup.proofs.grammar.Reading.{SameEnd-refl, SameEnd-step, length
 use Rattle.dom_markup.proofs.document.attributes.attrs_of.Goals as goal
 
 pub loop-written-init : goal.loop-written-init
-loop-written-init c = record { kept = kept_none _ _ c.new-kept.ensures.none; same = SameEnd-refl _; noted = c.new-kept.ensures.noted; utf8 = c.utf8.text }
+loop-written-init c = record { kept = kept_none _ _ c.requires; same = SameEnd-refl _; noted = rw c.requires c.new-noted.ensures; utf8 = c.utf8.text }
 
 pub loop-written-preserved : goal.loop-written-preserved
 loop-written-preserved c = record {

@@ -6,7 +6,7 @@ use Rattle.dom_markup.proofs.rows.AttrLemmas.{AreKept}
 use Rattle.dom_markup.proofs.document.attributes.attrs_of.Given as goal
 
 abbrev pub invariant-loop-written : goal.invariant-loop-written
-invariant-loop-written l = record { kept : AreKept l.text l.rest l.kept.attrs.items; same : SameEnd l.text l.rest; noted : IsNoted l.kept; utf8 : IsUtf8 l.rest }
+invariant-loop-written l = record { kept : AreKept l.text l.rest l.attrs.items; same : SameEnd l.text l.rest; noted : IsNoted l.noted l.attrs.items; utf8 : IsUtf8 l.rest }
 
 abbrev pub decreases-loop-written : goal.decreases-loop-written
 decreases-loop-written l = length l.rest

@@ -14,12 +14,12 @@ pub returns-in_err-rest : goal.returns-in_err-rest
 returns-in_err-rest c =
     let p = err_from_is_err_and c.from_residual.result c.from_residual.ensures.1 in
     let names : NamesElement c.split_front.result.0.now (folded c.split_front.result.0.now) = search rules in
-    let void = c.is_void_name.ensures ∙ ap (λ (n : List ℕ). is_among n void_names) (c.by_ref.ensures ∙ c.in-Ok.ensures) in
+    let void = c.is_void_name-void.ensures ∙ ap (λ (n : List ℕ). is_among n void_names) (c.by_ref.ensures ∙ c.in-Ok.ensures) in
     rw (p.1, p.2) (inr (start_fails _ _ _ _ _ _ c.split_front.ensures names.0 void c.in-Ok-attrs_of.ensures.past c.in_err-rest.ensures))
 
 pub returns : goal.returns
 returns c =
     let names : NamesElement c.split_front.result.0.now (folded c.split_front.result.0.now) = search rules in
-    let void = c.is_void_name.ensures ∙ ap (λ (n : List ℕ). is_among n void_names) (c.by_ref.ensures ∙ c.in-Ok.ensures) in
+    let void = c.is_void_name-void.ensures ∙ ap (λ (n : List ℕ). is_among n void_names) (c.by_ref.ensures ∙ c.in-Ok.ensures) in
     let closed = start_closes _ _ _ _ _ _ c.split_front.ensures names void c.in-Ok-attrs_of.ensures.past c.in_ok-rest.ensures in
-    (kept_after [] closed.0, closed.2, record { written = refl; local = c.in-Ok.ensures; attrs = c.in-Ok-attrs_of.ensures.attrs _ closed.0 _ closed.1 })
+    (kept_after [] closed.0, closed.2, record { written = refl; local = c.in-Ok.ensures; void = void; attrs = c.in-Ok-attrs_of.ensures.attrs _ closed.0 _ closed.1 })

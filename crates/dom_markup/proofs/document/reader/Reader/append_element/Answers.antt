@@ -13,13 +13,13 @@ pub returns-then-not-is_template : goal.returns-then-not-is_template
 returns-then-not-is_template c =
     let plain : is_template (folded c.args.started.written.now) ≡ false = search in
     let old = c.args.self.now in
-    plain_made _ _ c.append_plain.result c.args.started plain
-    (subst (λ (n : NameParts). Grows old c.append_plain.new.self c.append_plain.result (length old.tree.content) (with_child (parent_number old) (plain_element n c.args.started.attrs.items) old.tree)) c.html-name.ensures c.append_plain.ensures)
+    plain_made _ _ c.append_plain.result c.args.started _ plain
+    (subst (λ (n : NameParts). Grows old c.append_plain.new.self c.append_plain.result (length old.tree.content) (with_child (parent_number old) (plain_element n old.spare.items) old.tree)) c.html-name.ensures c.append_plain.ensures)
 
 pub returns : goal.returns
 returns c =
     let template : is_template (folded c.args.started.written.now) ≡ true = search in
     let old = c.args.self.now in
     let contents = length old.tree.content + 1 in
-    template_made _ _ c.append_template.result c.args.started template
-    (subst (λ (n : NameParts). Grows old c.append_template.new.self c.append_template.result contents (with_template (parent_number old) (element_with n c.args.started.attrs.items contents) old.tree)) c.html-name.ensures c.append_template.ensures)
+    template_made _ _ c.append_template.result c.args.started _ template
+    (subst (λ (n : NameParts). Grows old c.append_template.new.self c.append_template.result contents (with_template (parent_number old) (element_with n old.spare.items contents) old.tree)) c.html-name.ensures c.append_template.ensures)

@@ -5,8 +5,8 @@ use Rattle.dom_markup.specs.Growing.{GrowsTo}
 use Rattle.dom_markup.proofs.rows.Steps.{may_grow}
 use Rattle.dom_markup.proofs.document.reader.Reader.append_template.Goals as goal
 
-pub append_template-made-requires : goal.append_template-made-requires
-append_template-made-requires c = may_grow c.args.self.now c.parent-parent.result c.parent-parent.ensures c.requires
+pub append_template-requires : goal.append_template-requires
+append_template-requires c = may_grow c.args.self.now c.parent-parent.result c.parent-parent.ensures c.requires
 
 pub returns : goal.returns
 returns c =
@@ -14,5 +14,5 @@ returns c =
     let contents = length old.content + 1 in
     record {
       stack = refl;
-      grown = subst (λ (p : ℕ). GrowsTo c.append_template-made.result c.append_template-made.new.self contents (with_template p (element_with c.args.name c.args.attrs.items contents) old)) c.parent-parent.ensures c.append_template-made.ensures;
+      grown = subst (λ (p : ℕ). GrowsTo c.append_template.result c.append_template.new.self contents (with_template p (element_with c.args.name c.args.self.now.spare.items contents) old)) c.parent-parent.ensures c.append_template.ensures;
     }

@@ -2,7 +2,7 @@ use Rattle.std.proofs.Common.{sym, ◌∙◌}
 use Rattle.dom_markup.specs.Bytes.{is_name_byte}
 use Rattle.dom_markup.proofs.grammar.Reading.{attribute_shape}
 use Rattle.dom_markup.proofs.grammar.Spans.{nil_from_length, splits_front}
-use Rattle.dom_markup.proofs.document.scan.spaced_attribute.Goals as goal
+use Rattle.dom_markup.proofs.document.scan.any_attribute.Goals as goal
 
 pub returns-then-is_empty-clause-none : goal.returns-then-is_empty-clause-none
 returns-then-is_empty-clause-none c = λ a rest h.

@@ -1,4 +1,4 @@
-use Rattle.std.proofs.Common.{Vec, Global, ◌≡◌, ◌∷◌, ◌++◌, ℕ, List, Bool, [], None, refl, sym, ◌∙◌, ap}
+use Rattle.std.proofs.Common.{◌≡◌, ◌∷◌, ◌++◌, ℕ, List, Bool, [], None, refl, sym, ◌∙◌, ap}
 use Rattle.std.specs.List.{list_any}
 use Rattle.std.proofs.lemmas.Result.{on_ok_weaker}
 use Rattle.dom_nodes.specs.declared.name.Attr.{Attr}
@@ -10,13 +10,13 @@ use Rattle.dom_markup.specs.References.{decoded}
 use Rattle.dom_markup.specs.Numbered.{read_attr}
 use Rattle.dom_markup.specs.ByteClasses.{attribute_of}
 use Rattle.dom_markup.proofs.rows.AttrLemmas.{left_out, added}
-use Rattle.dom_markup.proofs.document.attributes.KeptAttrs.add.Goals as goal
+use Rattle.dom_markup.proofs.document.attributes.Noted.add.Goals as goal
 
--- the test was made on the kept attributes, with the folded name
-tested : (attrs : List Attr) (name local folds : List ℕ) (found answer : Bool) → name ≡ local → local ≡ folds →
-    found ≡ list_any (is_attr_named name) attrs → found ≡ answer → list_any (is_attr_named folds) attrs ≡ answer
-tested attrs name local folds found answer f g h i =
-    ap (λ (n : List ℕ). list_any (is_attr_named n) attrs) (sym (f ∙ g)) ∙ sym h ∙ i
+-- the test was made on the attributes, with the folded name
+tested : (attrs seen : List Attr) (name local folds : List ℕ) (found answer : Bool) → seen ≡ attrs → name ≡ local → local ≡ folds →
+    found ≡ list_any (is_attr_named name) seen → found ≡ answer → list_any (is_attr_named folds) attrs ≡ answer
+tested attrs seen name local folds found answer s f g h i =
+    ap (λ (n : List ℕ). list_any (is_attr_named n) attrs) (sym (f ∙ g)) ∙ ap (list_any (is_attr_named name)) (sym s) ∙ sym h ∙ i
 
 abbrev with_value : NameParts → List ℕ → Attr
 with_value name value = record { name = name; value = value }
@@ -29,15 +29,14 @@ attr_of_read local value name text e f = ap (λ (l : List ℕ). of l value) e �
 
 pub returns-then-has-clause-added : goal.returns-then-has-clause-added
 returns-then-has-clause-added c =
-    left_out c.args.self.now.attrs.items (attribute_of c.args.written.name.now c.args.written.value.now)
-    (tested _ _ _ _ _ _ refl c.in_ok-local.ensures c.has.ensures c.if-has.true)
+    left_out c.args.attrs.now.items (attribute_of c.args.written.name.now c.args.written.value.now)
+    (tested _ _ _ _ _ _ _ c.as_slice.ensures.value refl c.in_ok-local.ensures c.has.ensures c.if-has.true)
 
 pub returns-clause-added : goal.returns-clause-added
 returns-clause-added c =
-    let new = tested _ _ _ _ _ _ refl c.in_ok-local.ensures c.has.ensures c.if-has.false in
+    let new = tested _ _ _ _ _ _ _ c.as_slice.ensures.value refl c.in_ok-local.ensures c.has.ensures c.if-has.false in
     let attr = attr_of_read c.in_ok-local.local c.in_ok-value.value c.args.written.name.now c.args.written.value.now c.in_ok-local.ensures c.in_ok-value.ensures in
     let made : Attr = record { name = c.plain-name.result; value = c.in_ok-value.value } in
     let named : made ≡ of c.in_ok-local.local c.in_ok-value.value = ap (λ (name : NameParts). with_value name c.in_ok-value.value) c.plain-name.ensures in
-    let grown = c.in_ok-push.ensures.items ∙ ap (λ (a : Attr). c.args.self.now.attrs.items ++ a ∷ []) named ∙ ap (λ (a : Attr). c.args.self.now.attrs.items ++ a ∷ []) attr in
-    on_ok_weaker c.note.result (λ _ kept e. ap (λ (v : Vec Attr Global). v.items) c.note.ensures.attrs ∙ grown
-    ∙ added c.args.self.now.attrs.items (attribute_of c.args.written.name.now c.args.written.value.now) new kept e) c.note.ensures.noted
+    let grown = c.in_ok-push.ensures.items ∙ ap (λ (a : Attr). c.args.attrs.now.items ++ a ∷ []) named ∙ ap (λ (a : Attr). c.args.attrs.now.items ++ a ∷ []) attr in
+    on_ok_weaker c.note.result (λ _ kept e. grown ∙ added c.args.attrs.now.items (attribute_of c.args.written.name.now c.args.written.value.now) new kept e) c.note.ensures
