@@ -139,8 +139,9 @@ impl PageParser {
     }
 
     /// Reads the next bytes of a page in UTF-8, as a file or a connection gives them; the pieces
-    /// may be cut anywhere. As by `parse_page_bytes`, a byte order mark at the beginning is dropped,
-    /// and U+FFFD takes the place of what isn't UTF-8. After an `Err` nothing is read any more.
+    /// may be cut anywhere. As by `parse_page_bytes`, a byte order mark at the beginning is
+    /// dropped, and U+FFFD takes the place of what isn't UTF-8. After an `Err` nothing is read any
+    /// more.
     pub fn feed_bytes(&mut self, piece: &[u8]) -> Result<(), PageFault>
         ensures { ReadsPage self.old → ReadsPage self.new }
     {

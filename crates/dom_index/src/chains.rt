@@ -20,8 +20,8 @@ pub(crate) struct Chain<'s> {
     pub(crate) tests: Vec<NodeTest<'s>>,
     /// The combinator of the first step: the next node to the left is the same for all steps.
     pub(crate) way: Combinator,
-    /// How many tests are counted for all nodes, those of the last compound among them, and how many
-    /// for each row that is filled.
+    /// How many tests are counted for all nodes, those of the last compound among them, and how
+    /// many for each row that is filled.
     pub(crate) all_tests: u64,
     pub(crate) row_tests: u64,
 }

@@ -32,7 +32,8 @@ fn compound_set(
     tests: &mut u128,
 ) -> Result<Vec<bool>, OutOfMemory>
     requires { length wanted.items ≡ length preorder.now.tree.now.content }
-    ensures table { IfOk result (IsFiltered preorder.now wanted.items (CompoundHolds compound.now)) }
+    ensures table { IfOk result (IsFiltered preorder.now wanted.items
+        (CompoundHolds compound.now)) }
     ensures counted { Counts result tests.old tests.new
         (CompoundAsks compound.now preorder.now wanted.items) }
     ensures tests { tests.new ≤ tests.old + compounds_in compound.now * node_count preorder.now }
@@ -111,7 +112,8 @@ pub(crate) fn list_set(
         (HasWanted preorder.now wanted.now (Means (read_list selectors.now))) }
     ensures counted { Counts result tests.old tests.new
         (SelectorsAsk selectors.now preorder.now wanted.now) }
-    ensures tests { tests.new ≤ tests.old + compounds_among selectors.now * node_count preorder.now }
+    ensures tests { tests.new
+        ≤ tests.old + compounds_among selectors.now * node_count preorder.now }
 {
     let mut table = vec![in preorder.tree.allocator(); false; preorder.order.len()]?;
     for selector in selectors {
@@ -162,7 +164,8 @@ fn has_set(
 ) -> Result<Vec<bool>, OutOfMemory>
     ensures table { IfOk result (IsSetWhere preorder.now (HasHolds (read_list selectors.now))) }
     ensures counted { Counts result tests.old tests.new (HasAsks selectors.now preorder.now) }
-    ensures tests { tests.new ≤ tests.old + compounds_among selectors.now * node_count preorder.now }
+    ensures tests { tests.new
+        ≤ tests.old + compounds_among selectors.now * node_count preorder.now }
 {
     let mut table = vec![in preorder.tree.allocator(); false; preorder.order.len()]?;
     for selector in selectors {

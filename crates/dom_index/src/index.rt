@@ -92,7 +92,8 @@ impl<'a> TreeIndex<'a> {
         roots: &[NodeId],
     ) -> Result<Vec<NodeRef<'a>>, OutOfMemory>
         ensures selects { SelectsByIndex result roots.now matcher.now self.old self.new }
-        ensures asked { Counts result 0 self.new.tests (SelectionTests matcher.now self.old.tree.now) }
+        ensures asked { Counts result 0 self.new.tests
+            (SelectionTests matcher.now self.old.tree.now) }
     {
         let ids = self.ids_by_tables(matcher, roots)?;
         nodes_of(self.preorder.tree, &ids)
@@ -106,7 +107,8 @@ impl<'a> TreeIndex<'a> {
     ) -> Result<Vec<NodeId>, OutOfMemory>
         ensures found { IfOk result (λ ids.
             Selected self.old.tree.now roots.now matcher.now ids.items) }
-        ensures asked { Counts result 0 self.new.tests (SelectionTests matcher.now self.old.tree.now) }
+        ensures asked { Counts result 0 self.new.tests
+            (SelectionTests matcher.now self.old.tree.now) }
         ensures tests { self.new.tests
             ≤ selectors_count matcher.now * length self.old.tree.now.content }
         ensures kept { self.new.tree ≡ self.old.tree }

@@ -32,7 +32,8 @@ pub(crate) fn filter_by_compound(
 ) -> Result<Vec<bool>, OutOfMemory>
     requires wanted { length wanted.items ≡ length preorder.now.tree.now.content }
     requires lists { AllListsHold preorder.now compound.now.nested.items wanted.items }
-    ensures table { IfOk result (IsFiltered preorder.now wanted.items (CompoundHolds compound.now)) }
+    ensures table { IfOk result (IsFiltered preorder.now wanted.items
+        (CompoundHolds compound.now)) }
     ensures counted { Counts result tests.old tests.new (IsCardinality wanted.items) }
     ensures tests { tests.new ≤ tests.old + cardinality wanted.items }
 {

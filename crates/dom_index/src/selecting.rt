@@ -22,9 +22,9 @@ use dom_trees::tree::Tree;
 /// once, in the order of the traversals. How they are found depends on the structure of the list,
 /// and on how much is below the roots. Each candidate is asked where it has one node for each
 /// compound at most, or where few nodes in all are above the candidates and, for `~`, beside them
-/// and these. Else flags of the next node to the left, in one traversal, state which compounds are reached, where
-/// the combinators of each selector are whitespace and `>`, or are `+` and `~`. For other lists an
-/// index is made.
+/// and these. Else flags of the next node to the left, in one traversal, state which compounds are
+/// reached, where the combinators of each selector are whitespace and `>`, or are `+` and `~`. For
+/// other lists an index is made.
 pub fn select_ids(
     tree: &Tree,
     roots: &[NodeId],

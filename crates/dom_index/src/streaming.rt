@@ -30,8 +30,8 @@ use dom_select::matcher::several::nodes_below;
 use dom_selectors::syntax::{Combinator, Selector};
 use dom_trees::tree::Tree;
 
-/// Rows of flags, one for each node by its number: the flags of a selector's steps at the nodes that
-/// it is the next one to the left of, which are its children or its next sibling. Those that
+/// Rows of flags, one for each node by its number: the flags of a selector's steps at the nodes
+/// that it is the next one to the left of, which are its children or its next sibling. Those that
 /// `filled` has are filled. `none` is the row at a node that has no node to its left.
 #[derive(Drop)]
 struct Rows {
@@ -414,7 +414,8 @@ pub(crate) fn select_plain(
     requires { ArePlain selectors.now }
     ensures found { IfOk result (λ ids. Selected tree.now roots.now
         (read_list selectors.now) ids.items) }
-    ensures tests { tests.new ≤ tests.old + compounds_among selectors.now * length tree.now.content }
+    ensures tests { tests.new
+        ≤ tests.old + compounds_among selectors.now * length tree.now.content }
 {
     let chains = prepare_all(selectors, tree)?;
     let mut rows = all_empty(tree, &chains)?;

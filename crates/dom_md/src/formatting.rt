@@ -15,7 +15,8 @@ mod steps;
 /// The formatted text of what is below the node, without whitespace at its end. Without any
 /// whitespace, that of a node that may have children is its text without whitespace.
 pub(crate) fn formatted_text(node: &NodeRef<'_>) -> Result<String, OutOfMemory>
-    ensures text { IfOk result (λ t. string_bytes t ≡ formatted_below node.now.tree.now node.now.id) }
+    ensures text { IfOk result
+        (λ t. string_bytes t ≡ formatted_below node.now.tree.now node.now.id) }
     ensures words { IfOk result (λ text. KeepsWords node.now.tree.now node.now.id
         (string_bytes text)) }
 {

@@ -3,8 +3,10 @@
 ghost use Rattle.std.specs.Prelude.{◌≡◌};
 ghost use Rattle.std.specs.Str.Parse.{digits_value};
 ghost use Rattle.dom_selectors.specs.Characters.{begins, digits_len};
-ghost use Rattle.dom_selectors.specs.Nth.{IsWithinLimit, SpellsAfterNumber, SpellsNth, SpellsNumber};
-ghost use Rattle.dom_selectors.specs.Nth.{SpellsOffset, SpellsUnsigned, after_sign, begins_even, begins_odd};
+ghost use Rattle.dom_selectors.specs.Nth.{IsWithinLimit, SpellsAfterNumber, SpellsNth};
+ghost use Rattle.dom_selectors.specs.Nth.{SpellsNumber};
+ghost use Rattle.dom_selectors.specs.Nth.{SpellsOffset, SpellsUnsigned, after_sign, begins_even};
+ghost use Rattle.dom_selectors.specs.Nth.{begins_odd};
 ghost use Rattle.dom_selectors.specs.Nth.{every_second, is_minus, is_n, is_sign, signed};
 ghost use Rattle.dom_selectors.specs.Spelling.{Takes, large_stands, same};
 

@@ -79,7 +79,8 @@ fn push_name_char(out: &mut String, c: char, is_first: bool) -> Result<(), Alloc
 
 /// Adds the characters behind the first one.
 fn push_name_chars(out: &mut String, letters: &[char]) -> Result<(), AllocError>
-    ensures { Adds out.old out.new result (encode_utf8_all (flat_map (name_char false) letters.now)) }
+    ensures { Adds out.old out.new result
+        (encode_utf8_all (flat_map (name_char false) letters.now)) }
 {
     for c in letters {
         push_name_char(out, *c, false)?;
@@ -314,7 +315,8 @@ fn push_selectors(
     is_relative: bool,
     selectors: &[Selector],
 ) -> Result<(), OutOfMemory>
-    ensures { Adds out.old out.new result (selectors_css true is_relative (read_list selectors.now)) }
+    ensures { Adds out.old out.new result
+        (selectors_css true is_relative (read_list selectors.now)) }
 {
     let mut is_first = true;
     for selector in selectors {

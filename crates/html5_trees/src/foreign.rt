@@ -57,8 +57,8 @@ impl TreeBuilder {
         !open.is_html_point()
     }
 
-    /// Whether the adjusted current node is foreign. A comment then stands in it, and a CDATA section
-    /// may begin.
+    /// Whether the adjusted current node is foreign. A comment then stands in it, and a CDATA
+    /// section may begin.
     pub fn is_current_foreign(&self) -> bool {
         match self.tree.adjusted_current() {
             Some(open) => open.ns != Ns::Html,

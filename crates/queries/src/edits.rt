@@ -1,5 +1,5 @@
-//! Edits of the document that is then asked: elements that no markup spells, and nodes whose numbers
-//! stand in another order than they do.
+//! Edits of the document that is then asked: elements that no markup spells, and nodes whose
+//! numbers stand in another order than they do.
 
 use dom_markup::document::Document;
 use dom_markup::document::sink::{ElementFlags, TreeSink};

@@ -116,8 +116,8 @@ fn any_front<'a>(text: &'a str, within: Within<'a>) -> Result<(Front<'a>, &'a st
     }
 }
 
-/// The same. What the call returns has a place in memory, which is set up where this begins: what is
-/// found without the call needs none.
+/// The same. What the call returns has a place in memory, which is set up where this begins: what
+/// is found without the call needs none.
 #[inline(always)]
 fn other_front<'a>(
     text: &'a str,

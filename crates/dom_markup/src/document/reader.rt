@@ -136,7 +136,8 @@ impl<'a> Reader<'a> {
     ghost use Rattle.dom_markup.specs.Growing.{plain_element};
     ghost use Rattle.dom_markup.specs.Markup.{Item};
     ghost use Rattle.dom_markup.specs.Reader.{AfterItems, EndsReading, Grows, IsReading};
-    ghost use Rattle.dom_markup.specs.Reader.{ReadsFront, ReadsItem, leaf_item, parent_number, with_started};
+    ghost use Rattle.dom_markup.specs.Reader.{ReadsFront, ReadsItem, leaf_item, parent_number};
+    ghost use Rattle.dom_markup.specs.Reader.{with_started};
 
     /// A reader that has read nothing.
     pub fn new(alloc: Global) -> Result<Reader<'a>, OutOfMemory>

@@ -12,7 +12,8 @@ ghost use Rattle.dom_markup.specs.Markup.{BeginsAttribute, BeginsValue, Closes, 
 ghost use Rattle.dom_markup.specs.Markup.{HasValue, begins_markup, text_front, BeginsNoAttribute};
 ghost use Rattle.dom_markup.specs.Markup.{EndsAtByte, opens_markup};
 ghost use Rattle.dom_markup.specs.Taking.{Leaves, Takes};
-ghost use Rattle.dom_markup.specs.ByteClasses.{passes, PastAttributes, Splits, attribute_in, begins_space, MarksPlain};
+ghost use Rattle.dom_markup.specs.ByteClasses.{passes, PastAttributes, Splits, attribute_in};
+ghost use Rattle.dom_markup.specs.ByteClasses.{begins_space, MarksPlain};
 ghost use Rattle.dom_markup.specs.Plain.{HoldsNoClose};
 
 use crate::document::names::is_letter;

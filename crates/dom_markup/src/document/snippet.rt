@@ -90,7 +90,8 @@ impl Snippet {
     /// below them. Refused as `TooManyNodes` or `Memory`.
     pub(super) fn fragment(&self) -> Result<Tree, EditFault>
         ensures ok { IfOk result (λ tree. tree ≡ fragment_read self.now) }
-        ensures cause { IfErr result (FragmentCause html_root_element self.now (top_nodes self.now)) }
+        ensures cause { IfErr result
+            (FragmentCause html_root_element self.now (top_nodes self.now)) }
     {
         Tree::fragment_of(&self.tree, self.top_ids.as_slice())
     }

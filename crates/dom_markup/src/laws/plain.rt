@@ -62,7 +62,8 @@ pub fn documents_of_the_same_trees()
 /// The HTML of a plain document's root, or of its children, spells the same tree.
 pub fn plain_documents_are_spelled()
     ensures root { (f : Forest) → IsForest f → IsPlain f → SpellsDocument (html_of f 0) f }
-    ensures children { (f : Forest) → IsForest f → IsPlain f → SpellsDocument (inner_html_of f 0) f }
+    ensures children { (f : Forest) → IsForest f → IsPlain f
+        → SpellsDocument (inner_html_of f 0) f }
 {
     trees_of_a_forest();
 }

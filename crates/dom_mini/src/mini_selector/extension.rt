@@ -29,8 +29,8 @@ pub trait MiniSelect<'a> {
     /// quotes reaches nothing.
     fn find_descendants(&self, path: &str) -> Result<Vec<NodeRef<'a>>, OutOfMemory>;
 
-    /// The nodes that the path reaches; `BadQuotedValue` where one of its values begins with a quote
-    /// and is empty, or isn't closed by that quote.
+    /// The nodes that the path reaches; `BadQuotedValue` where one of its values begins with a
+    /// quote and is empty, or isn't closed by that quote.
     fn try_find_descendants(&self, path: &str) -> Result<Vec<NodeRef<'a>>, MiniFault>;
 
     /// Whether the mini selector at the front of the text is true of the node; false where there is

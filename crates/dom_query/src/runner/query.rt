@@ -34,7 +34,8 @@ pub fn query(
 
 /// Those of the selection that the selector means.
 fn filter(tree: &Tree, selection: &[NodeId], matcher: &Matcher) -> Result<Vec<NodeId>, OutOfMemory>
-    ensures { IfOk result (λ found. FiltersTo (Means matcher.now tree.now) selection.now found.items) }
+    ensures { IfOk result (λ found.
+        FiltersTo (Means matcher.now tree.now) selection.now found.items) }
 {
     let from = Selection::from_ids(tree, selection)?;
     let kept = from.filter_matcher(matcher)?;

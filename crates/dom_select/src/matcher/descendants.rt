@@ -61,7 +61,8 @@ impl<'a, 'b> DescendantMatches<'a, 'b> {
         ensures once { result.left ≡ walks_below node.entry.tree.now (node.entry.id ∷ []) }
         ensures tree { result.tree ≡ node.entry.tree }
         ensures selector { result.selector ≡ matcher.now }
-        ensures selected { SelectsBelow result node.entry.tree.now (node.entry.id ∷ []) matcher.now }
+        ensures selected { SelectsBelow result node.entry.tree.now
+            (node.entry.id ∷ []) matcher.now }
     {
         let NodeRef { id, tree } = node;
         DescendantMatches {

@@ -57,7 +57,8 @@ impl<'a, 'b, 'r> MatcherIter<'a, 'b, 'r> {
         ensures all { WalksAll result matches_of tree.entry.now (node_ids nodes.entry.now) }
         ensures tree { IfOk result (λ it. (matches_of it).tree ≡ tree.entry) }
         ensures selector { IfOk result (λ it. (matches_of it).selector ≡ matcher.now) }
-        ensures selected { SelectsAll result matches_of tree.entry.now (node_ids nodes.entry.now) matcher.now }
+        ensures selected { SelectsAll result matches_of tree.entry.now
+            (node_ids nodes.entry.now) matcher.now }
     {
         match nodes {
             [] => Ok(MatcherIter::Empty(tree, matcher)),

@@ -335,7 +335,8 @@ fn matches_within(
     caches: &mut SelectorCaches<'_>,
     top: NodeId,
 ) -> bool
-    ensures is { Decides result (CompoundsMatchWithin start.now first.now steps.now caches.old top) }
+    ensures is { Decides result
+        (CompoundsMatchWithin start.now first.now steps.now caches.old top) }
     ensures kept { caches.new ≡ caches.old }
 {
     if chain_matches(start, first, steps, caches, top) {

@@ -171,7 +171,8 @@ impl<'a, 'b, 'r> Matches<'a, 'b, 'r> {
         ensures all { WalksAll result same tree.entry.now (node_ids nodes.entry.now) }
         ensures tree { IfOk result (λ it. it.tree ≡ tree.entry) }
         ensures selector { IfOk result (λ it. it.selector ≡ matcher.now) }
-        ensures selected { SelectsAll result same tree.entry.now (node_ids nodes.entry.now) matcher.now }
+        ensures selected { SelectsAll result same tree.entry.now
+            (node_ids nodes.entry.now) matcher.now }
     {
         Matches::below(tree, Roots::Nodes(nodes), matcher)
     }
@@ -184,7 +185,8 @@ impl<'a, 'b, 'r> Matches<'a, 'b, 'r> {
         ensures all { WalksAll result same tree.entry.now (root_ids roots.entry) }
         ensures tree { IfOk result (λ it. it.tree ≡ tree.entry) }
         ensures selector { IfOk result (λ it. it.selector ≡ matcher.now) }
-        ensures selected { SelectsAll result same tree.entry.now (root_ids roots.entry) matcher.now }
+        ensures selected { SelectsAll result same tree.entry.now
+            (root_ids roots.entry) matcher.now }
     {
         Ok(Matches {
             ids: first_occurrences(tree, roots)?,

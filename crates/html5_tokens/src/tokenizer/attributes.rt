@@ -51,8 +51,8 @@ impl Tokenizer {
         }
     }
 
-    /// A character behind the name of an attribute. An earlier attribute of that name is noted here,
-    /// before the value is read.
+    /// A character behind the name of an attribute. An earlier attribute of that name is noted
+    /// here, before the value is read.
     fn attr_name_ends(&mut self, c: char) -> Progress {
         self.note_repeated_name()?;
         match c {

@@ -126,8 +126,8 @@ impl Run {
     }
 }
 
-/// How many bytes stand before the first of four bytes; fewer, if it is among the last fifteen, which
-/// aren't searched.
+/// How many bytes stand before the first of four bytes; fewer, if it is among the last fifteen,
+/// which aren't searched.
 #[inline(always)]
 fn skip(bytes: &[u8], ends: [u8; 4]) -> usize {
     let (blocks, _) = bytes.as_chunks::<16>();

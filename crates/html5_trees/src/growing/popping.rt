@@ -157,8 +157,8 @@ impl GrowingTree {
         }
     }
 
-    /// Adds the current node to the list. Of four that are the same since the last marker the oldest
-    /// goes.
+    /// Adds the current node to the list. Of four that are the same since the last marker the
+    /// oldest goes.
     pub fn push_formatting(&mut self) -> Result<(), PageFault> {
         let Some(open) = self.stack.current() else {
             return Ok(());
