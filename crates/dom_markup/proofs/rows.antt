@@ -4,6 +4,7 @@ pub mod Frames
 pub mod AttrLemmas
 pub mod NoteLemmas
 pub mod GrowingLemmas
+pub mod LateLemmas
 pub mod Steps
 pub mod Filling
 pub mod BareRows

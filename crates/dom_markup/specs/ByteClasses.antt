@@ -6,7 +6,7 @@ use Rattle.dom_markup.specs.References.{decoded}
 use Rattle.dom_markup.specs.ValueTrees.{Attribute}
 use Rattle.dom_nodes.specs.declared.fault.MarkupFaultKind.{MarkupFaultKind}
 use Rattle.dom_nodes.specs.declared.fault.MarkupFaultKind.TheVariants.{BadTag, SlashOnOpen}
-use Rattle.dom_markup.specs.Markup.{BeginsNoAttribute, BeginsIdentifiers, BeginsQuoted, Closes, EndsTag, Fails, is_bare_byte}
+use Rattle.dom_markup.specs.Markup.{BeginsAttribute, BeginsNoAttribute, HasValue, BeginsIdentifiers, BeginsQuoted, Closes, EndsTag, Fails, is_bare_byte}
 use Rattle.dom_markup.specs.declared.document.scan.Written.{Written}
 use Rattle.dom_markup.specs.declared.document.scan.ByteClass.{ByteClass}
 use Rattle.dom_markup.specs.declared.document.scan.ByteClass.TheVariants.{Whitespace, Name, Bare}
@@ -49,6 +49,11 @@ abbrev pub ClosesNothing : Bool → List ℕ → MarkupFaultKind → Type 0
 ClosesNothing void text BadTag = ((rest : List ℕ) → Closes void text rest → ⊥) × ((rest : List ℕ) → Closes true text rest → ⊥)
 ClosesNothing void text SlashOnOpen = ((rest : List ℕ) → Closes void text rest → ⊥) × (rest : List ℕ) × Closes true text rest
 ClosesNothing void text _ = ⊥
+
+-- the attributes that begin the text have this name, and the values that begin what stands behind it
+pub record NamesAttribute (text name behind : List ℕ) : Type 0 where
+  pub begins : (value rest : List ℕ) → HasValue behind value rest → BeginsAttribute text (record { name = folded name; value = value }) rest
+  pub valued : (attribute : Attribute) (rest : List ℕ) → BeginsAttribute text attribute rest → HasValue behind attribute.value rest
 
 -- behind the attributes at the front of the text, all that are there, stands rest
 pub record PastAttributes (text rest : List ℕ) : Type 0 where

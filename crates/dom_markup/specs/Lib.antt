@@ -12,6 +12,7 @@ pub mod Front
 pub mod Growing
 pub mod Html
 pub mod IdLists
+pub mod LateTexts
 pub mod Joining
 pub mod Limits
 pub mod Markup

@@ -16,6 +16,7 @@ pub mod fragments;
 mod front;
 mod growing;
 mod id_list;
+mod late_texts;
 mod names;
 mod raw;
 mod reader;

@@ -1,8 +1,9 @@
 -- The bytes of a text or of a name, wherever they lie.
 use Rattle.std.specs.Prelude.{ℕ, List, string_bytes}
 use Rattle.dom_nodes.specs.declared.text.Form.{Form}
-use Rattle.dom_nodes.specs.declared.text.Form.TheVariants.{Short, Long}
+use Rattle.dom_nodes.specs.declared.text.Form.TheVariants.{Short, Long, Part}
 
 abbrev pub form_bytes : Form → List ℕ
 form_bytes (Short bytes) = bytes
 form_bytes (Long letters) = string_bytes letters
+form_bytes (Part bytes) = bytes

@@ -1,5 +1,6 @@
 //! Copies of names, attributes and nodes: the same value. Copies share lists of one or two
-//! attributes; all else lies in memory of its own.
+//! attributes, those of many nodes also the blocks that long texts lie in; all else lies in memory
+//! of its own.
 
 ghost use Rattle.std.specs.Prelude.{◌≡◌, ◌∷◌, ◌++◌, [], IfOk, IfSome, OnOk};
 
@@ -169,7 +170,7 @@ fn push_text(made: &mut Vec<TreeNode>, node: &TreeNode, contents: &Text) -> Resu
     if let Some(contents) = contents.short_copy() {
         return push_with(made, node, NodeData::Text { contents });
     }
-    let contents = contents.try_clone()?;
+    let contents = contents.shared_copy()?;
     push_with(made, node, NodeData::Text { contents })
 }
 

@@ -2,12 +2,16 @@
 
 ghost use Rattle.std.specs.Prelude.{◌≡◌, ◌≤◌, ◌++◌, IfOk, IfSome, MatchOption, OnErr, OnOk, List};
 ghost use Rattle.std.specs.Prelude.{ℕ, length};
+ghost use Rattle.dom_nodes.specs.Blocks.{LiesAt};
 ghost use Rattle.dom_nodes.specs.Forms.{form_bytes};
 
+mod part;
 mod rare;
 mod short;
 
 use crate::fault::OutOfMemory;
+pub use part::TextBlock;
+use part::TextPart;
 pub use rare::RareText;
 use short::ShortText;
 use std::alloc::Global;
@@ -33,6 +37,7 @@ impl Drop for Text {
 enum Form {
     Short(ShortText),
     Long(String),
+    Part(TextPart),
 }
 
 impl Model for Text {
@@ -56,6 +61,20 @@ impl Text {
         Ok(Text { form, alloc })
     }
 
+    /// The text that lies in the block from this place on, which it shares. It asks for no memory.
+    pub fn within(
+        alloc: Global,
+        block: &TextBlock,
+        start: usize,
+        text: &str,
+    ) -> Result<Text, OutOfMemory>
+        requires { LiesAt text.now start block.now }
+        ensures { IfOk result (λ made. made ≡ text.now) }
+    {
+        let form = Form::Part(TextPart::new(block, start, text)?);
+        Ok(Text { form, alloc })
+    }
+
     #[inline(always)]
     /// The text.
     pub fn as_str(&self) -> &str
@@ -64,6 +83,7 @@ impl Text {
         match &self.form {
             Form::Short(short) => short.as_str(),
             Form::Long(letters) => letters.as_str(),
+            Form::Part(part) => part.as_str(),
         }
     }
 
@@ -81,6 +101,10 @@ impl Text {
                 let form = lengthened(self.alloc, short, more)?;
                 self.form = form;
             }
+            Form::Part(part) => {
+                let form = joined(self.alloc, part.as_str(), more)?;
+                self.form = form;
+            }
         }
         Ok(())
     }
@@ -96,7 +120,21 @@ impl Text {
                 alloc: self.alloc,
             }),
             Form::Long(_) => None,
+            Form::Part(_) => None,
         }
+    }
+
+    /// The same text, in the same block where it shares one; else in memory of its own.
+    pub(crate) fn shared_copy(&self) -> Result<Text, OutOfMemory>
+        ensures { IfOk result (λ made. made ≡ self.now) }
+    {
+        let Form::Part(part) = &self.form else {
+            return self.try_clone();
+        };
+        Ok(Text {
+            form: Form::Part(part.shared()?),
+            alloc: self.alloc,
+        })
     }
 
     /// A text of the same bytes in memory of its own.
@@ -106,6 +144,7 @@ impl Text {
         let form = match &self.form {
             Form::Short(short) => Form::Short(short.copied()),
             Form::Long(letters) => Form::Long(String::from_str(self.alloc, letters.as_str())?),
+            Form::Part(part) => Form::Long(String::from_str(self.alloc, part.as_str())?),
         };
         Ok(Text {
             form,
@@ -126,7 +165,14 @@ fn lengthened(alloc: Global, short: &ShortText, more: &str) -> Result<Form, OutO
     if let Some(longer) = short.lengthened(more) {
         return Ok(Form::Short(longer));
     }
-    let mut letters = String::from_str(alloc, short.as_str())?;
+    joined(alloc, short.as_str(), more)
+}
+
+/// A text with more behind it, in memory of its own.
+fn joined(alloc: Global, text: &str, more: &str) -> Result<Form, OutOfMemory>
+    ensures { IfOk result (λ form. form_bytes form ≡ text.now ++ more.now) }
+{
+    let mut letters = String::from_str(alloc, text)?;
     letters.push_str(more)?;
     Ok(Form::Long(letters))
 }

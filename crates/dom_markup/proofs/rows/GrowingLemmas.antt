@@ -46,15 +46,19 @@ child_links t content n forest = record {
 abbrev node_links : List NodeData → ℕ → Forest → Forest
 node_links content n forest = record { content = content; children = forest.children ++ [] ∷ []; runs = forest.runs ++ (n ∷ []) ∷ [] }
 
-child-changed : (t x : ℕ) (change : NodeData → NodeData) (c : NodeData) (forest : Forest) → x < length forest.content → with_child t c (with_content x change forest) ≡ with_content x change (with_child t c forest)
+pub child-changed : (t x : ℕ) (change : NodeData → NodeData) (c : NodeData) (forest : Forest) → x < length forest.content → with_child t c (with_content x change forest) ≡ with_content x change (with_child t c forest)
 child-changed t x change c forest lt =
     ap (λ (n : ℕ). child_links t (changed_at x change forest.content ++ c ∷ []) n forest) (length-changed change forest.content x)
     ∙ ap (λ (content : List NodeData). child_links t content (length forest.content) forest) (sym (changed-append x change forest.content (c ∷ []) lt))
 
-node-changed : (x : ℕ) (change : NodeData → NodeData) (c : NodeData) (forest : Forest) → x < length forest.content → with_node c (with_content x change forest) ≡ with_content x change (with_node c forest)
+pub node-changed : (x : ℕ) (change : NodeData → NodeData) (c : NodeData) (forest : Forest) → x < length forest.content → with_node c (with_content x change forest) ≡ with_content x change (with_node c forest)
 node-changed x change c forest lt =
     ap (λ (n : ℕ). node_links (changed_at x change forest.content ++ c ∷ []) n forest) (length-changed change forest.content x)
     ∙ ap (λ (content : List NodeData). node_links content (length forest.content) forest) (sym (changed-append x change forest.content (c ∷ []) lt))
+
+-- the last child that was made
+pub last-changed : (t : ℕ) (change : NodeData → NodeData) (c : NodeData) (forest : Forest) → with_content (length forest.content) change (with_child t c forest) ≡ with_child t (change c) forest
+last-changed t change c forest = ap (λ (content : List NodeData). child_links t content (length forest.content) forest) (changed-last change forest.content c)
 
 -- ---- elements that wait
 
@@ -136,7 +140,7 @@ new_element name attrs = ap (plain_element name) (all_missing attrs)
 
 pub child-gets : (t : ℕ) (name : NameParts) (attrs : List Attr) (forest : Forest) → with_content (length forest.content) (with_attrs (with_missing attrs)) (with_child t (plain_element name []) forest) ≡ with_child t (plain_element name attrs) forest
 child-gets t name attrs forest =
-    ap (λ (content : List NodeData). child_links t content (length forest.content) forest) (changed-last (with_attrs (with_missing attrs)) forest.content (plain_element name []))
+    last-changed t (with_attrs (with_missing attrs)) (plain_element name []) forest
     ∙ ap (λ (c : NodeData). with_child t c forest) (new_element name attrs)
 
 -- an element is made that waits for the attributes at the end
@@ -167,16 +171,16 @@ allowed-attrs change (Text a) = refl
 allowed-attrs change (Comment a) = refl
 allowed-attrs change (ProcessingInstruction a b) = refl
 
-allowed-changed : (change : List Attr → List Attr) (x n : ℕ) (content : List NodeData) → option_map_or children_allowed (slice_get (changed_at x (with_attrs change) content) n) false ≡ option_map_or children_allowed (slice_get content n) false
-allowed-changed change x n [] = refl
-allowed-changed change zero zero (c ∷ cs) = allowed-attrs change c
-allowed-changed change zero (suc n) (c ∷ cs) = refl
-allowed-changed change (suc x) zero (c ∷ cs) = refl
-allowed-changed change (suc x) (suc n) (c ∷ cs) = allowed-changed change x n cs
+pub allowed-changed : (change : NodeData → NodeData) (x n : ℕ) (content : List NodeData) → ((c : NodeData) → children_allowed (change c) ≡ children_allowed c) → option_map_or children_allowed (slice_get (changed_at x change content) n) false ≡ option_map_or children_allowed (slice_get content n) false
+allowed-changed change x n [] same = refl
+allowed-changed change zero zero (c ∷ cs) same = same c
+allowed-changed change zero (suc n) (c ∷ cs) same = refl
+allowed-changed change (suc x) zero (c ∷ cs) same = refl
+allowed-changed change (suc x) (suc n) (c ∷ cs) same = allowed-changed change x n cs same
 
 allowed-lists : (attrs : List Attr) (ws : List Waiting) (forest : Forest) (n : ℕ) → children_allowed_at (with_lists attrs ws forest) n ≡ children_allowed_at forest n
 allowed-lists attrs [] forest n = refl
-allowed-lists attrs (w ∷ ws) forest n = allowed-lists attrs ws (with_one attrs w forest) n ∙ allowed-changed (with_missing (part_of attrs w)) w.number n forest.content
+allowed-lists attrs (w ∷ ws) forest n = allowed-lists attrs ws (with_one attrs w forest) n ∙ allowed-changed (with_attrs (with_missing (part_of attrs w))) w.number n forest.content (allowed-attrs (with_missing (part_of attrs w)))
 
 -- it may be made whether or not elements wait
 pub may_grow : (attrs : List Attr) (ws : List Waiting) (forest : Forest) (t : ℕ) → MayGrowAt (with_lists attrs ws forest) t → MayGrowAt forest t
@@ -193,26 +197,28 @@ known_after (Ok n) old new grown place m ws more known grows err =
     known_more (length old.content) m (length new.content) m ws (omega (arith, more, ap (λ (f : Forest). length f.content) grows.1)) (omega arith) known
 known_after (Err kind) old new grown place m ws more known grows err = subst (λ (f : Forest). AreKnown (length f.content) m ws) (sym err) known
 
--- a node was made, or wasn't, in the forest that a contract sees
-pub grows_seen : (result : Result ℕ MarkupFaultKind) (t : ℕ) (c : NodeData) (attrs : List Attr) (ws : List Waiting) (m : ℕ) (old new now : Forest) → with_lists attrs ws old ≡ now → AreKnown (length old.content) m ws → GrowsTo result new (length old.content) (with_child t c old) → GrowsTo result (with_lists attrs ws new) (length now.content) (with_child t c now)
-grows_seen (Ok n) t c attrs ws m old new now is known grows = (
-  grows.0 ∙ sym (length-lists attrs ws old) ∙ ap (λ (f : Forest). length f.content) is,
-  ap (with_lists attrs ws) grows.1 ∙ sym (child-lists t c attrs ws m old known) ∙ ap (with_child t c) is,
+-- a node was made, or wasn't, in the forest that a contract sees, which has as many nodes
+pub grows_seen : (view : Forest → Forest) (result : Result ℕ MarkupFaultKind) (t : ℕ) (c : NodeData) (old new now : Forest) → view old ≡ now → length (view old).content ≡ length old.content → with_child t c (view old) ≡ view (with_child t c old) →
+    GrowsTo result new (length old.content) (with_child t c old) → GrowsTo result (view new) (length now.content) (with_child t c now)
+grows_seen view (Ok n) t c old new now is long commutes grows = (
+  grows.0 ∙ sym long ∙ ap (λ (f : Forest). length f.content) is,
+  ap view grows.1 ∙ sym commutes ∙ ap (with_child t c) is,
 )
-grows_seen (Err kind) t c attrs ws m old new now is known grows =
-    subst (λ n. LacksNumbers n kind) (sym (length-lists attrs ws old) ∙ ap (λ (f : Forest). length f.content) is) grows
+grows_seen view (Err kind) t c old new now is long commutes grows =
+    subst (λ n. LacksNumbers n kind) (sym long ∙ ap (λ (f : Forest). length f.content) is) grows
 
 -- the same of a template
-pub template_seen : (result : Result ℕ MarkupFaultKind) (t : ℕ) (element : ℕ → NodeData) (attrs : List Attr) (ws : List Waiting) (m : ℕ) (old new now : Forest) → with_lists attrs ws old ≡ now → AreKnown (length old.content) m ws →
-    GrowsTo result new (length old.content + 1) (with_template t (element (length old.content + 1)) old) → GrowsTo result (with_lists attrs ws new) (length now.content + 1) (with_template t (element (length now.content + 1)) now)
-template_seen (Ok n) t element attrs ws m old new now is known grows =
-    let long : length old.content ≡ length now.content = sym (length-lists attrs ws old) ∙ ap (λ (f : Forest). length f.content) is in (
+pub template_seen : (view : Forest → Forest) (result : Result ℕ MarkupFaultKind) (t : ℕ) (element : ℕ → NodeData) (old new now : Forest) → view old ≡ now → length (view old).content ≡ length old.content →
+    ((c : NodeData) → with_template t c (view old) ≡ view (with_template t c old)) →
+    GrowsTo result new (length old.content + 1) (with_template t (element (length old.content + 1)) old) → GrowsTo result (view new) (length now.content + 1) (with_template t (element (length now.content + 1)) now)
+template_seen view (Ok n) t element old new now is same commutes grows =
+    let long : length old.content ≡ length now.content = sym same ∙ ap (λ (f : Forest). length f.content) is in (
       grows.0 ∙ ap (λ k. k + 1) long,
-      ap (with_lists attrs ws) grows.1 ∙ sym (template-lists t (element (length old.content + 1)) attrs ws m old known)
-          ∙ ap (λ (k : ℕ). with_template t (element (k + 1)) (with_lists attrs ws old)) long ∙ ap (λ (f : Forest). with_template t (element (length now.content + 1)) f) is,
+      ap view grows.1 ∙ sym (commutes (element (length old.content + 1)))
+          ∙ ap (λ (k : ℕ). with_template t (element (k + 1)) (view old)) long ∙ ap (λ (f : Forest). with_template t (element (length now.content + 1)) f) is,
     )
-template_seen (Err kind) t element attrs ws m old new now is known grows =
-    subst (λ n. LacksNumbers (n + 1) kind) (sym (length-lists attrs ws old) ∙ ap (λ (f : Forest). length f.content) is) grows
+template_seen view (Err kind) t element old new now is same commutes grows =
+    subst (λ n. LacksNumbers (n + 1) kind) (sym same ∙ ap (λ (f : Forest). length f.content) is) grows
 
 -- an element was made that waits
 pub waits_known : (attrs more all : List Attr) (ws all_ws : List Waiting) (w : Waiting) (t : ℕ) (c : NodeData) (old new : Forest) → AreKnown (length old.content) (length attrs) ws → all ≡ attrs ++ more → all_ws ≡ ws ++ w ∷ [] → w.number ≡ length old.content → w.from ≡ length attrs → w.to ≡ length all →

@@ -5,11 +5,12 @@ ghost use Rattle.dom_nodes.specs.Changes.{with_attrs, with_missing};
 ghost use Rattle.dom_nodes.specs.declared.node_data.NodeData.TheVariants as contents;
 ghost use Rattle.dom_links.specs.Contents.{with_content};
 ghost use Rattle.dom_links.specs.Growth.{lone, with_child, with_template};
-ghost use Rattle.dom_trees.specs.NewNodes.{bare_element, element_with};
+ghost use Rattle.dom_trees.specs.NewNodes.{bare_element, element_with, text_node};
 ghost use Rattle.dom_markup.specs.Growing.{GrowsTo, MayGrowAt, plain_element, with_lists};
-ghost use Rattle.dom_markup.specs.Limits.{IsLimit, IsPlainData, limit_kind};
+ghost use Rattle.dom_markup.specs.Limits.{IsPlainData};
 
-use dom_nodes::fault::{EditFault, MarkupFaultKind, OutOfMemory};
+use crate::document::late_texts::LateTexts;
+use dom_nodes::fault::{MarkupFaultKind, OutOfMemory};
 use dom_nodes::name::{Attr, QualName};
 use dom_nodes::node_data::{Attrs, Element, NodeData};
 use dom_nodes::node_id::NodeId;
@@ -34,13 +35,13 @@ struct Waiting {
 /// stand one behind another in one list, which the elements then share. A contract sees the forest
 /// in which each element has its attributes.
 #[derive(Drop)]
-pub struct Growing {
-    tree: Tree,
+pub struct Growing<'a> {
+    tree: LateTexts<'a>,
     attrs: Vec<Attr>,
     waiting: Vec<Waiting>,
 }
 
-impl Model for Growing {
+impl<'a> Model for Growing<'a> {
     ghost use Rattle.std.specs.Prelude.{length};
     ghost use Rattle.dom_links.specs.Forest.{Forest};
     ghost use Rattle.dom_markup.specs.Growing.{AreKnown, with_lists};
@@ -53,16 +54,13 @@ impl Model for Growing {
         (length growing.attrs.items) growing.waiting.items };
 }
 
-impl Growing {
+impl<'a> Growing<'a> {
     /// A document without children.
-    pub fn new(alloc: Global) -> Result<Growing, OutOfMemory>
+    pub fn new(alloc: Global) -> Result<Growing<'a>, OutOfMemory>
         ensures { IfOk result (λ growing. growing ≡ lone contents.Document) }
     {
-        let Ok(tree) = Tree::new(alloc, NodeData::Document) else {
-            return Err(OutOfMemory);
-        };
         Ok(Growing {
-            tree,
+            tree: LateTexts::new(alloc)?,
             attrs: Vec::new(alloc),
             waiting: Vec::new(alloc),
         })
@@ -83,7 +81,23 @@ impl Growing {
         ensures { GrowsTo result self.new (length self.old.content)
             (with_child parent.now content self.old) }
     {
-        append_node(&mut self.tree, parent, content)
+        self.tree.append(parent, content)
+    }
+
+    /// Makes a text as the last child of a node.
+    #[inline(always)]
+    pub fn append_text(&mut self, parent: &NodeId, text: &'a str) -> Result<NodeId, MarkupFaultKind>
+        requires { MayGrowAt self.old parent.now }
+        ensures { GrowsTo result self.new (length self.old.content)
+            (with_child parent.now (text_node text.now) self.old) }
+    {
+        match self.tree.append_text(parent, text) {
+            Ok(number) => Ok(number),
+            Err(kind) => {
+                self.waiting.clear();
+                Err(kind)
+            }
+        }
     }
 
     /// Makes an element with contents as the last child of a node, and returns the contents'
@@ -103,7 +117,7 @@ impl Growing {
         let Ok(attrs) = taken(alloc, attrs) else {
             return Err(MarkupFaultKind::Memory);
         };
-        append_template_node(&mut self.tree, parent, name, attrs)
+        self.tree.append_template(parent, name, attrs)
     }
 
     /// Makes an element as the last child of a node. It takes its attributes out of the list.
@@ -147,7 +161,7 @@ impl Growing {
         };
         let to = self.attrs.as_slice().len();
         let bare = bare_of(self.tree.allocator(), name);
-        let number = append_node(&mut self.tree, parent, bare)?;
+        let number = self.tree.append(parent, bare)?;
         let Ok(()) = self.waiting.push(Waiting { number, from, to }) else {
             return Err(MarkupFaultKind::Memory);
         };
@@ -173,7 +187,7 @@ impl Growing {
 
     /// The tree, in which each element has its attributes.
     pub fn finish(self) -> Result<Tree, OutOfMemory>
-        ensures { IfOk result (λ tree. tree ≡ self) }
+        ensures { IfOk result (λ tree. tree ≡ self.entry) }
     {
         let Growing {
             mut tree,
@@ -182,19 +196,7 @@ impl Growing {
         } = self;
         attrs.shrink_to_fit();
         give(&mut tree, attrs, waiting.as_slice())?;
-        Ok(tree)
-    }
-}
-
-/// What a limit that an edit met is called in markup.
-fn limit_of(fault: EditFault) -> MarkupFaultKind
-    requires { IsLimit fault }
-    ensures { result ≡ limit_kind fault }
-{
-    match fault {
-        EditFault::TooManyNodes => MarkupFaultKind::TooManyNodes,
-        EditFault::Memory => MarkupFaultKind::Memory,
-        _ => unreachable!(),
+        tree.finish()
     }
 }
 
@@ -237,46 +239,8 @@ fn taken(alloc: Global, attrs: &mut Vec<Attr>) -> Result<Attrs, OutOfMemory>
     Attrs::from_items(alloc, mem::replace(attrs, Vec::new(alloc)))
 }
 
-/// Makes a node as the last child of another.
-#[inline(always)]
-fn append_node(
-    tree: &mut Tree,
-    parent: &NodeId,
-    content: NodeData,
-) -> Result<NodeId, MarkupFaultKind>
-    requires may { MayGrowAt tree.old parent.now }
-    requires plain { IsPlainData content }
-    ensures grows { GrowsTo result tree.new (length tree.old.content)
-        (with_child parent.now content tree.old) }
-    ensures err { OnErr result (tree.new ≡ tree.old) }
-{
-    match tree.append_child_data_of(parent, content) {
-        Ok(number) => Ok(number),
-        Err(fault) => Err(limit_of(fault)),
-    }
-}
-
-/// Makes an element with contents as the last child of a node, and returns the contents' number.
-fn append_template_node(
-    tree: &mut Tree,
-    parent: &NodeId,
-    name: QualName,
-    attrs: Attrs,
-) -> Result<NodeId, MarkupFaultKind>
-    requires { MayGrowAt tree.old parent.now }
-    ensures grows { let contents = length tree.old.content + 1 in
-        GrowsTo result tree.new contents
-        (with_template parent.now (element_with name attrs contents) tree.old) }
-    ensures err { OnErr result (tree.new ≡ tree.old) }
-{
-    match tree.append_template_of(parent, name, attrs) {
-        Ok((_, contents)) => Ok(contents),
-        Err(fault) => Err(limit_of(fault)),
-    }
-}
-
 /// Gives each element that waits its attributes, which it shares with the list.
-fn give(tree: &mut Tree, attrs: Vec<Attr>, waiting: &[Waiting]) -> Result<(), OutOfMemory>
+fn give(tree: &mut LateTexts<'_>, attrs: Vec<Attr>, waiting: &[Waiting]) -> Result<(), OutOfMemory>
     ensures { OnOk result (tree.new ≡ with_lists attrs.items waiting.now tree.old) }
 {
     if waiting.is_empty() {
@@ -286,18 +250,7 @@ fn give(tree: &mut Tree, attrs: Vec<Attr>, waiting: &[Waiting]) -> Result<(), Ou
     let list = Arc::new(alloc, attrs)?;
     for one in waiting {
         let part = Attrs::part(alloc, &list, one.from, one.to)?;
-        add_attrs(tree, &one.number, part)?;
+        tree.add_attrs(&one.number, part)?;
     }
     Ok(())
-}
-
-/// Adds attributes to an element.
-fn add_attrs(tree: &mut Tree, number: &NodeId, attrs: Attrs) -> Result<(), OutOfMemory>
-    ensures { OnOk result (tree.new
-        ≡ with_content number.now (with_attrs (with_missing attrs)) tree.old) }
-{
-    match tree.add_missing_attrs_of(number, attrs) {
-        Ok(()) => Ok(()),
-        Err(_) => Err(OutOfMemory),
-    }
 }

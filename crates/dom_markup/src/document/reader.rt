@@ -2,7 +2,7 @@
 
 ghost use Rattle.std.specs.Prelude.{◌≡◌, ◌≢◌, ◌<◌, ◌+◌, ◌++◌, [], None, Some, codes};
 ghost use Rattle.std.specs.Prelude.{IfOk, length};
-ghost use Rattle.dom_trees.specs.NewNodes.{element_with};
+ghost use Rattle.dom_trees.specs.NewNodes.{element_with, text_node};
 ghost use Rattle.dom_markup.specs.Bytes.{folded};
 ghost use Rattle.dom_markup.specs.Limits.{IsPlainData};
 ghost use Rattle.dom_markup.specs.Names.{markup};
@@ -35,6 +35,16 @@ struct Started<'a> {
     written: &'a str,
     local: LocalName,
     void: bool,
+}
+
+/// Empties a list. Most are empty already.
+#[inline(always)]
+fn empty(attrs: &mut Vec<Attr>)
+    ensures { attrs.new.items ≡ [] }
+{
+    if !attrs.is_empty() {
+        attrs.clear();
+    }
 }
 
 /// What a start tag holds, which is taken while it is scanned, and what follows it. It stands here
@@ -124,7 +134,7 @@ fn markup_behind(rest: &str) -> Behind<'_>
 /// What has been read of a document, and the vector into which a tag's attributes are read.
 #[derive(Drop)]
 pub struct Reader<'a> {
-    pub tree: Growing,
+    pub tree: Growing<'a>,
     stack: Vec<Open<'a>>,
     spare: Vec<Attr>,
 }
@@ -172,6 +182,16 @@ impl<'a> Reader<'a> {
     {
         let parent = self.parent();
         self.tree.append(&parent, content)
+    }
+
+    /// Makes a text as the last child of the innermost open element.
+    fn append_text(&mut self, text: &'a str) -> Result<NodeId, MarkupFaultKind>
+        requires { IsReading self.old }
+        ensures { Grows self.old self.new result (length self.old.tree.content)
+            (with_child (parent_number self.old) (text_node text.now) self.old.tree) }
+    {
+        let parent = self.parent();
+        self.tree.append_text(&parent, text)
     }
 
     /// Makes an element without contents, with the attributes that were read, as the last child of
@@ -246,14 +266,12 @@ impl<'a> Reader<'a> {
     }
 
     /// Reads a text that stands for itself.
-    fn read_plain(&mut self, alloc: Global, text: &str) -> Result<(), MarkupFaultKind>
+    fn read_plain(&mut self, text: &'a str) -> Result<(), MarkupFaultKind>
         requires { IsReading self.old }
         ensures { ReadsItem (Item.characters text.now) self.old self.new result }
     {
-        let Ok(contents) = Text::new(alloc, text) else {
-            return Err(MarkupFaultKind::Memory);
-        };
-        self.read_leaf(NodeData::Text { contents })
+        self.append_text(text)?;
+        Ok(())
     }
 
     /// Reads a comment of these contents.
@@ -332,7 +350,7 @@ impl<'a> Reader<'a> {
         requires letter { BeginsLetter tag.now }
         ensures { ReadsFront markup (codes "<" ++ tag.now) self.old self.new result }
     {
-        self.spare.clear();
+        empty(&mut self.spare);
         let (started, rest) = start_tag_of(alloc, tag, &mut self.spare)?;
         let name = started.written;
         let void = started.void;
@@ -369,7 +387,7 @@ impl<'a> Reader<'a> {
                 Ok(Behind { rest, within })
             }
             Front::Plain(text) => {
-                self.read_plain(alloc, text)?;
+                self.read_plain(text)?;
                 Ok(Behind { rest, within })
             }
             Front::EndTag(name) => {

@@ -13,7 +13,7 @@ ghost use Rattle.dom_markup.specs.Markup.{HasValue, begins_markup, text_front, B
 ghost use Rattle.dom_markup.specs.Markup.{EndsAtByte, opens_markup};
 ghost use Rattle.dom_markup.specs.Taking.{Leaves, Takes};
 ghost use Rattle.dom_markup.specs.ByteClasses.{passes, PastAttributes, Splits, attribute_in};
-ghost use Rattle.dom_markup.specs.ByteClasses.{begins_space, MarksPlain};
+ghost use Rattle.dom_markup.specs.ByteClasses.{begins_space, MarksPlain, NamesAttribute};
 ghost use Rattle.dom_markup.specs.Plain.{HoldsNoClose};
 
 use crate::document::names::is_letter;
@@ -349,6 +349,24 @@ pub fn begins_space(text: &str) -> bool
     }
 }
 
+/// The name at the front behind whitespace, and what follows it. `None` where one of the two is
+/// missing.
+#[inline(always)]
+fn spaced_name(text: &str) -> Option<(&str, &str)>
+    ensures some { IfSome result (λ f. NamesAttribute text.now f.0.now f.1.now) }
+    ensures none { IfNone result (BeginsNoAttribute text.now) }
+{
+    let (space, inner) = split_front(ByteClass::Whitespace, text);
+    if space.is_empty() {
+        return None;
+    }
+    let (name, behind) = split_front(ByteClass::Name, inner);
+    if name.is_empty() {
+        return None;
+    }
+    Some((name, behind))
+}
+
 /// The attribute at the front, if it is written in the common way and its value stands for itself,
 /// and what follows it.
 #[inline(always)]
@@ -356,14 +374,7 @@ fn plain_attribute(text: &str) -> Option<(Written<'_>, &str)>
     ensures some { IfSome result (λ f. BeginsAttribute text.now (attribute_in f.0) f.1.now) }
     ensures plain { IfSome result (λ f. MarksPlain f.0) }
 {
-    let (space, behind) = split_front(ByteClass::Whitespace, text);
-    if space.is_empty() {
-        return None;
-    }
-    let (name, behind) = split_front(ByteClass::Name, behind);
-    if name.is_empty() {
-        return None;
-    }
+    let (name, behind) = spaced_name(text)?;
     let (value, rest) = plain_value(behind)?;
     let is_plain = true;
     Some((
@@ -383,14 +394,7 @@ fn any_attribute(text: &str) -> Option<(Written<'_>, &str)>
     ensures plain { IfSome result (λ f. MarksPlain f.0) }
     ensures none { IfNone result (BeginsNoAttribute text.now) }
 {
-    let (space, behind) = split_front(ByteClass::Whitespace, text);
-    if space.is_empty() {
-        return None;
-    }
-    let (name, behind) = split_front(ByteClass::Name, behind);
-    if name.is_empty() {
-        return None;
-    }
+    let (name, behind) = spaced_name(text)?;
     let (value, rest) = value_behind(behind)?;
     let is_plain = false;
     Some((

@@ -1,0 +1,296 @@
+//! A tree that grows, and texts that get their contents later.
+
+ghost use Rattle.std.specs.Prelude.{◌≡◌, ◌<◌, ◌+◌, OnErr, OnOk, IfOk, length};
+ghost use Rattle.dom_nodes.specs.declared.node_data.NodeData.TheVariants as contents;
+ghost use Rattle.dom_links.specs.Contents.{with_content};
+ghost use Rattle.dom_links.specs.Growth.{lone, with_child, with_template};
+ghost use Rattle.dom_trees.specs.NewNodes.{element_with, text_node};
+ghost use Rattle.dom_nodes.specs.Changes.{with_attrs, with_missing};
+ghost use Rattle.dom_markup.specs.Growing.{GrowsTo, MayGrowAt};
+ghost use Rattle.dom_markup.specs.LateTexts.{joined, with_contents, with_texts};
+ghost use Rattle.dom_markup.specs.Limits.{IsLimit, IsPlainData, limit_kind};
+
+use dom_nodes::fault::{EditFault, MarkupFaultKind, OutOfMemory};
+use dom_nodes::name::QualName;
+use dom_nodes::node_data::{Attrs, NodeData, NodeEdit};
+use dom_nodes::node_id::NodeId;
+use dom_nodes::text::{Text, TextBlock};
+use dom_trees::tree::Tree;
+use std::alloc::Global;
+use std::marker::Model;
+
+/// How many bytes wait at most before their texts get them.
+const ROOM: usize = 8192;
+
+/// The shortest text that shares a block with others: no shorter one asks for memory.
+const SHORTEST: usize = 31;
+
+/// The longest text that shares a block with others.
+const LONGEST: usize = 1024;
+
+/// A text that gets its contents later.
+#[derive(Clone, Copy)]
+struct Late<'a> {
+    number: NodeId,
+    text: &'a str,
+}
+
+/// A tree that grows. Long texts get their contents later: those of many lie one behind another in
+/// one block, which the texts then share. A contract sees the forest in which each text has its
+/// contents.
+#[derive(Drop)]
+pub struct LateTexts<'a> {
+    tree: Tree,
+    late: Vec<Late<'a>>,
+    bytes: usize,
+}
+
+impl<'a> Model for LateTexts<'a> {
+    ghost use Rattle.std.specs.Prelude.{length};
+    ghost use Rattle.dom_links.specs.Forest.{Forest};
+    ghost use Rattle.dom_markup.specs.LateTexts.{AreAmong, with_texts};
+
+    ghost Value = { Forest };
+
+    ghost view = { λ texts. with_texts texts.late.items texts.tree };
+
+    ghost invariant = { λ texts. AreAmong (length texts.tree.content) texts.late.items };
+}
+
+impl<'a> LateTexts<'a> {
+    /// A document without children.
+    pub fn new(alloc: Global) -> Result<LateTexts<'a>, OutOfMemory>
+        ensures { IfOk result (λ texts. texts ≡ lone contents.Document) }
+    {
+        let Ok(tree) = Tree::new(alloc, NodeData::Document) else {
+            return Err(OutOfMemory);
+        };
+        Ok(LateTexts {
+            tree,
+            late: Vec::new(alloc),
+            bytes: 0,
+        })
+    }
+
+    /// The allocator of the tree.
+    pub fn allocator(&self) -> Global {
+        self.tree.allocator()
+    }
+
+    /// Makes room for so many more nodes, where there is memory.
+    pub fn reserve(&mut self, additional: usize)
+        ensures { self.new ≡ self.old }
+    {
+        self.tree.reserve(additional);
+    }
+
+    /// Makes a node as the last child of another.
+    #[inline(always)]
+    pub fn append(&mut self, parent: &NodeId, content: NodeData) -> Result<NodeId, MarkupFaultKind>
+        requires may { MayGrowAt self.old parent.now }
+        requires plain { IsPlainData content }
+        ensures grows { GrowsTo result self.new (length self.old.content)
+            (with_child parent.now content self.old) }
+        ensures err { OnErr result (self.new ≡ self.old) }
+    {
+        append_node(&mut self.tree, parent, content)
+    }
+
+    /// Makes an element with contents as the last child of a node, and returns the contents'
+    /// number.
+    pub fn append_template(
+        &mut self,
+        parent: &NodeId,
+        name: QualName,
+        attrs: Attrs,
+    ) -> Result<NodeId, MarkupFaultKind>
+        requires { MayGrowAt self.old parent.now }
+        ensures grows { let contents = length self.old.content + 1 in
+            GrowsTo result self.new contents
+            (with_template parent.now (element_with name attrs contents) self.old) }
+        ensures err { OnErr result (self.new ≡ self.old) }
+    {
+        append_template_node(&mut self.tree, parent, name, attrs)
+    }
+
+    /// Makes a text as the last child of a node.
+    pub fn append_text(&mut self, parent: &NodeId, text: &'a str) -> Result<NodeId, MarkupFaultKind>
+        requires { MayGrowAt self.old parent.now }
+        ensures { GrowsTo result self.new (length self.old.content)
+            (with_child parent.now (text_node text.now) self.old) }
+    {
+        if SHORTEST <= text.len() && text.len() <= LONGEST {
+            return self.append_late(parent, text);
+        }
+        let Ok(contents) = Text::new(self.tree.allocator(), text) else {
+            return Err(MarkupFaultKind::Memory);
+        };
+        self.append(parent, NodeData::Text { contents })
+    }
+
+    /// The same of a text that gets its contents later.
+    fn append_late(&mut self, parent: &NodeId, text: &'a str) -> Result<NodeId, MarkupFaultKind>
+        requires { MayGrowAt self.old parent.now }
+        ensures { GrowsTo result self.new (length self.old.content)
+            (with_child parent.now (text_node text.now) self.old) }
+    {
+        let contents = Text::from(String::new(self.tree.allocator()));
+        let number = append_node(&mut self.tree, parent, NodeData::Text { contents })?;
+        let Ok(()) = self.late.push(Late { number, text }) else {
+            return Err(MarkupFaultKind::Memory);
+        };
+        self.bytes = self.bytes.saturating_add(text.len());
+        if self.bytes <= ROOM - LONGEST {
+            return Ok(number);
+        }
+        match self.settle() {
+            Ok(()) => Ok(number),
+            Err(_) => Err(MarkupFaultKind::Memory),
+        }
+    }
+
+    /// Adds the attributes to an element whose names it lacks.
+    pub fn add_attrs(&mut self, number: &NodeId, attrs: Attrs) -> Result<(), OutOfMemory>
+        ensures { OnOk result (self.new
+            ≡ with_content number.now (with_attrs (with_missing attrs)) self.old) }
+    {
+        add_attrs(&mut self.tree, number, attrs)
+    }
+
+    /// Gives the texts that wait their contents.
+    fn settle(&mut self) -> Result<(), OutOfMemory>
+        ensures { OnOk result (self.new ≡ self.old) }
+    {
+        let given = give(&mut self.tree, self.late.as_slice(), self.bytes);
+        self.late.clear();
+        self.bytes = 0;
+        given
+    }
+
+    /// The tree, in which each text has its contents.
+    pub fn finish(self) -> Result<Tree, OutOfMemory>
+        ensures { IfOk result (λ tree. tree ≡ self.entry) }
+    {
+        let LateTexts {
+            mut tree,
+            late,
+            bytes,
+        } = self;
+        give(&mut tree, late.as_slice(), bytes)?;
+        Ok(tree)
+    }
+}
+
+/// What a limit that an edit met is called in markup.
+fn limit_of(fault: EditFault) -> MarkupFaultKind
+    requires { IsLimit fault }
+    ensures { result ≡ limit_kind fault }
+{
+    match fault {
+        EditFault::TooManyNodes => MarkupFaultKind::TooManyNodes,
+        EditFault::Memory => MarkupFaultKind::Memory,
+        _ => unreachable!(),
+    }
+}
+
+/// Makes a node as the last child of another.
+#[inline(always)]
+fn append_node(
+    tree: &mut Tree,
+    parent: &NodeId,
+    content: NodeData,
+) -> Result<NodeId, MarkupFaultKind>
+    requires may { MayGrowAt tree.old parent.now }
+    requires plain { IsPlainData content }
+    ensures grows { GrowsTo result tree.new (length tree.old.content)
+        (with_child parent.now content tree.old) }
+    ensures err { OnErr result (tree.new ≡ tree.old) }
+{
+    match tree.append_child_data_of(parent, content) {
+        Ok(number) => Ok(number),
+        Err(fault) => Err(limit_of(fault)),
+    }
+}
+
+/// Makes an element with contents as the last child of a node, and returns the contents' number.
+fn append_template_node(
+    tree: &mut Tree,
+    parent: &NodeId,
+    name: QualName,
+    attrs: Attrs,
+) -> Result<NodeId, MarkupFaultKind>
+    requires { MayGrowAt tree.old parent.now }
+    ensures grows { let contents = length tree.old.content + 1 in
+        GrowsTo result tree.new contents
+        (with_template parent.now (element_with name attrs contents) tree.old) }
+    ensures err { OnErr result (tree.new ≡ tree.old) }
+{
+    match tree.append_template_of(parent, name, attrs) {
+        Ok((_, contents)) => Ok(contents),
+        Err(fault) => Err(limit_of(fault)),
+    }
+}
+
+/// Adds the attributes to an element whose names it lacks.
+fn add_attrs(tree: &mut Tree, number: &NodeId, attrs: Attrs) -> Result<(), OutOfMemory>
+    ensures ok { OnOk result (tree.new
+        ≡ with_content number.now (with_attrs (with_missing attrs)) tree.old) }
+    ensures err { OnErr result (tree.new ≡ tree.old) }
+{
+    match tree.add_missing_attrs_of(number, attrs) {
+        Ok(()) => Ok(()),
+        Err(_) => Err(OutOfMemory),
+    }
+}
+
+/// The texts one behind another, in one block.
+fn block_of(alloc: Global, late: &[Late], bytes: usize) -> Result<TextBlock, OutOfMemory>
+    ensures texts { IfOk result (λ block. block ≡ joined late.now) }
+    ensures fits { IfOk result (λ block. length block < 18446744073709551616) }
+{
+    let mut all = Vec::with_capacity(alloc, bytes)?;
+    for one in late {
+        all.extend_from_slice(one.text.as_bytes())?;
+    }
+    TextBlock::new(alloc, all)
+}
+
+/// Gives each text that waits its contents, which it shares with the others. They are so many
+/// bytes.
+fn give(tree: &mut Tree, late: &[Late], bytes: usize) -> Result<(), OutOfMemory>
+    ensures { OnOk result (tree.new ≡ with_texts late.now tree.old) }
+{
+    if late.is_empty() {
+        return Ok(());
+    }
+    let block = block_of(tree.allocator(), late, bytes)?;
+    share(tree, late, &block)
+}
+
+/// Gives each text that waits its contents, which lie in the block.
+fn share(tree: &mut Tree, late: &[Late], block: &TextBlock) -> Result<(), OutOfMemory>
+    requires texts { block.now ≡ joined late.now }
+    requires fits { length block.now < 18446744073709551616 }
+    ensures { OnOk result (tree.new ≡ with_texts late.now tree.old) }
+{
+    let alloc = tree.allocator();
+    let mut start = 0;
+    for one in late {
+        let contents = Text::within(alloc, block, start, one.text)?;
+        set_contents(tree, &one.number, contents);
+        start += one.text.len();
+    }
+    Ok(())
+}
+
+/// Gives a text or a comment other contents.
+fn set_contents(tree: &mut Tree, number: &NodeId, contents: Text)
+    ensures { tree.new ≡ with_content number.now (with_contents contents) tree.old }
+{
+    let change = move |edit: &mut NodeEdit|
+        ensures { edit.new ≡ record edit.old { contents = contents } }
+    {
+        edit.contents = contents;
+    };
+    let _ = tree.update_node(number, change);
+}

@@ -1,0 +1,105 @@
+//! Texts that lie one behind another in one block, which they share.
+
+ghost use Rattle.std.specs.Prelude.{◌≡◌, IfOk};
+ghost use Rattle.std.specs.Arc.{arc_value};
+ghost use Rattle.dom_nodes.specs.Blocks.{LiesAt};
+
+use crate::fault::OutOfMemory;
+use std::alloc::Global;
+use std::marker::Model;
+use std::str::from_utf8_unchecked;
+use std::sync::Arc;
+
+/// Bytes that texts share. A contract sees the bytes.
+#[derive(Drop)]
+pub struct TextBlock {
+    bytes: Arc<Vec<u8>>,
+}
+
+impl Model for TextBlock {
+    ghost use Rattle.std.specs.Prelude.{List, ℕ};
+    ghost use Rattle.std.specs.Arc.{arc_value};
+
+    ghost Value = { List ℕ };
+
+    ghost view = { λ block. (arc_value block.bytes).items };
+}
+
+impl TextBlock {
+    /// A block of these bytes.
+    pub fn new(alloc: Global, bytes: Vec<u8>) -> Result<TextBlock, OutOfMemory>
+        ensures { IfOk result (λ block. block ≡ bytes.items) }
+    {
+        let bytes = Arc::new(alloc, bytes)?;
+        Ok(TextBlock { bytes })
+    }
+
+    /// The same block once more.
+    fn shared(&self) -> Result<TextBlock, OutOfMemory>
+        ensures { IfOk result (λ block. block ≡ self.now) }
+    {
+        let bytes = Arc::try_clone(&self.bytes)?;
+        Ok(TextBlock { bytes })
+    }
+
+    #[inline(always)]
+    fn as_slice(&self) -> &[u8]
+        ensures { result.now ≡ self.now }
+    {
+        self.bytes.as_slice()
+    }
+}
+
+/// A text in a block. A contract sees it as the list of its bytes.
+#[derive(Drop)]
+pub(crate) struct TextPart {
+    block: TextBlock,
+    start: usize,
+    count: usize,
+}
+
+impl Model for TextPart {
+    ghost use Rattle.std.specs.Prelude.{◌+◌, ◌≤◌, List, ℕ, drop, take, length, IsUtf8};
+
+    ghost Value = { List ℕ };
+
+    ghost view = { λ part. take part.count (drop part.start part.block) };
+
+    ghost invariant = { λ part. (part.start + part.count ≤ length part.block)
+        × IsUtf8 (take part.count (drop part.start part.block)) };
+}
+
+impl TextPart {
+    /// The text that lies in the block from this place on.
+    pub(crate) fn new(block: &TextBlock, start: usize, text: &str) -> Result<TextPart, OutOfMemory>
+        requires { LiesAt text.now start block.now }
+        ensures { IfOk result (λ part. part ≡ text.now) }
+    {
+        let block = block.shared()?;
+        Ok(TextPart {
+            block,
+            start,
+            count: text.len(),
+        })
+    }
+
+    /// The same text, in the same block.
+    pub(crate) fn shared(&self) -> Result<TextPart, OutOfMemory>
+        ensures { IfOk result (λ part. part ≡ self.now) }
+    {
+        let block = self.block.shared()?;
+        Ok(TextPart {
+            block,
+            start: self.start,
+            count: self.count,
+        })
+    }
+
+    #[inline(always)]
+    pub(crate) fn as_str(&self) -> &str
+        ensures { result.now ≡ self.now }
+    {
+        let bytes = self.block.as_slice();
+        unsafe { from_utf8_unchecked(&bytes[self.start..self.start + self.count]) }
+    }
+}
