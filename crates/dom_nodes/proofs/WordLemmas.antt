@@ -1,10 +1,11 @@
 -- The words of a text that is cut after its first word.
-use Rattle.std.proofs.Common.{◌≡◌, ℕ, suc, ◌<◌, ◌≤◌, List, [], ◌∷◌, ◌++◌, length, true, false, ◌||◌, cond, get_or, take, refl, sym, subst, ap, ◌∙◌, inl, inr, arith}
+use Rattle.std.proofs.Common.{◌≡◌, ℕ, suc, ◌+◌, ◌<◌, ◌≤◌, List, [], ◌∷◌, ◌++◌, length, true, false, Bool, ◌&&◌, ◌||◌, cond, get_or, take, drop, refl, sym, ap, ◌∙◌, inl, inr, arith}
 use Rattle.std.proofs.lemmas.Bool.{cases_lt}
-use Rattle.std.proofs.lemmas.Bool.Decides.{nat_tests}
-use Rattle.std.proofs.lemmas.List.{take_all}
+use Rattle.std.proofs.lemmas.Bool.Decides.{nat_tests, same_from_decides, Decides-and, Decides-at, Decides-like}
+use Rattle.std.proofs.lemmas.List.{length-drop, take_all, take-append-drop, take-take}
 use Rattle.std.proofs.lemmas.Slice.Eq.{bytes_eq-Decides}
 use Rattle.std.proofs.lemmas.Str.{NoCharPasses-byte}
+use Rattle.std.specs.Bool.{Decides}
 use Rattle.std.specs.Char.{is_ascii_whitespace}
 use Rattle.std.specs.List.{AllPass, filter}
 use Rattle.std.specs.Str.{NoCharPasses, bytes_eq}
@@ -70,7 +71,25 @@ among-here text word words e = ap (λ b. b || is_among text words) e
 pub among-later : (text word : List ℕ) (words : List (List ℕ)) → bytes_eq word text ≡ false → is_among text (word ∷ words) ≡ is_among text words
 among-later text word words e = ap (λ b. b || is_among text words) e
 
--- Texts of one length whose first i bytes are the same, i being no less than that length
-pub same_taken : (xs ys : List ℕ) (i : ℕ) → length xs ≡ length ys → length xs ≤ i → take i xs ≡ take i ys → true ≡ bytes_eq xs ys
-same_taken xs ys i e m h =
-    sym ((bytes_eq-Decides xs ys).1 (sym (take_all i xs m) ∙ h ∙ take_all i ys (subst (λ n. n ≤ i) e m)))
+last_of : (xs : List ℕ) (k at : ℕ) → length xs ≡ at + k → take k (drop at xs) ≡ drop at xs
+last_of xs k at e = take_all k (drop at xs) (omega (arith, length-drop at xs))
+
+joined : (xs ys : List ℕ) (k at : ℕ) → at ≤ k → length xs ≡ at + k → length ys ≡ at + k
+    → take k xs ≡ take k ys → take k (drop at xs) ≡ take k (drop at ys) → xs ≡ ys
+joined xs ys k at low e f first last =
+    let front : take at xs ≡ take at ys = sym (take-take at k xs low) ∙ ap (take at) first ∙ take-take at k ys low in
+    let back : drop at xs ≡ drop at ys = sym (last_of xs k at e) ∙ last ∙ last_of ys k at f in
+    sym (take-append-drop at xs) ∙ (λ i. front i ++ back i) ∙ take-append-drop at ys
+
+-- Texts of at + k bytes are the same where their first k and their last k bytes are, which together
+-- are all of them
+pub same_ends : (xs ys : List ℕ) (k at : ℕ) (a b : Bool)
+    → at ≤ k → length xs ≡ at + k → length ys ≡ at + k
+    → a ≡ bytes_eq (take k xs) (take k ys)
+    → b ≡ bytes_eq (take k (drop at xs)) (take k (drop at ys))
+    → (a && b) ≡ bytes_eq xs ys
+same_ends xs ys k at a b low e f first last =
+    let both = Decides-and a b (Decides-at a _ first (bytes_eq-Decides _ _)) (Decides-at b _ last (bytes_eq-Decides _ _)) in
+    let all : Decides (a && b) (xs ≡ ys) =
+    Decides-like (a && b) (λ h. joined xs ys k at low e f h.0 h.1) (λ h. (ap (take k) h, ap (λ s. take k (drop at s)) h)) both in
+    same_from_decides (a && b) (bytes_eq xs ys) all (bytes_eq-Decides xs ys)

@@ -1,6 +1,7 @@
 //! Texts as words, and tests of texts.
 
-ghost use Rattle.std.specs.Prelude.{◌≡◌, map};
+ghost use Rattle.std.specs.Int.{w32, to_le_bytes};
+ghost use Rattle.std.specs.Prelude.{◌≡◌, ◌+◌, ◌<◌, ◌≤◌, drop, length, map, take};
 ghost use Rattle.std.specs.Str.{bytes_eq};
 ghost use Rattle.dom_nodes.specs.Classes.{is_among_by, is_blank};
 ghost use Rattle.dom_nodes.specs.Words.{is_among, words_of};
@@ -45,19 +46,63 @@ pub fn is_one_of(text: &str, names: &[&str]) -> bool
     false
 }
 
-/// Whether two words are the same. They are compared a byte after the other, which for the few
-/// letters of most names takes less time than a call that compares texts of any length.
+/// Whether two words are the same. Up to eight bytes are compared by pieces that may overlap, with
+/// no loop that ends at another length each time: for the few letters of most names this takes less
+/// time than a loop, or a call that compares texts of any length.
 #[inline(always)]
 pub fn is_same_word(word: &[u8], other: &[u8]) -> bool
     ensures { result ≡ bytes_eq word.now other.now }
 {
-    if word.len() != other.len() {
+    let length = other.len();
+    if word.len() != length {
         return false;
     }
-    for i in 0..word.len() {
-        if word[i] != other[i] {
-            return false;
-        }
+    if length < 4 {
+        return length == 0 || is_same_short(word, other);
     }
-    true
+    if length <= 8 {
+        return is_same_four(word, other, 0) & is_same_four(word, other, length - 4);
+    }
+    is_same_long(word, other)
+}
+
+/// Whether two words of one length, of one to three bytes, are the same. The three places may
+/// overlap, and are all that the words have.
+#[inline(always)]
+fn is_same_short(word: &[u8], other: &[u8]) -> bool
+    requires same_length { length word.now ≡ length other.now }
+    requires some { 0 < length word.now }
+    requires few { length word.now ≤ 3 }
+    ensures { result ≡ bytes_eq word.now other.now }
+{
+    let (middle, last) = (other.len() / 2, other.len() - 1);
+    (word[0] == other[0]) & (word[middle] == other[middle]) & (word[last] == other[last])
+}
+
+/// Whether two texts have the same four bytes at that place.
+#[inline(always)]
+fn is_same_four(word: &[u8], other: &[u8], at: usize) -> bool
+    requires word { at + 4 ≤ length word.now }
+    requires other { at + 4 ≤ length other.now }
+    ensures { result ≡ bytes_eq (take 4 (drop at word.now)) (take 4 (drop at other.now)) }
+{
+    four_at(word, at) == four_at(other, at)
+}
+
+/// The four bytes at that place, as one number.
+#[inline(always)]
+fn four_at(text: &[u8], at: usize) -> u32
+    requires { at + 4 ≤ length text.now }
+    ensures { to_le_bytes w32 result ≡ take 4 (drop at text.now) }
+{
+    u32::from_le_bytes([text[at], text[at + 1], text[at + 2], text[at + 3]])
+}
+
+/// Whether two words are the same, however long they are. Never inlined, so that the callers of
+/// `is_same_word` stay small.
+#[inline(never)]
+fn is_same_long(word: &[u8], other: &[u8]) -> bool
+    ensures { result ≡ bytes_eq word.now other.now }
+{
+    word == other
 }
