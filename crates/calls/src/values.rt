@@ -5,7 +5,7 @@ use dom_nodes::case_sensitivity::CaseSensitivity;
 use dom_nodes::fault::OutOfMemory;
 use dom_nodes::name::{Attr, LocalName, NameParts, NameRef, Namespace, NamespaceRef, QualName};
 use dom_nodes::node_data::{NodeData, TreeNode};
-use dom_nodes::text::{RareText, Text};
+use dom_nodes::text::{RareText, Text, TextBlock};
 use dom_trees::tree::Tree;
 use lines::names::{local_of, namespace_of};
 use lines::printing::{show, show_flags, show_same, show_some};
@@ -175,6 +175,7 @@ fn attr_of(alloc: Global, word: &str, value: &str) -> Option<Attr> {
 
 fn copy_attr(rt: &HostRuntime, attr: Attr) -> Option<()> {
     show_made(rt, "longer", lengthened(&attr.value));
+    show_made(rt, "within", within(rt.alloc(), attr.value.as_str()));
     show_made(rt, "attribute", attr.try_clone());
     println!(rt; "{:?} {}", LocalName::empty(), attr.value.as_str()).ok()
 }
@@ -183,6 +184,15 @@ fn lengthened(text: &Text) -> Result<Text, OutOfMemory> {
     let mut copy = text.try_clone()?;
     copy.push_str("w")?;
     Ok(copy)
+}
+
+/// A text in a block, behind another one, with more added to it.
+fn within(alloc: Global, text: &str) -> Result<Text, OutOfMemory> {
+    let mut bytes = Vec::from_slice(alloc, b"x")?;
+    bytes.extend_from_slice(text.as_bytes())?;
+    let block = TextBlock::new(alloc, bytes)?;
+    let part = Text::within(alloc, &block, 1, text)?;
+    lengthened(&part)
 }
 
 /// How large a node and an attribute are: nodes take most of the memory of a large page.
