@@ -8,7 +8,7 @@ use dom_nodes::text::Text;
 use dom_trees::tree::Tree;
 use lines::words::{cut, node_of};
 use std::alloc::Global;
-use std::sync::Arc;
+use std::rc::Rc;
 
 /// The changes of a part, and what each is called.
 const EDITS: [(&str, Edit); 5] = [
@@ -56,7 +56,7 @@ fn copies(alloc: Global, attrs: &[Attr]) -> Result<Vec<Attr>, OutOfMemory> {
 
 /// A part of a list of the element's attributes.
 fn part(alloc: Global, element: &Element, from: usize, to: usize) -> Result<Attrs, OutOfMemory> {
-    let list = Arc::new(alloc, copies(alloc, element.attrs().as_slice())?)?;
+    let list = Rc::new(alloc, copies(alloc, element.attrs().as_slice())?)?;
     Attrs::part(alloc, &list, from, to)
 }
 

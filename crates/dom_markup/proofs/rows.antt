@@ -3,6 +3,7 @@ pub mod NumberedLemmas
 pub mod Frames
 pub mod AttrLemmas
 pub mod NoteLemmas
+pub mod LateChanges
 pub mod GrowingLemmas
 pub mod LateLemmas
 pub mod Steps

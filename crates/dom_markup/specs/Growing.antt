@@ -1,5 +1,6 @@
 -- A tree that grows, and elements that get their attributes later.
-use Rattle.std.specs.Prelude.{◌≡◌, ◌<◌, ◌≤◌, ◌-◌, ℕ, List, [], ◌∷◌, None, true, false, Result, MatchResult, length, take, drop}
+use Rattle.std.specs.Prelude.{◌≡◌, ◌<◌, ◌≤◌, ◌-◌, ℕ, List, None, true, false, Result, MatchResult, length, take, drop}
+use Rattle.std.specs.List.{All, fold}
 use Rattle.dom_nodes.specs.Changes.{with_attrs, with_missing}
 use Rattle.dom_nodes.specs.declared.fault.MarkupFaultKind.{MarkupFaultKind}
 use Rattle.dom_nodes.specs.declared.name.Attr.{Attr}
@@ -22,13 +23,15 @@ part_of attrs w = take (w.to - w.from) (drop w.from attrs)
 
 -- the forest in which these elements have the attributes that they wait for
 abbrev pub with_lists : List Attr → List Waiting → Forest → Forest
-with_lists attrs [] forest = forest
-with_lists attrs (w ∷ ws) forest = with_lists attrs ws (with_content w.number (with_attrs (with_missing (part_of attrs w))) forest)
+with_lists attrs ws forest = fold (λ forest w. with_content w.number (with_attrs (with_missing (part_of attrs w))) forest) forest ws
 
--- these are among so many nodes, and wait for some of so many attributes
+-- the element is among so many nodes, and waits for some of so many attributes
+abbrev pub IsKnown : (nodes attrs : ℕ) → Waiting → Type 0
+IsKnown nodes attrs w = (w.number < nodes) × (w.from ≤ w.to) × (w.to ≤ attrs)
+
+-- each of these is
 abbrev pub AreKnown : (nodes attrs : ℕ) → List Waiting → Type 0
-AreKnown nodes attrs [] = Unit {0}
-AreKnown nodes attrs (w ∷ ws) = (w.number < nodes) × (w.from ≤ w.to) × (w.to ≤ attrs) × AreKnown nodes attrs ws
+AreKnown nodes attrs ws = All (IsKnown nodes attrs) ws
 
 -- a node may be made as a child of t, but for a limit
 pub record MayGrowAt (forest : Forest) (t : ℕ) : Type 0 where

@@ -1,5 +1,5 @@
 -- A text cut at the first `&` in it.
-use Rattle.std.specs.Prelude.{◌≡◌, ℕ, ◌<◌, List, ◌++◌, length, Option, MatchOption, encode_utf8}
+use Rattle.std.specs.Prelude.{◌≡◌, ℕ, ◌<◌, List, ◌++◌, length, encode_utf8}
 use Rattle.dom_markup.specs.declared.references.Referred.{Referred}
 use Rattle.dom_markup.specs.References.{decoded}
 
@@ -7,7 +7,3 @@ use Rattle.dom_markup.specs.References.{decoded}
 pub record IsCutReference (text : List ℕ) (cut : Referred) : Type 0 where
   pub whole : decoded text ≡ cut.before.now ++ (encode_utf8 cut.character ++ decoded cut.after.now)
   pub shorter : length cut.after.now < length text
-
--- the text is cut at its first `&`, or has none
-abbrev pub CutsReference : List ℕ → Option Referred → Type 0
-CutsReference text result = MatchOption result (decoded text ≡ text) (λ cut. IsCutReference text cut)

@@ -1,12 +1,12 @@
 // The references in a text, and the text with each read as the character that it stands for.
 ghost use Rattle.std.specs.Prelude.{◌≡◌, ◌≤◌, ℕ, List, None, Some, IfOk, if◌then◌else◌};
 ghost use Rattle.dom_markup.specs.References.{decoded, is_numbered, numeral, reference};
-ghost use Rattle.dom_markup.specs.Referring.{CutsReference};
+ghost use Rattle.dom_markup.specs.Referring.{IsCutReference};
+ghost use Rattle.memchr.specs.Find.{IsFirstByte, is_byte};
 
 use crate::find::find_byte;
 use dom_nodes::fault::OutOfMemory;
 use dom_nodes::text::Text;
-use memchr::memchr;
 use std::alloc::Global;
 
 /// The text with its references read.
@@ -14,22 +14,26 @@ use std::alloc::Global;
 pub fn decode(alloc: Global, text: &str) -> Result<Text, OutOfMemory>
     ensures { IfOk result (λ read. read ≡ decoded text.now) }
 {
-    let Some(_) = find_byte(b'&', text.as_bytes()) else {
+    let Some(first) = find_byte(b'&', text.as_bytes()) else {
         return Text::new(alloc, text);
     };
-    decode_references(alloc, text)
+    decode_references(alloc, text, first)
 }
 
-/// The same, a character at each `&`.
-fn decode_references(alloc: Global, text: &str) -> Result<Text, OutOfMemory>
+/// The same, a character at each `&`, of which the first stands there.
+fn decode_references(alloc: Global, text: &str, first: usize) -> Result<Text, OutOfMemory>
+    requires { IsFirstByte (is_byte 38) text.now (Some first) }
     ensures { IfOk result (λ read. read ≡ decoded text.now) }
 {
     let mut read = String::with_capacity(alloc, text.len())?;
     let mut rest = text;
-    while let Some(cut) = cut_reference(rest) {
+    let mut next = Some(first);
+    while let Some(at) = next {
+        let cut = cut_at(rest, at);
         read.push_str(cut.before)?;
         read.push(cut.character)?;
         rest = cut.after;
+        next = find_byte(b'&', rest.as_bytes());
     }
     read.push_str(rest)?;
     Ok(Text::from(read))
@@ -44,11 +48,12 @@ struct Referred<'a> {
     after: &'a str,
 }
 
-/// The first `&` of a text, with the reference that it begins, if it does.
-fn cut_reference(text: &str) -> Option<Referred<'_>>
-    ensures { CutsReference text.now result }
+/// The first `&` of a text, which stands there, with the reference that it begins, if it does.
+#[inline(always)]
+fn cut_at(text: &str, at: usize) -> Referred<'_>
+    requires { IsFirstByte (is_byte 38) text.now (Some at) }
+    ensures { IsCutReference text.now result }
 {
-    let at = memchr(b'&', text.as_bytes())?;
     let after = &text[at + 1..];
     let bare = Reference {
         character: '&',
@@ -56,11 +61,11 @@ fn cut_reference(text: &str) -> Option<Referred<'_>>
     };
     let found = reference_at(after).unwrap_or(bare);
     let character = found.character;
-    Some(Referred {
+    Referred {
         before: &text[..at],
         character,
         after: &after[found.len..],
-    })
+    }
 }
 
 /// The character that a reference stands for, and how many bytes it takes after its `&`.

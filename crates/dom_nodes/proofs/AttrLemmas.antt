@@ -2,8 +2,10 @@
 use Rattle.std.proofs.Common.{◌≡◌, ℕ, zero, suc, ◌+◌, ◌<◌, List, [], ◌∷◌, ◌++◌, length, Bool, true, false, ◌||◌, cond, map, None, Some, is_some, position, get_or, slice_set, take, refl, sym, ap, ◌∙◌, inl, inr, arith}
 use Rattle.std.proofs.lemmas.Bool.{cases_Bool, false≢true}
 use Rattle.std.proofs.lemmas.Iterator.Adapters.{position_from-zero}
+use Rattle.std.proofs.lemmas.List.{length-take, get_or-take}
 use Rattle.std.proofs.lemmas.List.Quantifiers.{position-Some}
 use Rattle.std.proofs.lemmas.Option.{none-some}
+use Rattle.std.proofs.Math.Seq.{take-set-lt}
 use Rattle.std.specs.List.{list_any, find, position_from}
 use Rattle.std.specs.Option.{option_map}
 use Rattle.dom_nodes.specs.declared.name.Attr.{Attr}
@@ -102,3 +104,14 @@ kept_whole (a ∷ added) = ap (λ rest. a ∷ rest) (kept_whole added)
 pub with_missing-empty : (added attrs : List Attr) → length attrs ≡ 0 → added ≡ with_missing added attrs
 with_missing-empty added [] none = kept_whole added
 with_missing-empty added (a ∷ attrs) none = absurd (omega arith)
+
+-- the value is put at the place that a search of the first so many names
+pub with_attr-part : (name value : List ℕ) (attrs : List Attr) (count place : ℕ) (d : Attr) →
+    position (is_attr_named name) (take count attrs) ≡ Some place →
+    take count (slice_set attrs place (record (get_or attrs place d) { value = value })) ≡ with_attr name value (take count attrs)
+with_attr-part name value attrs count place d at =
+    let h = position-Some (is_attr_named name) (take count attrs) place d at in
+    let low : place < count = omega (arith, h.0, length-take count attrs) in
+    take-set-lt count attrs place _ low
+    ∙ ap (λ attr. slice_set (take count attrs) place (record attr { value = value })) (sym (get_or-take count attrs place d low))
+    ∙ with_attr-found name value (take count attrs) place d at

@@ -1,6 +1,8 @@
--- What a test leaves of two items of a list.
-use Rattle.std.proofs.Common.{◌≡◌, ℕ, ◌+◌, List, [], ◌∷◌, ◌++◌, append-nil, Bool, true, false, ◌||◌, cond, filter, take, drop, refl, sym, ap, ap₂, ◌∙◌}
-use Rattle.std.proofs.lemmas.List.{drop-drop}
+-- What a test leaves of two or three items of a list.
+use Rattle.std.proofs.Common.{◌≡◌, ℕ, ◌+◌, List, [], ◌∷◌, ◌++◌, append-nil, Bool, true, false, ◌||◌, cond, filter, length, min, take, drop, refl, sym, ap, ap₂, ◌∙◌, inl, inr, arith}
+use Rattle.std.proofs.lemmas.Bool.{cases_lt}
+use Rattle.std.proofs.lemmas.List.{drop-drop, take_all}
+use Rattle.std.proofs.lemmas.List.Filters.{FiltersInPlace}
 use Rattle.std.specs.List.{list_any}
 
 -- what two tests leave of two items
@@ -54,3 +56,14 @@ second_left f xs n e g = two_left f xs n false true e g
 pub none_left : {X : Type 0} (f : X → Bool) (xs : List X) (n : ℕ) → list_any f (take 1 (drop n xs)) ≡ false →
     list_any f (take 1 (drop (n + 1) xs)) ≡ false → [] ≡ filter f (take 2 (drop n xs))
 none_left f xs n e g = two_left f xs n false false e g
+
+take_min : {X : Type 0} (xs : List X) (n i : ℕ) → i ≡ min n (length xs) → take i xs ≡ take n xs
+take_min xs n i end = elim (cases_lt n (length xs)) [
+  | inl lt ↦ ap (λ i. take i xs) (omega (arith, end))
+  | inr ge ↦ take_all i xs (omega (arith, end)) ∙ sym (take_all n xs ge)
+]
+
+-- a loop has filtered in place the first so many items
+pub few_left : {X : Type 0} (f : X → Bool) (xs ys : List X) (k i n : ℕ) → FiltersInPlace f xs ys k i → i ≡ min n (length xs) →
+    take k ys ≡ filter f (take n xs)
+few_left f xs ys k i n h end = h.front ∙ ap (filter f) (take_min xs n i end)

@@ -218,17 +218,23 @@ fn push_with(
 pub(crate) fn push_attr(made: &mut Vec<Attr>, attr: &Attr) -> Result<(), OutOfMemory>
     ensures { OnOk result (made.new.items ≡ made.old.items ++ attr.now ∷ []) }
 {
+    made.push(attr_copy(attr)?)?;
+    Ok(())
+}
+
+/// A copy of an attribute.
+#[inline(always)]
+pub(crate) fn attr_copy(attr: &Attr) -> Result<Attr, OutOfMemory>
+    ensures { IfOk result (λ made. made ≡ attr.now) }
+{
     let Some(name) = attr.name.known_copy() else {
-        made.push(attr.try_clone()?)?;
-        return Ok(());
+        return attr.try_clone();
     };
     if let Some(value) = attr.value.short_copy() {
-        made.push(Attr { name, value })?;
-        return Ok(());
+        return Ok(Attr { name, value });
     }
     let value = attr.value.try_clone()?;
-    made.push(Attr { name, value })?;
-    Ok(())
+    Ok(Attr { name, value })
 }
 
 fn copied(text: &Option<RareText>) -> Result<Option<RareText>, OutOfMemory>

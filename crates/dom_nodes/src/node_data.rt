@@ -1,6 +1,6 @@
 //! The kinds of nodes, and a node with its links.
 
-ghost use Rattle.std.specs.Prelude.{◌≡◌, ◌∷◌, ◌++◌, [], OnErr, OnOk};
+ghost use Rattle.std.specs.Prelude.{◌≡◌, ◌∷◌, ◌++◌, [], IfOk, OnErr, OnOk};
 
 mod any_node;
 mod attributes;
@@ -21,9 +21,9 @@ use attrs_form::AttrsForm;
 pub use changing::Change;
 pub use node_edit::NodeEdit;
 use std::alloc::Global;
-use std::fmt;
 use std::marker::Model;
-use std::sync::Arc;
+use std::rc::Rc;
+use std::{fmt, mem};
 
 /// The attributes of an element, in order. A contract sees them as a list.
 pub struct Attrs {
@@ -62,7 +62,7 @@ impl fmt::Debug for Attrs {
 impl Attrs {
     ghost use Rattle.std.specs.Prelude.{◌≡◌, ◌∷◌, ◌++◌, [], IfOk, OnErr, OnOk};
     ghost use Rattle.std.specs.Prelude.{◌-◌, drop, take};
-    ghost use Rattle.std.specs.Arc.{arc_value};
+    ghost use Rattle.std.specs.Rc.{rc_value};
 
     /// No attributes.
     pub fn new(alloc: Global) -> Attrs
@@ -81,21 +81,19 @@ impl Attrs {
         if items.is_empty() {
             return Ok(Attrs::new(alloc));
         }
-        items.shrink_to_fit();
-        let form = AttrsForm::own(alloc, items)?;
-        Ok(Attrs { form, alloc })
+        take_all(alloc, &mut items)
     }
 
     /// Part of a list: so many attributes as stand from one place up to another. One or two are
     /// shared with the list, more are copied.
     pub fn part(
         alloc: Global,
-        list: &Arc<Vec<Attr>>,
+        list: &Rc<Vec<Attr>>,
         from: usize,
         to: usize,
     ) -> Result<Attrs, OutOfMemory>
         ensures { IfOk result (λ made.
-            made ≡ take (to - from) (drop from (arc_value list.now).items)) }
+            made ≡ take (to - from) (drop from (rc_value list.now).items)) }
     {
         let form = AttrsForm::part_of(alloc, list, from, to)?;
         Ok(Attrs { form, alloc })
@@ -125,6 +123,9 @@ impl Attrs {
     pub fn reserve(&mut self, additional: usize)
         ensures { self.new ≡ self.old }
     {
+        if additional == 0 {
+            return;
+        }
         if let AttrsForm::Own(items) = &mut self.form {
             let _ = items.reserve_exact(additional);
             return;
@@ -164,6 +165,20 @@ impl Attrs {
         self.form = form;
         Ok(())
     }
+}
+
+/// Takes all attributes out of a vector. One of at most three keeps its memory.
+pub fn take_all(alloc: Global, items: &mut Vec<Attr>) -> Result<Attrs, OutOfMemory>
+    ensures { IfOk result (λ made. made ≡ items.old.items) }
+{
+    let form = if items.as_slice().len() <= 3 {
+        AttrsForm::popped(alloc, items)?
+    } else {
+        let mut list = mem::replace(items, Vec::new(alloc));
+        list.shrink_to_fit();
+        AttrsForm::own(alloc, list)?
+    };
+    Ok(Attrs { form, alloc })
 }
 
 /// Adds an attribute at the end. The room doubles.

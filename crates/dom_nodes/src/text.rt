@@ -61,7 +61,8 @@ impl Text {
         Ok(Text { form, alloc })
     }
 
-    /// The text that lies in the block from this place on, which it shares. It asks for no memory.
+    /// The text that lies in the block from this place on, which it shares. It asks for no memory:
+    /// an error comes only where more texts share the block than can be counted.
     pub fn within(
         alloc: Global,
         block: &TextBlock,
@@ -75,8 +76,8 @@ impl Text {
         Ok(Text { form, alloc })
     }
 
-    #[inline(always)]
     /// The text.
+    #[inline(always)]
     pub fn as_str(&self) -> &str
         ensures { result.now ≡ self.now }
     {

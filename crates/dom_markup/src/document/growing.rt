@@ -12,13 +12,13 @@ ghost use Rattle.dom_markup.specs.Limits.{IsPlainData};
 use crate::document::late_texts::LateTexts;
 use dom_nodes::fault::{MarkupFaultKind, OutOfMemory};
 use dom_nodes::name::{Attr, QualName};
-use dom_nodes::node_data::{Attrs, Element, NodeData};
+use dom_nodes::node_data::{Attrs, Element, NodeData, take_all};
 use dom_nodes::node_id::NodeId;
 use dom_trees::tree::Tree;
 use std::alloc::Global;
 use std::marker::Model;
 use std::mem;
-use std::sync::Arc;
+use std::rc::Rc;
 
 /// How many attributes stand one behind another at most before their elements get them.
 const ROOM: usize = 512;
@@ -114,7 +114,7 @@ impl<'a> Growing<'a> {
             (with_template parent.now (element_with name attrs.old.items contents) self.old) }
     {
         let alloc = self.tree.allocator();
-        let Ok(attrs) = taken(alloc, attrs) else {
+        let Ok(attrs) = take_all(alloc, attrs) else {
             return Err(MarkupFaultKind::Memory);
         };
         self.tree.append_template(parent, name, attrs)
@@ -138,7 +138,7 @@ impl<'a> Growing<'a> {
         if attrs.len() <= 2 {
             return self.append_waiting(parent, name, attrs);
         }
-        let Ok(attrs) = taken(self.tree.allocator(), attrs) else {
+        let Ok(attrs) = take_all(self.tree.allocator(), attrs) else {
             return Err(MarkupFaultKind::Memory);
         };
         self.append(parent, element_of(name, attrs))
@@ -155,29 +155,29 @@ impl<'a> Growing<'a> {
         ensures { GrowsTo result self.new (length self.old.content)
             (with_child parent.now (plain_element name attrs.old.items) self.old) }
     {
+        let bare = bare_of(self.tree.allocator(), name);
+        let number = self.append(parent, bare)?;
         let from = self.attrs.as_slice().len();
         let Ok(()) = move_behind(&mut self.attrs, attrs) else {
             return Err(MarkupFaultKind::Memory);
         };
         let to = self.attrs.as_slice().len();
-        let bare = bare_of(self.tree.allocator(), name);
-        let number = self.tree.append(parent, bare)?;
         let Ok(()) = self.waiting.push(Waiting { number, from, to }) else {
             return Err(MarkupFaultKind::Memory);
         };
-        if to <= ROOM - 2 {
-            return Ok(number);
-        }
-        match self.settle() {
+        match self.settle_where_full() {
             Ok(()) => Ok(number),
             Err(_) => Err(MarkupFaultKind::Memory),
         }
     }
 
-    /// Gives the elements that wait their attributes.
-    fn settle(&mut self) -> Result<(), OutOfMemory>
+    /// Gives the elements that wait their attributes, where the list has no room for two more.
+    fn settle_where_full(&mut self) -> Result<(), OutOfMemory>
         ensures { OnOk result (self.new ≡ self.old) }
     {
+        if self.attrs.as_slice().len() <= ROOM - 2 {
+            return Ok(());
+        }
         let next = Vec::with_capacity(self.tree.allocator(), ROOM)?;
         let attrs = mem::replace(&mut self.attrs, next);
         let given = give(&mut self.tree, attrs, self.waiting.as_slice());
@@ -232,13 +232,6 @@ fn move_behind(list: &mut Vec<Attr>, attrs: &mut Vec<Attr>) -> Result<(), OutOfM
     Ok(())
 }
 
-/// Takes all attributes out of a list.
-fn taken(alloc: Global, attrs: &mut Vec<Attr>) -> Result<Attrs, OutOfMemory>
-    ensures { IfOk result (λ made. made ≡ attrs.old.items) }
-{
-    Attrs::from_items(alloc, mem::replace(attrs, Vec::new(alloc)))
-}
-
 /// Gives each element that waits its attributes, which it shares with the list.
 fn give(tree: &mut LateTexts<'_>, attrs: Vec<Attr>, waiting: &[Waiting]) -> Result<(), OutOfMemory>
     ensures { OnOk result (tree.new ≡ with_lists attrs.items waiting.now tree.old) }
@@ -247,7 +240,7 @@ fn give(tree: &mut LateTexts<'_>, attrs: Vec<Attr>, waiting: &[Waiting]) -> Resu
         return Ok(());
     }
     let alloc = tree.allocator();
-    let list = Arc::new(alloc, attrs)?;
+    let list = Rc::new(alloc, attrs)?;
     for one in waiting {
         let part = Attrs::part(alloc, &list, one.from, one.to)?;
         tree.add_attrs(&one.number, part)?;

@@ -93,7 +93,10 @@ impl<'a> LateTexts<'a> {
             (with_child parent.now content self.old) }
         ensures err { OnErr result (self.new ≡ self.old) }
     {
-        append_node(&mut self.tree, parent, content)
+        match self.tree.append_child_data_of(parent, content) {
+            Ok(number) => Ok(number),
+            Err(fault) => Err(limit_of(fault)),
+        }
     }
 
     /// Makes an element with contents as the last child of a node, and returns the contents'
@@ -110,7 +113,10 @@ impl<'a> LateTexts<'a> {
             (with_template parent.now (element_with name attrs contents) self.old) }
         ensures err { OnErr result (self.new ≡ self.old) }
     {
-        append_template_node(&mut self.tree, parent, name, attrs)
+        match self.tree.append_template_of(parent, name, attrs) {
+            Ok((_, contents)) => Ok(contents),
+            Err(fault) => Err(limit_of(fault)),
+        }
     }
 
     /// Makes a text as the last child of a node.
@@ -135,15 +141,12 @@ impl<'a> LateTexts<'a> {
             (with_child parent.now (text_node text.now) self.old) }
     {
         let contents = Text::from(String::new(self.tree.allocator()));
-        let number = append_node(&mut self.tree, parent, NodeData::Text { contents })?;
+        let number = self.append(parent, NodeData::Text { contents })?;
         let Ok(()) = self.late.push(Late { number, text }) else {
             return Err(MarkupFaultKind::Memory);
         };
         self.bytes = self.bytes.saturating_add(text.len());
-        if self.bytes <= ROOM - LONGEST {
-            return Ok(number);
-        }
-        match self.settle() {
+        match self.settle_where_full() {
             Ok(()) => Ok(number),
             Err(_) => Err(MarkupFaultKind::Memory),
         }
@@ -154,13 +157,19 @@ impl<'a> LateTexts<'a> {
         ensures { OnOk result (self.new
             ≡ with_content number.now (with_attrs (with_missing attrs)) self.old) }
     {
-        add_attrs(&mut self.tree, number, attrs)
+        match self.tree.add_missing_attrs_of(number, attrs) {
+            Ok(()) => Ok(()),
+            Err(_) => Err(OutOfMemory),
+        }
     }
 
-    /// Gives the texts that wait their contents.
-    fn settle(&mut self) -> Result<(), OutOfMemory>
+    /// Gives the texts that wait their contents, where these leave no room for another text.
+    fn settle_where_full(&mut self) -> Result<(), OutOfMemory>
         ensures { OnOk result (self.new ≡ self.old) }
     {
+        if self.bytes <= ROOM - LONGEST {
+            return Ok(());
+        }
         let given = give(&mut self.tree, self.late.as_slice(), self.bytes);
         self.late.clear();
         self.bytes = 0;
@@ -190,56 +199,6 @@ fn limit_of(fault: EditFault) -> MarkupFaultKind
         EditFault::TooManyNodes => MarkupFaultKind::TooManyNodes,
         EditFault::Memory => MarkupFaultKind::Memory,
         _ => unreachable!(),
-    }
-}
-
-/// Makes a node as the last child of another.
-#[inline(always)]
-fn append_node(
-    tree: &mut Tree,
-    parent: &NodeId,
-    content: NodeData,
-) -> Result<NodeId, MarkupFaultKind>
-    requires may { MayGrowAt tree.old parent.now }
-    requires plain { IsPlainData content }
-    ensures grows { GrowsTo result tree.new (length tree.old.content)
-        (with_child parent.now content tree.old) }
-    ensures err { OnErr result (tree.new ≡ tree.old) }
-{
-    match tree.append_child_data_of(parent, content) {
-        Ok(number) => Ok(number),
-        Err(fault) => Err(limit_of(fault)),
-    }
-}
-
-/// Makes an element with contents as the last child of a node, and returns the contents' number.
-fn append_template_node(
-    tree: &mut Tree,
-    parent: &NodeId,
-    name: QualName,
-    attrs: Attrs,
-) -> Result<NodeId, MarkupFaultKind>
-    requires { MayGrowAt tree.old parent.now }
-    ensures grows { let contents = length tree.old.content + 1 in
-        GrowsTo result tree.new contents
-        (with_template parent.now (element_with name attrs contents) tree.old) }
-    ensures err { OnErr result (tree.new ≡ tree.old) }
-{
-    match tree.append_template_of(parent, name, attrs) {
-        Ok((_, contents)) => Ok(contents),
-        Err(fault) => Err(limit_of(fault)),
-    }
-}
-
-/// Adds the attributes to an element whose names it lacks.
-fn add_attrs(tree: &mut Tree, number: &NodeId, attrs: Attrs) -> Result<(), OutOfMemory>
-    ensures ok { OnOk result (tree.new
-        ≡ with_content number.now (with_attrs (with_missing attrs)) tree.old) }
-    ensures err { OnErr result (tree.new ≡ tree.old) }
-{
-    match tree.add_missing_attrs_of(number, attrs) {
-        Ok(()) => Ok(()),
-        Err(_) => Err(OutOfMemory),
     }
 }
 

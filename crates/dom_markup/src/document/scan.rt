@@ -293,7 +293,7 @@ fn value_at(text: &str) -> Option<(&str, &str)>
 
 /// The value behind an attribute's name as it is written, and what follows it; empty where there is
 /// none.
-#[inline(always)]
+#[inline(never)]
 fn value_behind(after: &str) -> Option<(&str, &str)>
     ensures some { IfSome result (λ found. HasValue after.now (decoded found.0.now) found.1.now) }
     ensures none { IfNone result ((value rest : List ℕ) → HasValue after.now value rest → ⊥) }
@@ -328,6 +328,21 @@ fn plain_value(after: &str) -> Option<(&str, &str)>
     let inner = strip_all(after, "=\"")?;
     let (value, rest) = split_plain_value(inner)?;
     Some((value, rest))
+}
+
+/// The value behind an attribute's name as it is written, what follows it, and whether it is known
+/// to stand for itself. Most values stand in double quotes and do.
+#[inline(always)]
+fn noted_value(after: &str) -> Option<(&str, &str, bool)>
+    ensures some { IfSome result (λ f. HasValue after.now (decoded f.0.now) f.1.now) }
+    ensures plain { IfSome result (λ f. f.2 ≡ true → decoded f.0.now ≡ f.0.now) }
+    ensures none { IfNone result ((value rest : List ℕ) → HasValue after.now value rest → ⊥) }
+{
+    if let Some((value, rest)) = plain_value(after) {
+        return Some((value, rest, true));
+    }
+    let (value, rest) = value_behind(after)?;
+    Some((value, rest, false))
 }
 
 /// An attribute as it is written, and whether its value is known to stand for itself.
@@ -367,60 +382,7 @@ fn spaced_name(text: &str) -> Option<(&str, &str)>
     Some((name, behind))
 }
 
-/// The attribute at the front, if it is written in the common way and its value stands for itself,
-/// and what follows it.
-#[inline(always)]
-fn plain_attribute(text: &str) -> Option<(Written<'_>, &str)>
-    ensures some { IfSome result (λ f. BeginsAttribute text.now (attribute_in f.0) f.1.now) }
-    ensures plain { IfSome result (λ f. MarksPlain f.0) }
-{
-    let (name, behind) = spaced_name(text)?;
-    let (value, rest) = plain_value(behind)?;
-    let is_plain = true;
-    Some((
-        Written {
-            name,
-            value,
-            is_plain,
-        },
-        rest,
-    ))
-}
-
-/// The attribute at the front, however it is written, and what follows it.
-#[inline(never)]
-fn any_attribute(text: &str) -> Option<(Written<'_>, &str)>
-    ensures some { IfSome result (λ f. BeginsAttribute text.now (attribute_in f.0) f.1.now) }
-    ensures plain { IfSome result (λ f. MarksPlain f.0) }
-    ensures none { IfNone result (BeginsNoAttribute text.now) }
-{
-    let (name, behind) = spaced_name(text)?;
-    let (value, rest) = value_behind(behind)?;
-    let is_plain = false;
-    Some((
-        Written {
-            name,
-            value,
-            is_plain,
-        },
-        rest,
-    ))
-}
-
-/// The same. What the call returns has a place in memory, which is set up where this begins: an
-/// attribute that is found without the call needs none.
-#[inline(always)]
-fn other_attribute(text: &str) -> Option<(Written<'_>, &str)>
-    ensures some { IfSome result (λ f. BeginsAttribute text.now (attribute_in f.0) f.1.now) }
-    ensures plain { IfSome result (λ f. MarksPlain f.0) }
-    ensures none { IfNone result (BeginsNoAttribute text.now) }
-{
-    let (written, rest) = any_attribute(text)?;
-    Some((written, rest))
-}
-
-/// The attribute at the front, and what follows it. Most tags end where no whitespace stands, and
-/// most attributes are plain.
+/// The attribute at the front, and what follows it. Most tags end where no whitespace stands.
 #[inline(always)]
 pub fn attribute_at(text: &str) -> Option<(Written<'_>, &str)>
     ensures some { IfSome result (λ f. BeginsAttribute text.now (attribute_in f.0) f.1.now) }
@@ -430,10 +392,16 @@ pub fn attribute_at(text: &str) -> Option<(Written<'_>, &str)>
     if !begins_space(text) {
         return None;
     }
-    let Some((written, rest)) = plain_attribute(text) else {
-        return other_attribute(text);
-    };
-    Some((written, rest))
+    let (name, behind) = spaced_name(text)?;
+    let (value, rest, is_plain) = noted_value(behind)?;
+    Some((
+        Written {
+            name,
+            value,
+            is_plain,
+        },
+        rest,
+    ))
 }
 
 /// What follows the end of a tag at the front, which may be a slash and `>`.

@@ -30,6 +30,9 @@ impl Attrs {
         if let AttrsForm::Own(items) = &mut self.form {
             return set_in(items, self.alloc, name, value);
         }
+        let Some(value) = self.form.set_few(name, value) else {
+            return Ok(());
+        };
         let form = AttrsForm::with_attr(self.alloc, self.form.as_slice(), name, value)?;
         self.form = form;
         Ok(())

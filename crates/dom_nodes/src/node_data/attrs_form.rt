@@ -1,10 +1,11 @@
 //! Where an element's attributes lie. Most elements have one or two, in a counted block that copies
-//! of the element share, or in a list that holds those of many elements.
+//! of the element share, or in a list that holds those of many elements. Three lie in a block of
+//! their own.
 
 ghost use Rattle.std.specs.Prelude.{◌≡◌, ◌<◌, ◌≤◌, ◌∷◌, ◌++◌, [], IfOk, IfSome, OnErr, OnOk, None};
 ghost use Rattle.std.specs.Prelude.{Some};
 ghost use Rattle.std.specs.Prelude.{◌+◌, ◌-◌, drop, slice_set, take};
-ghost use Rattle.std.specs.Arc.{arc_value};
+ghost use Rattle.std.specs.Rc.{rc_value};
 ghost use Rattle.std.specs.Prelude.{filter, length, position, List, ℕ};
 ghost use Rattle.std.specs.List.{list_any};
 ghost use Rattle.dom_nodes.specs.AttrForms.{form_attrs};
@@ -13,35 +14,51 @@ ghost use Rattle.dom_nodes.specs.Changes.{is_attr_named, with_attr};
 
 use super::attributes::{attr_position, plain_attr};
 use super::missing::has_attr_named;
-use crate::copies::push_attr;
+use crate::copies::{attr_copy, push_attr};
 use crate::fault::OutOfMemory;
 use crate::name::{Attr, LocalName, QualName};
 use crate::text::Text;
 use crate::words::is_one_of;
 use std::alloc::Global;
 use std::mem;
-use std::sync::Arc;
+use std::rc::Rc;
 
 /// Where the attributes of an element lie.
 #[derive(Drop)]
 pub(super) enum AttrsForm {
     None,
-    One(Arc<[Attr; 1]>),
-    Two(Arc<[Attr; 2]>),
+    One(Rc<[Attr; 1]>),
+    Two(Rc<[Attr; 2]>),
     /// No attribute yet, but room for two.
-    Room(Arc<[Attr; 2]>),
+    Room(Rc<[Attr; 2]>),
     /// The first of two: what a removal leaves of them, or what was put into room for two.
-    First(Arc<[Attr; 2]>),
+    First(Rc<[Attr; 2]>),
     /// What a removal leaves of two: the second.
-    Second(Arc<[Attr; 2]>),
+    Second(Rc<[Attr; 2]>),
     /// The one at this place of a list that others share. A place here has more bits than where
     /// two begin, so that the second of any two has one.
-    OneOf(u32, Arc<Vec<Attr>>),
+    OneOf(u32, Rc<Vec<Attr>>),
     /// The two that begin at this place of a list that others share.
-    TwoOf(u16, Arc<Vec<Attr>>),
+    TwoOf(u16, Rc<Vec<Attr>>),
+    /// The first so many of three, which nothing shares.
+    Few(u32, Three),
     /// Any other list, which nothing shares. It lies behind a pointer, so that the other forms
     /// take no more room than they need.
     Own(Box<Vec<Attr>>),
+}
+
+/// Three attributes in a block of their own.
+pub(super) struct Three {
+    items: Box<[Attr; 3]>,
+}
+
+/// Written out, so that what drops the other forms takes fewer steps.
+impl Drop for Three {
+    #[inline(never)]
+    fn drop(self) {
+        let Three { items } = self;
+        drop(items);
+    }
 }
 
 /// The last place that the form of one attribute of a list can name.
@@ -89,21 +106,47 @@ impl AttrsForm {
     pub(super) fn one(alloc: Global, attr: Attr) -> Result<AttrsForm, OutOfMemory>
         ensures { IfOk result (λ form. form_attrs form ≡ attr ∷ []) }
     {
-        Ok(AttrsForm::One(Arc::new(alloc, [attr])?))
+        Ok(AttrsForm::One(Rc::new(alloc, [attr])?))
     }
 
     /// A list of two attributes.
     fn two(alloc: Global, first: Attr, second: Attr) -> Result<AttrsForm, OutOfMemory>
         ensures { IfOk result (λ form. form_attrs form ≡ first ∷ second ∷ []) }
     {
-        Ok(AttrsForm::Two(Arc::new(alloc, [first, second])?))
+        Ok(AttrsForm::Two(Rc::new(alloc, [first, second])?))
+    }
+
+    /// A list of three attributes.
+    #[inline(always)]
+    fn three(alloc: Global, items: [Attr; 3]) -> Result<AttrsForm, OutOfMemory>
+        ensures { IfOk result (λ form. form_attrs form ≡ items) }
+    {
+        let items = Box::new(alloc, items)?;
+        Ok(AttrsForm::Few(3, Three { items }))
+    }
+
+    /// Takes all attributes out of a vector of at most three, which keeps its memory.
+    pub(super) fn popped(alloc: Global, items: &mut Vec<Attr>) -> Result<AttrsForm, OutOfMemory>
+        requires { length items.old.items ≤ 3 }
+        ensures { IfOk result (λ form. form_attrs form ≡ items.old.items) }
+    {
+        let Some(third) = items.pop() else {
+            return Ok(AttrsForm::None);
+        };
+        let Some(second) = items.pop() else {
+            return AttrsForm::one(alloc, third);
+        };
+        let Some(first) = items.pop() else {
+            return AttrsForm::two(alloc, second, third);
+        };
+        AttrsForm::three(alloc, [first, second, third])
     }
 
     /// No attributes, and room for two.
     pub(super) fn room(alloc: Global) -> Result<AttrsForm, OutOfMemory>
         ensures { IfOk result (λ form. form_attrs form ≡ []) }
     {
-        Ok(AttrsForm::Room(Arc::new(alloc, [empty(alloc), empty(alloc)])?))
+        Ok(AttrsForm::Room(Rc::new(alloc, [empty(alloc), empty(alloc)])?))
     }
 
     /// Adds an attribute at the end, where there is room for it in a pair that nothing shares.
@@ -142,22 +185,22 @@ impl AttrsForm {
     /// copied.
     pub(super) fn part_of(
         alloc: Global,
-        list: &Arc<Vec<Attr>>,
+        list: &Rc<Vec<Attr>>,
         from: usize,
         to: usize,
     ) -> Result<AttrsForm, OutOfMemory>
         ensures { IfOk result (λ form.
-            form_attrs form ≡ take (to - from) (drop from (arc_value list.now).items)) }
+            form_attrs form ≡ take (to - from) (drop from (rc_value list.now).items)) }
     {
         let count = to.saturating_sub(from);
         if count == 0 {
             return Ok(AttrsForm::None);
         }
         if count == 1 && from <= MOST_ONE {
-            return Ok(AttrsForm::OneOf(from as u32, Arc::try_clone(list)?));
+            return Ok(AttrsForm::OneOf(from as u32, Rc::clone(list)?));
         }
         if count == 2 && from <= MOST_TWO {
-            return Ok(AttrsForm::TwoOf(from as u16, Arc::try_clone(list)?));
+            return Ok(AttrsForm::TwoOf(from as u16, Rc::clone(list)?));
         }
         AttrsForm::with_room(alloc, stretch(list.as_slice(), from, count), 0)
     }
@@ -186,6 +229,7 @@ impl AttrsForm {
             }
             AttrsForm::OneOf(place, list) => stretch(list.as_slice(), *place as usize, 1),
             AttrsForm::TwoOf(place, list) => stretch(list.as_slice(), *place as usize, 2),
+            AttrsForm::Few(count, list) => stretch(&list.items[..], 0, *count as usize),
             AttrsForm::Own(list) => list.as_slice(),
         }
     }
@@ -197,11 +241,11 @@ impl AttrsForm {
     {
         match self {
             AttrsForm::None => Ok(AttrsForm::None),
-            AttrsForm::One(list) => Ok(AttrsForm::One(Arc::try_clone(list)?)),
-            AttrsForm::Two(list) => Ok(AttrsForm::Two(Arc::try_clone(list)?)),
-            AttrsForm::First(list) => Ok(AttrsForm::First(Arc::try_clone(list)?)),
-            AttrsForm::OneOf(place, list) => Ok(AttrsForm::OneOf(*place, Arc::try_clone(list)?)),
-            AttrsForm::TwoOf(place, list) => Ok(AttrsForm::TwoOf(*place, Arc::try_clone(list)?)),
+            AttrsForm::One(list) => Ok(AttrsForm::One(Rc::clone(list)?)),
+            AttrsForm::Two(list) => Ok(AttrsForm::Two(Rc::clone(list)?)),
+            AttrsForm::First(list) => Ok(AttrsForm::First(Rc::clone(list)?)),
+            AttrsForm::OneOf(place, list) => Ok(AttrsForm::OneOf(*place, Rc::clone(list)?)),
+            AttrsForm::TwoOf(place, list) => Ok(AttrsForm::TwoOf(*place, Rc::clone(list)?)),
             _ => self.clone_of_rare(alloc),
         }
     }
@@ -212,7 +256,7 @@ impl AttrsForm {
     {
         match self {
             AttrsForm::Room(_) => Ok(AttrsForm::None),
-            AttrsForm::Second(list) => Ok(AttrsForm::Second(Arc::try_clone(list)?)),
+            AttrsForm::Second(list) => Ok(AttrsForm::Second(Rc::clone(list)?)),
             _ => AttrsForm::with_room(alloc, self.as_slice(), 0),
         }
     }
@@ -225,7 +269,24 @@ impl AttrsForm {
     ) -> Result<AttrsForm, OutOfMemory>
         ensures { IfOk result (λ form. form_attrs form ≡ attrs.now) }
     {
+        if attrs.len() == 3 && additional == 0 {
+            return AttrsForm::three_copies(alloc, attrs);
+        }
         AttrsForm::own(alloc, copied(alloc, attrs, additional)?)
+    }
+
+    /// Copies of three attributes.
+    #[inline(never)]
+    fn three_copies(alloc: Global, attrs: &[Attr]) -> Result<AttrsForm, OutOfMemory>
+        requires { length attrs.now ≡ 3 }
+        ensures { IfOk result (λ form. form_attrs form ≡ attrs.now) }
+    {
+        let items = [
+            attr_copy(&attrs[0])?,
+            attr_copy(&attrs[1])?,
+            attr_copy(&attrs[2])?,
+        ];
+        AttrsForm::three(alloc, items)
     }
 
     /// Copies of attributes and one more behind them.
@@ -263,6 +324,24 @@ impl AttrsForm {
         }
     }
 
+    /// Gives the first attribute of that local name the value, where it is one of the first of
+    /// three. Otherwise the value is handed back.
+    pub(super) fn set_few(&mut self, name: &str, value: Text) -> Option<Text>
+        ensures put { result ≡ None
+            → form_attrs self.new ≡ with_attr name.now value (form_attrs self.old) }
+        ensures back { IfSome result (λ left. left ≡ value) }
+        ensures same { IfSome result (λ _. form_attrs self.new ≡ form_attrs self.old) }
+    {
+        let AttrsForm::Few(count, list) = self else {
+            return Some(value);
+        };
+        let Some(place) = attr_position(stretch(&list.items[..], 0, *count as usize), name) else {
+            return Some(value);
+        };
+        list.items[place].value = value;
+        None
+    }
+
     /// Copies of attributes, but with the value at the place.
     fn with_value(
         alloc: Global,
@@ -291,8 +370,8 @@ impl AttrsForm {
         }
     }
 
-    /// Gives back the memory past the last attribute, but for the second place of a pair and for
-    /// a list that others share.
+    /// Gives back the memory past the last attribute, but for the second place of a pair, the
+    /// places of three and a list that others share.
     pub(super) fn shrink_to_fit(&mut self)
         ensures { form_attrs self.new ≡ form_attrs self.old }
     {
@@ -334,6 +413,7 @@ impl AttrsForm {
             }
             AttrsForm::OneOf(place, list) => left_of_one(place, list, kept),
             AttrsForm::TwoOf(place, list) => left_of_two(place, list, kept),
+            AttrsForm::Few(count, list) => left_of_few(count, list, kept),
             AttrsForm::Own(mut list) => {
                 list.retain(|attr| kept.keeps(attr));
                 AttrsForm::Own(list)
@@ -343,7 +423,7 @@ impl AttrsForm {
 }
 
 /// What a removal leaves of two attributes.
-fn part(list: Arc<[Attr; 2]>, kept: Kept) -> AttrsForm
+fn part(list: Rc<[Attr; 2]>, kept: Kept) -> AttrsForm
     ensures { form_attrs result ≡ filter (keeps kept.entry) (form_attrs (AttrsForm.Two list)) }
 {
     let first = kept.keeps(&list[0]);
@@ -360,7 +440,7 @@ fn part(list: Arc<[Attr; 2]>, kept: Kept) -> AttrsForm
 }
 
 /// What a removal leaves of the one attribute at this place of a list.
-fn left_of_one(place: u32, list: Arc<Vec<Attr>>, kept: Kept) -> AttrsForm
+fn left_of_one(place: u32, list: Rc<Vec<Attr>>, kept: Kept) -> AttrsForm
     ensures { form_attrs result
         ≡ filter (keeps kept.entry) (form_attrs (AttrsForm.OneOf place list)) }
 {
@@ -372,7 +452,7 @@ fn left_of_one(place: u32, list: Arc<Vec<Attr>>, kept: Kept) -> AttrsForm
 }
 
 /// What a removal leaves of the two attributes that begin at this place of a list.
-fn left_of_two(place: u16, list: Arc<Vec<Attr>>, kept: Kept) -> AttrsForm
+fn left_of_two(place: u16, list: Rc<Vec<Attr>>, kept: Kept) -> AttrsForm
     ensures { form_attrs result
         ≡ filter (keeps kept.entry) (form_attrs (AttrsForm.TwoOf place list)) }
 {
@@ -389,6 +469,35 @@ fn left_of_two(place: u16, list: Arc<Vec<Attr>>, kept: Kept) -> AttrsForm
     } else {
         AttrsForm::None
     }
+}
+
+/// What a removal leaves of the first so many of three attributes.
+fn left_of_few(count: u32, mut list: Three, kept: Kept) -> AttrsForm
+    ensures { form_attrs result
+        ≡ filter (keeps kept.entry) (form_attrs (AttrsForm.Few count list)) }
+{
+    let left = keep_in_front(&mut list.items, count as usize, kept);
+    if left == 0 {
+        AttrsForm::None
+    } else {
+        AttrsForm::Few(left as u32, list)
+    }
+}
+
+/// Moves those that a removal keeps of the first so many attributes to the front, in order, and
+/// counts them.
+fn keep_in_front(list: &mut [Attr; 3], count: usize, kept: Kept) -> usize
+    ensures front { take result list.new ≡ filter (keeps kept.entry) (take count list.old) }
+    ensures fewer { result ≤ count }
+{
+    let mut left = 0;
+    for place in 0..count.min(list.len()) {
+        if kept.keeps(&list[place]) {
+            list.swap(left, place);
+            left += 1;
+        }
+    }
+    left
 }
 
 /// So many attributes as stand from a place on, or fewer where the list ends before.
@@ -416,15 +525,15 @@ fn last_stretch(attrs: &[Attr], from: usize, count: usize) -> &[Attr]
 
 /// Puts an attribute into a pair that nothing shares; otherwise it is handed back.
 #[inline(always)]
-fn put(list: &mut Arc<[Attr; 2]>, place: usize, attr: Attr) -> Option<Attr>
+fn put(list: &mut Rc<[Attr; 2]>, place: usize, attr: Attr) -> Option<Attr>
     requires { place < 2 }
     ensures put { result ≡ None
-        → arc_value list.new ≡ slice_set (arc_value list.old) place attr }
+        → rc_value list.new ≡ slice_set (rc_value list.old) place attr }
     ensures back { IfSome result (λ left. left ≡ attr) }
-    ensures same { IfSome result (λ _. arc_value list.new ≡ arc_value list.old) }
-    ensures pair { result ≡ None → length (arc_value list.old) ≡ 2 }
+    ensures same { IfSome result (λ _. rc_value list.new ≡ rc_value list.old) }
+    ensures pair { result ≡ None → length (rc_value list.old) ≡ 2 }
 {
-    match Arc::get_mut(list) {
+    match Rc::get_mut(list) {
         Some(pair) => {
             pair[place] = attr;
             None

@@ -12,7 +12,8 @@ use crate::name::{Attr, QualName};
 impl Attrs {
     /// Adds those of other attributes at the end whose names none of these has. Names are the same
     /// where prefix, namespace and local name are. The list is unchanged after a refusal.
-    pub fn add_missing(&mut self, mut added: Attrs) -> Result<(), OutOfMemory>
+    #[inline(always)]
+    pub fn add_missing(&mut self, added: Attrs) -> Result<(), OutOfMemory>
         ensures ok { OnOk result (self.new ≡ with_missing added self.old) }
         ensures err { OnErr result (self.new ≡ self.old) }
     {
@@ -20,6 +21,15 @@ impl Attrs {
             *self = added;
             return Ok(());
         }
+        self.add_missing_behind(added)
+    }
+
+    /// The same, where the list isn't empty.
+    #[inline(never)]
+    fn add_missing_behind(&mut self, mut added: Attrs) -> Result<(), OutOfMemory>
+        ensures ok { OnOk result (self.new ≡ with_missing added self.old) }
+        ensures err { OnErr result (self.new ≡ self.old) }
+    {
         added.retain(Kept::MissingIn(self.as_slice()));
         self.append(added.as_slice())
     }

@@ -1,28 +1,28 @@
 //! Texts that lie one behind another in one block, which they share.
 
 ghost use Rattle.std.specs.Prelude.{◌≡◌, IfOk};
-ghost use Rattle.std.specs.Arc.{arc_value};
+ghost use Rattle.std.specs.Rc.{rc_value};
 ghost use Rattle.dom_nodes.specs.Blocks.{LiesAt};
 
 use crate::fault::OutOfMemory;
 use std::alloc::Global;
 use std::marker::Model;
+use std::rc::Rc;
 use std::str::from_utf8_unchecked;
-use std::sync::Arc;
 
 /// Bytes that texts share. A contract sees the bytes.
 #[derive(Drop)]
 pub struct TextBlock {
-    bytes: Arc<Vec<u8>>,
+    bytes: Rc<Vec<u8>>,
 }
 
 impl Model for TextBlock {
     ghost use Rattle.std.specs.Prelude.{List, ℕ};
-    ghost use Rattle.std.specs.Arc.{arc_value};
+    ghost use Rattle.std.specs.Rc.{rc_value};
 
     ghost Value = { List ℕ };
 
-    ghost view = { λ block. (arc_value block.bytes).items };
+    ghost view = { λ block. (rc_value block.bytes).items };
 }
 
 impl TextBlock {
@@ -30,7 +30,7 @@ impl TextBlock {
     pub fn new(alloc: Global, bytes: Vec<u8>) -> Result<TextBlock, OutOfMemory>
         ensures { IfOk result (λ block. block ≡ bytes.items) }
     {
-        let bytes = Arc::new(alloc, bytes)?;
+        let bytes = Rc::new(alloc, bytes)?;
         Ok(TextBlock { bytes })
     }
 
@@ -38,7 +38,7 @@ impl TextBlock {
     fn shared(&self) -> Result<TextBlock, OutOfMemory>
         ensures { IfOk result (λ block. block ≡ self.now) }
     {
-        let bytes = Arc::try_clone(&self.bytes)?;
+        let bytes = Rc::clone(&self.bytes)?;
         Ok(TextBlock { bytes })
     }
 

@@ -1,5 +1,5 @@
 use Rattle.std.proofs.Common.{◌≡◌, take}
-use Rattle.std.specs.Arc.{arc_value}
+use Rattle.std.specs.Rc.{rc_value}
 use Rattle.dom_markup.specs.Growing.{with_lists}
 use Rattle.dom_markup.proofs.document.growing.give.Given as goal
 
@@ -7,5 +7,5 @@ use Rattle.dom_markup.proofs.document.growing.give.Given as goal
 abbrev pub invariant-loop-one : goal.invariant-loop-one
 invariant-loop-one l = record {
   given : l.tree ≡ with_lists l.fn.attrs.items (take l.one-index l.waiting) l.initial.tree;
-  list : arc_value l.list ≡ l.fn.attrs;
+  list : (rc_value l.list).items ≡ l.fn.attrs.items;
 }

@@ -1,13 +1,12 @@
-use Rattle.dom_nodes.specs.Changes.{with_attrs, with_missing}
-use Rattle.dom_markup.proofs.rows.LateLemmas.{among_changed, attrs_seen}
+use Rattle.std.proofs.Common.{arith}
+use Rattle.std.proofs.lemmas.Grind.{common_steps}
+use Rattle.dom_nodes.specs.Changes.{with_missing}
+use Rattle.dom_links.proofs.forest.Changing.{length-changed}
+use Rattle.dom_markup.proofs.rows.LateLemmas.{attrs-texts}
 use Rattle.dom_markup.proofs.document.late_texts.LateTexts.add_attrs.Goals as goal
 
 pub invariant_of-self : goal.invariant_of-self
-invariant_of-self c =
-    let old = c.self.inside in
-    among_changed c.add_attrs.result c.args.number.now (with_attrs (with_missing c.args.attrs)) old.tree c.add_attrs.new.tree old.late.items c.self.invariant c.add_attrs.ensures.ok c.add_attrs.ensures.err
+invariant_of-self c = grind (arith, common_steps, length-changed)
 
 pub returns : goal.returns
-returns c =
-    let old = c.self.inside in
-    attrs_seen c.add_attrs.result c.args.number.now (with_missing c.args.attrs) old.tree c.add_attrs.new.tree c.args.self.now old.late.items c.self.view_is c.add_attrs.ensures.ok
+returns c = grind (arith, common_steps, attrs-texts c.args.number.now (with_missing c.args.attrs) c.self.inside.late.items c.self.inside.tree)
