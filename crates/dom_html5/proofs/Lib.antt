@@ -3,3 +3,4 @@ mod CalmPages
 mod NodeRows
 mod PartLemmas
 mod ScopeLemmas
+mod TextLemmas

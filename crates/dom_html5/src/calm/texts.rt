@@ -9,6 +9,8 @@ ghost use Rattle.dom_html5.specs.Calm.{is_bare, is_calm_byte, is_calm_text};
 ghost use Rattle.html5_trees.specs.Framed.{IsFramed};
 ghost use Rattle.dom_html5.specs.Calm.{begins_other_tag, is_plain_reference};
 
+use memchr::{memchr, memchr3};
+
 /// How many bytes a framed page has at least.
 const LEAST: usize = 34;
 
@@ -32,7 +34,14 @@ pub fn is_calm_text(page: &str) -> bool
     ensures { result ≡ is_calm_text page.now }
 {
     let mut rest = page.as_bytes();
-    while let Some((first, after)) = rest.split_first() {
+    if let Some(_) = memchr(0, rest) {
+        return false;
+    }
+    while let Some(at) = memchr3(b'&', b'<', b'\r', rest) {
+        let (_, marked) = rest.split_at(at);
+        let Some((first, after)) = marked.split_first() else {
+            break;
+        };
         if !is_calm_byte(*first, after) {
             return false;
         }

@@ -1,10 +1,14 @@
 use Rattle.std.proofs.Common.{◌≡◌, length}
+use Rattle.memchr.specs.Find.{Nowhere, Passes, is_byte}
 use Rattle.dom_html5.specs.Calm.{is_calm_text}
 use Rattle.dom_html5.proofs.calm.texts.is_calm_text.Given as goal
 
 -- what is left decides
-abbrev pub invariant-loop-first : goal.invariant-loop-first
-invariant-loop-first l = is_calm_text l.rest ≡ is_calm_text l.page
+abbrev pub invariant-loop-at : goal.invariant-loop-at
+invariant-loop-at l = record {
+  same : is_calm_text l.rest ≡ is_calm_text l.page;
+  clear : Nowhere (Passes (is_byte 0) l.rest) 0 (length l.rest);
+}
 
-abbrev pub decreases-loop-first : goal.decreases-loop-first
-decreases-loop-first l = length l.rest
+abbrev pub decreases-loop-at : goal.decreases-loop-at
+decreases-loop-at l = length l.rest
