@@ -1,7 +1,7 @@
 """The test command. It runs the gate, `rt ci` (cases/gate.py), which proves every crate from nothing and runs the programs, and beside it
 tries the must-fail edits over each crate that the gate has proved (cases/edits.py). Then it runs the program that the
 gate built on the cases in cases/ and on streams that fail, compares the snippets of the documents with those
-of crates `tour` and `samples`, and tries the callers that must not compile. Its last line counts all, and its status is 0
+of the crate `samples`, and tries the callers that must not compile. Its last line counts all, and its status is 0
 where nothing failed. `check --cases` leaves the gate and the edits out. What an earlier run on this machine showed of the
 same files is kept; `check --anew` shows all again.
 
@@ -18,8 +18,8 @@ trees. What the line `sanitize` leaves of random forests is compared with cases/
 what selectors select with what they select in another way (cases/ways.py).
 Which public functions the programs call themselves is counted by cases/coverage.py.
 
-A snippet is a block of README.md, docs/API.md, docs/SINK.md or docs/PAGES.md: one of rust stands in a file of crates/tour/src
-or crates/samples/src, line for line but for its indentation, and one of text in the stdout of either, which the gate compares
+A snippet is a block of README.md, docs/API.md, docs/SINK.md or docs/PAGES.md: one of rust stands in a file of
+crates/samples/src, line for line but for its indentation, and one of text in its stdout, which the gate compares
 with what it prints.
 
 A caller that must not compile is a file cases/must-not-compile/NAME-WHAT.txt, a program that uses the crate NAME alone. One
@@ -49,7 +49,7 @@ import ways  # noqa: E402
 from rows import ROOT, SECONDS, built, given, words_of  # noqa: E402
 
 NO_FUNCTION = "no_function_of_this_name"
-SNIPPETS = ("tour", "samples")
+SNIPPETS = "samples"
 SEED, FORESTS, PATHS, WAYS = 1, 2000, 500, 400
 # The memory, in bytes, that must be free for each proof at a time: a crate's took up to 3.2 GB, that of `calls`, before
 # it was split, 4.8. `rt` reckons with up to 9, which leaves processors idle.
@@ -219,11 +219,11 @@ def stands_in(block, text):
 
 
 def snippets():
-    """Compares the documents' snippets with those of the crates SNIPPETS, and returns how many stand there and how many don't."""
-    crates = [ROOT / "crates" / name for name in SNIPPETS]
+    """Compares the documents' snippets with those of the crate SNIPPETS, and returns how many stand there and how many don't."""
+    crate = ROOT / "crates" / SNIPPETS
     known = {
-        "rust": [file.read_text(encoding="utf-8") for crate in crates for file in sorted((crate / "src").glob("*.rt"))],
-        "text": [(crate / "stdout").read_text(encoding="utf-8") for crate in crates],
+        "rust": [file.read_text(encoding="utf-8") for file in sorted((crate / "src").glob("*.rt"))],
+        "text": [(crate / "stdout").read_text(encoding="utf-8")],
     }
     passed = failed = 0
     for document in (ROOT / "README.md", *(ROOT / "docs" / name for name in ("API.md", "SINK.md", "PAGES.md"))):
@@ -232,7 +232,7 @@ def snippets():
                 passed += 1
             else:
                 failed += 1
-                print(f"{document.name}:{start}: this {kind or 'plain'} block isn't in crates {' or '.join(SNIPPETS)}")
+                print(f"{document.name}:{start}: this {kind or 'plain'} block isn't in crate {SNIPPETS}")
     print(f"snippets: {passed} passed, {failed} failed")
     return passed, failed if passed else failed + 1
 
@@ -303,6 +303,8 @@ def main():
     if sys.argv[1:] not in ([], ["--cases"], ["--anew"]):
         print("usage: check [--cases | --anew]: what it does stands at the head of cases/check.py", file=sys.stderr)
         return 2
+    # (the prover gives its memory back to the system again and again, unless it is told not to: 2 % of its time)
+    os.environ.setdefault("MIMALLOC_PURGE_DELAY", "-1")
     clock, cases_alone = Clock(), sys.argv[1:] == ["--cases"]
     counts, edits_left = (None, lambda: (0, 0)) if cases_alone else gate(clock)
     tables = [table, *map(cases_of, ("calls", "queries", "times", "batch")), pages, cleaned, followed, asked_each_way]

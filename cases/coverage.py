@@ -18,7 +18,7 @@ import re
 import sys
 
 ROOT = pathlib.Path(__file__).resolve().parent.parent
-ROOTS, SHARED = ("calls", "queries", "times", "tour", "samples", "batch", "dq", "hq", "hq_pages"), "lines"
+ROOTS, SHARED = ("calls", "queries", "times", "samples", "batch", "dq", "hq", "hq_pages"), "lines"
 # Comments, strings, characters, and imports of specs.
 BLANK = re.compile(r'//[^\n]*|"(?:\\.|[^"\\])*"|\'(?:\\[^\']+|[^\'\\])\'|\bghost use [^;]*;', re.S)
 GENERICS = re.compile(r"<(?:[^<>]|<[^<>]*>)*>")

@@ -1,5 +1,5 @@
 """Runs `rt ci` with the words that it is given, as the command does, but that the crates for which all others wait are
-checked by two processes each, where there are four processors: `rt`, told how many proofs to run at a time, gives each one.
+checked by three processes each, where there are four processors: `rt`, told how many proofs to run at a time, gives each one.
 Where this kit's `rt` isn't made as we know it, that is left out."""
 import inspect
 import os
@@ -24,7 +24,7 @@ def main():
     if rt.processors() >= 4:
         plain = rt.Crate.build_rlib
         rt.Crate.build_rlib = lambda crate, flags, anew: plain(
-            crate, ["--jobs", "2"] if crate.name in FIRST else flags, anew
+            crate, ["--jobs", "3"] if crate.name in FIRST else flags, anew
         )
     return rt.main(["ci", *sys.argv[1:]])
 

@@ -1,39 +1,76 @@
--- Bytes that are calm whatever follows them.
-use Rattle.std.proofs.Common.{◌≡◌, ◌+◌, ◌<◌, ◌≤◌, ◌==◌, ◌&&◌, ◌||◌, ℕ, zero, suc, true, false, List, [], ◌∷◌, length, drop, get_or, refl, sym, ap, ◌∙◌, arith}
-use Rattle.std.proofs.lemmas.Bool.{and_right, eqb-true, false_from_ne_true, or_parts}
-use Rattle.std.proofs.lemmas.List.{drop_all, get_or-drop, length-drop}
-use Rattle.memchr.specs.Find.{Nowhere, Passes, is_byte, is_byte3}
-use Rattle.dom_html5.specs.Calm.{is_calm_byte, is_calm_text}
+-- Bytes that are calm wherever they stand.
+use Rattle.std.proofs.Common.{◌≡◌, ◌==◌, ◌&&◌, ◌||◌, ℕ, zero, suc, Bool, true, false, not, List, [], ◌∷◌, length, drop, refl, sym, subst, ap, ◌∙◌, arith, inl, inr}
+use Rattle.std.proofs.lemmas.Bool.{and_right, cases_Bool, eqb-true, false_from_ne_true}
+use Rattle.std.proofs.lemmas.List.{length-drop}
+use Rattle.memchr.specs.Find.{Nowhere, Passes, is_byte}
+use Rattle.dom_html5.specs.Calm.{begins_other_tag, is_calm_at, is_calm_byte, is_calm_text, is_plain_reference}
 
--- a byte that is no 0, no `&`, no `<` and no carriage return
-common : (b : ℕ) (after : List ℕ) → b == 0 ≡ false → is_byte3 38 60 13 b ≡ false → is_calm_byte b after ≡ true
-common b after nonzero unmarked =
-    let last = or_parts (b == 38 || b == 60) (b == 13) unmarked in
-    let first = or_parts (b == 38) (b == 60) last.0 in
-    rw (first.0, first.1, nonzero, last.1) refl
+-- another byte in front changes nothing
+other : (byte x : ℕ) (xs : List ℕ) → (x == byte ≡ true → ⊥) → is_calm_at byte (x ∷ xs) ≡ is_calm_at byte xs
+other byte x xs differs = ap (λ b. (not b || is_calm_byte x xs) && is_calm_at byte xs) (false_from_ne_true _ differs)
 
--- bytes among which none of these stands are calm
-calm-past : (xs : List ℕ) (at : ℕ) → Nowhere (Passes (is_byte 0) xs) 0 (length xs) → Nowhere (Passes (is_byte3 38 60 13) xs) 0 at → at ≤ length xs → is_calm_text xs ≡ is_calm_text (drop at xs)
-calm-past xs zero clear none le = refl
-calm-past [] (suc n) clear none le = absurd (omega (arith, le))
-calm-past (x ∷ xs) (suc n) clear none le =
-    ap (λ b. b && is_calm_text xs) (common x xs (false_from_ne_true _ (clear 0 (omega arith) (omega arith))) (false_from_ne_true _ (none 0 (omega arith) (omega arith))))
-    ∙ calm-past xs n (λ k low high. clear (suc k) (omega arith) (omega (arith, high))) (λ k low high. none (suc k) (omega arith) (omega (arith, high))) (omega (arith, le))
+pub calm-absent : (byte : ℕ) (xs : List ℕ) → Nowhere (Passes (is_byte byte) xs) 0 (length xs) → is_calm_at byte xs ≡ true
+calm-absent byte [] none = refl
+calm-absent byte (x ∷ xs) none =
+    other byte x xs (none 0 (omega arith) (omega arith))
+    ∙ calm-absent byte xs (λ k low high. none (suc k) (omega arith) (omega (arith, high)))
 
-pub calm-none : (xs : List ℕ) → Nowhere (Passes (is_byte 0) xs) 0 (length xs) → Nowhere (Passes (is_byte3 38 60 13) xs) 0 (length xs) → is_calm_text xs ≡ true
-calm-none xs clear none = calm-past xs (length xs) clear none (omega arith) ∙ ap is_calm_text (drop_all (length xs) xs (omega arith))
+-- at its first place what follows decides
+found-here : (byte : ℕ) (xs : List ℕ) (at b : ℕ) (after : List ℕ) → Nowhere (Passes (is_byte byte) xs) 0 at → Passes (is_byte byte) xs at → drop at xs ≡ b ∷ after
+    → is_calm_at byte xs ≡ is_calm_byte byte after && is_calm_at byte after
+found-here byte [] at b after none is from = absurd (omega (arith, ap length from, length-drop {A = ℕ} at []))
+found-here byte (x ∷ xs) zero b after none is from =
+    let same : xs ≡ after = cc in
+    ap (λ t. (not t || is_calm_byte x xs) && is_calm_at byte xs) is
+    ∙ (ap (λ y. is_calm_byte y xs && is_calm_at byte xs) (eqb-true x byte is)
+    ∙ ap (λ l. is_calm_byte byte l && is_calm_at byte l) same)
+found-here byte (x ∷ xs) (suc n) b after none is from =
+    other byte x xs (none 0 (omega arith) (omega arith))
+    ∙ found-here byte xs n b after (λ k low high. none (suc k) (omega arith) (omega (arith, high))) is from
 
--- the first of these and what follows it decide
-pub calm-at : (xs : List ℕ) (at b : ℕ) (after : List ℕ) → Nowhere (Passes (is_byte 0) xs) 0 (length xs) → Nowhere (Passes (is_byte3 38 60 13) xs) 0 at → at < length xs → drop at xs ≡ b ∷ after → is_calm_text xs ≡ is_calm_byte b after && is_calm_text after
-calm-at xs at b after clear none lt is = calm-past xs at clear none (omega (arith, lt)) ∙ ap is_calm_text is
+pub calm-found : (byte : ℕ) (xs : List ℕ) (at b : ℕ) (after : List ℕ) → Nowhere (Passes (is_byte byte) xs) 0 at → Passes (is_byte byte) xs at → drop at xs ≡ b ∷ after
+    → (t : Bool) → t ≡ is_calm_byte byte after → t && is_calm_at byte after ≡ is_calm_at byte xs
+calm-found byte xs at b after none is from t e = ap (λ u. u && is_calm_at byte after) e ∙ sym (found-here byte xs at b after none is from)
 
-pub clear-after : (xs : List ℕ) (at b : ℕ) (after : List ℕ) → Nowhere (Passes (is_byte 0) xs) 0 (length xs) → drop at xs ≡ b ∷ after → Nowhere (Passes (is_byte 0) after) 0 (length after)
-clear-after xs at b after clear is k low high passes =
-    clear (at + suc k) (omega arith) (omega (arith, high, ap length is, length-drop at xs))
-    (ap (is_byte 0) (sym (get_or-drop at xs (suc k) 0) ∙ ap (λ l. get_or l (suc k) 0) is) ∙ passes)
+-- ---- the four bytes that may not be calm
 
--- a byte 0 isn't calm
-pub calm-lacks-zero : (xs : List ℕ) (at : ℕ) → at < length xs → Passes (is_byte 0) xs at → is_calm_text xs ≡ false
-calm-lacks-zero [] at lt is = absurd (omega (arith, lt))
-calm-lacks-zero (x ∷ xs) zero lt is = ap (λ b. is_calm_byte b xs && is_calm_text xs) (eqb-true x 0 is)
-calm-lacks-zero (x ∷ xs) (suc n) lt is = and_right (is_calm_byte x xs) (is_calm_text xs) (calm-lacks-zero xs n (omega (arith, lt)) is)
+abbrev pub Each : (a b c d : Bool) → Bool
+Each a b c d = a && (b && (c && d))
+
+-- with another byte in front, bytes are calm by the answers of each of the four
+abbrev Spreads : List ℕ → (a b c d : Bool) → ℕ → Type 0
+Spreads xs a b c d x = (is_calm_byte x xs && Each a b c d)
+    ≡ Each ((not (x == 0) || is_calm_byte x xs) && a) ((not (x == 13) || is_calm_byte x xs) && b) ((not (x == 38) || is_calm_byte x xs) && c) ((not (x == 60) || is_calm_byte x xs) && d)
+
+at_reference : (p a b c d : Bool) → (p && Each a b c d) ≡ Each a b (p && c) d
+at_reference true a b c d = refl
+at_reference false a b c d = sym (and_right a _ (and_right b false refl))
+
+at_tag : (p a b c d : Bool) → (p && Each a b c d) ≡ Each a b c (p && d)
+at_tag true a b c d = refl
+at_tag false a b c d = sym (and_right a _ (and_right b _ (and_right c false refl)))
+
+elsewhere : (x : ℕ) (xs : List ℕ) (a b c d : Bool) → x == 0 ≡ false → x == 13 ≡ false → x == 38 ≡ false → x == 60 ≡ false → Spreads xs a b c d x
+elsewhere x xs a b c d p q r s = rw (p, q, r, s) refl
+
+spreads : (x : ℕ) (xs : List ℕ) (a b c d : Bool) → Spreads xs a b c d x
+spreads x xs a b c d = elim (cases_Bool (x == 0)) [
+  | inl is ↦ subst (Spreads xs a b c d) (sym (eqb-true x 0 is)) refl
+  | inr p ↦ elim (cases_Bool (x == 13)) [
+    | inl is ↦ subst (Spreads xs a b c d) (sym (eqb-true x 13 is)) (sym (and_right a false refl))
+    | inr q ↦ elim (cases_Bool (x == 38)) [
+      | inl is ↦ subst (Spreads xs a b c d) (sym (eqb-true x 38 is)) (at_reference (is_plain_reference xs) a b c d)
+      | inr r ↦ elim (cases_Bool (x == 60)) [
+        | inl is ↦ subst (Spreads xs a b c d) (sym (eqb-true x 60 is)) (at_tag (not (begins_other_tag xs)) a b c d)
+        | inr s ↦ elsewhere x xs a b c d p q r s
+      ]
+    ]
+  ]
+]
+
+each-of-four : (xs : List ℕ) → is_calm_text xs ≡ Each (is_calm_at 0 xs) (is_calm_at 13 xs) (is_calm_at 38 xs) (is_calm_at 60 xs)
+each-of-four [] = refl
+each-of-four (x ∷ xs) = ap (λ b. is_calm_byte x xs && b) (each-of-four xs) ∙ spreads x xs _ _ _ _
+
+pub calm-each : (xs ys : List ℕ) → xs ≡ ys → Each (is_calm_at 0 xs) (is_calm_at 13 xs) (is_calm_at 38 xs) (is_calm_at 60 xs) ≡ is_calm_text ys
+calm-each xs ys same = sym (each-of-four xs) ∙ ap is_calm_text same

@@ -143,6 +143,11 @@ is_calm_byte b after =
     else if b == less_than then not (begins_other_tag after)
     else not (b == 0 || b == carriage_return)
 
+-- this byte is calm wherever it stands
+abbrev pub is_calm_at : ℕ → List ℕ → Bool
+is_calm_at byte [] = true
+is_calm_at byte (b ∷ after) = (not (b == byte) || is_calm_byte b after) && is_calm_at byte after
+
 -- no byte 0 or 13, no `&` but of the five references, or with nothing after it that makes one, and no `<` of those other tags
 abbrev pub is_calm_text : List ℕ → Bool
 is_calm_text [] = true

@@ -167,9 +167,11 @@ impl Attrs {
     }
 }
 
-/// Takes all attributes out of a vector. One of at most three keeps its memory.
+/// Takes all attributes out of a vector, which keeps its memory if there are at most three. They
+/// are dropped where memory is refused.
 pub fn take_all(alloc: Global, items: &mut Vec<Attr>) -> Result<Attrs, OutOfMemory>
-    ensures { IfOk result (λ made. made ≡ items.old.items) }
+    ensures taken { IfOk result (λ made. made ≡ items.old.items) }
+    ensures emptied { items.new.items ≡ [] }
 {
     let form = if items.as_slice().len() <= 3 {
         AttrsForm::popped(alloc, items)?

@@ -1,6 +1,8 @@
 //! What can go wrong.
 
-use dom_query::{EditFault, MarkupFault, OutOfMemory, SelectionFault, SelectorFault};
+use dom_query::{
+    EditFault, MarkupFault, OutOfMemory, PageFault, SelectionFault, SelectorFault, WriteFault,
+};
 use std::io;
 
 #[derive(Debug, Drop, thiserror::Error)]
@@ -15,6 +17,10 @@ pub enum SampleFault {
     Selection(#[from] SelectionFault),
     #[error("out of memory")]
     Memory(#[from] OutOfMemory),
+    #[error("{0}")]
+    Write(#[from] WriteFault),
+    #[error("page: {0}")]
+    Page(#[from] PageFault),
     #[error("{0}")]
     Output(#[from] io::Error),
 }

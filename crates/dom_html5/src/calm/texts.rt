@@ -5,11 +5,11 @@ ghost use Rattle.std.specs.List.{list_all};
 ghost use Rattle.dom_markup.specs.Bytes.{is_whitespace};
 ghost use Rattle.dom_nodes.specs.Ascii.{greater_than};
 ghost use Rattle.dom_html5.specs.Calm.{begins_close, begins_foreign, begins_line, has_close};
-ghost use Rattle.dom_html5.specs.Calm.{is_bare, is_calm_byte, is_calm_text};
+ghost use Rattle.dom_html5.specs.Calm.{is_bare, is_calm_at, is_calm_byte, is_calm_text};
 ghost use Rattle.html5_trees.specs.Framed.{IsFramed};
 ghost use Rattle.dom_html5.specs.Calm.{begins_other_tag, is_plain_reference};
 
-use memchr::{memchr, memchr3};
+use memchr::memchr;
 
 /// How many bytes a framed page has at least.
 const LEAST: usize = 34;
@@ -33,16 +33,28 @@ pub fn is_framed(page: &str) -> bool
 pub fn is_calm_text(page: &str) -> bool
     ensures { result ≡ is_calm_text page.now }
 {
-    let mut rest = page.as_bytes();
-    if let Some(_) = memchr(0, rest) {
+    let bytes = page.as_bytes();
+    if !is_calm_at(0, bytes) {
         return false;
     }
-    while let Some(at) = memchr3(b'&', b'<', b'\r', rest) {
+    if !is_calm_at(b'\r', bytes) {
+        return false;
+    }
+    is_calm_at(b'&', bytes) && is_calm_at(b'<', bytes)
+}
+
+/// Whether this byte is calm wherever it stands.
+#[inline(always)]
+fn is_calm_at(byte: u8, bytes: &[u8]) -> bool
+    ensures { result ≡ is_calm_at byte bytes.now }
+{
+    let mut rest = bytes;
+    while let Some(at) = memchr(byte, rest) {
         let (_, marked) = rest.split_at(at);
-        let Some((first, after)) = marked.split_first() else {
+        let Some((_, after)) = marked.split_first() else {
             break;
         };
-        if !is_calm_byte(*first, after) {
+        if !is_calm_byte(byte, after) {
             return false;
         }
         rest = after;

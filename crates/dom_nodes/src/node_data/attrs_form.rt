@@ -128,7 +128,8 @@ impl AttrsForm {
     /// Takes all attributes out of a vector of at most three, which keeps its memory.
     pub(super) fn popped(alloc: Global, items: &mut Vec<Attr>) -> Result<AttrsForm, OutOfMemory>
         requires { length items.old.items ≤ 3 }
-        ensures { IfOk result (λ form. form_attrs form ≡ items.old.items) }
+        ensures taken { IfOk result (λ form. form_attrs form ≡ items.old.items) }
+        ensures emptied { items.new.items ≡ [] }
     {
         let Some(third) = items.pop() else {
             return Ok(AttrsForm::None);

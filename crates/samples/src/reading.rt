@@ -1,12 +1,12 @@
 //! Reading markup.
 
-use crate::fault::TourFault;
+use crate::fault::SampleFault;
 use dom_query::{Document, MarkupFaultKind};
 use std::alloc::Global;
 use std::io::Write;
 
 /// Prints the text of a page, and where a bad page is bad.
-pub fn print_page<W: Write>(alloc: Global, out: &mut W) -> Result<(), TourFault> {
+pub fn print_page<W: Write>(alloc: Global, out: &mut W) -> Result<(), SampleFault> {
     let document = Document::parse(alloc, "<h1 class='big'>Tea &amp; co</h1>")?;
     writeln!(out, "{}", document.root().text()?)?;
 

@@ -1,12 +1,12 @@
 //! Changing a tree.
 
-use crate::fault::TourFault;
+use crate::fault::SampleFault;
 use dom_query::{DescendantMatches, Document, EditFault, Matcher, NodeId, NodeMarkup, Tree};
 use std::alloc::Global;
 use std::io::Write;
 
 /// Prints a page before and after some changes.
-pub fn print_changed<W: Write>(alloc: Global, out: &mut W) -> Result<(), TourFault> {
+pub fn print_changed<W: Write>(alloc: Global, out: &mut W) -> Result<(), SampleFault> {
     let mut document = Document::parse(alloc, "<p>Hello</p><p>world</p>")?;
     let paragraphs = Matcher::new(alloc, "p")?;
     let Some(first) = DescendantMatches::new(document.root(), &paragraphs).next() else {
@@ -20,7 +20,7 @@ pub fn print_changed<W: Write>(alloc: Global, out: &mut W) -> Result<(), TourFau
 }
 
 /// Puts a word at the end of a paragraph.
-fn change<W: Write>(tree: &mut Tree, id: &NodeId, out: &mut W) -> Result<(), TourFault> {
+fn change<W: Write>(tree: &mut Tree, id: &NodeId, out: &mut W) -> Result<(), SampleFault> {
     let bold = tree.new_element("b")?;
     let bang = tree.new_text("!")?;
     tree.append_child_of(&bold, &bang)?;

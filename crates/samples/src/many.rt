@@ -1,6 +1,6 @@
 //! Changing many nodes.
 
-use crate::fault::TourFault;
+use crate::fault::SampleFault;
 use dom_query::{Document, DocumentSelect, NodeMarkup, SelectionMut};
 use std::alloc::Global;
 use std::io::Write;
@@ -8,7 +8,7 @@ use std::io::Write;
 const PAGE: &str = "<p><a href=/tea>Tea</a> or <a href=http://a.example/>coffee</a></p>";
 
 /// Prints a page whose links to other places were marked.
-pub fn print_marked<W: Write>(alloc: Global, out: &mut W) -> Result<(), TourFault> {
+pub fn print_marked<W: Write>(alloc: Global, out: &mut W) -> Result<(), SampleFault> {
     let mut document = Document::parse(alloc, PAGE)?;
     mark_links(&mut document)?;
     writeln!(out, "{}", document.root().html()?)?;
@@ -16,7 +16,7 @@ pub fn print_marked<W: Write>(alloc: Global, out: &mut W) -> Result<(), TourFaul
 }
 
 /// Marks the links to other places.
-fn mark_links(document: &mut Document) -> Result<(), TourFault> {
+fn mark_links(document: &mut Document) -> Result<(), SampleFault> {
     let outside = document.select("a[href^=http]")?.ids()?;
     let mut links = SelectionMut::new(&mut document.tree, outside);
     links.set_attr("target", "_blank")?;

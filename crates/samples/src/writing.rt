@@ -1,12 +1,12 @@
 //! Writing HTML.
 
-use crate::fault::TourFault;
+use crate::fault::SampleFault;
 use dom_query::{Document, NodeMarkup, NodeRef, TraversalScope};
 use std::alloc::Global;
 use std::io::Write;
 
 /// Prints the HTML of a node, and of what is below it.
-pub fn print_written<W: Write>(alloc: Global, out: &mut W) -> Result<(), TourFault> {
+pub fn print_written<W: Write>(alloc: Global, out: &mut W) -> Result<(), SampleFault> {
     let document = Document::parse(alloc, "<div title='a \"b\"'>1 &lt; 2<br></div>")?;
     match document.root().first_child() {
         Some(div) => print_html(&div, out),
@@ -14,7 +14,7 @@ pub fn print_written<W: Write>(alloc: Global, out: &mut W) -> Result<(), TourFau
     }
 }
 
-fn print_html<W: Write>(div: &NodeRef<'_>, out: &mut W) -> Result<(), TourFault> {
+fn print_html<W: Write>(div: &NodeRef<'_>, out: &mut W) -> Result<(), SampleFault> {
     writeln!(out, "{}", div.html()?)?;
     writeln!(out, "{}", div.inner_html()?)?;
     // Straight to a writer, without a string between.
