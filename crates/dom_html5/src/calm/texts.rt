@@ -4,7 +4,7 @@ ghost use Rattle.std.specs.Prelude.{◌≡◌, ◌==◌, ◌↔◌, IsTrue, not}
 ghost use Rattle.std.specs.List.{list_all};
 ghost use Rattle.dom_markup.specs.Bytes.{is_whitespace};
 ghost use Rattle.dom_nodes.specs.Ascii.{greater_than};
-ghost use Rattle.dom_html5.specs.Calm.{begins_close, begins_foreign, begins_line, has_close};
+ghost use Rattle.dom_html5.specs.Calm.{begins_close, begins_line, has_close};
 ghost use Rattle.dom_html5.specs.Calm.{is_bare, is_calm_at, is_calm_byte, is_calm_text};
 ghost use Rattle.html5_trees.specs.Framed.{IsFramed};
 ghost use Rattle.dom_html5.specs.Calm.{begins_other_tag, is_plain_reference};
@@ -81,18 +81,14 @@ fn is_calm_byte(byte: u8, after: &[u8]) -> bool
 fn begins_other_tag(after: &[u8]) -> bool
     ensures { result ≡ begins_other_tag after.now }
 {
-    begins_foreign(after)
-        || after.starts_with(b"select")
-        || after.starts_with(b"noscript")
-        || after.starts_with(b"template")
-        || after.starts_with(b"iframe")
-}
-
-/// Whether this follows the `<` of an element that holds foreign content.
-fn begins_foreign(after: &[u8]) -> bool
-    ensures { result ≡ begins_foreign after.now }
-{
-    after.starts_with(b"svg") || after.starts_with(b"math")
+    match after {
+        [b's', ..] => after.starts_with(b"svg") || after.starts_with(b"select"),
+        [b'm', ..] => after.starts_with(b"math"),
+        [b'n', ..] => after.starts_with(b"noscript"),
+        [b't', ..] => after.starts_with(b"template"),
+        [b'i', ..] => after.starts_with(b"iframe"),
+        _ => false,
+    }
 }
 
 /// Whether this follows an `&` of one of the five references, or one that stands for itself.
