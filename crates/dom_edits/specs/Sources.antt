@@ -4,16 +4,16 @@ use Rattle.dom_nodes.specs.declared.fault.EditFault.TheVariants.{UnknownNode}
 use Rattle.dom_links.specs.Copying.{AreNodesOf}
 use Rattle.dom_links.specs.Forest.{Forest}
 use Rattle.dom_links.specs.ListMoves.{SomeOf}
-use Rattle.dom_links.specs.Moves.{cut}
+use Rattle.dom_links.specs.Moves.{detach}
 use Rattle.dom_links.specs.declared.gap.Place.{Place}
 use Rattle.dom_edits.specs.declared.edit.SelectionFault.{SelectionFault}
 use Rattle.dom_edits.specs.declared.selection_mut.SelectionMut.{SelectionMut}
 use Rattle.dom_edits.specs.Edits.{Each, Stops, copying_to}
 
--- each of the nodes is cut out of its list, one after the other
+-- each of the nodes is detached, one after the other
 abbrev pub removed : List ℕ → Forest → Forest
 removed [] forest = forest
-removed (n ∷ ns) forest = removed ns (cut (n ∷ []) forest)
+removed (n ∷ ns) forest = removed ns (detach (n ∷ []) forest)
 
 -- nothing was done, for one of the source nodes is unknown
 pub record IsUnknownSource (sources : List ℕ) (old new : Forest) (stop : SelectionFault) : Type 0 where

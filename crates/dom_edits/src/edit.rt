@@ -18,7 +18,7 @@ pub enum Edit<'a> {
     Change(Change<'a>),
     /// Its text is set.
     SetText(&'a str),
-    /// It is cut out of its list.
+    /// It is detached.
     Remove,
     /// Its parent's children take the parent's place.
     Unwrap,

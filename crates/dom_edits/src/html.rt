@@ -42,7 +42,7 @@ impl<'a> SelectionMut<'a> {
         edit_each(self.tree, &self.nodes, Edit::Put(place, &snippet))
     }
 
-    /// Puts the markup in the place of the children. These are cut out, and are a run of their own.
+    /// Puts the markup in the place of the children. These are detached, and are a run of their own.
     pub fn set_html(&mut self, html: &str) -> Result<(), SelectionFault>
         ensures { PutsSelected result self.old self.new html.now InsteadOfChildren }
     {
@@ -77,7 +77,7 @@ impl<'a> SelectionMut<'a> {
         self.put_html(Place::After, html)
     }
 
-    /// Puts the markup in the place of the nodes, which are cut out, also where the markup is
+    /// Puts the markup in the place of the nodes, which are detached, also where the markup is
     /// empty.
     pub fn replace_with_html(&mut self, html: &str) -> Result<(), SelectionFault>
         ensures { PutsSelected result self.old self.new html.now InsteadOfNode }

@@ -87,7 +87,7 @@ impl<'a> SelectionMut<'a> {
         self.copy_reversed(sources)
     }
 
-    /// Puts copies of the source nodes in the place of the nodes, each of which is cut out at its
+    /// Puts copies of the source nodes in the place of the nodes, each of which is detached at its
     /// turn.
     pub fn replace_with_selection(&mut self, sources: &[NodeId]) -> Result<(), SelectionFault>
         ensures { TransfersSelected result self.old self.new sources.now sources.now InsteadOfNode }

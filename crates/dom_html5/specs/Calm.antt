@@ -17,15 +17,15 @@ use Rattle.dom_markup.specs.ValueTrees.{Attribute, ValueTrees}
 use Rattle.dom_markup.specs.ValueTrees.ValueTrees.{no_trees, text_node, comment_node, doctype_node, element_node}
 use Rattle.html5_trees.specs.ElementKinds.{holds_comments, holds_doctype, holds_flow, holds_parts, kind_of, may_hold}
 use Rattle.html5_trees.specs.Framed.{IsFramed}
-use Rattle.html5_trees.specs.declared.element_kinds.Kind.{Kind}
-use Rattle.html5_trees.specs.declared.element_kinds.Kind.TheVariants.{Anchor, Block, Button, DescriptionList, Document, Form, Heading, Html, ItemList, Paragraph, Pre, Table, Verbatim}
+use Rattle.html5_trees.specs.declared.element_kinds.ElementCategory.{ElementCategory}
+use Rattle.html5_trees.specs.declared.element_kinds.ElementCategory.TheVariants.{Anchor, Block, Button, DescriptionList, Document, Form, Heading, Html, ItemList, Paragraph, Pre, Table, Verbatim}
 use Rattle.dom_html5.specs.declared.calm.nesting.Scope.{Scope}
 use Rattle.html5_trees.specs.declared.reading.Options.{Options}
 
 -- ---- trees
 
 -- an element that may not stand in one that is open
-abbrev pub bars : Scope → Kind → Bool
+abbrev pub bars : Scope → ElementCategory → Bool
 bars scope Anchor = scope.in_anchor
 bars scope Button = scope.in_button
 bars scope Form = scope.in_paragraph || scope.in_form
@@ -39,7 +39,7 @@ bars scope Table = scope.in_paragraph
 bars scope _ = false
 
 -- what the children of an element of that kind stand in
-abbrev pub inside : Scope → Kind → Scope
+abbrev pub inside : Scope → ElementCategory → Scope
 inside scope Anchor = record scope { parent = Anchor; in_anchor = true }
 inside scope Button = record scope { parent = Button; in_button = true }
 inside scope Form = record scope { parent = Form; in_form = true }
@@ -50,7 +50,7 @@ inside scope kind = record scope { parent = kind }
 abbrev pub top : Scope
 top = record { parent = Document; in_paragraph = false; in_anchor = false; in_button = false; in_form = false }
 
-abbrev pub admits : Scope → Kind → Bool
+abbrev pub admits : Scope → ElementCategory → Bool
 admits scope kind = may_hold scope.parent kind && not (bars scope kind)
 
 -- a `<` in front of this begins an end tag or a declaration
@@ -68,13 +68,13 @@ begins_line [] = false
 begins_line (b ∷ rest) = b == line_feed
 
 -- a child of such an element may be this text: whitespace alone where no text is shown
-abbrev pub may_hold_text : Kind → List ℕ → Bool
+abbrev pub may_hold_text : ElementCategory → List ℕ → Bool
 may_hold_text Html contents = list_all is_whitespace contents
 may_hold_text Verbatim contents = not (has_close contents)
 may_hold_text Pre contents = not (begins_line contents)
 may_hold_text parent contents = if holds_parts parent then list_all is_whitespace contents else holds_flow parent
 
-abbrev pub may_hold_comment : Kind → List ℕ → Bool
+abbrev pub may_hold_comment : ElementCategory → List ℕ → Bool
 may_hold_comment parent contents = holds_comments parent && list_all (λ b. not (b == greater_than)) contents
 
 -- the trees may stand there, and so may what is in them

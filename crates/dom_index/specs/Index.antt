@@ -5,8 +5,8 @@ use Rattle.std.specs.Borrow.{Bor}
 use Rattle.dom_links.specs.Forest.{Forest}
 use Rattle.dom_nodes.specs.declared.indexes.IndexKind.{IndexKind}
 use Rattle.dom_links.specs.Indexes.{index_at}
-use Rattle.dom_links.specs.Lists.{stands_in}
-use Rattle.dom_links.specs.Trees.{walk_below}
+use Rattle.dom_links.specs.Lists.{is_member}
+use Rattle.dom_links.specs.Trees.{descendants_in_order}
 use Rattle.dom_trees.specs.declared.node_ref.NodeRef.{NodeRef}
 use Rattle.dom_trees.specs.Views.{refs_to}
 use Rattle.dom_selectors.specs.Syntax.{SelectorList}
@@ -35,7 +35,7 @@ SelectsByIndex result roots selector old new =
 
 -- m is n or a descendant of it
 abbrev pub IsAtOrBelow : Forest → ℕ → ℕ → Type 0
-IsAtOrBelow forest n m = (m ≡ n) ⊎ (stands_in m (walk_below forest n) ≡ true)
+IsAtOrBelow forest n m = (m ≡ n) ⊎ (is_member m (descendants_in_order forest n) ≡ true)
 
 -- the greatest position at or below n
 pub record IsLastBelow (forest : Forest) (n last : ℕ) : Type 0 where

@@ -2,8 +2,8 @@
 use Rattle.std.specs.Prelude.{ℕ, ◌≡◌, ◌≢◌, ◌<◌, ◌+◌, Bool, false, true, List, [], ◌∷◌, Option, Some, None, length, slice_get, slice_index_or, slice_range}
 use Rattle.dom_nodes.specs.declared.node_data.NodeData.{NodeData}
 use Rattle.dom_links.specs.Forest.{Forest, parent, siblings}
-use Rattle.dom_links.specs.Lists.{before, stands_in}
-use Rattle.dom_links.specs.Trees.{ancestors, walk_below}
+use Rattle.dom_links.specs.Lists.{before, is_member}
+use Rattle.dom_links.specs.Trees.{ancestors, descendants_in_order}
 use Rattle.dom_links.specs.Walk.{IsWithin}
 use Rattle.dom_index.specs.declared.preorder.Traversal.{Traversal}
 use Rattle.dom_index.specs.TypeBytes.{byte_at, is_type_byte}
@@ -30,8 +30,8 @@ pub record IsTraversed (forest : Forest) (traversal : Traversal) : Type 0 where
 -- others the subtree ends are written
 pub record AreSubtreeEnds (forest : Forest) (path : List ℕ) (visited ahead : ℕ) (subtree_ends : List ℕ) : Type 0 where
   pub long : length subtree_ends ≡ length forest.content
-  pub begun : (n : ℕ) → stands_in n path ≡ true → (i : ℕ) × (i < visited) × (number_at (preorder forest) i ≡ n) × (i + 1 + length (walk_below forest n) + length (run_past forest (n ∷ ancestors forest n)) ≡ visited + ahead)
-  pub answer : (i : ℕ) → i < visited → stands_in (number_at (preorder forest) i) path ≡ false → number_at subtree_ends (number_at (preorder forest) i) ≡ i + length (walk_below forest (number_at (preorder forest) i))
+  pub begun : (n : ℕ) → is_member n path ≡ true → (i : ℕ) × (i < visited) × (number_at (preorder forest) i ≡ n) × (i + 1 + length (descendants_in_order forest n) + length (run_past forest (n ∷ ancestors forest n)) ≡ visited + ahead)
+  pub answer : (i : ℕ) → i < visited → is_member (number_at (preorder forest) i) path ≡ false → number_at subtree_ends (number_at (preorder forest) i) ≡ i + length (descendants_in_order forest (number_at (preorder forest) i))
 
 -- the same where n was visited last: the path is from it up
 abbrev pub AreEndsBehind : Forest → ℕ → ℕ → List ℕ → Type 0
@@ -78,14 +78,14 @@ PlacesMakeOrder forest = (places : List ℕ) → ArePlaces forest (preorder fore
 
 -- a node of an earlier run starts none
 abbrev pub VisitedStartNoRun : Forest → Type 0
-VisitedStartNoRun forest = (n : ℕ) → n < length forest.content → stands_in n (preorder_to forest n) ≡ true → starts_run forest n ≡ false
+VisitedStartNoRun forest = (n : ℕ) → n < length forest.content → is_member n (preorder_to forest n) ≡ true → starts_run forest n ≡ false
 
 -- the descendants of each node stand right after it, up to its subtree end
 pub record AreSpans (forest : Forest) (order places subtree_ends : List ℕ) : Type 0 where
   pub long : length subtree_ends ≡ length forest.content
-  pub last : (n : ℕ) → n < length forest.content → number_at subtree_ends n ≡ number_at places n + length (walk_below forest n)
+  pub last : (n : ℕ) → n < length forest.content → number_at subtree_ends n ≡ number_at places n + length (descendants_in_order forest n)
   pub fits : (n : ℕ) → n < length forest.content → number_at subtree_ends n < length forest.content
-  pub below : (n : ℕ) → n < length forest.content → slice_range order (number_at places n + 1) (number_at subtree_ends n + 1) ≡ walk_below forest n
+  pub below : (n : ℕ) → n < length forest.content → slice_range order (number_at places n + 1) (number_at subtree_ends n + 1) ≡ descendants_in_order forest n
 
 -- of the nodes of the set at the first `count` positions, the subtrees end before `end`
 pub record IsEnd (forest : Forest) (places subtree_ends : List ℕ) (table : List Bool) (count end : ℕ) : Type 0 where

@@ -3,7 +3,7 @@ use Rattle.std.specs.Prelude.{ℕ, ◌≡◌, ◌<◌, Bool, true, List, length}
 use Rattle.std.specs.Global.{Vec}
 use Rattle.std.specs.List.{flat_map}
 use Rattle.dom_links.specs.Forest.{Forest}
-use Rattle.dom_links.specs.Trees.{walk_below}
+use Rattle.dom_links.specs.Trees.{descendants_in_order}
 use Rattle.dom_selectors.specs.declared.syntax.Combinator.{Combinator}
 use Rattle.dom_selectors.specs.declared.syntax.Compound.{Compound}
 use Rattle.dom_selectors.specs.declared.syntax.Nested.{Nested}
@@ -44,14 +44,14 @@ HaveRightOperand preorder k table = IsSetWhere preorder (λ forest. HasRightOper
 
 -- the elements of the set below the roots, each once, in the order of the traversals
 abbrev pub collected_below : Preorder → List Bool → List ℕ → List ℕ
-collected_below preorder table roots = collected preorder.tree.now table (flat_map (walk_below preorder.tree.now) roots)
+collected_below preorder table roots = collected preorder.tree.now table (flat_map (descendants_in_order preorder.tree.now) roots)
 
 -- those below one root, and what remains of the set without them
 abbrev pub collected_at : Preorder → List Bool → ℕ → List ℕ
-collected_at preorder table root = collected preorder.tree.now table (walk_below preorder.tree.now root)
+collected_at preorder table root = collected preorder.tree.now table (descendants_in_order preorder.tree.now root)
 
 abbrev pub left_at : Preorder → List Bool → ℕ → List Bool
-left_at preorder table root = set_left preorder.tree.now table (walk_below preorder.tree.now root)
+left_at preorder table root = set_left preorder.tree.now table (descendants_in_order preorder.tree.now root)
 
 -- the nested lists match at each node of the set
 abbrev pub AllListsHold : Preorder → List Nested → List Bool → Type 0

@@ -6,7 +6,7 @@ ghost use Rattle.dom_index.specs.Tracks.{AreChainsOf, IsPrepared};
 
 use crate::counting::count_compound;
 use crate::node_tests::NodeTest;
-use crate::ways::has_has_before;
+use crate::strategies::has_has_before;
 use dom_nodes::fault::OutOfMemory;
 use dom_selectors::syntax::{Combinator, Compound, Selector, Step};
 use dom_trees::tree::Tree;

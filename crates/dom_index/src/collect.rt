@@ -2,8 +2,8 @@
 
 ghost use Rattle.std.specs.Prelude.{◌≡◌, ◌<◌, ◌++◌, ◌&&◌, ℕ, length, true, IfOk, OnOk};
 ghost use Rattle.dom_links.specs.ListMoves.{element_at};
-ghost use Rattle.dom_links.specs.Lists.{stands_in};
-ghost use Rattle.dom_links.specs.Trees.{walk_below};
+ghost use Rattle.dom_links.specs.Lists.{is_member};
+ghost use Rattle.dom_links.specs.Trees.{descendants_in_order};
 ghost use Rattle.dom_index.specs.NodeSets.{in_set};
 ghost use Rattle.dom_index.specs.PreorderSets.{collected_at, collected_below, left_at};
 
@@ -73,7 +73,7 @@ fn is_element_in(preorder: &Preorder<'_>, table: &[bool], id: NodeId) -> bool
 
 /// States that a traversal visits nodes of the tree. It does nothing.
 pub(crate) fn walk_laws(tree: &Tree)
-    ensures { (n m : ℕ) → stands_in m (walk_below tree.now n) ≡ true
+    ensures { (n m : ℕ) → is_member m (descendants_in_order tree.now n) ≡ true
         → m < length tree.now.content }
 {
     let _nodes = tree.nodes();

@@ -2,7 +2,7 @@
 
 ghost use Rattle.std.specs.Prelude.{◌≡◌, ◌≤◌, ◌+◌, ◌*◌, length, IfOk};
 ghost use Rattle.dom_selectors.specs.ValuesAsTrees.{read_list, read_nested, read_steps};
-ghost use Rattle.dom_select.specs.Meaning.{HasHolds, ListHolds, Means};
+ghost use Rattle.dom_select.specs.Meaning.{HasHolds, ListHolds, MatchesNode};
 ghost use Rattle.dom_index.specs.PreorderSets.{ChainAsks, CompoundAsks, HasAsks, HasWanted};
 ghost use Rattle.dom_index.specs.PreorderSets.{IsFiltered, IsSetWhere, ListAsks, ListsAsk};
 ghost use Rattle.dom_index.specs.PreorderSets.{RelativeAsks, RestAsks, SelectorsAsk, node_count};
@@ -109,7 +109,7 @@ pub(crate) fn list_set(
 ) -> Result<Vec<bool>, OutOfMemory>
     requires { length wanted.now ≡ length preorder.now.tree.now.content }
     ensures table { IfOk result
-        (HasWanted preorder.now wanted.now (Means (read_list selectors.now))) }
+        (HasWanted preorder.now wanted.now (MatchesNode (read_list selectors.now))) }
     ensures counted { Counts result tests.old tests.new
         (SelectorsAsk selectors.now preorder.now wanted.now) }
     ensures tests { tests.new

@@ -2,8 +2,8 @@
 
 ghost use Rattle.std.specs.Prelude.{◌≡◌, ◌≤◌, ◌*◌, length, slice_get, IfOk};
 ghost use Rattle.std.specs.Iterator.{YieldsFirst, item_count};
-ghost use Rattle.dom_links.specs.Lists.{stands_in};
-ghost use Rattle.dom_links.specs.Trees.{walk_below};
+ghost use Rattle.dom_links.specs.Lists.{is_member};
+ghost use Rattle.dom_links.specs.Trees.{descendants_in_order};
 ghost use Rattle.dom_select.specs.Selected.{Selected};
 ghost use Rattle.dom_index.specs.TestCounts.{Counts, SelectionTests};
 ghost use Rattle.dom_index.specs.CompoundCounts.{selectors_count};
@@ -136,7 +136,7 @@ impl<'a> TreeIndex<'a> {
 
     /// Whether y is a descendant of x.
     pub fn is_below(&self, x: &NodeId, y: &NodeId) -> bool
-        ensures { result ≡ stands_in y.now (walk_below self.now.tree.now x.now) }
+        ensures { result ≡ is_member y.now (descendants_in_order self.now.tree.now x.now) }
     {
         is_within(&self.preorder, x.value(), y.value())
     }
@@ -156,7 +156,7 @@ impl<'a> TreeIndex<'a> {
 
     /// The descendants of a node, in preorder. It takes no memory.
     pub fn descendants(&self, id: &NodeId) -> IndexedNodes<'_>
-        ensures { result ≡ walk_below self.now.tree.now id.now }
+        ensures { result ≡ descendants_in_order self.now.tree.now id.now }
     {
         IndexedNodes {
             ids: below(&self.preorder, *id),
@@ -188,7 +188,7 @@ fn written(places: &[u32], n: usize) -> Option<usize>
 
 /// Whether y is a descendant of x, by their positions.
 fn is_within(preorder: &Preorder<'_>, x: usize, y: usize) -> bool
-    ensures { result ≡ stands_in y (walk_below preorder.now.tree.now x) }
+    ensures { result ≡ is_member y (descendants_in_order preorder.now.tree.now x) }
 {
     forest_laws(preorder.tree);
     let count = preorder.order.len();

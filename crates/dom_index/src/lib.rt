@@ -11,6 +11,6 @@ mod node_set;
 mod node_tests;
 mod preorder;
 pub mod selecting;
+mod strategies;
 mod streaming;
 mod type_filter;
-mod ways;

@@ -4,9 +4,9 @@ ghost use Rattle.std.specs.Prelude.{◌≡◌, ◌<◌, ◌≤◌, ◌+◌, ◌�
 ghost use Rattle.std.specs.Prelude.{IfOk, Some};
 ghost use Rattle.dom_links.specs.Forest.{children_of, parent};
 ghost use Rattle.dom_links.specs.Laws.{AreLines, AreTrees};
-ghost use Rattle.dom_links.specs.Lists.{IsDistinct, first, stands_in};
+ghost use Rattle.dom_links.specs.Lists.{IsDistinct, first, is_member};
 ghost use Rattle.dom_links.specs.Sound.{IsForest};
-ghost use Rattle.dom_links.specs.Trees.{ancestors, walk_below};
+ghost use Rattle.dom_links.specs.Trees.{ancestors, descendants_in_order};
 ghost use Rattle.dom_index.specs.TypeBytes.{AreTypeBytes};
 ghost use Rattle.dom_index.specs.Orders.{AreEndsBefore, AreEndsBehind, AreSpans, HasVisitedTo};
 ghost use Rattle.dom_index.specs.Orders.{IsAt, IsOrder, IsTraversed, PlacesMakeOrder};
@@ -246,10 +246,10 @@ impl<'a> Preorder<'a> {
 fn order_laws(tree: &Tree)
     ensures long { length (preorder tree.now) ≡ length tree.now.content }
     ensures once { IsDistinct (preorder tree.now) }
-    ensures inside { (n : ℕ) → stands_in n (preorder tree.now) ≡ true
+    ensures inside { (n : ℕ) → is_member n (preorder tree.now) ≡ true
         → n < length tree.now.content }
     ensures all { (n : ℕ) → n < length tree.now.content
-        → stands_in n (preorder tree.now) ≡ true }
+        → is_member n (preorder tree.now) ≡ true }
     ensures order { PlacesMakeOrder tree.now }
 {
     forest_laws(tree);
@@ -257,7 +257,7 @@ fn order_laws(tree: &Tree)
 
 /// The descendants of a node, in preorder.
 pub(crate) fn below<'i>(preorder: &'i Preorder<'_>, id: NodeId) -> &'i [NodeId]
-    ensures { result.now ≡ walk_below preorder.now.tree.now id }
+    ensures { result.now ≡ descendants_in_order preorder.now.tree.now id }
 {
     none_below_law(preorder.tree, id);
     let n = id.value();
@@ -271,7 +271,7 @@ pub(crate) fn below<'i>(preorder: &'i Preorder<'_>, id: NodeId) -> &'i [NodeId]
 
 /// States that an unknown number has no descendants. It does nothing.
 fn none_below_law(tree: &Tree, id: NodeId)
-    ensures { length tree.now.content ≤ id → walk_below tree.now id ≡ [] }
+    ensures { length tree.now.content ≤ id → descendants_in_order tree.now id ≡ [] }
 {
     forest_laws(tree);
 }

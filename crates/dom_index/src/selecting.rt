@@ -9,8 +9,8 @@ ghost use Rattle.dom_trees.specs.Views.{refs_to};
 
 use crate::counting::count_compounds;
 use crate::index::TreeIndex;
+use crate::strategies::{are_traversed, matches_node_by_node};
 use crate::streaming::select_plain;
-use crate::ways::{are_asked_each, are_traversed};
 use dom_nodes::fault::OutOfMemory;
 use dom_nodes::node_id::NodeId;
 use dom_select::matcher::Matcher;
@@ -70,7 +70,7 @@ pub(crate) fn select_by_walk(
         ≤ tests.old + selectors_count matcher.now * length tree.now.content }
 {
     let selectors = matcher.selectors();
-    if are_asked_each(tree, roots, selectors) {
+    if matches_node_by_node(tree, roots, selectors) {
         *tests = tests.saturating_add(tests_of_each(tree, matcher));
         return Ok(Some(select_below_all(tree, roots, matcher)?));
     }

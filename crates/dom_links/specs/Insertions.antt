@@ -6,14 +6,14 @@ use Rattle.dom_links.specs.Copies.{CopyCause, MayCopy, copied, copy_numbers}
 use Rattle.dom_links.specs.Forest.{Forest, children_of, forest_of}
 use Rattle.dom_links.specs.ListMoves.{AllowedList, element_at, wrapped}
 use Rattle.dom_links.specs.Lists.{first}
-use Rattle.dom_links.specs.Moves.{Gap, end_of, front_of, before_node, after_node, cut, moved_to}
+use Rattle.dom_links.specs.Moves.{InsertionPoint, end_of, front_of, before_node, after_node, detach, moved_to}
 use Rattle.dom_links.specs.Sound.{Edited, IsSoundArena, is_open}
 -- where new nodes go, as seen from a node
 pub use Rattle.dom_links.specs.declared.gap.Place.{Place}
 pub use Rattle.dom_links.specs.declared.gap.Place.TheVariants.{AtEnd as at_end, AtFront as at_front, Before as before_it, After as after_it, InsteadOfChildren as instead_of_children, InsteadOfNode as instead_of_node, Around as around_it}
 
 -- the gap that they go to, as seen from x
-abbrev pub gap_at : Place → ℕ → Gap
+abbrev pub gap_at : Place → ℕ → InsertionPoint
 gap_at at_end x = end_of x
 gap_at instead_of_children x = end_of x
 gap_at at_front x = front_of x
@@ -26,11 +26,11 @@ wrapped_by None x forest = forest
 wrapped_by (Some w) x forest = if element_at forest w then wrapped x w forest else forest
 
 -- the nodes go to the place, in their order. Round a node goes the first of them; else they are moved to the gap, and what they
--- stand instead of is cut out
+-- stand instead of is detached
 abbrev pub placed : Place → ℕ → List ℕ → Forest → Forest
-placed instead_of_children x new forest = moved_to new (end_of x) (cut (children_of forest x) forest)
-placed instead_of_node x new forest = cut (x ∷ []) (moved_to new (before_node x) forest)
-placed around_it x new forest = wrapped_by (first new) x (cut new forest)
+placed instead_of_children x new forest = moved_to new (end_of x) (detach (children_of forest x) forest)
+placed instead_of_node x new forest = detach (x ∷ []) (moved_to new (before_node x) forest)
+placed around_it x new forest = wrapped_by (first new) x (detach new forest)
 placed place x new forest = moved_to new (gap_at place x) forest
 
 -- nodes of an arena went to a place

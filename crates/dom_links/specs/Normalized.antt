@@ -2,10 +2,10 @@
 use Rattle.std.specs.Prelude.{ℕ, ◌==◌, ◌&&◌, not, Bool, true, false, List, [], ◌∷◌, ◌++◌, Option, filter, find, length, map, if◌then◌else◌}
 use Rattle.std.specs.Option.{option_map_or}
 use Rattle.dom_links.specs.Forest.{Forest}
-use Rattle.dom_links.specs.Lists.{stands_in, without, map_from}
+use Rattle.dom_links.specs.Lists.{is_member, without, map_from}
 use Rattle.dom_links.specs.SetTexts.{is_text_at, with_text_data}
 use Rattle.dom_links.specs.Texts.{text_at}
-use Rattle.dom_links.specs.Trees.{walk_below}
+use Rattle.dom_links.specs.Trees.{descendants_in_order}
 use Rattle.dom_links.specs.Walk.{later}
 
 -- a text that holds nothing
@@ -34,14 +34,14 @@ joined forest n = if starts_text_run forest n then text_at forest n ++ front_tex
 abbrev pub dropped : Forest → List ℕ → List ℕ
 dropped forest ns = filter (λ n. is_text_at forest n && not (starts_text_run forest n)) ns
 
--- each text among the nodes holds what it then holds, and each that doesn't lead its row is cut out
+-- each text among the nodes holds what it then holds, and each that doesn't lead its row is detached
 abbrev pub joined_among : List ℕ → Forest → Forest
 joined_among ns forest = record {
-  content = map_from 0 (λ n content. if stands_in n ns then with_text_data (joined forest n) content else content) forest.content;
+  content = map_from 0 (λ n content. if is_member n ns then with_text_data (joined forest n) content else content) forest.content;
   children = map (without (dropped forest ns)) forest.children;
-  runs = map_from 0 (λ n run. if stands_in n (dropped forest ns) then n ∷ [] else without (dropped forest ns) run) forest.runs;
+  runs = map_from 0 (λ n run. if is_member n (dropped forest ns) then n ∷ [] else without (dropped forest ns) run) forest.runs;
 }
 
 -- the rows of texts below x are joined
 abbrev pub normalized : ℕ → Forest → Forest
-normalized x forest = joined_among (walk_below forest x) forest
+normalized x forest = joined_among (descendants_in_order forest x) forest

@@ -4,7 +4,7 @@ use Rattle.std.specs.Option.{option_map_or}
 use Rattle.dom_links.specs.Contents.{with_content}
 use Rattle.dom_links.specs.Forest.{Forest, siblings}
 use Rattle.dom_links.specs.Lists.{after}
-use Rattle.dom_links.specs.Moves.{cut}
+use Rattle.dom_links.specs.Moves.{detach}
 use Rattle.dom_links.specs.Normalized.{joined, starts_text_run}
 use Rattle.dom_links.specs.SetTexts.{is_text_at, with_text_data}
 use Rattle.dom_links.specs.declared.ops.normalize.Rewrite.{Rewrite}
@@ -30,8 +30,8 @@ listed (Some w) = w ∷ []
 abbrev pub rewrites : Forest → List ℕ → List Rewrite
 rewrites forest ns = map (rewrite forest) (filter (is_rewritten forest) ns)
 
--- the text holds that, and is cut out unless it stays
+-- the text holds that, and is detached unless it stays
 abbrev pub rewritten : Rewrite → Forest → Forest
 rewritten w forest =
     if w.stays then with_content w.id (with_text_data w.text) forest
-    else cut (w.id ∷ []) (with_content w.id (with_text_data w.text) forest)
+    else detach (w.id ∷ []) (with_content w.id (with_text_data w.text) forest)

@@ -10,7 +10,7 @@ use Rattle.dom_links.specs.Contents.{with_content}
 use Rattle.dom_links.specs.Forest.{Forest, children_of}
 use Rattle.dom_links.specs.Growth.{with_node}
 use Rattle.dom_links.specs.ListMoves.{element_at}
-use Rattle.dom_links.specs.Moves.{cut, end_of, moved_to}
+use Rattle.dom_links.specs.Moves.{detach, end_of, moved_to}
 
 -- a text of other contents; what is no text stays
 abbrev pub with_text_data : List ℕ → NodeData → NodeData
@@ -20,9 +20,9 @@ with_text_data text content = content
 abbrev pub is_text_at : Forest → ℕ → Bool
 is_text_at forest n = option_map_or is_text (slice_get forest.content n) false
 
--- the children of x are cut out, and a node that stands alone becomes its only child
+-- the children of x are detached, and a node that stands alone becomes its only child
 abbrev pub with_only_child : ℕ → ℕ → Forest → Forest
-with_only_child x child forest = moved_to (child ∷ []) (end_of x) (cut (children_of forest x) forest)
+with_only_child x child forest = moved_to (child ∷ []) (end_of x) (detach (children_of forest x) forest)
 
 -- an element has a new text in the place of its children, a text has other contents, and any other node stays
 abbrev pub with_text_content : ℕ → List ℕ → Forest → Forest

@@ -4,13 +4,13 @@ use Rattle.std.specs.Option.{option_and_then, option_map_or}
 use Rattle.dom_nodes.specs.Attrs.{name_in}
 use Rattle.dom_nodes.specs.Words.{is_among}
 use Rattle.dom_links.specs.Forest.{Forest, children_of}
-use Rattle.dom_links.specs.Moves.{before_node, cut, moved_to}
+use Rattle.dom_links.specs.Moves.{before_node, detach, moved_to}
 use Rattle.dom_links.specs.Sound.{IsForest}
-use Rattle.dom_links.specs.Trees.{walk_below}
+use Rattle.dom_links.specs.Trees.{descendants_in_order}
 
--- the children of p are put right before it, and p is cut out
+-- the children of p are put right before it, and p is detached
 abbrev pub dissolved : ℕ → Forest → Forest
-dissolved p forest = cut (p ∷ []) (moved_to (children_of forest p) (before_node p) forest)
+dissolved p forest = detach (p ∷ []) (moved_to (children_of forest p) (before_node p) forest)
 
 -- one node after the other is replaced by its children
 abbrev pub all_dissolved : List ℕ → Forest → Forest
@@ -23,10 +23,10 @@ is_named names forest n = option_map_or (λ name. is_among name names) (option_a
 
 -- each named element below x is replaced by its children
 abbrev pub stripped : List (List ℕ) → ℕ → Forest → Forest
-stripped names x forest = all_dissolved (filter (is_named names forest) (walk_below forest x)) forest
+stripped names x forest = all_dissolved (filter (is_named names forest) (descendants_in_order forest x)) forest
 
 -- what stripping comes to: the nodes below x are then those that weren't named, in their order; to strip again changes nothing
 pub record IsStripped (names : List (List ℕ)) (x : ℕ) (forest : Forest) : Type 0 where
   pub kept : IsForest (stripped names x forest)
-  pub left : walk_below (stripped names x forest) x ≡ filter (λ n. not (is_named names forest n)) (walk_below forest x)
+  pub left : descendants_in_order (stripped names x forest) x ≡ filter (λ n. not (is_named names forest n)) (descendants_in_order forest x)
   pub again : stripped names x (stripped names x forest) ≡ stripped names x forest

@@ -8,7 +8,7 @@ use Rattle.dom_nodes.specs.Ascii.{space}
 use Rattle.dom_nodes.specs.declared.node_data.NodeData.{NodeData}
 use Rattle.dom_nodes.specs.declared.node_data.NodeData.TheVariants.{Text}
 use Rattle.dom_links.specs.Forest.{Forest, children_of}
-use Rattle.dom_links.specs.Trees.{walk_below}
+use Rattle.dom_links.specs.Trees.{descendants_in_order}
 
 -- what a text holds; other nodes hold none
 abbrev pub text_in : NodeData → List ℕ
@@ -20,7 +20,7 @@ text_at forest n = option_map_or text_in (slice_get forest.content n) []
 
 -- the texts at n and below, in the order of the walk, joined; nothing for an unknown number
 abbrev pub text_of : Forest → ℕ → List ℕ
-text_of forest n = flat_map (text_at forest) (n ∷ walk_below forest n)
+text_of forest n = flat_map (text_at forest) (n ∷ descendants_in_order forest n)
 
 -- the texts among n and its children, joined
 abbrev pub immediate_text_of : Forest → ℕ → List ℕ

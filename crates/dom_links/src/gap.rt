@@ -8,7 +8,7 @@ use dom_nodes::node_id::NodeId;
 
 /// A place for nodes, given by a node: at an end of its children, or right beside it.
 #[derive(Clone, Copy)]
-pub enum Gap {
+pub enum InsertionPoint {
     EndOf(NodeId),
     FrontOf(NodeId),
     Before(NodeId),
@@ -18,7 +18,7 @@ pub enum Gap {
 /// What is moved, given by a node: it alone, it with its later siblings, or the whole list that it
 /// stands in.
 #[derive(Clone, Copy)]
-pub enum Moving {
+pub enum MovedNodes {
     Node(NodeId),
     WithLater(NodeId),
     WholeList(NodeId),
@@ -35,9 +35,9 @@ pub enum Place {
     Before,
     /// Right after it.
     After,
-    /// In the place of its children, which are cut out.
+    /// In the place of its children, which are detached.
     InsteadOfChildren,
-    /// In its own place. It is cut out, also where there are no new nodes.
+    /// In its own place. It is detached, also where there are no new nodes.
     InsteadOfNode,
     /// The first of them, where that is an element, goes right before the node, and the node to the
     /// end of its children. The others are a run of their own; all of them, where it is no element.
@@ -46,15 +46,15 @@ pub enum Place {
 
 impl Place {
     /// The gap that new nodes go to.
-    pub fn gap(self, x: NodeId) -> Gap
+    pub fn gap(self, x: NodeId) -> InsertionPoint
         ensures gap { result ≡ gap_at self x }
         ensures target { target result ≡ x }
     {
         match self {
-            Place::AtEnd | Place::InsteadOfChildren => Gap::EndOf(x),
-            Place::AtFront => Gap::FrontOf(x),
-            Place::Before | Place::InsteadOfNode | Place::Around => Gap::Before(x),
-            Place::After => Gap::After(x),
+            Place::AtEnd | Place::InsteadOfChildren => InsertionPoint::EndOf(x),
+            Place::AtFront => InsertionPoint::FrontOf(x),
+            Place::Before | Place::InsteadOfNode | Place::Around => InsertionPoint::Before(x),
+            Place::After => InsertionPoint::After(x),
         }
     }
 }

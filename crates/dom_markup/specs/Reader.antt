@@ -11,7 +11,7 @@ use Rattle.dom_nodes.specs.declared.node_data.NodeData.{NodeData}
 use Rattle.dom_nodes.specs.declared.node_data.NodeData.TheVariants.{Comment as AComment, Doctype as ADoctype, Text as AText}
 use Rattle.dom_trees.specs.NewNodes.{element_with, html_name}
 use Rattle.dom_markup.specs.Bytes.{folded}
-use Rattle.dom_markup.specs.Growing.{GrowsTo, plain_element}
+use Rattle.dom_markup.specs.TreeUnderConstruction.{GrowsTo, plain_element}
 use Rattle.dom_nodes.specs.Words.{is_among}
 use Rattle.dom_markup.specs.Names.{Mode, is_template, void_names}
 use Rattle.dom_markup.specs.ValueTrees.{Attribute, ValueTrees}

@@ -3,11 +3,11 @@ use Rattle.std.specs.Prelude.{ℕ, ◌≡◌, List, [], ◌∷◌, ◌++◌, Res
 use Rattle.dom_nodes.specs.declared.fault.EditFault.{EditFault}
 use Rattle.dom_nodes.specs.declared.fault.OutOfMemory.{OutOfMemory}
 use Rattle.dom_links.specs.Forest.{Forest, parent}
-use Rattle.dom_links.specs.declared.gap.Gap.{Gap}
-use Rattle.dom_links.specs.declared.gap.Gap.TheVariants.{Before, EndOf}
-use Rattle.dom_links.specs.declared.gap.Moving.TheVariants.{Node}
+use Rattle.dom_links.specs.declared.gap.InsertionPoint.{InsertionPoint}
+use Rattle.dom_links.specs.declared.gap.InsertionPoint.TheVariants.{Before, EndOf}
+use Rattle.dom_links.specs.declared.gap.MovedNodes.TheVariants.{Node}
 use Rattle.dom_trees.specs.Edits.{Edits, Makes, TreeEdit, moving_to}
-use Rattle.dom_trees.specs.Growing.{adding_text}
+use Rattle.dom_trees.specs.TreeUnderConstruction.{adding_text}
 use Rattle.dom_markup.specs.declared.document.Document.{Document}
 use Rattle.dom_markup.specs.declared.document.sink.NodeOrText.{NodeOrText}
 use Rattle.dom_markup.specs.declared.document.sink.NodeOrText.TheVariants.{AppendNode, AppendText}
@@ -38,14 +38,14 @@ pub record Notes (result : Result Unit OutOfMemory) (old new : Document) (messag
   pub quirks : new.quirks_mode ≡ old.quirks_mode
 
 -- a node goes to a gap, or a text comes to it
-abbrev pub putting : Gap → NodeOrText → TreeEdit
+abbrev pub putting : InsertionPoint → NodeOrText → TreeEdit
 putting gap (AppendNode n) = moving_to gap (Node n)
 putting gap (AppendText text) = adding_text gap text.now
 
 -- A node goes to a gap of the document's tree, or a text comes to it; the notes stay
-abbrev pub PutsIn : Gap → NodeOrText → Document → Document → Result Unit EditFault → Type 0
+abbrev pub PutsIn : InsertionPoint → NodeOrText → Document → Document → Result Unit EditFault → Type 0
 PutsIn gap child old new result = EditsIn result old new (putting gap child)
 
 -- before a node that has a parent; else at the end of another's children
-abbrev pub gap_by_parent : Forest → ℕ → ℕ → Gap
+abbrev pub gap_by_parent : Forest → ℕ → ℕ → InsertionPoint
 gap_by_parent forest n other = if is_some (parent forest n) then Before n else EndOf other

@@ -6,8 +6,8 @@ use Rattle.dom_markup.specs.References.{decoded}
 use Rattle.dom_markup.specs.Markup.{Item, Begins, mode_after}
 use Rattle.dom_markup.specs.Markup.Item.{start_tag, end_tag, characters, comment, doctype}
 use Rattle.dom_markup.specs.declared.document.doctypes.Doctype.{Doctype}
-use Rattle.dom_markup.specs.declared.document.within.Within.{Within}
-use Rattle.dom_markup.specs.declared.document.within.Within.TheVariants.{Markup, Text, RawText}
+use Rattle.dom_markup.specs.declared.document.within.ContentModel.{ContentModel}
+use Rattle.dom_markup.specs.declared.document.within.ContentModel.TheVariants.{Markup, Text, RawText}
 use Rattle.dom_markup.specs.declared.document.tokens.TokenKind.{TokenKind}
 use Rattle.dom_markup.specs.declared.document.tokens.TokenKind.TheVariants as kinds
 
@@ -18,7 +18,7 @@ pub record Unread : Type 0 where
   pub mode : Mode
 
 -- the mode of an element whose name is given as it is written
-abbrev pub mode_of : Within → Mode
+abbrev pub mode_of : ContentModel → Mode
 mode_of Markup = markup
 mode_of (Text name) = text_of (folded name.now)
 mode_of (RawText name) = raw_text_of (folded name.now)

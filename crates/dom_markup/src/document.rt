@@ -30,7 +30,7 @@ mod within;
 use crate::document::reader::Reader;
 use crate::document::scan::estimate_nodes;
 pub use crate::document::tokens::{Token, TokenKind, Tokens};
-use crate::document::within::Within;
+use crate::document::within::ContentModel;
 use crate::laws::faults::kinds_of_faults;
 use crate::laws::plain::{documents_without_identifiers_are_plain, spelled_documents_are_the_same};
 use crate::serializing::NodeMarkup;
@@ -97,7 +97,7 @@ impl Document {
         };
         reader.tree.reserve(estimate_nodes(source));
         let mut left = source;
-        let mut within = Within::Markup;
+        let mut within = ContentModel::Markup;
         while !left.is_empty() {
             match reader.read(alloc, left, within) {
                 Ok(behind) => {

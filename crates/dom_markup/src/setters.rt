@@ -25,7 +25,7 @@ pub trait NodeMutMarkup {
     // The node, with its tree.
     ghost node: { Self → NodeMut };
 
-    /// Puts the markup in the place of the children. These are cut out, and are a run of their own.
+    /// Puts the markup in the place of the children. These are detached, and are a run of their own.
     fn set_html(&mut self, html: &str) -> Result<(), EditFault>
         ensures { PutsHtml InsteadOfChildren html.now (node self.old) (node self.new) result };
 
@@ -45,7 +45,7 @@ pub trait NodeMutMarkup {
     fn after_html(&mut self, html: &str) -> Result<(), EditFault>
         ensures { PutsHtml After html.now (node self.old) (node self.new) result };
 
-    /// Puts the markup in the place of the node, which is cut out. Markup without nodes changes
+    /// Puts the markup in the place of the node, which is detached. Markup without nodes changes
     /// nothing.
     fn replace_with_html(&mut self, html: &str) -> Result<(), EditFault>
         ensures { EditsByHtml result (node self.old) (node self.new) html.now

@@ -2,7 +2,7 @@
 use Rattle.std.specs.Prelude.{◌≡◌, ◌<◌, ℕ, List, [], ◌∷◌, false, true, length, map}
 use Rattle.std.specs.Borrow.{Bor}
 use Rattle.dom_links.specs.Forest.{Forest}
-use Rattle.dom_links.specs.Lists.{stands_in, IsDistinct}
+use Rattle.dom_links.specs.Lists.{is_member, IsDistinct}
 use Rattle.dom_links.specs.Trees.{trees, walk}
 use Rattle.dom_links.specs.Walk.{later}
 use Rattle.dom_trees.specs.declared.node_ref.NodeRef.{NodeRef}
@@ -37,8 +37,8 @@ IsFoundByNames names forest x found = IsFound (map named names) forest x found
 
 -- the nodes are those that the path reaches from x, each once
 pub record AreLedTo (minis : List Mini) (forest : Forest) (x : ℕ) (found : List ℕ) : Type 0 where
-  pub led : (n : ℕ) → stands_in n found ≡ true → PathLeads minis forest x n
-  pub all : (n : ℕ) → PathLeads minis forest x n → stands_in n found ≡ true
+  pub led : (n : ℕ) → is_member n found ≡ true → PathLeads minis forest x n
+  pub all : (n : ℕ) → PathLeads minis forest x n → is_member n found ≡ true
   pub once : IsDistinct found
 
 -- these are the nodes, in the tree, that the names reach

@@ -4,7 +4,7 @@ use Rattle.std.specs.List.{flat_map}
 use Rattle.dom_links.specs.Forest.{Forest}
 use Rattle.dom_links.specs.Lists.{without}
 use Rattle.dom_selectors.specs.Syntax.{SelectorList}
-use Rattle.dom_select.specs.Meaning.{Means}
+use Rattle.dom_select.specs.Meaning.{MatchesNode}
 use Rattle.dom_select.specs.Selected.{FiltersTo, Selected, first_occurrences}
 use Rattle.dom_selection.specs.Selections.{child_elements, element_after, element_before, elements_above, parent_node}
 use Rattle.dom_script.specs.declared.script.Navigation.{Navigation}
@@ -22,7 +22,7 @@ Added forest (n ∷ ns) selector selected =
 abbrev pub QueryResult : Forest → List ℕ → QueryKind → SelectorList → List ℕ → Type 0
 QueryResult forest selection Select selector selected = Selected forest (0 ∷ []) selector selected
 QueryResult forest selection Find selector selected = Selected forest selection selector selected
-QueryResult forest selection Filter selector selected = FiltersTo (Means selector forest) selection selected
+QueryResult forest selection Filter selector selected = FiltersTo (MatchesNode selector forest) selection selected
 QueryResult forest selection Add selector selected = Added forest selection selector selected
 
 -- the nodes that a step gives for each of the nodes, one after the other, each node once

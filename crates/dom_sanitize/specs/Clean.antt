@@ -9,8 +9,8 @@ use Rattle.dom_nodes.specs.declared.node_data.NodeData.TheVariants.{Element as A
 use Rattle.dom_nodes.specs.Changes.{only_names, with_attrs}
 use Rattle.dom_nodes.specs.Words.{is_among}
 use Rattle.dom_links.specs.Forest.{Forest, children_of, parent, run_of}
-use Rattle.dom_links.specs.Lists.{stands_in}
-use Rattle.dom_links.specs.Trees.{walk_below}
+use Rattle.dom_links.specs.Lists.{is_member}
+use Rattle.dom_links.specs.Trees.{descendants_in_order}
 use Rattle.dom_sanitize.specs.declared.plan.Fate.{Fate}
 use Rattle.dom_sanitize.specs.declared.plan.Fate.TheVariants.{Stay, Unwrap, Vanish}
 use Rattle.dom_sanitize.specs.declared.sanitize.Allow.{Allow}
@@ -69,14 +69,14 @@ pub data Clean (allow : Lists) (old new : Forest) : List ℕ → List ℕ → Ty
       Clean allow old new (children_of old n) ks →
       Clean allow old new ns ms → Clean allow old new (n ∷ ns) (ks ++ ms)
   vanishes : (n : ℕ) (ns ms : List ℕ) → fate_at allow old n ≡ Vanish →
-      ((m : ℕ) → stands_in m (n ∷ walk_below old n) ≡ true → IsLeft old new m) →
+      ((m : ℕ) → is_member m (n ∷ descendants_in_order old n) ≡ true → IsLeft old new m) →
       Clean allow old new ns ms → Clean allow old new (n ∷ ns) ms
 
--- The tree below the root is cleaned. The root's own data and all that isn't below the root are as they were; what was cut
+-- The tree below the root is cleaned. The root's own data and all that isn't below the root are as they were; what was detached
 -- out stands alone
 pub record Cleaned (allow : Lists) (old new : Forest) : Type 0 where
   pub below : Clean allow old new (children_of old 0) (children_of new 0)
   pub root : slice_get new.content 0 ≡ slice_get old.content 0
-  pub elsewhere : (n : ℕ) → n ≢ 0 → stands_in n (walk_below old 0) ≡ false → IsLeft old new n
-  pub beside : (n : ℕ) → stands_in n (walk_below old 0) ≡ false → run_of new n ≡ run_of old n
-  pub alone : (n : ℕ) → stands_in n (walk_below old 0) ≡ true → parent new n ≡ None → run_of new n ≡ n ∷ []
+  pub elsewhere : (n : ℕ) → n ≢ 0 → is_member n (descendants_in_order old 0) ≡ false → IsLeft old new n
+  pub beside : (n : ℕ) → is_member n (descendants_in_order old 0) ≡ false → run_of new n ≡ run_of old n
+  pub alone : (n : ℕ) → is_member n (descendants_in_order old 0) ≡ true → parent new n ≡ None → run_of new n ≡ n ∷ []

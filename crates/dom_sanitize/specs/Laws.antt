@@ -3,10 +3,10 @@ use Rattle.std.specs.Prelude.{ℕ, ◌≡◌, true, List, [], ◌++◌, Some, sl
 use Rattle.std.specs.Option.{option_map}
 use Rattle.dom_nodes.specs.declared.node_data.NodeData.TheVariants.{Text}
 use Rattle.dom_links.specs.Forest.{Forest, children_of}
-use Rattle.dom_links.specs.Lists.{stands_in}
+use Rattle.dom_links.specs.Lists.{is_member}
 use Rattle.dom_links.specs.Sound.{IsForest}
 use Rattle.dom_links.specs.Texts.{text_at, text_of}
-use Rattle.dom_links.specs.Trees.{NoTrees, Tree, Trees, trees, walk_below}
+use Rattle.dom_links.specs.Trees.{NoTrees, Tree, Trees, trees, descendants_in_order}
 use Rattle.dom_sanitize.specs.Clean.{Cleaned, Lists, fate_at, kept}
 use Rattle.dom_sanitize.specs.declared.plan.Fate.{Fate}
 use Rattle.dom_sanitize.specs.declared.plan.Fate.TheVariants.{Stay, Vanish}
@@ -18,11 +18,11 @@ pub record IsAllowed (allow : Lists) (forest : Forest) (n : ℕ) : Type 0 where
 
 -- each node below the root is allowed
 abbrev pub AreAllowed : Lists → Forest → Type 0
-AreAllowed allow forest = (n : ℕ) → stands_in n (walk_below forest 0) ≡ true → IsAllowed allow forest n
+AreAllowed allow forest = (n : ℕ) → is_member n (descendants_in_order forest 0) ≡ true → IsAllowed allow forest n
 
 -- each node below the root was below it before
 abbrev pub NothingAppears : (old new : Forest) → Type 0
-NothingAppears old new = (n : ℕ) → stands_in n (walk_below new 0) ≡ true → stands_in n (walk_below old 0) ≡ true
+NothingAppears old new = (n : ℕ) → is_member n (descendants_in_order new 0) ≡ true → is_member n (descendants_in_order old 0) ≡ true
 
 -- cleaned again, it is as it was
 abbrev pub StaysClean : Lists → Forest → Type 0
@@ -48,7 +48,7 @@ KeepsText allow old new = text_of new 0 ≡ text_at old 0 ++ left_text allow old
 
 -- below the root stand texts alone
 abbrev pub HoldsTextsAlone : Forest → Type 0
-HoldsTextsAlone forest = (n : ℕ) → stands_in n (walk_below forest 0) ≡ true → (contents : List ℕ) × (slice_get forest.content n ≡ Some (Text contents))
+HoldsTextsAlone forest = (n : ℕ) → is_member n (descendants_in_order forest 0) ≡ true → (contents : List ℕ) × (slice_get forest.content n ≡ Some (Text contents))
 
 -- a law of a forest and what cleaning leaves of it
 abbrev pub OnceCleaned : Lists → Forest → Forest → Type 0 → Type 0

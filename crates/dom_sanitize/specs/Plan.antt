@@ -3,8 +3,8 @@ use Rattle.std.specs.Prelude.{ℕ, ◌+◌, ◌<◌, ◌≡◌, ◌==◌, ◌&&�
 use Rattle.dom_nodes.specs.Changes.{only_names, with_attrs}
 use Rattle.dom_links.specs.Contents.{with_content}
 use Rattle.dom_links.specs.Forest.{Forest, children_of}
-use Rattle.dom_links.specs.declared.gap.Gap.TheVariants.{FrontOf}
-use Rattle.dom_links.specs.Moves.{cut, moved_to}
+use Rattle.dom_links.specs.declared.gap.InsertionPoint.TheVariants.{FrontOf}
+use Rattle.dom_links.specs.Moves.{detach, moved_to}
 use Rattle.dom_links.specs.Sound.{AtOrBelow, children_allowed_at, stays}
 use Rattle.dom_links.specs.Trees.{Trees, NoTrees, Tree, trees, walk}
 use Rattle.dom_links.specs.Walk.{row_on}
@@ -77,7 +77,7 @@ all_done move [] forest = forest
 all_done move (step ∷ steps) forest = move step (all_done move steps forest)
 
 abbrev pub cut_one : Step → Forest → Forest
-cut_one step forest = cut (step.id ∷ []) forest
+cut_one step forest = detach (step.id ∷ []) forest
 
 -- a node that stays goes to the front of the children of its home
 abbrev pub put_one : Step → Forest → Forest

@@ -1,4 +1,4 @@
-//! The moves: all nodes are cut out first, then those that stay are put back.
+//! The moves: all nodes are detached first, then those that stay are put back.
 
 ghost use Rattle.std.specs.Prelude.{◌≡◌};
 ghost use Rattle.dom_sanitize.specs.Plan.{EachStep, IsKnown, MayPut, MayPutAll};

@@ -31,7 +31,7 @@ pub(crate) enum Fate {
     Vanish,
 }
 
-/// A node that is cut out, and the node below which it is put again, if it stays.
+/// A node that is detached, and the node below which it is put again, if it stays.
 #[derive(Clone, Copy, Drop)]
 pub(crate) struct Step {
     pub(crate) id: NodeId,

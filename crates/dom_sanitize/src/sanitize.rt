@@ -23,11 +23,11 @@ pub struct Allow<'a> {
 }
 
 /// Cleans what is below the root of the document. Texts stay. Comments, doctypes, instructions,
-/// dropped elements and templates are cut out with all that is below them. Allowed elements stay,
-/// with their allowed attributes alone. Any other element is cut out, and what is left of its
+/// dropped elements and templates are detached with all that is below them. Allowed elements stay,
+/// with their allowed attributes alone. Any other element is detached, and what is left of its
 /// children stands in its place.
 ///
-/// What is cut out stays a node of the tree. After a refusal nothing has changed.
+/// What is detached stays a node of the tree. After a refusal nothing has changed.
 pub fn sanitize(document: &mut Document, allow: &Allow<'_>) -> Result<(), OutOfMemory>
     ensures ok { OnOk result (Cleaned (lists_of allow.now) document.old.tree document.new.tree) }
     ensures err { OnErr result (document.new.tree ≡ document.old.tree) }

@@ -6,13 +6,13 @@ use Rattle.std.specs.Borrow.{Bor}
 use Rattle.dom_links.specs.Forest.{Forest}
 use Rattle.dom_trees.specs.declared.node_ref.NodeRef.{NodeRef}
 use Rattle.dom_selectors.specs.Syntax.{SelectorList}
-use Rattle.dom_select.specs.Meaning.{Means}
+use Rattle.dom_select.specs.Meaning.{MatchesNode}
 use Rattle.dom_links.specs.ListMoves.{element_at}
 use Rattle.dom_select.specs.Selected.{FiltersTo, Selected, walks_below}
 
 -- the node is an element that the selector means
 abbrev pub IsMatch : SelectorList → Forest → ℕ → Type 0
-IsMatch selector forest n = (element_at forest n ≡ true) × Means selector forest n
+IsMatch selector forest n = (element_at forest n ≡ true) × MatchesNode selector forest n
 
 -- the nodes that are still walked through, their tree, and what is asked of them
 pub record Matches : Type 0 where

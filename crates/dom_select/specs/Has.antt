@@ -2,8 +2,8 @@
 use Rattle.std.specs.Prelude.{if◌then◌else◌, Bool, true, false, Option, Some, None, ◌≡◌, ◌⊎◌, ◌↔◌, ℕ, List, [], ◌∷◌, map}
 use Rattle.std.specs.List.{list_all}
 use Rattle.dom_links.specs.Forest.{Forest}
-use Rattle.dom_links.specs.Lists.{stands_in}
-use Rattle.dom_links.specs.Trees.{walk_below}
+use Rattle.dom_links.specs.Lists.{is_member}
+use Rattle.dom_links.specs.Trees.{descendants_in_order}
 use Rattle.dom_links.specs.Walk.{later, row_on}
 use Rattle.dom_select.specs.declared.matcher.has.Start.{Start}
 use Rattle.dom_select.specs.declared.matcher.has.Start.TheVariants.{Absolute, Relative}
@@ -57,7 +57,7 @@ search_roots_from forest k (Some t) = t ∷ (if is_sideways k then later forest 
 
 -- the compounds lead to a node at or below t
 abbrev pub MatchesWithin : Start → CompoundSelector → Steps → Forest → ℕ → Type 0
-MatchesWithin start first steps forest t = (y : ℕ) × ((y ≡ t) ⊎ (stands_in y (walk_below forest t) ≡ true)) × SelectorMatches start first steps forest y
+MatchesWithin start first steps forest t = (y : ℕ) × ((y ≡ t) ⊎ (is_member y (descendants_in_order forest t) ≡ true)) × SelectorMatches start first steps forest y
 
 -- compounds and steps as the program has them: they match at n from the start, at or below t, or at an element from x on
 abbrev pub CompoundsMatch : Start → Compound → List Step → Forest → ℕ → Type 0
@@ -98,7 +98,7 @@ right_row forest k next = row_to (ends_right forest k) (row_on forest false next
 
 -- the elements of the list are those that stand to the right of x as the combinator says
 abbrev pub AreRightOf : Forest → Combinator → ℕ → List ℕ → Type 0
-AreRightOf forest k x ns = (w : ℕ) → element_at forest w ≡ true → (stands_in w ns ≡ true) ↔ CombinatorHolds forest k x w
+AreRightOf forest k x ns = (w : ℕ) → element_at forest w ≡ true → (is_member w ns ≡ true) ↔ CombinatorHolds forest k x w
 
 -- the node is an element of which the compound holds
 abbrev pub IsElementThat : CompoundSelector → Forest → ℕ → Type 0

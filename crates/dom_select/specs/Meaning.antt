@@ -1,7 +1,7 @@
 -- What a selector means: of which nodes it holds.
 use Rattle.std.specs.Prelude.{◌≡◌, ◌↔◌, ◌<◌, length, ℕ, List, [], ◌∷◌, Some, true, ◌⊎◌}
 use Rattle.dom_links.specs.Forest.{Forest, parent}
-use Rattle.dom_links.specs.Lists.{stands_in}
+use Rattle.dom_links.specs.Lists.{is_member}
 use Rattle.dom_links.specs.Trees.{ancestors}
 use Rattle.dom_selectors.specs.declared.syntax.Combinator.{Combinator}
 use Rattle.dom_selectors.specs.declared.syntax.Combinator.TheVariants.{Descendant, Child, Adjacent, Sibling}
@@ -31,10 +31,10 @@ ComesFirst forest w (v ∷ vs) = (w ≡ v) ⊎ ((element_at forest v ≡ true �
 -- w stands to n as the combinator between them says: above it, as its parent, before it in the same list with no element
 -- between, or before it in the same list
 unfoldable pub CombinatorHolds : Forest → Combinator → ℕ → ℕ → Type 0
-CombinatorHolds forest Descendant w n = stands_in w (ancestors forest n) ≡ true
+CombinatorHolds forest Descendant w n = is_member w (ancestors forest n) ≡ true
 CombinatorHolds forest Child w n = parent forest n ≡ Some w
 CombinatorHolds forest Adjacent w n = ComesFirst forest w (earlier forest n)
-CombinatorHolds forest Sibling w n = stands_in w (earlier forest n) ≡ true
+CombinatorHolds forest Sibling w n = is_member w (earlier forest n) ≡ true
 
 -- a node beside `+` or `~` is an element, unless it is the one that is exempt
 abbrev pub MayBeOperand : Forest → ℕ → Combinator → ℕ → Type 0
@@ -62,16 +62,16 @@ abbrev mutual
   ListsHold (nested list more) forest n = ListHolds list forest n × ListsHold more forest n
 
   pub ListHolds : NestedList → Forest → ℕ → Type 0
-  ListHolds (is_list list) forest n = Means list forest n
-  ListHolds (not_list list) forest n = Means list forest n → ⊥
+  ListHolds (is_list list) forest n = MatchesNode list forest n
+  ListHolds (not_list list) forest n = MatchesNode list forest n → ⊥
   ListHolds (has_list list) forest n = HasHolds list forest n
 
   -- One of the selectors means n: there are nodes for its compounds, from the left to n itself, each of which
   -- holds its compound and stands to the next as the combinator says.
-  pub Means : SelectorList → Forest → ℕ → Type 0
-  Means no_selectors forest n = ⊥
-  Means (alternative lead first rest more) forest n =
-      ((w : ℕ) × Holds first forest w × Leads (tests_of rest forest) forest n w n) ⊎ Means more forest n
+  pub MatchesNode : SelectorList → Forest → ℕ → Type 0
+  MatchesNode no_selectors forest n = ⊥
+  MatchesNode (alternative lead first rest more) forest n =
+      ((w : ℕ) × Holds first forest w × Leads (tests_of rest forest) forest n w n) ⊎ MatchesNode more forest n
 
   -- One of the selectors leads from n to an element: there are nodes for its compounds, each of which holds its compound, the
   -- first of them stands to the right of n as the selector's leading combinator says, each other one to the right of the one
@@ -101,4 +101,4 @@ RelativeMatches lead first rest forest x =
 
 -- the selectors mean just the nodes that bear the name as a type
 abbrev pub MeansType : List ℕ → SelectorList → Type 0
-MeansType name list = (forest : Forest) (n : ℕ) → Means list forest n ↔ HasType name forest n
+MeansType name list = (forest : Forest) (n : ℕ) → MatchesNode list forest n ↔ HasType name forest n

@@ -2,16 +2,16 @@
 use Rattle.std.specs.Prelude.{◌≡◌, ℕ, ◌⊎◌, Bool, true, List, [], ◌∷◌, if◌then◌else◌}
 use Rattle.std.specs.List.{flat_map}
 use Rattle.dom_links.specs.Forest.{Forest}
-use Rattle.dom_links.specs.Lists.{stands_in, IsDistinct}
-use Rattle.dom_links.specs.Trees.{walk_below}
+use Rattle.dom_links.specs.Lists.{is_member, IsDistinct}
+use Rattle.dom_links.specs.Trees.{descendants_in_order}
 use Rattle.dom_selectors.specs.Syntax.{SelectorList}
 use Rattle.dom_links.specs.ListMoves.{element_at}
-use Rattle.dom_select.specs.Meaning.{Means}
+use Rattle.dom_select.specs.Meaning.{MatchesNode}
 
 -- the first occurrence of each number, but for those that were there before
 abbrev pub first_occurrences : List ℕ → List ℕ → List ℕ
 first_occurrences before [] = []
-first_occurrences before (n ∷ ns) = if stands_in n before then first_occurrences before ns else n ∷ first_occurrences (n ∷ before) ns
+first_occurrences before (n ∷ ns) = if is_member n before then first_occurrences before ns else n ∷ first_occurrences (n ∷ before) ns
 
 -- the numbers of which the fact holds, in their order, are these
 abbrev pub FiltersTo : (ℕ → Type 0) → List ℕ → List ℕ → Type 0
@@ -24,11 +24,11 @@ one_if b n = if b then n ∷ [] else []
 
 -- the walks below the roots, one after the other, each node once
 abbrev pub walks_below : Forest → List ℕ → List ℕ
-walks_below forest roots = first_occurrences [] (flat_map (walk_below forest) roots)
+walks_below forest roots = first_occurrences [] (flat_map (descendants_in_order forest) roots)
 
 -- the selector selects these below the roots: the elements in the walks that it means, each once, in their order
 unfoldable pub Selected : Forest → List ℕ → SelectorList → List ℕ → Type 0
-Selected forest roots selector matched = FiltersTo (λ n. (element_at forest n ≡ true) × Means selector forest n) (walks_below forest roots) matched
+Selected forest roots selector matched = FiltersTo (λ n. (element_at forest n ≡ true) × MatchesNode selector forest n) (walks_below forest roots) matched
 
 -- a selector selects one list of nodes at most
 abbrev pub SelectsOneList : Type 0
@@ -36,10 +36,10 @@ SelectsOneList = (forest : Forest) (roots : List ℕ) (selector : SelectorList) 
 
 -- the nodes matched below the roots are the elements there that the selector means, each once
 pub record IsSelection (forest : Forest) (roots : List ℕ) (selector : SelectorList) (matched : List ℕ) : Type 0 where
-  pub below : (n : ℕ) → stands_in n matched ≡ true → stands_in n (flat_map (walk_below forest) roots) ≡ true
-  pub elements : (n : ℕ) → stands_in n matched ≡ true → element_at forest n ≡ true
-  pub meant : (n : ℕ) → stands_in n matched ≡ true → Means selector forest n
-  pub all : (n : ℕ) → stands_in n (flat_map (walk_below forest) roots) ≡ true → element_at forest n ≡ true → Means selector forest n → stands_in n matched ≡ true
+  pub below : (n : ℕ) → is_member n matched ≡ true → is_member n (flat_map (descendants_in_order forest) roots) ≡ true
+  pub elements : (n : ℕ) → is_member n matched ≡ true → element_at forest n ≡ true
+  pub meant : (n : ℕ) → is_member n matched ≡ true → MatchesNode selector forest n
+  pub all : (n : ℕ) → is_member n (flat_map (descendants_in_order forest) roots) ≡ true → element_at forest n ≡ true → MatchesNode selector forest n → is_member n matched ≡ true
   pub once : IsDistinct matched
 
 -- what a selector selects are those nodes

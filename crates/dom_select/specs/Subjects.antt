@@ -7,7 +7,7 @@ use Rattle.dom_nodes.specs.Kinds.{is_element}
 use Rattle.dom_nodes.specs.KnownNames.{HasNumber}
 use Rattle.dom_links.specs.Forest.{Forest}
 use Rattle.dom_selectors.specs.Syntax.{SelectorList}
-use Rattle.dom_select.specs.Meaning.{Means}
+use Rattle.dom_select.specs.Meaning.{MatchesNode}
 
 -- an element whose name has a number with a flag, or none, or that is no HTML element
 abbrev pub MayBear : List Bool → NodeData → Type 0
@@ -16,7 +16,7 @@ MayBear types _ = ⊥
 
 -- the selectors match only such elements
 abbrev pub SubjectIsAmong : List Bool → SelectorList → Type 0
-SubjectIsAmong types list = (forest : Forest) (n : ℕ) (node : NodeData) → slice_get forest.content n ≡ Some node → Means list forest n → MayBear types node
+SubjectIsAmong types list = (forest : Forest) (n : ℕ) (node : NodeData) → slice_get forest.content n ≡ Some node → MatchesNode list forest n → MayBear types node
 
 -- the node is an element, and where types are given it may bear one of them
 abbrev pub MayBeSubject : Option (List Bool) → NodeData → Type 0

@@ -7,7 +7,7 @@ use Rattle.dom_nodes.specs.declared.node_data.NodeData.{NodeData}
 use Rattle.dom_nodes.specs.declared.node_data.NodeData.TheVariants.{Text}
 use Rattle.dom_links.specs.Forest.{Forest, children_of}
 use Rattle.dom_links.specs.Texts.{text_at, text_of}
-use Rattle.dom_links.specs.Trees.{walk_below}
+use Rattle.dom_links.specs.Trees.{descendants_in_order}
 use Rattle.dom_trees.specs.Views.{is_filled_text}
 use Rattle.dom_selectors.specs.Comparisons.{begins_with, has_within}
 use Rattle.dom_nodes.specs.declared.case_sensitivity.CaseSensitivity.TheVariants.{CaseSensitive}
@@ -39,7 +39,7 @@ contains_at forest inner n = option_map_or (text_contains inner) (slice_get fore
 
 -- one text at the node or below it contains the other
 abbrev pub has_text_at : Forest → List ℕ → ℕ → Bool
-has_text_at forest inner n = list_any (contains_at forest inner) (n ∷ walk_below forest n)
+has_text_at forest inner n = list_any (contains_at forest inner) (n ∷ descendants_in_order forest n)
 
 -- the texts at the node and below it, joined, contain the other
 abbrev pub joined_contains_at : Forest → List ℕ → ℕ → Bool

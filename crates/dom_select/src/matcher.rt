@@ -1,7 +1,7 @@
 //! A list of selectors that nodes are asked for.
 
 use crate::matcher::caches::SelectorCaches;
-use crate::matcher::matches::{is_meant, means, sole_type};
+use crate::matcher::matches::{matches_selector, means, sole_type};
 use crate::matcher::subjects::subject_types;
 use dom_nodes::fault::OutOfMemory;
 use dom_selectors::copies::copy_selectors;
@@ -57,7 +57,7 @@ impl Model for Matcher {
 impl Matcher {
     ghost use Rattle.std.specs.Prelude.{◌≡◌, chars, IfErr, IfOk, IfSome};
     ghost use Rattle.dom_selectors.specs.Grammar.{Refused, StandsFor};
-    ghost use Rattle.dom_select.specs.Meaning.{Means, MeansType};
+    ghost use Rattle.dom_select.specs.Meaning.{MatchesNode, MeansType};
     ghost use Rattle.dom_select.specs.Subjects.{SubjectIsAmong};
     ghost use Rattle.dom_selectors.specs.Spelling.{Decides};
     ghost use Rattle.dom_selectors.specs.ValuesAsTrees.{read_list};
@@ -105,7 +105,7 @@ impl Matcher {
     /// Whether one of the selectors means the node; false for an unknown number. It takes no
     /// memory.
     pub fn match_element(&self, node: &NodeRef<'_>) -> bool
-        ensures { Decides result (Means self.now node.now.tree.now node.now.id) }
+        ensures { Decides result (MatchesNode self.now node.now.tree.now node.now.id) }
     {
         let mut caches = SelectorCaches::none(node.tree);
         means(&self.selectors, &mut caches, node.id)
@@ -118,7 +118,7 @@ impl Matcher {
         node: &NodeRef<'_>,
         caches: &mut SelectorCaches<'_>,
     ) -> bool
-        ensures is { Decides result (Means self.now caches.old node.now.id) }
+        ensures is { Decides result (MatchesNode self.now caches.old node.now.id) }
         ensures same { caches.new ≡ caches.old }
     {
         means(&self.selectors, caches, node.id)
@@ -147,15 +147,15 @@ impl MatchNode for MiniSelector<'_> {
 
 impl MatchNode for InnerSelector {
     ghost use Rattle.std.specs.Prelude.{◌∷◌, []};
-    ghost use Rattle.dom_select.specs.Meaning.{Means};
+    ghost use Rattle.dom_select.specs.Meaning.{MatchesNode};
     ghost use Rattle.dom_selectors.specs.Spelling.{Decides};
     ghost use Rattle.dom_selectors.specs.ValuesAsTrees.{read_list};
 
     /// Whether this selector alone means the node.
     fn match_node(&self, node: &NodeRef<'_>) -> bool
-        ensures { Decides result (Means (read_list (self.now ∷ [])) node.now.tree.now node.now.id) }
+        ensures { Decides result (MatchesNode (read_list (self.now ∷ [])) node.now.tree.now node.now.id) }
     {
         let mut caches = SelectorCaches::none(node.tree);
-        is_meant(self, &mut caches, node.id)
+        matches_selector(self, &mut caches, node.id)
     }
 }

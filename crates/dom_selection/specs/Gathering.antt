@@ -1,7 +1,7 @@
 -- Nodes that are gathered one after the other, each once.
 use Rattle.std.specs.Prelude.{ℕ, ◌≡◌, true, List, None}
 use Rattle.dom_links.specs.Forest.{Forest}
-use Rattle.dom_links.specs.Lists.{stands_in}
+use Rattle.dom_links.specs.Lists.{is_member}
 use Rattle.dom_trees.specs.Views.{refs_to}
 use Rattle.dom_selection.specs.Seen.{HaveSame, with_unseen}
 use Rattle.dom_selection.specs.Selections.{elements_above}
@@ -21,7 +21,7 @@ pub record Gathers (old new : Gathered) (ids : List ℕ) : Type 0 where
 
 -- with each node that was seen, all elements above it were
 abbrev pub IsClosed : Forest → List ℕ → Type 0
-IsClosed forest seen = (n m : ℕ) → stands_in n seen ≡ true → stands_in m (elements_above None forest n) ≡ true → stands_in m seen ≡ true
+IsClosed forest seen = (n m : ℕ) → is_member n seen ≡ true → is_member m (elements_above None forest n) ≡ true → is_member m seen ≡ true
 
 -- so it is where all ancestors are met
 abbrev pub IsClosedFor : Relation → Gathered → Type 0

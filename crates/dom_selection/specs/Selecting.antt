@@ -9,7 +9,7 @@ use Rattle.dom_selectors.specs.Grammar.{StandsFor, StandsForNothing}
 use Rattle.dom_selectors.specs.Syntax.{SelectorList}
 use Rattle.dom_select.specs.ByText.{ByText}
 use Rattle.dom_select.specs.Descendants.{IsMatch, Matches, ToCome}
-use Rattle.dom_select.specs.Meaning.{Means}
+use Rattle.dom_select.specs.Meaning.{MatchesNode}
 use Rattle.dom_select.specs.Selected.{FiltersTo, Selected, walks_below}
 use Rattle.dom_selection.specs.Selections.{ids_of}
 
@@ -38,16 +38,16 @@ SelectsFirst selector nodes found = AreFound (λ forest ns ids. PicksFirst (IsMa
 
 -- those of the nodes that the selector means
 abbrev pub Keeps : SelectorList → List NodeRef → List NodeRef → Type 0
-Keeps selector nodes found = AreFound (λ forest ns ids. FiltersTo (Means selector forest) ns ids) nodes found
+Keeps selector nodes found = AreFound (λ forest ns ids. FiltersTo (MatchesNode selector forest) ns ids) nodes found
 
 -- the nodes, and then those that the selector selects below the root and that don't stand among them
 abbrev pub Adds : SelectorList → List NodeRef → List NodeRef → Type 0
 Adds selector nodes found = AreFound (λ forest ns ids. (more : List ℕ) × Selected forest (0 ∷ []) selector more × (ids ≡ ns ++ without ns more)) nodes found
 
 -- the selector means one of the nodes
-abbrev pub MeansSome : SelectorList → List NodeRef → Type 0
-MeansSome selector [] = ⊥
-MeansSome selector (node ∷ nodes) = Means selector node.tree.now node.id ⊎ MeansSome selector nodes
+abbrev pub MatchesSomeNode : SelectorList → List NodeRef → Type 0
+MatchesSomeNode selector [] = ⊥
+MatchesSomeNode selector (node ∷ nodes) = MatchesNode selector node.tree.now node.id ⊎ MatchesSomeNode selector nodes
 
 -- the selector selects these below the root of a tree of this forest
 abbrev pub SelectsIn : SelectorList → Forest → List NodeRef → Type 0

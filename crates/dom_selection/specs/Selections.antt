@@ -7,7 +7,7 @@ use Rattle.std.specs.List.{flat_map, list_any}
 use Rattle.dom_nodes.specs.declared.fault.OutOfMemory.{OutOfMemory}
 use Rattle.dom_links.specs.Forest.{Forest, children_of, parent}
 use Rattle.dom_links.specs.ListMoves.{element_at}
-use Rattle.dom_links.specs.Lists.{stands_in, without}
+use Rattle.dom_links.specs.Lists.{is_member, without}
 use Rattle.dom_links.specs.Trees.{ancestors, limited}
 use Rattle.dom_links.specs.Walk.{later}
 use Rattle.dom_trees.specs.declared.node_ref.NodeRef.{NodeRef}
@@ -92,7 +92,7 @@ gathered step (node ∷ nodes) = refs_to node.tree (first_occurrences [] (flat_m
 -- the nodes that stand in the other list too; all where that is empty
 abbrev pub common : List NodeRef → List NodeRef → List NodeRef
 common nodes [] = nodes
-common nodes (other ∷ others) = filter (λ node. stands_in node.id (ids_of (other ∷ others))) nodes
+common nodes (other ∷ others) = filter (λ node. is_member node.id (ids_of (other ∷ others))) nodes
 
 -- the nodes of these numbers in the tree of the first of some nodes
 abbrev pub refs_in : List NodeRef → List ℕ → List NodeRef
@@ -109,7 +109,7 @@ has_number n node = node.id == n
 
 -- some number stands in both lists
 abbrev pub have_common : List NodeRef → List NodeRef → Bool
-have_common nodes others = list_any (λ node. stands_in node.id (ids_of others)) nodes
+have_common nodes others = list_any (λ node. is_member node.id (ids_of others)) nodes
 
 -- where memory sufficed, these nodes
 abbrev pub Lists : Result (List NodeRef) OutOfMemory → List NodeRef → Type 0

@@ -17,14 +17,14 @@ use Rattle.dom_links.specs.Growth.{with_template}
 use Rattle.dom_links.specs.declared.gap.Place.{Place}
 use Rattle.dom_links.specs.Insertions.{MayInsert, inserted}
 use Rattle.dom_links.specs.ListMoves.{AllowedList, MayReparent, MayWrap, moved_nodes, moving_id, reparented, replaced, unwrapped, wrapped}
-use Rattle.dom_links.specs.Moves.{cut, moved_to}
+use Rattle.dom_links.specs.Moves.{detach, moved_to}
 use Rattle.dom_links.specs.Normalized.{normalized}
 use Rattle.dom_links.specs.SetTexts.{with_text_content}
 use Rattle.dom_links.specs.Sound.{children_allowed_at}
-use Rattle.dom_links.specs.declared.gap.Gap.{Gap}
-use Rattle.dom_links.specs.declared.gap.Gap.TheVariants.{Before}
-use Rattle.dom_links.specs.declared.gap.Moving.{Moving}
-use Rattle.dom_links.specs.declared.gap.Moving.TheVariants.{Node}
+use Rattle.dom_links.specs.declared.gap.InsertionPoint.{InsertionPoint}
+use Rattle.dom_links.specs.declared.gap.InsertionPoint.TheVariants.{Before}
+use Rattle.dom_links.specs.declared.gap.MovedNodes.{MovedNodes}
+use Rattle.dom_links.specs.declared.gap.MovedNodes.TheVariants.{Node}
 use Rattle.dom_trees.specs.NewNodes.{element_with}
 use Rattle.dom_trees.specs.Refusals.{ChangeCause, InsertCause, KnownCause, JoinCause, MoveCause, ReparentCause, SetCause, TemplateCause, WrapCause}
 
@@ -48,26 +48,26 @@ abbrev pub IsKnown : ℕ → Forest → Type 0
 IsKnown x forest = x < length forest.content
 
 -- nodes are known, and may go to the gap
-pub record MayMove (gap : Gap) (moving : Moving) (forest : Forest) : Type 0 where
+pub record MayMove (gap : InsertionPoint) (moving : MovedNodes) (forest : Forest) : Type 0 where
   pub known : moving_id moving < length forest.content
   pub list : AllowedList forest gap (moved_nodes forest moving)
 
 -- nodes go to a gap
-abbrev pub moving_to : Gap → Moving → TreeEdit
+abbrev pub moving_to : InsertionPoint → MovedNodes → TreeEdit
 moving_to gap moving = record {
   after = λ forest. moved_to (moved_nodes forest moving) gap forest;
   Allowed = MayMove gap moving;
   Cause = MoveCause gap moving;
 }
 
--- x is cut out of its list
+-- x is detached
 abbrev pub removing : ℕ → TreeEdit
-removing x = record { after = cut (x ∷ []); Allowed = IsKnown x; Cause = KnownCause x }
+removing x = record { after = detach (x ∷ []); Allowed = IsKnown x; Cause = KnownCause x }
 
--- the children of x are cut out
+-- the children of x are detached
 abbrev pub removing_children : ℕ → TreeEdit
 removing_children x = record {
-  after = λ forest. cut (children_of forest x) forest;
+  after = λ forest. detach (children_of forest x) forest;
   Allowed = IsKnown x;
   Cause = KnownCause x;
 }
@@ -84,7 +84,7 @@ reparenting x p = record {
   Cause = ReparentCause x p;
 }
 
--- y is put before x, and x is cut out
+-- y is put before x, and x is detached
 abbrev pub replacing : ℕ → ℕ → TreeEdit
 replacing x y = record {
   after = replaced x y;

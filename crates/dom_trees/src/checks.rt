@@ -10,7 +10,7 @@ ghost use Rattle.dom_trees.specs.Edits.{IsKnown, MayMove, MayReparentOf};
 ghost use Rattle.dom_trees.specs.Refusals.{KnownCause, MoveCause, MovedCause, OpenCause};
 ghost use Rattle.dom_trees.specs.Refusals.{PlaceCause, ReparentCause, WrapCause};
 
-use dom_links::gap::{Gap, Moving, Place};
+use dom_links::gap::{InsertionPoint, MovedNodes, Place};
 use dom_links::ops::TreeNodeOps;
 use dom_links::ops::placing::stays_put;
 use dom_links::ops::siblings::first_child_of;
@@ -32,19 +32,19 @@ pub(crate) fn check_known(nodes: &[TreeNode], x: NodeId) -> Result<(), EditFault
 }
 
 /// Whether nodes may be put at the gap.
-pub(crate) fn check_open(nodes: &[TreeNode], gap: &Gap) -> Result<(), EditFault>
+pub(crate) fn check_open(nodes: &[TreeNode], gap: &InsertionPoint) -> Result<(), EditFault>
     requires sound { IsSoundArena nodes.now }
     requires known { IsKnown (target gap.now) (forest_of nodes.now) }
     ensures { MatchResult result (λ _. is_open gap.now (forest_of nodes.now) ≡ true)
         (OpenCause gap.now (forest_of nodes.now)) }
 {
     match *gap {
-        Gap::EndOf(t) | Gap::FrontOf(t) => {
+        InsertionPoint::EndOf(t) | InsertionPoint::FrontOf(t) => {
             if !TreeNodeOps::may_have_children(nodes, t) {
                 return Err(EditFault::NoChildrenHere);
             }
         }
-        Gap::Before(t) | Gap::After(t) => {
+        InsertionPoint::Before(t) | InsertionPoint::After(t) => {
             if !TreeNodeOps::may_have_siblings(nodes, t) {
                 return Err(EditFault::RootOrFragment);
             }
@@ -65,26 +65,29 @@ pub(crate) fn check_place(nodes: &[TreeNode], x: NodeId, place: Place) -> Result
 }
 
 /// The node that the gap names.
-pub(crate) fn target_of(gap: &Gap) -> NodeId
+pub(crate) fn target_of(gap: &InsertionPoint) -> NodeId
     ensures { result ≡ target gap.now }
 {
     match *gap {
-        Gap::EndOf(t) | Gap::FrontOf(t) | Gap::Before(t) | Gap::After(t) => t,
+        InsertionPoint::EndOf(t)
+        | InsertionPoint::FrontOf(t)
+        | InsertionPoint::Before(t)
+        | InsertionPoint::After(t) => t,
     }
 }
 
 /// The node that names what is moved.
-fn moving_id_of(moving: &Moving) -> NodeId
+fn moving_id_of(moving: &MovedNodes) -> NodeId
     ensures { result ≡ moving_id moving.now }
 {
     match *moving {
-        Moving::Node(x) | Moving::WithLater(x) | Moving::WholeList(x) => x,
+        MovedNodes::Node(x) | MovedNodes::WithLater(x) | MovedNodes::WholeList(x) => x,
     }
 }
 
 /// Whether each of the moved nodes may go to a gap at t.
 #[tactic(auto, using(crate::proofs::Whole::mover_stands))]
-fn check_moved(nodes: &[TreeNode], t: NodeId, moving: &Moving) -> Result<(), EditFault>
+fn check_moved(nodes: &[TreeNode], t: NodeId, moving: &MovedNodes) -> Result<(), EditFault>
     requires sound { IsSoundArena nodes.now }
     requires target_known { IsKnown t (forest_of nodes.now) }
     requires known { IsKnown (moving_id moving.now) (forest_of nodes.now) }
@@ -116,7 +119,11 @@ pub(crate) fn check_room(nodes: &[TreeNode]) -> Result<(), EditFault>
 }
 
 /// Whether the nodes may be moved to the gap.
-pub(crate) fn check_move(nodes: &[TreeNode], gap: &Gap, moving: &Moving) -> Result<(), EditFault>
+pub(crate) fn check_move(
+    nodes: &[TreeNode],
+    gap: &InsertionPoint,
+    moving: &MovedNodes,
+) -> Result<(), EditFault>
     requires { IsSoundArena nodes.now }
     ensures { MatchResult result (λ _. MayMove gap.now moving.now (forest_of nodes.now))
         (MoveCause gap.now moving.now (forest_of nodes.now)) }
@@ -143,11 +150,11 @@ pub(crate) fn check_reparent(
         return Ok(());
     };
     check_known(nodes, t)?;
-    check_open(nodes, &Gap::EndOf(t))?;
+    check_open(nodes, &InsertionPoint::EndOf(t))?;
     let Some(first) = first_child_of(nodes, x) else {
         return Ok(());
     };
-    check_moved(nodes, t, &Moving::WithLater(first))
+    check_moved(nodes, t, &MovedNodes::WithLater(first))
 }
 
 /// Whether x may be wrapped in w.
@@ -156,6 +163,6 @@ pub(crate) fn check_wrap(nodes: &[TreeNode], x: NodeId, w: NodeId) -> Result<(),
     ensures { MatchResult result (λ _. MayWrap (forest_of nodes.now) x w)
         (WrapCause x w (forest_of nodes.now)) }
 {
-    check_move(nodes, &Gap::Before(x), &Moving::Node(w))?;
-    check_open(nodes, &Gap::EndOf(w))
+    check_move(nodes, &InsertionPoint::Before(x), &MovedNodes::Node(w))?;
+    check_open(nodes, &InsertionPoint::EndOf(w))
 }

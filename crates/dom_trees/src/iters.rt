@@ -3,7 +3,7 @@
 ghost use Rattle.std.specs.Prelude.{◌≡◌, ◌≤◌, length};
 ghost use Rattle.dom_links.specs.Forest.{children_of};
 ghost use Rattle.dom_links.specs.Lists.{IsDistinct};
-ghost use Rattle.dom_links.specs.Trees.{ancestors, in_order, limited, walk_below};
+ghost use Rattle.dom_links.specs.Trees.{ancestors, in_order, limited, descendants_in_order};
 ghost use Rattle.dom_links.specs.Walk.{leaves_among};
 
 use crate::tree::Tree;
@@ -31,9 +31,9 @@ pub fn ancestor_nodes<'a>(
 
 /// The nodes below a node, each before what is below it.
 pub fn descendant_nodes<'a>(tree: &'a Tree, id: &NodeId) -> DescendantNodes<'a>
-    ensures all { result.left ≡ walk_below tree.now id.now }
-    ensures whole { result.whole ≡ walk_below tree.now id.now }
-    ensures leaves { result.leaves ≡ leaves_among tree.now (walk_below tree.now id.now) }
+    ensures all { result.left ≡ descendants_in_order tree.now id.now }
+    ensures whole { result.whole ≡ descendants_in_order tree.now id.now }
+    ensures leaves { result.leaves ≡ leaves_among tree.now (descendants_in_order tree.now id.now) }
     ensures once { IsDistinct result.left }
     ensures few { length result.left ≤ 4294967295 }
 {

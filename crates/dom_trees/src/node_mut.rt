@@ -3,8 +3,8 @@
 
 ghost use Rattle.std.specs.Prelude.{◌≡◌, ◌≤◌, MatchOption, length};
 ghost use Rattle.std.specs.Borrow.{sem};
-ghost use Rattle.dom_links.specs.declared.gap.Gap.TheVariants.{After, Before, EndOf, FrontOf};
-ghost use Rattle.dom_links.specs.declared.gap.Moving.TheVariants.{Node, WholeList, WithLater};
+ghost use Rattle.dom_links.specs.declared.gap.InsertionPoint.TheVariants.{After, Before, EndOf, FrontOf};
+ghost use Rattle.dom_links.specs.declared.gap.MovedNodes.TheVariants.{Node, WholeList, WithLater};
 ghost use Rattle.dom_trees.specs.Edits.{moving_to, removing, removing_children, replacing};
 ghost use Rattle.dom_trees.specs.Edits.{unwrapping, wrapping};
 ghost use Rattle.dom_trees.specs.Lending.{EditsAt};

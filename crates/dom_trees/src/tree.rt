@@ -5,7 +5,7 @@ ghost use Rattle.dom_links.specs.Forest.{forest_of, children_of};
 ghost use Rattle.dom_links.specs.Growth.{lone};
 ghost use Rattle.dom_links.specs.Lists.{IsDistinct};
 ghost use Rattle.dom_links.specs.Sound.{IsSoundArena};
-ghost use Rattle.dom_links.specs.Trees.{ancestors, in_order, limited, walk_below};
+ghost use Rattle.dom_links.specs.Trees.{ancestors, in_order, limited, descendants_in_order};
 ghost use Rattle.dom_links.specs.Walk.{IsNodeOf, leaves_among};
 ghost use Rattle.dom_links.specs.declared.validation.ValidateFault.TheVariants.{Memory, NoRoot};
 ghost use Rattle.dom_trees.specs.Refusals.{ComeBack, RootCause};
@@ -98,7 +98,7 @@ impl Tree {
         TreeNodeOps::validate(self.allocator(), self.nodes())
     }
 
-    /// How many nodes there are, cut-out ones too.
+    /// How many nodes there are, detached ones too.
     pub fn len(&self) -> usize
         ensures { result ≡ length self.now.content }
     {
@@ -166,9 +166,9 @@ impl Tree {
 
     /// The nodes below a node, each before what is below it.
     pub fn descendant_ids_of_it(&self, id: &NodeId) -> DescendantNodes<'_>
-        ensures all { result.left ≡ walk_below self.now id.now }
-        ensures whole { result.whole ≡ walk_below self.now id.now }
-        ensures leaves { result.leaves ≡ leaves_among self.now (walk_below self.now id.now) }
+        ensures all { result.left ≡ descendants_in_order self.now id.now }
+        ensures whole { result.whole ≡ descendants_in_order self.now id.now }
+        ensures leaves { result.leaves ≡ leaves_among self.now (descendants_in_order self.now id.now) }
         ensures once { IsDistinct result.left }
         ensures few { length result.left ≤ 4294967295 }
     {
@@ -177,7 +177,7 @@ impl Tree {
 
     /// The nodes below a node, each before what is below it.
     pub fn descendant_ids_of(&self, id: &NodeId) -> Result<Vec<NodeId>, OutOfMemory>
-        ensures { ListsNumbers result (walk_below self.now id.now) }
+        ensures { ListsNumbers result (descendants_in_order self.now id.now) }
     {
         Ok(self.descendant_ids_of_it(id).collect(self.allocator())?)
     }

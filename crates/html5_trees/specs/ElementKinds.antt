@@ -1,13 +1,13 @@
 -- The kinds of elements that rules on calm trees tell apart, and their names.
 use Rattle.std.specs.Prelude.{ℕ, Bool, true, false, ◌&&◌, ◌||◌, List, [], ◌∷◌, codes, if◌then◌else◌}
 use Rattle.dom_nodes.specs.Words.{is_among}
-use Rattle.html5_trees.specs.declared.element_kinds.Kind.{Kind}
-use Rattle.html5_trees.specs.declared.element_kinds.Kind.TheVariants.{Document, Html, Head, Body, Metadata, Verbatim, Phrase, Anchor, Button, Paragraph, Block, Heading, Form, Pre, ItemList, Item, DescriptionList, Description, Table, Caption, ColumnGroup, Column, RowGroup, TableRow, Cell, Other}
+use Rattle.html5_trees.specs.declared.element_kinds.ElementCategory.{ElementCategory}
+use Rattle.html5_trees.specs.declared.element_kinds.ElementCategory.TheVariants.{Document, Html, Head, Body, Metadata, Verbatim, Phrase, Anchor, Button, Paragraph, Block, Heading, Form, Pre, ItemList, Item, DescriptionList, Description, Table, Caption, ColumnGroup, Column, RowGroup, TableRow, Cell, Other}
 use Rattle.html5_trees.specs.declared.element_kinds.Role.{Role}
 use Rattle.html5_trees.specs.declared.element_kinds.Role.TheVariants.{Flow, FlowHolder, FlowLeaf, FlowTable, Parts, Apart}
 
 -- the names of the elements of a kind
-unfoldable pub names_of : Kind → List (List ℕ)
+unfoldable pub names_of : ElementCategory → List (List ℕ)
 names_of Html = codes "html" ∷ []
 names_of Head = codes "head" ∷ []
 names_of Body = codes "body" ∷ []
@@ -35,20 +35,20 @@ names_of Cell = codes "td" ∷ codes "th" ∷ []
 names_of _ = []
 
 -- the kinds that have names
-abbrev pub named_kinds : List Kind
+abbrev pub named_kinds : List ElementCategory
 named_kinds = Html ∷ Head ∷ Body ∷ Metadata ∷ Verbatim ∷ Phrase ∷ Anchor ∷ Button ∷ Paragraph ∷ Block ∷ Heading ∷ Form ∷ Pre ∷ ItemList ∷ Item ∷ DescriptionList ∷ Description ∷ Table ∷ Caption ∷ ColumnGroup ∷ Column ∷ RowGroup ∷ TableRow ∷ Cell ∷ []
 
 -- the first of the kinds that has the name
-abbrev pub kind_among : List ℕ → List Kind → Kind
+abbrev pub kind_among : List ℕ → List ElementCategory → ElementCategory
 kind_among name [] = Other
 kind_among name (kind ∷ kinds) = if is_among name (names_of kind) then kind else kind_among name kinds
 
 -- the kind of the element of that name
-unfoldable pub kind_of : List ℕ → Kind
+unfoldable pub kind_of : List ℕ → ElementCategory
 kind_of name = kind_among name named_kinds
 
 -- what the elements of a kind are to the contents of a body
-abbrev pub role_of : Kind → Role
+abbrev pub role_of : ElementCategory → Role
 role_of Phrase = Flow
 role_of Anchor = Flow
 role_of Button = Flow
@@ -73,19 +73,19 @@ role_of TableRow = Parts
 role_of _ = Apart
 
 -- the elements that hold what a body holds
-abbrev pub holds_flow : Kind → Bool
+abbrev pub holds_flow : ElementCategory → Bool
 holds_flow kind = elim (role_of kind) [ Flow ↦ true | FlowHolder ↦ true | FlowLeaf ↦ false | FlowTable ↦ false | Parts ↦ false | Apart ↦ false ]
 
 -- the elements that may stand where a body's contents may
-abbrev pub is_flow : Kind → Bool
+abbrev pub is_flow : ElementCategory → Bool
 is_flow kind = elim (role_of kind) [ Flow ↦ true | FlowHolder ↦ false | FlowLeaf ↦ true | FlowTable ↦ true | Parts ↦ false | Apart ↦ false ]
 
 -- the elements that hold elements of certain kinds, whitespace and comments alone
-abbrev pub holds_parts : Kind → Bool
+abbrev pub holds_parts : ElementCategory → Bool
 holds_parts kind = elim (role_of kind) [ Flow ↦ false | FlowHolder ↦ false | FlowLeaf ↦ false | FlowTable ↦ true | Parts ↦ true | Apart ↦ false ]
 
 -- whether an element of the second kind may be a child of one of the first
-abbrev pub may_hold : Kind → Kind → Bool
+abbrev pub may_hold : ElementCategory → ElementCategory → Bool
 may_hold Document Html = true
 may_hold Html Head = true
 may_hold Html Body = true
@@ -103,10 +103,10 @@ may_hold TableRow Cell = true
 may_hold parent kind = holds_flow parent && is_flow kind
 
 -- the elements that hold comments
-abbrev pub holds_comments : Kind → Bool
+abbrev pub holds_comments : ElementCategory → Bool
 holds_comments parent = holds_parts parent || holds_flow parent
 
 -- a doctype may stand there
-abbrev pub holds_doctype : Kind → Bool
+abbrev pub holds_doctype : ElementCategory → Bool
 holds_doctype Document = true
 holds_doctype parent = false

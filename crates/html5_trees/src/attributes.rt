@@ -3,7 +3,7 @@
 use crate::adjusting::{mathml_attr, svg_attr, svg_tag};
 use crate::fault::PageFault;
 use crate::name::Name;
-use crate::stack::Ns;
+use crate::stack::ElementNamespace;
 use dom_nodes::name::{Attr, LocalName, NameParts, Namespace, QualName};
 use dom_nodes::node_data::Attrs;
 use dom_nodes::text::{RareText, Text};
@@ -11,25 +11,30 @@ use dom_nodes::words::is_one_of;
 use html5_tokens::token::{Tag, TagAttr};
 use std::alloc::Global;
 
-fn namespace(ns: Ns) -> Namespace {
+fn namespace(ns: ElementNamespace) -> Namespace {
     match ns {
-        Ns::Html => Namespace::Html,
-        Ns::Svg => Namespace::Svg,
-        Ns::MathMl => Namespace::MathMl,
+        ElementNamespace::Html => Namespace::Html,
+        ElementNamespace::Svg => Namespace::Svg,
+        ElementNamespace::MathMl => Namespace::MathMl,
     }
 }
 
 /// The local name of a tag's element.
-fn local_name(ns: Ns, name: Name, tag: &Tag) -> &str {
+fn local_name(ns: ElementNamespace, name: Name, tag: &Tag) -> &str {
     match ns {
-        Ns::Svg => svg_tag(tag.name.as_str()),
-        Ns::Html if name == Name::Img => "img",
+        ElementNamespace::Svg => svg_tag(tag.name.as_str()),
+        ElementNamespace::Html if name == Name::Img => "img",
         _ => tag.name.as_str(),
     }
 }
 
 /// The name of a tag's element.
-pub fn element_name(alloc: Global, ns: Ns, name: Name, tag: &Tag) -> Result<QualName, PageFault> {
+pub fn element_name(
+    alloc: Global,
+    ns: ElementNamespace,
+    name: Name,
+    tag: &Tag,
+) -> Result<QualName, PageFault> {
     let local = LocalName::new(alloc, local_name(ns, name, tag))?;
     let prefix = None;
     let ns = namespace(ns);
@@ -87,16 +92,16 @@ fn qualified(alloc: Global, name: &str) -> Result<QualName, PageFault> {
 }
 
 /// The name of an attribute in no namespace, as foreign content writes it.
-fn adjusted_attr(ns: Ns, name: &str) -> &str {
+fn adjusted_attr(ns: ElementNamespace, name: &str) -> &str {
     match ns {
-        Ns::Html => name,
-        Ns::Svg => svg_attr(name),
-        Ns::MathMl => mathml_attr(name),
+        ElementNamespace::Html => name,
+        ElementNamespace::Svg => svg_attr(name),
+        ElementNamespace::MathMl => mathml_attr(name),
     }
 }
 
-fn attr_name(alloc: Global, ns: Ns, name: &str) -> Result<QualName, PageFault> {
-    if ns != Ns::Html && is_one_of(name, &NAMESPACED) {
+fn attr_name(alloc: Global, ns: ElementNamespace, name: &str) -> Result<QualName, PageFault> {
+    if ns != ElementNamespace::Html && is_one_of(name, &NAMESPACED) {
         return qualified(alloc, name);
     }
     let local = LocalName::new(alloc, adjusted_attr(ns, name))?;
@@ -104,14 +109,18 @@ fn attr_name(alloc: Global, ns: Ns, name: &str) -> Result<QualName, PageFault> {
 }
 
 /// An attribute of a tag's element.
-fn attr_of(alloc: Global, ns: Ns, given: &TagAttr) -> Result<Attr, PageFault> {
+fn attr_of(alloc: Global, ns: ElementNamespace, given: &TagAttr) -> Result<Attr, PageFault> {
     let name = attr_name(alloc, ns, given.name.as_str())?;
     let value = Text::new(alloc, given.value.as_str())?;
     Ok(Attr { name, value })
 }
 
 /// The attributes of a tag's element.
-pub fn attrs_of(alloc: Global, ns: Ns, given: &[TagAttr]) -> Result<Attrs, PageFault> {
+pub fn attrs_of(
+    alloc: Global,
+    ns: ElementNamespace,
+    given: &[TagAttr],
+) -> Result<Attrs, PageFault> {
     let mut attrs = Attrs::new(alloc);
     attrs.reserve(given.len());
     for attr in given {
@@ -139,8 +148,8 @@ pub fn is_hidden(tag: &Tag) -> bool {
 }
 
 /// Whether an element is an `annotation-xml` whose encoding is HTML.
-pub fn holds_html(ns: Ns, name: Name, tag: &Tag) -> bool {
-    if ns != Ns::MathMl || name != Name::AnnotationXml {
+pub fn holds_html(ns: ElementNamespace, name: Name, tag: &Tag) -> bool {
+    if ns != ElementNamespace::MathMl || name != Name::AnnotationXml {
         return false;
     }
     match value_of(tag, "encoding") {

@@ -10,16 +10,16 @@ use std::mem;
 
 /// The bytes of a page that can't be read yet: those of a character that isn't whole.
 #[derive(Drop)]
-pub(crate) struct Waiting {
+pub(crate) struct PendingBytes {
     bytes: Vec<u8>,
     /// Whether bytes were read before, so that no byte order mark comes any more.
     is_begun: bool,
 }
 
-impl Waiting {
+impl PendingBytes {
     /// Before the first piece.
-    pub(crate) fn new(alloc: Global) -> Waiting {
-        Waiting {
+    pub(crate) fn new(alloc: Global) -> PendingBytes {
+        PendingBytes {
             bytes: Vec::new(alloc),
             is_begun: false,
         }

@@ -12,7 +12,7 @@ use dom_nodes::words::is_one_of;
 
 /// The kind of an element, by its name.
 #[derive(Clone, Copy, Drop)]
-pub enum Kind {
+pub enum ElementCategory {
     /// The document itself; no name is of this kind.
     Document,
     Html,
@@ -77,54 +77,54 @@ pub enum Role {
 }
 
 /// The kinds that have names.
-const NAMED: [Kind; 24] = [
-    Kind::Html,
-    Kind::Head,
-    Kind::Body,
-    Kind::Metadata,
-    Kind::Verbatim,
-    Kind::Phrase,
-    Kind::Anchor,
-    Kind::Button,
-    Kind::Paragraph,
-    Kind::Block,
-    Kind::Heading,
-    Kind::Form,
-    Kind::Pre,
-    Kind::ItemList,
-    Kind::Item,
-    Kind::DescriptionList,
-    Kind::Description,
-    Kind::Table,
-    Kind::Caption,
-    Kind::ColumnGroup,
-    Kind::Column,
-    Kind::RowGroup,
-    Kind::TableRow,
-    Kind::Cell,
+const NAMED: [ElementCategory; 24] = [
+    ElementCategory::Html,
+    ElementCategory::Head,
+    ElementCategory::Body,
+    ElementCategory::Metadata,
+    ElementCategory::Verbatim,
+    ElementCategory::Phrase,
+    ElementCategory::Anchor,
+    ElementCategory::Button,
+    ElementCategory::Paragraph,
+    ElementCategory::Block,
+    ElementCategory::Heading,
+    ElementCategory::Form,
+    ElementCategory::Pre,
+    ElementCategory::ItemList,
+    ElementCategory::Item,
+    ElementCategory::DescriptionList,
+    ElementCategory::Description,
+    ElementCategory::Table,
+    ElementCategory::Caption,
+    ElementCategory::ColumnGroup,
+    ElementCategory::Column,
+    ElementCategory::RowGroup,
+    ElementCategory::TableRow,
+    ElementCategory::Cell,
 ];
 
-impl Kind {
+impl ElementCategory {
     /// The kind of the elements of that name.
-    pub fn of(name: &LocalRef<'_>) -> Kind
+    pub fn of(name: &LocalRef<'_>) -> ElementCategory
         ensures { result ≡ kind_of name.now }
     {
         match name.number() {
             Some(number) => KNOWN[number as usize].1,
-            None => Kind::of_text(name.as_str()),
+            None => ElementCategory::of_text(name.as_str()),
         }
     }
 
     /// The same, where the tree knows the name by no number.
     #[tactic(auto, unfolding(crate::specs::ElementKinds::kind_of))]
-    fn of_text(name: &str) -> Kind
+    fn of_text(name: &str) -> ElementCategory
         ensures { result ≡ kind_of name.now }
     {
-        Kind::among(name, &NAMED)
+        ElementCategory::among(name, &NAMED)
     }
 
     /// The first of the kinds that has the name.
-    fn among(name: &str, kinds: &[Kind]) -> Kind
+    fn among(name: &str, kinds: &[ElementCategory]) -> ElementCategory
         ensures { result ≡ kind_among name.now kinds.now }
     {
         let mut rest = kinds;
@@ -134,7 +134,7 @@ impl Kind {
             }
             rest = others;
         }
-        Kind::Other
+        ElementCategory::Other
     }
 
     /// Whether elements of that name are of this kind.
@@ -150,12 +150,12 @@ impl Kind {
         ensures { map (λ name. name.now) result.now ≡ names_of self }
     {
         match self {
-            Kind::Html => &["html"],
-            Kind::Head => &["head"],
-            Kind::Body => &["body"],
-            Kind::Metadata => &["base", "link", "meta"],
-            Kind::Verbatim => &["script", "style", "title"],
-            Kind::Phrase => &[
+            ElementCategory::Html => &["html"],
+            ElementCategory::Head => &["head"],
+            ElementCategory::Body => &["body"],
+            ElementCategory::Metadata => &["base", "link", "meta"],
+            ElementCategory::Verbatim => &["script", "style", "title"],
+            ElementCategory::Phrase => &[
                 "abbr", "acronym", "area", "audio", "b", "bdi", "bdo", "big", "br", "canvas",
                 "cite", "code", "data", "datalist", "del", "dfn", "em", "embed", "font", "i",
                 "img", "input", "ins", "kbd", "label", "legend", "map", "mark", "meter", "output",
@@ -163,10 +163,10 @@ impl Kind {
                 "strike", "strong", "sub", "sup", "time", "track", "tt", "u", "var", "video",
                 "wbr",
             ],
-            Kind::Anchor => &["a"],
-            Kind::Button => &["button"],
-            Kind::Paragraph => &["p"],
-            Kind::Block => &[
+            ElementCategory::Anchor => &["a"],
+            ElementCategory::Button => &["button"],
+            ElementCategory::Paragraph => &["p"],
+            ElementCategory::Block => &[
                 "address",
                 "article",
                 "aside",
@@ -188,21 +188,21 @@ impl Kind {
                 "section",
                 "summary",
             ],
-            Kind::Heading => &["h1", "h2", "h3", "h4", "h5", "h6"],
-            Kind::Form => &["form"],
-            Kind::Pre => &["pre"],
-            Kind::ItemList => &["dir", "menu", "ol", "ul"],
-            Kind::Item => &["li"],
-            Kind::DescriptionList => &["dl"],
-            Kind::Description => &["dd", "dt"],
-            Kind::Table => &["table"],
-            Kind::Caption => &["caption"],
-            Kind::ColumnGroup => &["colgroup"],
-            Kind::Column => &["col"],
-            Kind::RowGroup => &["tbody", "tfoot", "thead"],
-            Kind::TableRow => &["tr"],
-            Kind::Cell => &["td", "th"],
-            Kind::Document | Kind::Other => &[],
+            ElementCategory::Heading => &["h1", "h2", "h3", "h4", "h5", "h6"],
+            ElementCategory::Form => &["form"],
+            ElementCategory::Pre => &["pre"],
+            ElementCategory::ItemList => &["dir", "menu", "ol", "ul"],
+            ElementCategory::Item => &["li"],
+            ElementCategory::DescriptionList => &["dl"],
+            ElementCategory::Description => &["dd", "dt"],
+            ElementCategory::Table => &["table"],
+            ElementCategory::Caption => &["caption"],
+            ElementCategory::ColumnGroup => &["colgroup"],
+            ElementCategory::Column => &["col"],
+            ElementCategory::RowGroup => &["tbody", "tfoot", "thead"],
+            ElementCategory::TableRow => &["tr"],
+            ElementCategory::Cell => &["td", "th"],
+            ElementCategory::Document | ElementCategory::Other => &[],
         }
     }
 
@@ -211,22 +211,27 @@ impl Kind {
         ensures { result ≡ role_of self }
     {
         match self {
-            Kind::Phrase
-            | Kind::Anchor
-            | Kind::Button
-            | Kind::Paragraph
-            | Kind::Block
-            | Kind::Heading
-            | Kind::Form
-            | Kind::Pre
-            | Kind::ItemList
-            | Kind::DescriptionList => Role::Flow,
-            Kind::Body | Kind::Item | Kind::Description | Kind::Caption | Kind::Cell => {
-                Role::FlowHolder
-            }
-            Kind::Verbatim => Role::FlowLeaf,
-            Kind::Table => Role::FlowTable,
-            Kind::Head | Kind::ColumnGroup | Kind::RowGroup | Kind::TableRow => Role::Parts,
+            ElementCategory::Phrase
+            | ElementCategory::Anchor
+            | ElementCategory::Button
+            | ElementCategory::Paragraph
+            | ElementCategory::Block
+            | ElementCategory::Heading
+            | ElementCategory::Form
+            | ElementCategory::Pre
+            | ElementCategory::ItemList
+            | ElementCategory::DescriptionList => Role::Flow,
+            ElementCategory::Body
+            | ElementCategory::Item
+            | ElementCategory::Description
+            | ElementCategory::Caption
+            | ElementCategory::Cell => { Role::FlowHolder }
+            ElementCategory::Verbatim => Role::FlowLeaf,
+            ElementCategory::Table => Role::FlowTable,
+            ElementCategory::Head
+            | ElementCategory::ColumnGroup
+            | ElementCategory::RowGroup
+            | ElementCategory::TableRow => Role::Parts,
             _ => Role::Apart,
         }
     }
@@ -253,20 +258,23 @@ impl Kind {
     }
 
     /// Whether an element of the other kind may be a child of one of this kind.
-    pub fn may_hold(self, kind: Kind) -> bool
+    pub fn may_hold(self, kind: ElementCategory) -> bool
         ensures { result ≡ may_hold self kind }
     {
         match (self, kind) {
-            (Kind::Document, Kind::Html)
-            | (Kind::Html, Kind::Head | Kind::Body)
-            | (Kind::Head, Kind::Metadata | Kind::Verbatim)
-            | (Kind::ItemList, Kind::Item)
-            | (Kind::DescriptionList, Kind::Description)
-            | (Kind::Table, Kind::Caption | Kind::ColumnGroup | Kind::RowGroup)
-            | (Kind::ColumnGroup, Kind::Column)
-            | (Kind::RowGroup, Kind::TableRow)
-            | (Kind::TableRow, Kind::Cell) => true,
-            (Kind::Heading, Kind::Heading) => false,
+            (ElementCategory::Document, ElementCategory::Html)
+            | (ElementCategory::Html, ElementCategory::Head | ElementCategory::Body)
+            | (ElementCategory::Head, ElementCategory::Metadata | ElementCategory::Verbatim)
+            | (ElementCategory::ItemList, ElementCategory::Item)
+            | (ElementCategory::DescriptionList, ElementCategory::Description)
+            | (
+                ElementCategory::Table,
+                ElementCategory::Caption | ElementCategory::ColumnGroup | ElementCategory::RowGroup,
+            )
+            | (ElementCategory::ColumnGroup, ElementCategory::Column)
+            | (ElementCategory::RowGroup, ElementCategory::TableRow)
+            | (ElementCategory::TableRow, ElementCategory::Cell) => true,
+            (ElementCategory::Heading, ElementCategory::Heading) => false,
             _ => self.holds_flow() && kind.is_flow(),
         }
     }
@@ -282,6 +290,6 @@ impl Kind {
     pub fn holds_doctype(self) -> bool
         ensures { result ≡ holds_doctype self }
     {
-        matches!(self, Kind::Document)
+        matches!(self, ElementCategory::Document)
     }
 }

@@ -15,8 +15,8 @@ use crate::fault::PageFault;
 use crate::formatting::{ActiveFormatting, Entry};
 use crate::name::Name;
 use crate::pointers::FormPointer;
-use crate::stack::{Ns, Open, OpenElements};
-use dom_links::gap::Gap;
+use crate::stack::{ElementNamespace, Open, OpenElements};
+use dom_links::gap::InsertionPoint;
 use dom_nodes::node_data::NodeData;
 use dom_nodes::node_id::NodeId;
 use dom_trees::quirks::QuirksMode;
@@ -120,7 +120,7 @@ impl GrowingTree {
     }
 
     /// Whether no form may begin in a table.
-    pub fn bars_form(&self) -> bool {
+    pub fn ignores_form(&self) -> bool {
         self.has_form() || self.stack.has(Name::Template)
     }
 
@@ -130,7 +130,7 @@ impl GrowingTree {
 
     /// The element at a place of the stack; in a fragment the context element stands for the
     /// outermost one.
-    pub fn adjusted(&self, place: usize) -> Option<Open> {
+    pub fn adjusted_current_node(&self, place: usize) -> Option<Open> {
         match self.context {
             Some(context) if place == 0 => Some(context),
             _ => self.stack.get(place),
@@ -141,7 +141,7 @@ impl GrowingTree {
     pub fn adjusted_current(&self) -> Option<Open> {
         match self.stack.len() {
             0 => None,
-            count => self.adjusted(count - 1),
+            count => self.adjusted_current_node(count - 1),
         }
     }
 
@@ -162,11 +162,11 @@ impl GrowingTree {
     }
 
     /// The gap where a node goes.
-    fn gap(&self, placing: Placing) -> Gap
+    fn gap(&self, placing: Placing) -> InsertionPoint
         ensures { IsOpenGap result self.now }
     {
         match self.head {
-            Some(head) if placing.in_head => Gap::EndOf(head),
+            Some(head) if placing.in_head => InsertionPoint::EndOf(head),
             _ => gap(&self.tree, &self.stack, placing),
         }
     }
@@ -183,7 +183,7 @@ impl GrowingTree {
     pub fn insert(
         &mut self,
         placing: Placing,
-        ns: Ns,
+        ns: ElementNamespace,
         name: Name,
         tag: &Tag,
     ) -> Result<(), PageFault> {
@@ -195,13 +195,13 @@ impl GrowingTree {
 
     /// Puts the element `html` at the top, and opens it.
     pub fn insert_html(&mut self, tag: &Tag) -> Result<(), PageFault> {
-        let gap = Gap::EndOf(self.tree.root_id());
-        let open = put_element(&mut self.tree, gap, Ns::Html, Name::Html, tag)?;
+        let gap = InsertionPoint::EndOf(self.tree.root_id());
+        let open = put_element(&mut self.tree, gap, ElementNamespace::Html, Name::Html, tag)?;
         self.stack.push(&open)
     }
 
     /// Makes the current node the one that stands for the context element.
-    pub fn set_context(&mut self, ns: Ns, name: Name) {
+    pub fn set_context(&mut self, ns: ElementNamespace, name: Name) {
         let Some(root) = self.stack.current() else {
             return;
         };
@@ -266,7 +266,7 @@ impl GrowingTree {
 
     /// Puts a comment at the end of what stands at the top.
     pub fn put_comment_at_top(&mut self, text: &str) -> Result<(), PageFault> {
-        let gap = Gap::EndOf(self.tree.root_id());
+        let gap = InsertionPoint::EndOf(self.tree.root_id());
         put_comment(&mut self.tree, gap, text)
     }
 
@@ -275,7 +275,7 @@ impl GrowingTree {
         let Some(html) = self.stack.get(0) else {
             return Ok(());
         };
-        put_comment(&mut self.tree, Gap::EndOf(html.id), text)
+        put_comment(&mut self.tree, InsertionPoint::EndOf(html.id), text)
     }
 
     /// Puts a doctype at the end of what stands at the top: name, public and system identifier.
@@ -299,7 +299,11 @@ impl GrowingTree {
     }
 
     /// Opens a copy of a formatting element, which takes its place in the list.
-    pub fn open_again(&mut self, index: usize, placing: Placing) -> Result<(), PageFault> {
+    pub fn reconstruct_formatting(
+        &mut self,
+        index: usize,
+        placing: Placing,
+    ) -> Result<(), PageFault> {
         let Some(Entry::Element(open)) = self.formatting.get(index) else {
             return Ok(());
         };
@@ -322,9 +326,9 @@ fn lone(alloc: Global, content: NodeData) -> Result<Tree, PageFault>
 }
 
 /// Whether a gap is at the end of what stands at the top.
-fn is_at_top(gap: &Gap) -> bool {
+fn is_at_top(gap: &InsertionPoint) -> bool {
     match gap {
-        Gap::EndOf(parent) => *parent == NodeId::root(),
+        InsertionPoint::EndOf(parent) => *parent == NodeId::root(),
         _ => false,
     }
 }

@@ -5,17 +5,17 @@ ghost use Rattle.std.specs.Prelude.{◌<◌, length};
 use crate::builder::{Mode, Next, TreeBuilder};
 use crate::fault::PageFault;
 use crate::name::Name;
-use crate::stack::Ns;
+use crate::stack::ElementNamespace;
 use html5_tokens::token::{Tag, TagKind};
 
 impl TreeBuilder {
     /// Inserts an HTML element for a tag: makes it, puts it where it belongs, and opens it.
     pub fn insert(&mut self, name: Name, tag: &Tag) {
-        self.insert_in(Ns::Html, name, tag);
+        self.insert_in(ElementNamespace::Html, name, tag);
     }
 
     /// The same of an element of any namespace.
-    fn insert_in(&mut self, ns: Ns, name: Name, tag: &Tag) {
+    fn insert_in(&mut self, ns: ElementNamespace, name: Name, tag: &Tag) {
         let inserted = self.tree.insert(self.placing, ns, name, tag);
         self.keep(inserted);
     }
@@ -65,7 +65,7 @@ impl TreeBuilder {
     }
 
     /// Inserts a foreign element, which holds nothing if its tag says so.
-    pub fn insert_foreign(&mut self, ns: Ns, name: Name, tag: &Tag) -> Next {
+    pub fn insert_foreign(&mut self, ns: ElementNamespace, name: Name, tag: &Tag) -> Next {
         self.insert_in(ns, name, tag);
         if tag.self_closing {
             self.tree.pop();

@@ -22,7 +22,7 @@ mod shape;
 mod stack;
 
 pub use bytes::without_mark;
-pub use element_kinds::Kind;
+pub use element_kinds::ElementCategory;
 pub use fault::PageFault;
 pub use growing::BuiltTree;
 pub use reading::{Context, Options, PageReader};

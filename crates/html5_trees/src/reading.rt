@@ -1,11 +1,11 @@
 //! Reading the tokens of a page or a fragment, whole or in pieces, into a tree.
 
 use crate::builder::{Mode, TreeBuilder};
-use crate::bytes::Waiting;
+use crate::bytes::PendingBytes;
 use crate::fault::PageFault;
 use crate::growing::{BuiltTree, GrowingTree};
 use crate::name::Name;
-use crate::stack::Ns;
+use crate::stack::ElementNamespace;
 use dom_nodes::name::LocalName;
 use html5_tokens::parse_error::{ErrorAt, ParseError};
 use html5_tokens::token::TokenKind;
@@ -50,7 +50,7 @@ pub enum Context<'a> {
 pub struct PageReader {
     pub(crate) builder: TreeBuilder,
     tokens: Tokenizer,
-    pub(crate) waiting: Waiting,
+    pub(crate) waiting: PendingBytes,
 }
 
 impl PageReader {
@@ -79,7 +79,7 @@ impl PageReader {
         PageReader {
             builder: TreeBuilder::new(alloc, tree, options),
             tokens,
-            waiting: Waiting::new(alloc),
+            waiting: PendingBytes::new(alloc),
         }
     }
 
@@ -191,7 +191,7 @@ impl TreeBuilder {
         let Some(context) = self.tree.context() else {
             return State::Data;
         };
-        if context.ns != Ns::Html {
+        if context.ns != ElementNamespace::Html {
             return State::Data;
         }
         match context.name {
@@ -222,9 +222,9 @@ impl TreeBuilder {
     fn begin_fragment(&mut self, context: Context<'_>) {
         self.insert_implied(Name::Html, "html");
         let (ns, written) = match context {
-            Context::Html(name) => (Ns::Html, name),
-            Context::Svg(name) => (Ns::Svg, name),
-            Context::MathMl(name) => (Ns::MathMl, name),
+            Context::Html(name) => (ElementNamespace::Html, name),
+            Context::Svg(name) => (ElementNamespace::Svg, name),
+            Context::MathMl(name) => (ElementNamespace::MathMl, name),
         };
         match LocalName::folded(self.alloc, written) {
             Ok(local) => self.begin_in(ns, Name::of(&local.by_ref())),
@@ -233,13 +233,13 @@ impl TreeBuilder {
     }
 
     /// Sets what a context element of that name asks for.
-    fn begin_in(&mut self, ns: Ns, name: Name) {
+    fn begin_in(&mut self, ns: ElementNamespace, name: Name) {
         self.tree.set_context(ns, name);
-        if ns == Ns::Html && name == Name::Template {
+        if ns == ElementNamespace::Html && name == Name::Template {
             self.push_template_mode(Mode::InTemplate);
         }
         self.reset_mode();
-        if ns == Ns::Html && name == Name::Form {
+        if ns == ElementNamespace::Html && name == Name::Form {
             self.tree.set_context_form();
         }
     }

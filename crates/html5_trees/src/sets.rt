@@ -1,7 +1,7 @@
 //! Sets of elements that rules name.
 
 use crate::name::Name;
-use crate::stack::{Ns, Open};
+use crate::stack::{ElementNamespace, Open};
 
 /// Where a search for an element in scope ends.
 #[derive(Clone, Copy, Drop)]
@@ -14,7 +14,7 @@ pub enum Scope {
 }
 
 pub fn is_heading(open: &Open) -> bool {
-    open.ns == Ns::Html
+    open.ns == ElementNamespace::Html
         && matches!(
             open.name,
             Name::H1 | Name::H2 | Name::H3 | Name::H4 | Name::H5 | Name::H6
@@ -23,7 +23,7 @@ pub fn is_heading(open: &Open) -> bool {
 
 pub fn ends_default_scope(open: &Open) -> bool {
     match open.ns {
-        Ns::Html => matches!(
+        ElementNamespace::Html => matches!(
             open.name,
             Name::Applet
                 | Name::Caption
@@ -35,38 +35,41 @@ pub fn ends_default_scope(open: &Open) -> bool {
                 | Name::Object
                 | Name::Template
         ),
-        Ns::MathMl => matches!(
+        ElementNamespace::MathMl => matches!(
             open.name,
             Name::Mi | Name::Mo | Name::Mn | Name::Ms | Name::Mtext | Name::AnnotationXml
         ),
-        Ns::Svg => matches!(open.name, Name::Foreignobject | Name::Desc | Name::Title),
+        ElementNamespace::Svg => matches!(
+            open.name,
+            Name::Foreignobject | Name::Desc | Name::Title
+        ),
     }
 }
 
 /// Whether it ends the scope of a list of options.
 pub fn ends_select_scope(open: &Open) -> bool {
-    !(open.ns == Ns::Html && matches!(open.name, Name::Optgroup | Name::Option))
+    !(open.ns == ElementNamespace::Html && matches!(open.name, Name::Optgroup | Name::Option))
 }
 
 /// What the elements of a table are put into: a table, a section of one, or a row; else a template
 /// or the outermost element.
 #[derive(Clone, Copy, Drop)]
-pub enum Context {
+pub enum TableContext {
     Table,
     Section,
     Row,
 }
 
-impl Context {
+impl TableContext {
     pub(crate) fn ends_at(self, open: &Open) -> bool {
-        if open.ns != Ns::Html {
+        if open.ns != ElementNamespace::Html {
             return false;
         }
         match open.name {
             Name::Html | Name::Template => true,
-            Name::Table => matches!(self, Context::Table),
-            Name::Tbody | Name::Tfoot | Name::Thead => matches!(self, Context::Section),
-            Name::Tr => matches!(self, Context::Row),
+            Name::Table => matches!(self, TableContext::Table),
+            Name::Tbody | Name::Tfoot | Name::Thead => matches!(self, TableContext::Section),
+            Name::Tr => matches!(self, TableContext::Row),
             _ => false,
         }
     }
@@ -74,7 +77,7 @@ impl Context {
 
 pub fn is_special(open: &Open) -> bool {
     match open.ns {
-        Ns::Html => is_special_name(open.name),
+        ElementNamespace::Html => is_special_name(open.name),
         _ => ends_default_scope(open),
     }
 }
@@ -107,7 +110,7 @@ pub fn is_crossed_by_items(open: &Open) -> bool {
 
 /// Elements whose end tags are implied.
 pub fn has_implied_end(open: &Open) -> bool {
-    open.ns == Ns::Html
+    open.ns == ElementNamespace::Html
         && matches!(
             open.name,
             Name::Dd

@@ -17,7 +17,7 @@ use std::alloc::Global;
 
 /// The namespace of an element.
 #[derive(Clone, Copy, PartialEq, Eq, Drop)]
-pub enum Ns {
+pub enum ElementNamespace {
     Html,
     Svg,
     MathMl,
@@ -27,7 +27,7 @@ pub enum Ns {
 #[derive(Clone, Copy, Drop)]
 pub struct Open {
     pub id: NodeId,
-    pub ns: Ns,
+    pub ns: ElementNamespace,
     pub name: Name,
     /// The number of a name that no rule names, else 0.
     pub number: u32,
@@ -39,7 +39,7 @@ pub struct Open {
 
 impl Open {
     pub fn is_html(&self, name: Name) -> bool {
-        self.ns == Ns::Html && self.name == name
+        self.ns == ElementNamespace::Html && self.name == name
     }
 
     /// Whether it may have the name and the attributes of another formatting element.
@@ -211,7 +211,7 @@ impl OpenElements {
 
     /// Where an element stands.
     pub fn place_of(&self, element: &Open) -> Option<usize> {
-        if element.ns == Ns::Html {
+        if element.ns == ElementNamespace::Html {
             return self.place_among(element.name, element.id);
         }
         for place in (0..self.elements.len()).rev() {

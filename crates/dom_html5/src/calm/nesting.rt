@@ -6,12 +6,12 @@ ghost use Rattle.dom_html5.specs.Scopes.{next_scope, scope_below};
 
 use crate::calm::texts::{begins_line, has_close, is_whitespace, lacks_greater_than};
 use dom_nodes::node_data::{NodeData, TreeNode};
-use html5_trees::Kind;
+use html5_trees::ElementCategory;
 
 /// What a node stands in: the kind of its parent, and which elements are open.
 #[derive(Clone, Copy, Drop)]
 pub struct Scope {
-    pub parent: Kind,
+    pub parent: ElementCategory,
     pub in_paragraph: bool,
     pub in_anchor: bool,
     pub in_button: bool,
@@ -20,7 +20,7 @@ pub struct Scope {
 
 /// What the nodes at the top stand in.
 pub const TOP: Scope = Scope {
-    parent: Kind::Document,
+    parent: ElementCategory::Document,
     in_paragraph: false,
     in_anchor: false,
     in_button: false,
@@ -29,42 +29,42 @@ pub const TOP: Scope = Scope {
 
 impl Scope {
     /// Whether an element of that kind may not stand in one that is open.
-    fn bars(&self, kind: Kind) -> bool
+    fn bars(&self, kind: ElementCategory) -> bool
         ensures { result ≡ bars self.now kind }
     {
         match kind {
-            Kind::Anchor => self.in_anchor,
-            Kind::Button => self.in_button,
-            Kind::Form => self.in_paragraph || self.in_form,
-            Kind::Paragraph
-            | Kind::Block
-            | Kind::Heading
-            | Kind::Pre
-            | Kind::ItemList
-            | Kind::DescriptionList
-            | Kind::Table => self.in_paragraph,
+            ElementCategory::Anchor => self.in_anchor,
+            ElementCategory::Button => self.in_button,
+            ElementCategory::Form => self.in_paragraph || self.in_form,
+            ElementCategory::Paragraph
+            | ElementCategory::Block
+            | ElementCategory::Heading
+            | ElementCategory::Pre
+            | ElementCategory::ItemList
+            | ElementCategory::DescriptionList
+            | ElementCategory::Table => self.in_paragraph,
             _ => false,
         }
     }
 
     /// What the children of an element of that kind stand in.
-    fn inside(&self, kind: Kind) -> Scope
+    fn inside(&self, kind: ElementCategory) -> Scope
         ensures { result ≡ inside self.now kind }
     {
         let mut scope = *self;
         scope.parent = kind;
         match kind {
-            Kind::Anchor => scope.in_anchor = true,
-            Kind::Button => scope.in_button = true,
-            Kind::Form => scope.in_form = true,
-            Kind::Paragraph => scope.in_paragraph = true,
+            ElementCategory::Anchor => scope.in_anchor = true,
+            ElementCategory::Button => scope.in_button = true,
+            ElementCategory::Form => scope.in_form = true,
+            ElementCategory::Paragraph => scope.in_paragraph = true,
             _ => {}
         }
         scope
     }
 
     /// Whether an element of that kind may stand there.
-    fn admits(&self, kind: Kind) -> bool
+    fn admits(&self, kind: ElementCategory) -> bool
         ensures { result ≡ admits self.now kind }
     {
         self.parent.may_hold(kind) && !self.bars(kind)
@@ -80,7 +80,9 @@ impl Scope {
                 self.held(holds_comment(self.parent, contents.as_str()))
             }
             NodeData::Doctype { .. } => self.held(self.parent.holds_doctype()),
-            NodeData::Element(element) => self.below_element(Kind::of(&element.name().local())),
+            NodeData::Element(element) => self.below_element(ElementCategory::of(
+                &element.name().local(),
+            )),
             _ => None,
         }
     }
@@ -93,7 +95,7 @@ impl Scope {
     }
 
     /// What the children of an element of that kind stand in, where it may stand here.
-    fn below_element(&self, kind: Kind) -> Option<Scope>
+    fn below_element(&self, kind: ElementCategory) -> Option<Scope>
         ensures { result ≡ (if admits self.now kind then Some (inside self.now kind) else None) }
     {
         if !self.admits(kind) {
@@ -114,20 +116,20 @@ pub fn next_scope(node: &TreeNode, scopes: &[Scope]) -> Option<Scope>
 }
 
 /// Whether a child of such an element may be this text.
-fn holds_text(parent: Kind, contents: &str) -> bool
+fn holds_text(parent: ElementCategory, contents: &str) -> bool
     ensures { result ≡ may_hold_text parent contents.now }
 {
     match parent {
-        Kind::Html => is_whitespace(contents),
-        Kind::Verbatim => !has_close(contents),
-        Kind::Pre => !begins_line(contents),
+        ElementCategory::Html => is_whitespace(contents),
+        ElementCategory::Verbatim => !has_close(contents),
+        ElementCategory::Pre => !begins_line(contents),
         _ if parent.holds_parts() => is_whitespace(contents),
         _ => parent.holds_flow(),
     }
 }
 
 /// Whether a child of such an element may be a comment of these contents.
-fn holds_comment(parent: Kind, contents: &str) -> bool
+fn holds_comment(parent: ElementCategory, contents: &str) -> bool
     ensures { result ≡ may_hold_comment parent contents.now }
 {
     parent.holds_comments() && lacks_greater_than(contents)

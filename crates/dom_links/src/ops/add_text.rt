@@ -9,10 +9,10 @@ ghost use Rattle.dom_links.specs.Forest.{forest_of};
 ghost use Rattle.dom_links.specs.Moves.{before_gap, end_of};
 ghost use Rattle.dom_links.specs.Sound.{IsOpenGap, IsSoundArena, target};
 
-use crate::gap::Gap;
+use crate::gap::InsertionPoint;
 use crate::ops::TreeNodeOps;
 use crate::ops::create::add_child;
-use crate::ops::moves::{insertion_point_at, put_alone};
+use crate::ops::moves::{put_alone, resolved_point_at};
 use crate::ops::set_text::{is_text_at, owned_text};
 use dom_nodes::fault::{EditFault, OutOfMemory};
 use dom_nodes::node_data::{NodeData, TreeNode};
@@ -21,7 +21,7 @@ use dom_nodes::text::Text;
 
 /// Lengthens the text that stands right before the gap, or puts a new text there. Refused as
 /// `Memory`, and as `TooManyNodes` where a new one is to be put; then nothing changes.
-pub fn add_text(nodes: &mut Vec<TreeNode>, gap: Gap, text: &str) -> Result<(), EditFault>
+pub fn add_text(nodes: &mut Vec<TreeNode>, gap: InsertionPoint, text: &str) -> Result<(), EditFault>
     requires sound { IsSoundArena nodes.old.items }
     requires open { IsOpenGap gap (forest_of nodes.old.items) }
     ensures { Becomes result nodes.old nodes.new (with_text_at gap text.now) (TextCause gap) }
@@ -33,7 +33,7 @@ pub fn add_text(nodes: &mut Vec<TreeNode>, gap: Gap, text: &str) -> Result<(), E
 }
 
 /// The text that stands right before the gap.
-fn text_before(nodes: &[TreeNode], gap: &Gap) -> Option<NodeId>
+fn text_before(nodes: &[TreeNode], gap: &InsertionPoint) -> Option<NodeId>
     requires sound { IsSoundArena nodes.now }
     requires target_known { target gap.now < length (forest_of nodes.now).content }
     ensures { result ≡ text_before gap.now (forest_of nodes.now) }
@@ -50,14 +50,14 @@ fn text_before(nodes: &[TreeNode], gap: &Gap) -> Option<NodeId>
 
 /// The node that stands right before the gap.
 #[inline(always)]
-fn node_before(nodes: &[TreeNode], gap: &Gap) -> Option<NodeId>
+fn node_before(nodes: &[TreeNode], gap: &InsertionPoint) -> Option<NodeId>
     requires sound { IsSoundArena nodes.now }
     requires target_known { target gap.now < length (forest_of nodes.now).content }
     ensures { result ≡ before_gap gap.now (forest_of nodes.now) }
 {
     match gap {
-        Gap::EndOf(t) => nodes[t.value()].last_child.get(),
-        _ => insertion_point_at(nodes, *gap).left,
+        InsertionPoint::EndOf(t) => nodes[t.value()].last_child.get(),
+        _ => resolved_point_at(nodes, *gap).left,
     }
 }
 
@@ -90,7 +90,7 @@ fn lengthen_node(node: &mut TreeNode, more: &str) -> Result<(), OutOfMemory>
 }
 
 /// Makes a text and puts it at the gap.
-fn put_new_text(nodes: &mut Vec<TreeNode>, gap: Gap, text: &str) -> Result<(), EditFault>
+fn put_new_text(nodes: &mut Vec<TreeNode>, gap: InsertionPoint, text: &str) -> Result<(), EditFault>
     requires sound { IsSoundArena nodes.old.items }
     requires open { IsOpenGap gap (forest_of nodes.old.items) }
     requires alone { text_before gap (forest_of nodes.old.items) ≡ None }
@@ -98,7 +98,7 @@ fn put_new_text(nodes: &mut Vec<TreeNode>, gap: Gap, text: &str) -> Result<(), E
 {
     let contents = owned_text(*nodes.allocator(), text)?;
     match gap {
-        Gap::EndOf(t) => append_text(nodes, t, contents),
+        InsertionPoint::EndOf(t) => append_text(nodes, t, contents),
         _ => place_text(nodes, gap, contents),
     }
 }
@@ -117,7 +117,11 @@ fn append_text(nodes: &mut Vec<TreeNode>, t: NodeId, contents: Text) -> Result<(
 }
 
 /// Makes a text that stands alone, and moves it to the gap.
-fn place_text(nodes: &mut Vec<TreeNode>, gap: Gap, contents: Text) -> Result<(), EditFault>
+fn place_text(
+    nodes: &mut Vec<TreeNode>,
+    gap: InsertionPoint,
+    contents: Text,
+) -> Result<(), EditFault>
     requires sound { IsSoundArena nodes.old.items }
     requires open { IsOpenGap gap (forest_of nodes.old.items) }
     requires alone { text_before gap (forest_of nodes.old.items) ≡ None }

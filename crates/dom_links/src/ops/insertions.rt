@@ -5,11 +5,11 @@ ghost use Rattle.std.specs.Prelude.{◌≡◌, ◌<◌, ◌∷◌, [], false, le
 ghost use Rattle.dom_links.specs.Forest.{IsArenaOf, forest_of};
 ghost use Rattle.dom_links.specs.Insertions.{Inserted, Placed, around_it, gap_at, placed};
 ghost use Rattle.dom_links.specs.ListMoves.{AllowedList, AreNodes, MovedList, element_at};
-ghost use Rattle.dom_links.specs.Lists.{first, stands_in};
-ghost use Rattle.dom_links.specs.Moves.{cut};
+ghost use Rattle.dom_links.specs.Lists.{first, is_member};
+ghost use Rattle.dom_links.specs.Moves.{detach};
 ghost use Rattle.dom_links.specs.Sound.{IsSoundArena, is_open, target};
 
-use crate::gap::{Gap, Place};
+use crate::gap::{InsertionPoint, Place};
 use crate::ops::TreeNodeOps;
 use crate::ops::copies::{copy_nodes, merge, merge_one};
 use crate::ops::lists::{remove_children, wrap_node};
@@ -78,23 +78,23 @@ fn put_new(nodes: &mut [TreeNode], x: NodeId, place: Place, new: &[NodeId])
     requires linked { IsArenaOf (forest_of nodes.old) nodes.old }
     requires known { x < length nodes.old }
     requires new { AreNodes (forest_of nodes.old) new.now }
-    requires apart { stands_in x new.now ≡ false }
+    requires apart { is_member x new.now ≡ false }
     ensures { Placed nodes.old nodes.new place x new.now }
 {
     match place {
         Place::InsteadOfChildren => {
             remove_children(nodes, x);
-            move_list(nodes, Gap::EndOf(x), new);
+            move_list(nodes, InsertionPoint::EndOf(x), new);
         }
         Place::InsteadOfNode => {
-            move_list(nodes, Gap::Before(x), new);
+            move_list(nodes, InsertionPoint::Before(x), new);
             TreeNodeOps::remove_from_parent(nodes, x);
         }
         Place::Around => put_around(nodes, x, new),
-        Place::AtEnd => move_list(nodes, Gap::EndOf(x), new),
-        Place::AtFront => move_list(nodes, Gap::FrontOf(x), new),
-        Place::Before => move_list(nodes, Gap::Before(x), new),
-        Place::After => move_list(nodes, Gap::After(x), new),
+        Place::AtEnd => move_list(nodes, InsertionPoint::EndOf(x), new),
+        Place::AtFront => move_list(nodes, InsertionPoint::FrontOf(x), new),
+        Place::Before => move_list(nodes, InsertionPoint::Before(x), new),
+        Place::After => move_list(nodes, InsertionPoint::After(x), new),
     }
 }
 
@@ -103,7 +103,7 @@ fn put_around(nodes: &mut [TreeNode], x: NodeId, new: &[NodeId])
     requires linked { IsArenaOf (forest_of nodes.old) nodes.old }
     requires known { x < length nodes.old }
     requires new { AreNodes (forest_of nodes.old) new.now }
-    requires apart { stands_in x new.now ≡ false }
+    requires apart { is_member x new.now ≡ false }
     ensures { Placed nodes.old nodes.new around_it x new.now }
 {
     let Some(start) = gather(nodes, new) else {
@@ -123,11 +123,11 @@ fn is_element(nodes: &[TreeNode], x: NodeId) -> bool
 }
 
 /// Moves nodes, in their order, to a gap.
-fn move_list(nodes: &mut [TreeNode], gap: Gap, moved: &[NodeId])
+fn move_list(nodes: &mut [TreeNode], gap: InsertionPoint, moved: &[NodeId])
     requires linked { IsArenaOf (forest_of nodes.old) nodes.old }
     requires target_known { target gap < length nodes.old }
     requires moved { AreNodes (forest_of nodes.old) moved.now }
-    requires apart { stands_in (target gap) moved.now ≡ false }
+    requires apart { is_member (target gap) moved.now ≡ false }
     ensures { MovedList nodes.old nodes.new gap moved.now }
 {
     let Some(start) = gather(nodes, moved) else {
@@ -141,7 +141,7 @@ fn move_list(nodes: &mut [TreeNode], gap: Gap, moved: &[NodeId])
 fn gather(nodes: &mut [TreeNode], moved: &[NodeId]) -> Option<NodeId>
     requires linked { IsArenaOf (forest_of nodes.old) nodes.old }
     requires moved { AreNodes (forest_of nodes.old) moved.now }
-    ensures arena { IsArenaOf (cut moved.now (forest_of nodes.old)) nodes.new }
+    ensures arena { IsArenaOf (detach moved.now (forest_of nodes.old)) nodes.new }
     ensures start { result ≡ first moved.now }
 {
     let Some((start, others)) = moved.split_first() else {

@@ -5,7 +5,7 @@ ghost use Rattle.dom_links.specs.Lists.{last};
 ghost use Rattle.dom_links.specs.ListWrites.{IsPointIn, NextsKnown, ParentsSet, RunAttached};
 ghost use Rattle.dom_links.specs.ListWrites.{next_chain};
 
-use crate::ops::moves::InsertionPoint;
+use crate::ops::moves::ResolvedPoint;
 use crate::ops::writes::join;
 use dom_nodes::link::Link;
 use dom_nodes::node_data::TreeNode;
@@ -35,7 +35,7 @@ pub(crate) fn set_parents(nodes: &mut [TreeNode], x: NodeId, owner: Option<NodeI
 }
 
 /// Puts a node and all that follow it between two neighbours below an owner.
-pub(crate) fn attach_run(nodes: &mut [TreeNode], x: NodeId, point: &InsertionPoint)
+pub(crate) fn attach_run(nodes: &mut [TreeNode], x: NodeId, point: &ResolvedPoint)
     requires known { x < length nodes.old }
     requires nexts_known { NextsKnown nodes.old }
     requires point_known { IsPointIn (length nodes.old) point.now }

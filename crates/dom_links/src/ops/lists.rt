@@ -4,12 +4,12 @@ ghost use Rattle.std.specs.Prelude.{◌≡◌, ◌≢◌, ◌<◌, [], ◌∷◌
 ghost use Rattle.dom_links.specs.Forest.{IsArenaOf, forest_of, children_of};
 ghost use Rattle.dom_links.specs.ListMoves.{ChildrenRemoved, Reparents, Replaced, Unwrapped};
 ghost use Rattle.dom_links.specs.ListMoves.{Wrapped, with_later};
-ghost use Rattle.dom_links.specs.Lists.{stands_in};
-ghost use Rattle.dom_links.specs.Moves.{cut, end_of};
+ghost use Rattle.dom_links.specs.Lists.{is_member};
+ghost use Rattle.dom_links.specs.Moves.{detach, end_of};
 ghost use Rattle.dom_links.specs.SetTexts.{with_only_child};
 ghost use Rattle.dom_links.specs.Sound.{Allowed, IsForest, IsSoundArena};
 
-use crate::gap::{Gap, Moving};
+use crate::gap::{InsertionPoint, MovedNodes};
 use crate::ops::TreeNodeOps;
 use crate::ops::list_writes::set_parents;
 use crate::ops::siblings::{first_child_of, wrapper_of};
@@ -25,7 +25,7 @@ impl TreeNodeOps {
         requires known { x < length nodes.old }
         requires target_known { IfSome parent (λ t. t < length nodes.old) }
         requires apart { IfSome parent
-            (λ t. stands_in t (children_of (forest_of nodes.old) x) ≡ false) }
+            (λ t. is_member t (children_of (forest_of nodes.old) x) ≡ false) }
         ensures { Reparents nodes.old nodes.new x parent }
     {
         let Some(t) = parent else {
@@ -43,7 +43,7 @@ impl TreeNodeOps {
 pub(crate) fn cut_with_later(nodes: &mut [TreeNode], x: NodeId)
     requires linked { IsArenaOf (forest_of nodes.old) nodes.old }
     requires known { x < length nodes.old }
-    ensures { IsArenaOf (cut (with_later (forest_of nodes.old) x) (forest_of nodes.old)) nodes.new }
+    ensures { IsArenaOf (detach (with_later (forest_of nodes.old) x) (forest_of nodes.old)) nodes.new }
 {
     let node = &nodes[x.value()];
     let parent = node.parent.get();
@@ -114,6 +114,10 @@ pub fn unwrap_node(nodes: &mut [TreeNode], x: NodeId)
     let Some(parent) = wrapper_of(nodes, x) else {
         return;
     };
-    TreeNodeOps::move_to(nodes, Gap::Before(parent), Moving::WholeList(x));
+    TreeNodeOps::move_to(
+        nodes,
+        InsertionPoint::Before(parent),
+        MovedNodes::WholeList(x),
+    );
     TreeNodeOps::remove_from_parent(nodes, parent);
 }

@@ -9,7 +9,7 @@ ghost use Rattle.dom_links.specs.Normalized.{normalized, starts_text_run};
 ghost use Rattle.dom_links.specs.Rewrites.{is_text_after, listed, rewrite_at, rewrites, rewritten};
 ghost use Rattle.dom_links.specs.Sound.{IsSoundArena};
 ghost use Rattle.dom_links.specs.Texts.{text_at};
-ghost use Rattle.dom_links.specs.Trees.{walk_below};
+ghost use Rattle.dom_links.specs.Trees.{descendants_in_order};
 ghost use Rattle.dom_links.specs.Walk.{later};
 
 use crate::iters::{DescendantNodes, next_sibling_id, node_at, prev_sibling_id};
@@ -24,7 +24,7 @@ use std::alloc::Global;
 
 impl TreeNodeOps {
     /// Joins each row of texts below the node: the first that is not empty holds them all, and the
-    /// others are cut out and hold nothing. Linear in what is below. Refused as `Memory`; then
+    /// others are detached and hold nothing. Linear in what is below. Refused as `Memory`; then
     /// nothing changes.
     pub fn normalize(alloc: Global, nodes: &mut [TreeNode], id: NodeId) -> Result<(), EditFault>
         requires { IsSoundArena nodes.old }
@@ -72,7 +72,7 @@ fn rewrites_or_fault(
     requires { IsSoundArena nodes.now }
     ensures { MatchResult result
         (λ found. found.items
-        ≡ rewrites (forest_of nodes.now) (walk_below (forest_of nodes.now) id.now))
+        ≡ rewrites (forest_of nodes.now) (descendants_in_order (forest_of nodes.now) id.now))
         (λ fault. fault ≡ Memory) }
 {
     match rewrites_below(alloc, nodes, id) {
@@ -89,7 +89,7 @@ fn rewrites_below(
 ) -> Result<Vec<Rewrite>, OutOfMemory>
     requires { IsSoundArena nodes.now }
     ensures { IfOk result (λ found. found.items
-        ≡ rewrites (forest_of nodes.now) (walk_below (forest_of nodes.now) id.now)) }
+        ≡ rewrites (forest_of nodes.now) (descendants_in_order (forest_of nodes.now) id.now)) }
 {
     let mut found = Vec::new(alloc);
     for below in DescendantNodes::new(nodes, id) {

@@ -7,7 +7,7 @@ ghost use Rattle.dom_links.specs.Moves.{before_node};
 ghost use Rattle.dom_links.specs.Sound.{IsSoundArena};
 ghost use Rattle.dom_links.specs.Stripped.{dissolved, is_named, stripped};
 
-use crate::gap::{Gap, Moving};
+use crate::gap::{InsertionPoint, MovedNodes};
 use crate::iters::{find_node, first_child_id, next_after};
 use crate::ops::TreeNodeOps;
 use crate::ops::siblings::first_child_of;
@@ -57,7 +57,11 @@ fn put_children_before(nodes: &mut [TreeNode], p: NodeId)
     let Some(first) = first_child_of(nodes, p) else {
         return;
     };
-    TreeNodeOps::move_to(nodes, Gap::Before(p), Moving::WithLater(first));
+    TreeNodeOps::move_to(
+        nodes,
+        InsertionPoint::Before(p),
+        MovedNodes::WithLater(first),
+    );
 }
 
 /// Replaces a node that has a parent by its children.

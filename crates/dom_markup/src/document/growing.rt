@@ -6,10 +6,10 @@ ghost use Rattle.dom_nodes.specs.declared.node_data.NodeData.TheVariants as cont
 ghost use Rattle.dom_links.specs.Contents.{with_content};
 ghost use Rattle.dom_links.specs.Growth.{lone, with_child, with_template};
 ghost use Rattle.dom_trees.specs.NewNodes.{bare_element, element_with, text_node};
-ghost use Rattle.dom_markup.specs.Growing.{GrowsTo, MayGrowAt, plain_element, with_lists};
+ghost use Rattle.dom_markup.specs.TreeUnderConstruction.{GrowsTo, MayGrowAt, plain_element, with_lists};
 ghost use Rattle.dom_markup.specs.Limits.{IsPlainData};
 
-use crate::document::late_texts::LateTexts;
+use crate::document::late_texts::DeferredTexts;
 use dom_nodes::fault::{MarkupFaultKind, OutOfMemory};
 use dom_nodes::name::{Attr, QualName};
 use dom_nodes::node_data::{Attrs, Element, NodeData, take_all};
@@ -25,7 +25,7 @@ const ROOM: usize = 512;
 
 /// An element that gets its attributes later: its number, and from where up to where they stand.
 #[derive(Clone, Copy)]
-struct Waiting {
+struct PendingText {
     number: NodeId,
     from: usize,
     to: usize,
@@ -35,16 +35,16 @@ struct Waiting {
 /// stand one behind another in one list, which the elements then share. A contract sees the forest
 /// in which each element has its attributes.
 #[derive(Drop)]
-pub struct Growing<'a> {
-    tree: LateTexts<'a>,
+pub struct TreeUnderConstruction<'a> {
+    tree: DeferredTexts<'a>,
     attrs: Vec<Attr>,
-    waiting: Vec<Waiting>,
+    waiting: Vec<PendingText>,
 }
 
-impl<'a> Model for Growing<'a> {
+impl<'a> Model for TreeUnderConstruction<'a> {
     ghost use Rattle.std.specs.Prelude.{length};
     ghost use Rattle.dom_links.specs.Forest.{Forest};
-    ghost use Rattle.dom_markup.specs.Growing.{AreKnown, with_lists};
+    ghost use Rattle.dom_markup.specs.TreeUnderConstruction.{AreKnown, with_lists};
 
     ghost Value = { Forest };
 
@@ -54,13 +54,13 @@ impl<'a> Model for Growing<'a> {
         (length growing.attrs.items) growing.waiting.items };
 }
 
-impl<'a> Growing<'a> {
+impl<'a> TreeUnderConstruction<'a> {
     /// A document without children.
-    pub fn new(alloc: Global) -> Result<Growing<'a>, OutOfMemory>
+    pub fn new(alloc: Global) -> Result<TreeUnderConstruction<'a>, OutOfMemory>
         ensures { IfOk result (λ growing. growing ≡ lone contents.Document) }
     {
-        Ok(Growing {
-            tree: LateTexts::new(alloc)?,
+        Ok(TreeUnderConstruction {
+            tree: DeferredTexts::new(alloc)?,
             attrs: Vec::new(alloc),
             waiting: Vec::new(alloc),
         })
@@ -162,7 +162,7 @@ impl<'a> Growing<'a> {
             return Err(MarkupFaultKind::Memory);
         };
         let to = self.attrs.as_slice().len();
-        let Ok(()) = self.waiting.push(Waiting { number, from, to }) else {
+        let Ok(()) = self.waiting.push(PendingText { number, from, to }) else {
             return Err(MarkupFaultKind::Memory);
         };
         match self.settle_where_full() {
@@ -189,7 +189,7 @@ impl<'a> Growing<'a> {
     pub fn finish(self) -> Result<Tree, OutOfMemory>
         ensures { IfOk result (λ tree. tree ≡ self.entry) }
     {
-        let Growing {
+        let TreeUnderConstruction {
             mut tree,
             mut attrs,
             waiting,
@@ -233,7 +233,11 @@ fn move_behind(list: &mut Vec<Attr>, attrs: &mut Vec<Attr>) -> Result<(), OutOfM
 }
 
 /// Gives each element that waits its attributes, which it shares with the list.
-fn give(tree: &mut LateTexts<'_>, attrs: Vec<Attr>, waiting: &[Waiting]) -> Result<(), OutOfMemory>
+fn give(
+    tree: &mut DeferredTexts<'_>,
+    attrs: Vec<Attr>,
+    waiting: &[PendingText],
+) -> Result<(), OutOfMemory>
     ensures { OnOk result (tree.new ≡ with_lists attrs.items waiting.now tree.old) }
 {
     if waiting.is_empty() {

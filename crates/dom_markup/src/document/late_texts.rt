@@ -6,8 +6,8 @@ ghost use Rattle.dom_links.specs.Contents.{with_content};
 ghost use Rattle.dom_links.specs.Growth.{lone, with_child, with_template};
 ghost use Rattle.dom_trees.specs.NewNodes.{element_with, text_node};
 ghost use Rattle.dom_nodes.specs.Changes.{with_attrs, with_missing};
-ghost use Rattle.dom_markup.specs.Growing.{GrowsTo, MayGrowAt};
-ghost use Rattle.dom_markup.specs.LateTexts.{joined, with_contents, with_texts};
+ghost use Rattle.dom_markup.specs.TreeUnderConstruction.{GrowsTo, MayGrowAt};
+ghost use Rattle.dom_markup.specs.DeferredTexts.{joined, with_contents, with_texts};
 ghost use Rattle.dom_markup.specs.Limits.{IsLimit, IsPlainData, limit_kind};
 
 use dom_nodes::fault::{EditFault, MarkupFaultKind, OutOfMemory};
@@ -39,16 +39,16 @@ struct Late<'a> {
 /// one block, which the texts then share. A contract sees the forest in which each text has its
 /// contents.
 #[derive(Drop)]
-pub struct LateTexts<'a> {
+pub struct DeferredTexts<'a> {
     tree: Tree,
     late: Vec<Late<'a>>,
     bytes: usize,
 }
 
-impl<'a> Model for LateTexts<'a> {
+impl<'a> Model for DeferredTexts<'a> {
     ghost use Rattle.std.specs.Prelude.{length};
     ghost use Rattle.dom_links.specs.Forest.{Forest};
-    ghost use Rattle.dom_markup.specs.LateTexts.{AreAmong, with_texts};
+    ghost use Rattle.dom_markup.specs.DeferredTexts.{AreAmong, with_texts};
 
     ghost Value = { Forest };
 
@@ -57,15 +57,15 @@ impl<'a> Model for LateTexts<'a> {
     ghost invariant = { λ texts. AreAmong (length texts.tree.content) texts.late.items };
 }
 
-impl<'a> LateTexts<'a> {
+impl<'a> DeferredTexts<'a> {
     /// A document without children.
-    pub fn new(alloc: Global) -> Result<LateTexts<'a>, OutOfMemory>
+    pub fn new(alloc: Global) -> Result<DeferredTexts<'a>, OutOfMemory>
         ensures { IfOk result (λ texts. texts ≡ lone contents.Document) }
     {
         let Ok(tree) = Tree::new(alloc, NodeData::Document) else {
             return Err(OutOfMemory);
         };
-        Ok(LateTexts {
+        Ok(DeferredTexts {
             tree,
             late: Vec::new(alloc),
             bytes: 0,
@@ -180,7 +180,7 @@ impl<'a> LateTexts<'a> {
     pub fn finish(self) -> Result<Tree, OutOfMemory>
         ensures { IfOk result (λ tree. tree ≡ self.entry) }
     {
-        let LateTexts {
+        let DeferredTexts {
             mut tree,
             late,
             bytes,

@@ -11,12 +11,12 @@ ghost use Rattle.dom_markup.specs.Token.{contents_in, doctype_item, mode_of};
 
 use crate::document::attributes::{attrs_of, folded_name};
 use crate::document::doctypes::Doctype;
-use crate::document::front::{Front, declared_doctype, front_at};
-use crate::document::growing::Growing;
+use crate::document::front::{Lexeme, declared_doctype, front_at};
+use crate::document::growing::TreeUnderConstruction;
 use crate::document::names::{is_template, names_element};
 use crate::document::scan::{ByteClass, split_front};
 use crate::document::tags::close_tag;
-use crate::document::within::{Within, within_named};
+use crate::document::within::{ContentModel, within_named};
 use crate::names::is_void_name;
 use crate::references::decode;
 use dom_nodes::fault::{MarkupFaultKind, OutOfMemory};
@@ -95,13 +95,13 @@ fn doctype_of(alloc: Global, written: Doctype) -> Result<NodeData, OutOfMemory>
 }
 
 /// What a text stands for: a raw one for itself, in every other the references are read.
-fn contents_of(alloc: Global, text: &str, within: Within) -> Result<Text, OutOfMemory>
+fn contents_of(alloc: Global, text: &str, within: ContentModel) -> Result<Text, OutOfMemory>
     ensures { IfOk result (λ contents. contents ≡ contents_in (mode_of within.entry) text.now) }
 {
     match within {
-        Within::Markup => decode(alloc, text),
-        Within::Text(_) => decode(alloc, text),
-        Within::RawText(_) => Text::new(alloc, text),
+        ContentModel::Markup => decode(alloc, text),
+        ContentModel::Text(_) => decode(alloc, text),
+        ContentModel::RawText(_) => Text::new(alloc, text),
     }
 }
 
@@ -117,7 +117,7 @@ struct Open<'a> {
 #[derive(Clone, Copy)]
 pub struct Behind<'a> {
     pub rest: &'a str,
-    pub within: Within<'a>,
+    pub within: ContentModel<'a>,
 }
 
 /// Markup that follows an item.
@@ -127,14 +127,14 @@ fn markup_behind(rest: &str) -> Behind<'_>
 {
     Behind {
         rest,
-        within: Within::Markup,
+        within: ContentModel::Markup,
     }
 }
 
 /// What has been read of a document, and the vector into which a tag's attributes are read.
 #[derive(Drop)]
 pub struct Reader<'a> {
-    pub tree: Growing<'a>,
+    pub tree: TreeUnderConstruction<'a>,
     stack: Vec<Open<'a>>,
     spare: Vec<Attr>,
 }
@@ -142,8 +142,8 @@ pub struct Reader<'a> {
 impl<'a> Reader<'a> {
     ghost use Rattle.dom_links.specs.Growth.{with_child, with_template};
     ghost use Rattle.dom_markup.specs.Frames.{children_place};
-    ghost use Rattle.dom_markup.specs.Front.{BeginsLetter, IsNoComment};
-    ghost use Rattle.dom_markup.specs.Growing.{plain_element};
+    ghost use Rattle.dom_markup.specs.Lexeme.{BeginsLetter, IsNoComment};
+    ghost use Rattle.dom_markup.specs.TreeUnderConstruction.{plain_element};
     ghost use Rattle.dom_markup.specs.Markup.{Item};
     ghost use Rattle.dom_markup.specs.Reader.{AfterItems, EndsReading, Grows, IsReading};
     ghost use Rattle.dom_markup.specs.Reader.{ReadsFront, ReadsItem, leaf_item, parent_number};
@@ -153,7 +153,7 @@ impl<'a> Reader<'a> {
     pub fn new(alloc: Global) -> Result<Reader<'a>, OutOfMemory>
         ensures { IfOk result (λ reader. AfterItems [] reader) }
     {
-        let tree = Growing::new(alloc)?;
+        let tree = TreeUnderConstruction::new(alloc)?;
         Ok(Reader {
             tree,
             stack: Vec::new(alloc),
@@ -253,7 +253,7 @@ impl<'a> Reader<'a> {
         &mut self,
         alloc: Global,
         text: &str,
-        within: Within,
+        within: ContentModel,
     ) -> Result<(), MarkupFaultKind>
         requires { IsReading self.old }
         ensures { let contents = contents_in (mode_of within.entry) text.now in
@@ -373,7 +373,7 @@ impl<'a> Reader<'a> {
         &mut self,
         alloc: Global,
         left: &'a str,
-        within: Within<'a>,
+        within: ContentModel<'a>,
     ) -> Result<Behind<'a>, MarkupFaultKind>
         requires reading { IsReading self.old }
         requires some { left.now ≢ [] }
@@ -381,24 +381,24 @@ impl<'a> Reader<'a> {
     {
         let (front, rest) = front_at(left, within)?;
         match front {
-            Front::StartTag => self.read_start(alloc, rest),
-            Front::Text(text) => {
+            Lexeme::StartTag => self.read_start(alloc, rest),
+            Lexeme::Text(text) => {
                 self.read_text(alloc, text, within)?;
                 Ok(Behind { rest, within })
             }
-            Front::Plain(text) => {
+            Lexeme::Plain(text) => {
                 self.read_plain(text)?;
                 Ok(Behind { rest, within })
             }
-            Front::EndTag(name) => {
+            Lexeme::EndTag(name) => {
                 self.read_end(name)?;
                 Ok(markup_behind(rest))
             }
-            Front::Comment(contents) => {
+            Lexeme::Comment(contents) => {
                 self.read_comment(alloc, contents)?;
                 Ok(markup_behind(rest))
             }
-            Front::Declaration => { self.read_declared(alloc, rest) }
+            Lexeme::Declaration => { self.read_declared(alloc, rest) }
         }
     }
 

@@ -4,7 +4,7 @@ ghost use Rattle.std.specs.Prelude.{◌≡◌};
 ghost use Rattle.dom_markup.specs.Sinks.{gap_by_parent};
 
 use crate::document::{Document, QuirksMode};
-use dom_links::gap::{Gap, Moving};
+use dom_links::gap::{InsertionPoint, MovedNodes};
 use dom_nodes::fault::{EditFault, OutOfMemory};
 use dom_nodes::name::{NameRef, QualName};
 use dom_nodes::node_data::Attrs;
@@ -24,9 +24,9 @@ pub enum NodeOrText<'a> {
 pub trait TreeSink {
     ghost use Rattle.std.specs.Prelude.{◌≡◌, ◌==◌, Some};
     ghost use Rattle.dom_links.specs.Sound.{contents_at};
-    ghost use Rattle.dom_links.specs.declared.gap.Gap.TheVariants.{Before, EndOf};
+    ghost use Rattle.dom_links.specs.declared.gap.InsertionPoint.TheVariants.{Before, EndOf};
     ghost use Rattle.dom_trees.specs.Edits.{appending, making, removing, reparenting};
-    ghost use Rattle.dom_trees.specs.Growing.{adding_attrs, making_element};
+    ghost use Rattle.dom_trees.specs.TreeUnderConstruction.{adding_attrs, making_element};
     ghost use Rattle.dom_trees.specs.NewNodes.{comment_node, doctype_node, instruction_node};
     ghost use Rattle.dom_trees.specs.Views.{is_integration_point, node_qual_name};
     ghost use Rattle.dom_markup.specs.declared.document.Document.{Document};
@@ -193,9 +193,9 @@ impl TreeSink for Document {
     }
 
     fn append(&mut self, parent: &NodeId, child: NodeOrText<'_>) -> Result<(), EditFault> {
-        let gap = Gap::EndOf(*parent);
+        let gap = InsertionPoint::EndOf(*parent);
         match child {
-            NodeOrText::AppendNode(id) => self.tree.move_to(gap, Moving::Node(id)),
+            NodeOrText::AppendNode(id) => self.tree.move_to(gap, MovedNodes::Node(id)),
             NodeOrText::AppendText(text) => self.tree.add_text_at(gap, text),
         }
     }
@@ -205,9 +205,9 @@ impl TreeSink for Document {
         sibling: &NodeId,
         child: NodeOrText<'_>,
     ) -> Result<(), EditFault> {
-        let gap = Gap::Before(*sibling);
+        let gap = InsertionPoint::Before(*sibling);
         match child {
-            NodeOrText::AppendNode(id) => self.tree.move_to(gap, Moving::Node(id)),
+            NodeOrText::AppendNode(id) => self.tree.move_to(gap, MovedNodes::Node(id)),
             NodeOrText::AppendText(text) => self.tree.add_text_at(gap, text),
         }
     }
@@ -220,7 +220,7 @@ impl TreeSink for Document {
     ) -> Result<(), EditFault> {
         let gap = gap_by_parent(&self.tree, *element, *prev_element);
         match child {
-            NodeOrText::AppendNode(id) => self.tree.move_to(gap, Moving::Node(id)),
+            NodeOrText::AppendNode(id) => self.tree.move_to(gap, MovedNodes::Node(id)),
             NodeOrText::AppendText(text) => self.tree.add_text_at(gap, text),
         }
     }
@@ -254,11 +254,11 @@ impl TreeSink for Document {
 }
 
 /// Before a node that has a parent; else at the end of another's children.
-fn gap_by_parent(tree: &Tree, node: NodeId, other: NodeId) -> Gap
+fn gap_by_parent(tree: &Tree, node: NodeId, other: NodeId) -> InsertionPoint
     ensures { result ≡ gap_by_parent tree.now node other }
 {
     match tree.parent_of(&node) {
-        Some(_) => Gap::Before(node),
-        None => Gap::EndOf(other),
+        Some(_) => InsertionPoint::Before(node),
+        None => InsertionPoint::EndOf(other),
     }
 }

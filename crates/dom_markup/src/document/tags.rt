@@ -4,7 +4,7 @@ ghost use Rattle.std.specs.Prelude.{◌++◌, codes, IfNone, IfSome, MatchResult
 ghost use Rattle.dom_markup.specs.Bytes.{folded};
 ghost use Rattle.dom_markup.specs.Markup.{BeginsEnd, Closes, BeginsNoEnd};
 ghost use Rattle.dom_markup.specs.ByteClasses.{ClosesNothing};
-ghost use Rattle.dom_markup.specs.Front.{TakesStart};
+ghost use Rattle.dom_markup.specs.Lexeme.{TakesStart};
 ghost use Rattle.dom_markup.specs.Names.{void_names};
 ghost use Rattle.dom_nodes.specs.Words.{is_among};
 

@@ -1,15 +1,15 @@
 //! Markup as a row of tags, texts, comments and doctypes.
 
 ghost use Rattle.std.specs.Prelude.{◌≡◌, ◌++◌, ◌≢◌, [], List, ℕ, codes, length, MatchResult};
-ghost use Rattle.dom_markup.specs.Front.{IsNoComment};
+ghost use Rattle.dom_markup.specs.Lexeme.{IsNoComment};
 ghost use Rattle.dom_markup.specs.Names.{markup};
 ghost use Rattle.dom_markup.specs.Refusals.{StartCause};
 ghost use Rattle.dom_markup.specs.Token.{kind_of_text, mode_of};
 ghost use Rattle.dom_markup.specs.Tokens.{IsFound, TakesItem};
 
-use crate::document::front::{Front, declared_doctype, front_at};
+use crate::document::front::{Lexeme, declared_doctype, front_at};
 use crate::document::tags::start_tag_end;
-use crate::document::within::{Within, within_element};
+use crate::document::within::{ContentModel, within_element};
 use dom_nodes::fault::{MarkupFault, MarkupFaultKind};
 use std::marker::Model;
 
@@ -30,7 +30,7 @@ pub enum TokenKind {
 struct Found<'a> {
     kind: TokenKind,
     rest: &'a str,
-    within: Within<'a>,
+    within: ContentModel<'a>,
 }
 
 /// An item that markup follows.
@@ -42,18 +42,18 @@ fn then_markup<'a>(kind: TokenKind, rest: &'a str) -> Found<'a>
     Found {
         kind,
         rest,
-        within: Within::Markup,
+        within: ContentModel::Markup,
     }
 }
 
 /// What the texts that are read so are.
-fn kind_of_text(within: Within) -> TokenKind
+fn kind_of_text(within: ContentModel) -> TokenKind
     ensures { result ≡ kind_of_text (mode_of within.entry) }
 {
     match within {
-        Within::Markup => TokenKind::Text,
-        Within::Text(_) => TokenKind::RawText,
-        Within::RawText(_) => TokenKind::RawText,
+        ContentModel::Markup => TokenKind::Text,
+        ContentModel::Text(_) => TokenKind::RawText,
+        ContentModel::RawText(_) => TokenKind::RawText,
     }
 }
 
@@ -79,21 +79,21 @@ fn declaration_at(tag: &str) -> Result<Found<'_>, MarkupFaultKind>
 }
 
 /// The item at the front.
-fn item_at<'a>(text: &'a str, within: Within<'a>) -> Result<Found<'a>, MarkupFaultKind>
+fn item_at<'a>(text: &'a str, within: ContentModel<'a>) -> Result<Found<'a>, MarkupFaultKind>
     requires { text.now ≢ [] }
     ensures { TakesItem (mode_of within.entry) text.now result }
 {
     let (front, rest) = front_at(text, within)?;
     match front {
-        Front::StartTag => start_at(rest),
-        Front::Text(_) | Front::Plain(_) => Ok(Found {
+        Lexeme::StartTag => start_at(rest),
+        Lexeme::Text(_) | Lexeme::Plain(_) => Ok(Found {
             kind: kind_of_text(within),
             rest,
             within,
         }),
-        Front::EndTag(_) => Ok(then_markup(TokenKind::EndTag, rest)),
-        Front::Comment(_) => Ok(then_markup(TokenKind::Comment, rest)),
-        Front::Declaration => declaration_at(rest),
+        Lexeme::EndTag(_) => Ok(then_markup(TokenKind::EndTag, rest)),
+        Lexeme::Comment(_) => Ok(then_markup(TokenKind::Comment, rest)),
+        Lexeme::Declaration => declaration_at(rest),
     }
 }
 
@@ -125,7 +125,7 @@ pub struct Token<'a> {
 pub struct Tokens<'a> {
     rest: &'a str,
     at: usize,
-    within: Within<'a>,
+    within: ContentModel<'a>,
 }
 
 impl<'a> Model for Tokens<'a> {
@@ -148,7 +148,7 @@ impl<'a> Tokens<'a> {
         Tokens {
             rest: source,
             at: 0,
-            within: Within::Markup,
+            within: ContentModel::Markup,
         }
     }
 }

@@ -12,35 +12,35 @@ use dom_nodes::name::LocalRef;
 /// What is read next: markup, or the text of an element, whose name stands here as its start tag
 /// has it. The references in a `Text` are read, a `RawText` is read as it is.
 #[derive(Clone, Copy)]
-pub enum Within<'a> {
+pub enum ContentModel<'a> {
     Markup,
     Text(&'a str),
     RawText(&'a str),
 }
 
 /// How the contents of an element are read.
-pub fn within_element(name: &str) -> Within<'_>
+pub fn within_element(name: &str) -> ContentModel<'_>
     ensures { mode_of result ≡ mode_in (folded name.now) }
 {
     if is_raw(name) {
-        return Within::RawText(name);
+        return ContentModel::RawText(name);
     }
     if holds_text(name) {
-        return Within::Text(name);
+        return ContentModel::Text(name);
     }
-    Within::Markup
+    ContentModel::Markup
 }
 
 /// The same of an element whose local name is known too.
-pub fn within_named<'a>(written: &'a str, name: &LocalRef<'_>) -> Within<'a>
+pub fn within_named<'a>(written: &'a str, name: &LocalRef<'_>) -> ContentModel<'a>
     requires { name.now ≡ folded written.now }
     ensures { mode_of result ≡ mode_in name.now }
 {
     if is_raw_name(name) {
-        return Within::RawText(written);
+        return ContentModel::RawText(written);
     }
     if holds_text(written) {
-        return Within::Text(written);
+        return ContentModel::Text(written);
     }
-    Within::Markup
+    ContentModel::Markup
 }

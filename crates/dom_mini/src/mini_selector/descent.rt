@@ -19,7 +19,7 @@ use dom_selectors::mini_selector::selector::MiniSelector;
 use std::alloc::Global;
 
 /// A node that is still to be visited, and how many steps are matched above it.
-type Waiting = (NodeId, usize);
+type PendingNode = (NodeId, usize);
 
 /// Whether each step is a descendant step.
 pub(crate) fn goes_down(path: &[MiniSelector<'_>]) -> bool
@@ -61,7 +61,7 @@ fn go_on(
     node: &TreeNode,
     below: usize,
     passed: &mut usize,
-    pending: &mut Vec<Waiting>,
+    pending: &mut Vec<PendingNode>,
 ) -> Result<Option<NodeId>, OutOfMemory>
     ensures waits { IfOk result (λ next. pending.new.items ++ waiting next passed.new
         ≡ (pending.old.items ++ waiting node.now.next_sibling passed.old)

@@ -2,7 +2,7 @@
 
 ghost use Rattle.std.specs.Prelude.{◌≡◌, IfOk};
 ghost use Rattle.dom_query.specs.Queries.{Added, QueryResult, navigated};
-ghost use Rattle.dom_select.specs.Meaning.{Means};
+ghost use Rattle.dom_select.specs.Meaning.{MatchesNode};
 ghost use Rattle.dom_select.specs.Selected.{FiltersTo};
 ghost use Rattle.dom_selection.specs.Selections.{ids_of};
 
@@ -35,7 +35,7 @@ pub fn query(
 /// Those of the selection that the selector means.
 fn filter(tree: &Tree, selection: &[NodeId], matcher: &Matcher) -> Result<Vec<NodeId>, OutOfMemory>
     ensures { IfOk result (λ found.
-        FiltersTo (Means matcher.now tree.now) selection.now found.items) }
+        FiltersTo (MatchesNode matcher.now tree.now) selection.now found.items) }
 {
     let from = Selection::from_ids(tree, selection)?;
     let kept = from.filter_matcher(matcher)?;

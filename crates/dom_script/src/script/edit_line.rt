@@ -39,7 +39,7 @@ pub enum EditLine {
     Strip(Text),
     /// Copies of the nodes that markup spells are put at the place at the node.
     Put(Place, Snippet),
-    /// The node is cut out.
+    /// The node is detached.
     Remove,
     /// The parent's children take the parent's place.
     Unwrap,

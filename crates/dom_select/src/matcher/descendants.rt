@@ -2,7 +2,7 @@
 
 ghost use Rattle.std.specs.Prelude.{◌≡◌, ◌∷◌, [], length, IfOk, IfSome};
 ghost use Rattle.std.specs.Iterator.{IsFinite, at_most};
-ghost use Rattle.dom_links.specs.Trees.{walk_below};
+ghost use Rattle.dom_links.specs.Trees.{descendants_in_order};
 ghost use Rattle.dom_select.specs.Descendants.{FiltersItems, GivesMatch, IsMatch};
 ghost use Rattle.dom_select.specs.Descendants.{SelectsBelow};
 ghost use Rattle.dom_select.specs.Meaning.{MeansType};
@@ -57,7 +57,7 @@ impl<'a, 'b> Model for DescendantMatches<'a, 'b> {
 impl<'a, 'b> DescendantMatches<'a, 'b> {
     /// What is to come is what the selector selects below the node.
     pub fn new(node: NodeRef<'a>, matcher: &'b Matcher) -> Self
-        ensures all { result.left ≡ walk_below node.entry.tree.now node.entry.id }
+        ensures all { result.left ≡ descendants_in_order node.entry.tree.now node.entry.id }
         ensures once { result.left ≡ walks_below node.entry.tree.now (node.entry.id ∷ []) }
         ensures tree { result.tree ≡ node.entry.tree }
         ensures selector { result.selector ≡ matcher.now }

@@ -16,7 +16,7 @@ ghost use Rattle.dom_select.specs.Has.{CompoundsMatch, CompoundsMatchFrom, Compo
 ghost use Rattle.dom_select.specs.Has.{IsElementThat, IsInRow, may_be_subject};
 ghost use Rattle.dom_select.specs.Leftward.{ends_at};
 ghost use Rattle.dom_select.specs.Meaning.{HasHolds, HasType, Holds, IsTypeAlone, ListHolds};
-ghost use Rattle.dom_select.specs.Meaning.{Means, MeansType};
+ghost use Rattle.dom_select.specs.Meaning.{MatchesNode, MeansType};
 
 use crate::matcher::caches::SelectorCaches;
 use crate::matcher::chains::{binding_level, ends_at, left_of, line_laws, may_be_operand};
@@ -165,7 +165,7 @@ fn list_holds(list: &Nested, caches: &mut SelectorCaches<'_>, id: NodeId, node: 
 
 /// Whether one of the selectors means the node.
 pub(crate) fn means(selectors: &[Selector], caches: &mut SelectorCaches<'_>, id: NodeId) -> bool
-    ensures is { IsTrue result ↔ Means (read_list selectors.now) caches.old id }
+    ensures is { IsTrue result ↔ MatchesNode (read_list selectors.now) caches.old id }
     ensures kept { caches.new ≡ caches.old }
 {
     match caches.tree().tree_node(&id) {
@@ -183,7 +183,7 @@ pub(crate) fn means_node(
     node: &NodeData,
 ) -> bool
     requires { slice_get caches.old.content id ≡ Some node.now }
-    ensures is { IsTrue result ↔ Means (read_list selectors.now) caches.old id }
+    ensures is { IsTrue result ↔ MatchesNode (read_list selectors.now) caches.old id }
     ensures kept { caches.new ≡ caches.old }
 {
     for selector in selectors {
@@ -520,8 +520,12 @@ fn match_from_candidates<'a>(
 }
 
 /// Whether the selector means the node.
-pub(crate) fn is_meant(selector: &Selector, caches: &mut SelectorCaches<'_>, id: NodeId) -> bool
-    ensures { IsTrue result ↔ Means (read_list (selector.now ∷ [])) caches.old id }
+pub(crate) fn matches_selector(
+    selector: &Selector,
+    caches: &mut SelectorCaches<'_>,
+    id: NodeId,
+) -> bool
+    ensures { IsTrue result ↔ MatchesNode (read_list (selector.now ∷ [])) caches.old id }
 {
     let start = Start::Absolute;
     chain_matches(&start, &selector.first, &selector.rest, caches, id)

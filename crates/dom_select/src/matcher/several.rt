@@ -32,14 +32,14 @@ struct Walks<'a, 'r> {
 impl<'a, 'r> Model for Walks<'a, 'r> {
     ghost use Rattle.std.specs.Prelude.{ℕ, List, ◌++◌};
     ghost use Rattle.std.specs.List.{flat_map};
-    ghost use Rattle.dom_links.specs.Trees.{walk_below};
+    ghost use Rattle.dom_links.specs.Trees.{descendants_in_order};
     ghost use Rattle.dom_select.specs.Marks.{left_in};
     ghost use Rattle.dom_select.specs.Roots.{root_ids};
 
     ghost Value = { List ℕ };
 
     ghost view = { λ it. left_in it.walk
-        ++ flat_map (walk_below it.tree.now) (root_ids it.roots) };
+        ++ flat_map (descendants_in_order it.tree.now) (root_ids it.roots) };
 }
 
 impl<'a, 'r> Walks<'a, 'r> {

@@ -6,7 +6,7 @@ ghost use Rattle.dom_selectors.specs.Grammar.{IsSelectorOf, Refused};
 ghost use Rattle.dom_selectors.specs.declared.fault.SelectorFault.TheVariants.{Memory};
 ghost use Rattle.dom_selectors.specs.Spelling.{Decides};
 ghost use Rattle.dom_select.specs.ByText.{ByText, DecidesByText};
-ghost use Rattle.dom_selection.specs.Selecting.{Keeps, MeansSome, TriesText};
+ghost use Rattle.dom_selection.specs.Selecting.{Keeps, MatchesSomeNode, TriesText};
 
 use crate::selection::{Selection, push_if};
 use dom_nodes::fault::OutOfMemory;
@@ -39,7 +39,7 @@ impl<'a> Selection<'a> {
     /// Whether some node, of whichever kind, matches one of the matcher's selectors. It takes no
     /// memory.
     pub fn is_matcher(&self, matcher: &Matcher) -> bool
-        ensures { Decides result (MeansSome matcher.now self.now) }
+        ensures { Decides result (MatchesSomeNode matcher.now self.now) }
     {
         for node in self.nodes() {
             if matcher.match_element(node) {
@@ -52,7 +52,7 @@ impl<'a> Selection<'a> {
     /// Whether some node, of whichever kind, matches one of the selectors in the text; false where
     /// the text is outside the grammar.
     pub fn is(&self, selectors: &str) -> Result<bool, OutOfMemory>
-        ensures { IfOk result (DecidesByText selectors.now (λ s. MeansSome s self.now)) }
+        ensures { IfOk result (DecidesByText selectors.now (λ s. MatchesSomeNode s self.now)) }
     {
         match matcher_of(self.allocator(), selectors)? {
             Some(matcher) => Ok(self.is_matcher(&matcher)),

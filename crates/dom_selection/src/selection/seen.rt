@@ -1,7 +1,7 @@
 //! Sets of node numbers.
 
 ghost use Rattle.std.specs.Prelude.{◌≡◌, ◌∷◌, [], not, IfOk, OnOk};
-ghost use Rattle.dom_links.specs.Lists.{stands_in};
+ghost use Rattle.dom_links.specs.Lists.{is_member};
 ghost use Rattle.dom_selection.specs.Seen.{HaveSame};
 ghost use Rattle.dom_selection.specs.Selections.{ids_of};
 
@@ -38,14 +38,14 @@ impl Seen {
 
     /// Whether the number is in the set.
     pub(crate) fn has(&self, id: NodeId) -> bool
-        ensures { result ≡ stands_in id self.now }
+        ensures { result ≡ is_member id self.now }
     {
         self.numbers.contains(&id.value())
     }
 
     /// Adds the number. Whether it wasn't there before.
     pub(crate) fn note(&mut self, id: NodeId) -> Result<bool, OutOfMemory>
-        ensures new { IfOk result (λ new. new ≡ not (stands_in id self.old)) }
+        ensures new { IfOk result (λ new. new ≡ not (is_member id self.old)) }
         ensures noted { OnOk result (HaveSame (id ∷ self.old) self.new) }
     {
         Ok(self.numbers.insert(id.value())?)

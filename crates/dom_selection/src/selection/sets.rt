@@ -2,7 +2,7 @@
 
 ghost use Rattle.std.specs.Prelude.{◌≡◌, ◌++◌, ◌∷◌, [], IfOk, OnOk};
 ghost use Rattle.std.specs.List.{list_any};
-ghost use Rattle.dom_links.specs.Lists.{stands_in, without};
+ghost use Rattle.dom_links.specs.Lists.{is_member, without};
 ghost use Rattle.dom_trees.specs.Views.{refs_to};
 ghost use Rattle.dom_selection.specs.Selections.{HasOneTree, Lists, added, common};
 ghost use Rattle.dom_selection.specs.Selections.{has_number, have_common, ids_of};
@@ -14,8 +14,8 @@ use dom_nodes::node_id::NodeId;
 use dom_trees::node_ref::NodeRef;
 
 /// Whether the number is that of one of the nodes.
-fn stands_in(id: NodeId, nodes: &[NodeRef<'_>]) -> bool
-    ensures { result ≡ stands_in id (ids_of nodes.now) }
+fn is_member(id: NodeId, nodes: &[NodeRef<'_>]) -> bool
+    ensures { result ≡ is_member id (ids_of nodes.now) }
 {
     some_has(nodes, id)
 }
@@ -43,7 +43,7 @@ impl<'a> Selection<'a> {
             Err(_) => self
                 .nodes()
                 .iter()
-                .any(|node| stands_in(node.id, other.nodes())),
+                .any(|node| is_member(node.id, other.nodes())),
         }
     }
 

@@ -10,7 +10,7 @@ use dom_nodes::fault::EditFault;
 
 impl<'a> NodeMut<'a> {
     /// Joins each row of texts below the node: the first that is not empty holds them all, and the
-    /// others are cut out and hold nothing.
+    /// others are detached and hold nothing.
     pub fn normalize(&mut self) -> Result<(), EditFault>
         ensures { EditsAt result self.old self.new (normalizing self.old.id) }
     {

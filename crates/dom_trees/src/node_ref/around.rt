@@ -4,7 +4,7 @@ ghost use Rattle.std.specs.Prelude.{◌≡◌, false, filter, find, true};
 ghost use Rattle.dom_links.specs.Forest.{children_of, parent, siblings};
 ghost use Rattle.dom_links.specs.ListMoves.{element_at};
 ghost use Rattle.dom_links.specs.Lists.{after, before, first, last};
-ghost use Rattle.dom_links.specs.Trees.{ancestors, limited, walk_below};
+ghost use Rattle.dom_links.specs.Trees.{ancestors, limited, descendants_in_order};
 ghost use Rattle.dom_links.specs.Walk.{later};
 ghost use Rattle.dom_trees.specs.Views.{ListsNodes, child_named, ref_to};
 
@@ -149,7 +149,7 @@ impl<'a> NodeRef<'a> {
 
     /// The nodes below this one, each before what is below it.
     pub fn descendants(&self) -> Result<Vec<NodeRef<'a>>, OutOfMemory>
-        ensures { ListsNodes result self.now.tree (walk_below self.now.tree.now self.now.id) }
+        ensures { ListsNodes result self.now.tree (descendants_in_order self.now.tree.now self.now.id) }
     {
         Ok(self.descendants_it().collect(self.tree.allocator())?)
     }

@@ -46,7 +46,7 @@ impl Tree {
         })
     }
 
-    /// The same tree: every node at its number as it is, cut-out ones too.
+    /// The same tree: every node at its number as it is, detached ones too.
     pub fn try_clone(&self) -> Result<Tree, OutOfMemory>
         ensures { IfOk result (λ copy. copy ≡ self.now) }
     {

@@ -2,13 +2,13 @@
 //! joined to texts, attributes that are still missing.
 
 ghost use Rattle.dom_trees.specs.Edits.{Edits, Makes, appending, making};
-ghost use Rattle.dom_trees.specs.Growing.{adding_attrs, adding_text, making_element};
+ghost use Rattle.dom_trees.specs.TreeUnderConstruction.{adding_attrs, adding_text, making_element};
 ghost use Rattle.dom_trees.specs.NewNodes.{comment_node, doctype_node, instruction_node};
 
 use crate::checks::{check_known, check_open, check_room, target_of};
 use crate::tree::Tree;
 use crate::tree::creation::{owned_text, rare_text};
-use dom_links::gap::Gap;
+use dom_links::gap::InsertionPoint;
 use dom_links::ops::{add_text, changes, templates};
 use dom_nodes::fault::EditFault;
 use dom_nodes::name::QualName;
@@ -96,7 +96,7 @@ impl Tree {
     /// Puts a text at a gap. Where a text stands right before the gap, that one grows; else a new
     /// one is made there. Refused as `UnknownNode`; as `NoChildrenHere` or `RootOrFragment` by the
     /// node that the gap names; as `TooManyNodes`, where a new text is to be made; as `Memory`.
-    pub fn add_text_at(&mut self, gap: Gap, text: &str) -> Result<(), EditFault>
+    pub fn add_text_at(&mut self, gap: InsertionPoint, text: &str) -> Result<(), EditFault>
         ensures { Edits result self.old self.new (adding_text gap text.now) }
     {
         check_known(&self.nodes, target_of(&gap))?;

@@ -1,14 +1,14 @@
-//! The moves: what is moved is cut out of its list, and put at a gap or left a run of its own. They
+//! The moves: what is moved is detached, and put at a gap or left a run of its own. They
 //! take no memory.
 
-ghost use Rattle.dom_links.specs.declared.gap.Gap.TheVariants.{After, Before, EndOf, FrontOf};
-ghost use Rattle.dom_links.specs.declared.gap.Moving.TheVariants.{Node, WholeList, WithLater};
+ghost use Rattle.dom_links.specs.declared.gap.InsertionPoint.TheVariants.{After, Before, EndOf, FrontOf};
+ghost use Rattle.dom_links.specs.declared.gap.MovedNodes.TheVariants.{Node, WholeList, WithLater};
 ghost use Rattle.dom_trees.specs.Edits.{Edits, moving_to, removing, removing_children, reparenting};
 ghost use Rattle.dom_trees.specs.Edits.{replacing, unwrapping, wrapping};
 
 use crate::checks::{check_known, check_move, check_reparent, check_wrap};
 use crate::tree::Tree;
-use dom_links::gap::{Gap, Moving};
+use dom_links::gap::{InsertionPoint, MovedNodes};
 use dom_links::ops::{TreeNodeOps, lists};
 use dom_nodes::fault::EditFault;
 use dom_nodes::node_id::NodeId;
@@ -17,7 +17,7 @@ impl Tree {
     /// Moves nodes to a gap. Refused as `UnknownNode`; as `NoChildrenHere`, where the gap is among
     /// the children of a node that has none; as `RootOrFragment` by the node beside the gap or a
     /// moved node; as `Cycle` by a moved node.
-    pub fn move_to(&mut self, gap: Gap, moving: Moving) -> Result<(), EditFault>
+    pub fn move_to(&mut self, gap: InsertionPoint, moving: MovedNodes) -> Result<(), EditFault>
         ensures { Edits result self.old self.new (moving_to gap moving) }
     {
         check_move(&self.nodes, &gap, &moving)?;
@@ -29,14 +29,14 @@ impl Tree {
     pub fn append_child_of(&mut self, id: &NodeId, new_child: &NodeId) -> Result<(), EditFault>
         ensures { Edits result self.old self.new (moving_to (EndOf id.now) (Node new_child.now)) }
     {
-        self.move_to(Gap::EndOf(*id), Moving::Node(*new_child))
+        self.move_to(InsertionPoint::EndOf(*id), MovedNodes::Node(*new_child))
     }
 
     /// Moves a node to the front of the children of another.
     pub fn prepend_child_of(&mut self, id: &NodeId, new_child: &NodeId) -> Result<(), EditFault>
         ensures { Edits result self.old self.new (moving_to (FrontOf id.now) (Node new_child.now)) }
     {
-        self.move_to(Gap::FrontOf(*id), Moving::Node(*new_child))
+        self.move_to(InsertionPoint::FrontOf(*id), MovedNodes::Node(*new_child))
     }
 
     /// Moves a node to the place right before another.
@@ -44,14 +44,14 @@ impl Tree {
         ensures { Edits result self.old self.new
             (moving_to (Before id.now) (Node new_sibling.now)) }
     {
-        self.move_to(Gap::Before(*id), Moving::Node(*new_sibling))
+        self.move_to(InsertionPoint::Before(*id), MovedNodes::Node(*new_sibling))
     }
 
     /// Moves a node to the place right after another.
     pub fn insert_after_of(&mut self, id: &NodeId, new_sibling: &NodeId) -> Result<(), EditFault>
         ensures { Edits result self.old self.new (moving_to (After id.now) (Node new_sibling.now)) }
     {
-        self.move_to(Gap::After(*id), Moving::Node(*new_sibling))
+        self.move_to(InsertionPoint::After(*id), MovedNodes::Node(*new_sibling))
     }
 
     /// Moves a node and its later siblings to the end of the children of another.
@@ -59,7 +59,10 @@ impl Tree {
         ensures { Edits result self.old self.new
             (moving_to (EndOf id.now) (WithLater new_child.now)) }
     {
-        self.move_to(Gap::EndOf(*id), Moving::WithLater(*new_child))
+        self.move_to(
+            InsertionPoint::EndOf(*id),
+            MovedNodes::WithLater(*new_child),
+        )
     }
 
     /// Moves the whole list of a node, it and all its siblings, to the front of the children of
@@ -68,7 +71,10 @@ impl Tree {
         ensures { Edits result self.old self.new
             (moving_to (FrontOf id.now) (WholeList new_child.now)) }
     {
-        self.move_to(Gap::FrontOf(*id), Moving::WholeList(*new_child))
+        self.move_to(
+            InsertionPoint::FrontOf(*id),
+            MovedNodes::WholeList(*new_child),
+        )
     }
 
     /// Moves a node and its later siblings to the place right before another.
@@ -80,7 +86,10 @@ impl Tree {
         ensures { Edits result self.old self.new
             (moving_to (Before id.now) (WithLater new_sibling.now)) }
     {
-        self.move_to(Gap::Before(*id), Moving::WithLater(*new_sibling))
+        self.move_to(
+            InsertionPoint::Before(*id),
+            MovedNodes::WithLater(*new_sibling),
+        )
     }
 
     /// Moves a node and its later siblings to the place right after another.
@@ -92,7 +101,10 @@ impl Tree {
         ensures { Edits result self.old self.new
             (moving_to (After id.now) (WithLater new_sibling.now)) }
     {
-        self.move_to(Gap::After(*id), Moving::WithLater(*new_sibling))
+        self.move_to(
+            InsertionPoint::After(*id),
+            MovedNodes::WithLater(*new_sibling),
+        )
     }
 
     /// Cuts a node out of its list. It is then a run of its own. Only an `UnknownNode` is refused.
@@ -134,7 +146,11 @@ impl Tree {
     pub fn replace_with(&mut self, id: &NodeId, new_node: &NodeId) -> Result<(), EditFault>
         ensures { Edits result self.old self.new (replacing id.now new_node.now) }
     {
-        check_move(&self.nodes, &Gap::Before(*id), &Moving::Node(*new_node))?;
+        check_move(
+            &self.nodes,
+            &InsertionPoint::Before(*id),
+            &MovedNodes::Node(*new_node),
+        )?;
         lists::replace_with(&mut self.nodes, *id, *new_node);
         Ok(())
     }

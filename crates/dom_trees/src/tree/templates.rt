@@ -5,7 +5,7 @@ ghost use Rattle.dom_trees.specs.Edits.{Edits, appending_template};
 
 use crate::checks::{check_known, check_open};
 use crate::tree::Tree;
-use dom_links::gap::Gap;
+use dom_links::gap::InsertionPoint;
 use dom_links::ops::templates;
 use dom_nodes::fault::EditFault;
 use dom_nodes::name::QualName;
@@ -28,7 +28,7 @@ impl Tree {
         ensures contents { IfOk result (λ made. made.1 ≡ length self.old.content + 1) }
     {
         check_known(&self.nodes, *id)?;
-        check_open(&self.nodes, &Gap::EndOf(*id))?;
+        check_open(&self.nodes, &InsertionPoint::EndOf(*id))?;
         let Some(contents) = NodeId::new(self.nodes.len() + 1) else {
             return Err(EditFault::TooManyNodes);
         };

@@ -22,7 +22,7 @@ impl Tree {
     }
 
     /// Joins each row of texts below the node: the first that is not empty holds them all, and the
-    /// others are cut out and hold nothing. Refused as `UnknownNode` or `Memory`.
+    /// others are detached and hold nothing. Refused as `UnknownNode` or `Memory`.
     pub fn normalize_of(&mut self, id: &NodeId) -> Result<(), EditFault>
         ensures { Edits result self.old self.new (normalizing id.now) }
     {

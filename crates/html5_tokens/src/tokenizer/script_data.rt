@@ -19,7 +19,7 @@ impl Tokenizer {
             (ScriptState::DoubleStart, _) => self.double_name(false, c),
             (ScriptState::Double(DoubleState::LessThan), _) => self.double_less_than(c),
             (ScriptState::Double(DoubleState::End), _) => self.double_name(true, c),
-            (ScriptState::Double(double), _) => self.in_double(double, c),
+            (ScriptState::Double(double), _) => self.double_escaped(double, c),
             _ => self.in_escaped(state, c),
         }
     }
@@ -43,7 +43,7 @@ impl Tokenizer {
         match c {
             '/' | '>' | '\t' | '\n' | '\u{c}' | ' ' => self.escape(c, is_script != is_end),
             'a'..='z' | 'A'..='Z' => self.double_letter(c),
-            _ if is_end => self.in_double(DoubleState::Escaped, c),
+            _ if is_end => self.double_escaped(DoubleState::Escaped, c),
             _ => self.in_escaped(ScriptState::Escaped, c),
         }
     }
@@ -69,11 +69,11 @@ impl Tokenizer {
                 self.letters.clear();
                 self.text_then(c, State::ScriptData(ScriptState::Double(DoubleState::End)))
             }
-            _ => self.in_double(DoubleState::Escaped, c),
+            _ => self.double_escaped(DoubleState::Escaped, c),
         }
     }
 
-    fn in_double(&mut self, state: DoubleState, c: char) -> Progress {
+    fn double_escaped(&mut self, state: DoubleState, c: char) -> Progress {
         let next = match (c, state) {
             ('-', DoubleState::Escaped) => DoubleState::Dash,
             ('-', _) => DoubleState::DashDash,

@@ -48,7 +48,7 @@ impl GrowingTree {
     /// Reconstructs the active formatting elements: opens those again that aren't open.
     pub fn reconstruct(&mut self, placing: Placing) -> Result<(), PageFault> {
         for index in self.first_closed()..self.formatting.len() {
-            self.open_again(index, placing)?;
+            self.reconstruct_formatting(index, placing)?;
         }
         Ok(())
     }

@@ -5,8 +5,8 @@ ghost use Rattle.std.specs.Prelude.{◌≡◌, ◌∷◌, [], IfOk, None, OnErr,
 ghost use Rattle.dom_links.specs.ListMoves.{reparented};
 ghost use Rattle.dom_links.specs.Moves.{moved_to};
 ghost use Rattle.dom_links.specs.Sound.{IsForest, IsOpenGap};
-ghost use Rattle.dom_links.specs.declared.gap.Gap.TheVariants.{EndOf};
-ghost use Rattle.dom_links.specs.declared.gap.Moving.TheVariants.{Node};
+ghost use Rattle.dom_links.specs.declared.gap.InsertionPoint.TheVariants.{EndOf};
+ghost use Rattle.dom_links.specs.declared.gap.MovedNodes.TheVariants.{Node};
 ghost use Rattle.dom_trees.specs.Edits.{MayMove, MayReparentOf};
 ghost use Rattle.html5_trees.specs.Elements.{Grows, IsAround, IsCopy, IsElement, IsFresh, IsInside};
 ghost use Rattle.html5_trees.specs.Elements.{IsMade, IsNew, IsRooted};
@@ -14,8 +14,8 @@ ghost use Rattle.html5_trees.specs.Elements.{IsMade, IsNew, IsRooted};
 use crate::attributes::{attrs_of, element_name, holds_html};
 use crate::fault::{PageFault, made, settled};
 use crate::name::Name;
-use crate::stack::{Ns, Open};
-use dom_links::gap::{Gap, Moving};
+use crate::stack::{ElementNamespace, Open};
+use dom_links::gap::{InsertionPoint, MovedNodes};
 use dom_nodes::name::QualName;
 use dom_nodes::node_data::{Attrs, Element, NodeData};
 use dom_nodes::node_id::NodeId;
@@ -30,11 +30,11 @@ pub fn is_forest(tree: &Tree)
 }
 
 /// Moves a node to a gap where it may go.
-pub fn move_to(tree: &mut Tree, gap: Gap, id: NodeId)
+pub fn move_to(tree: &mut Tree, gap: InsertionPoint, id: NodeId)
     requires { MayMove gap (Node id) tree.old }
     ensures { tree.new ≡ moved_to (id ∷ []) gap tree.old }
 {
-    let Ok(()) = tree.move_to(gap, Moving::Node(id)) else {
+    let Ok(()) = tree.move_to(gap, MovedNodes::Node(id)) else {
         unreachable!();
     };
 }
@@ -60,7 +60,7 @@ pub fn cut_out(tree: &mut Tree, id: NodeId)
 }
 
 /// Puts a text at a gap.
-pub fn put_text(tree: &mut Tree, gap: Gap, text: &str) -> Result<(), PageFault>
+pub fn put_text(tree: &mut Tree, gap: InsertionPoint, text: &str) -> Result<(), PageFault>
     requires { IsOpenGap gap tree.old }
     ensures { Grows tree.old tree.new }
 {
@@ -77,7 +77,7 @@ fn create_comment(tree: &mut Tree, text: &str) -> Result<NodeId, PageFault>
 }
 
 /// Puts a new comment at a gap.
-pub fn put_comment(tree: &mut Tree, gap: Gap, text: &str) -> Result<(), PageFault>
+pub fn put_comment(tree: &mut Tree, gap: InsertionPoint, text: &str) -> Result<(), PageFault>
     requires { IsOpenGap gap tree.old }
     ensures { Grows tree.old tree.new }
 {
@@ -104,7 +104,11 @@ pub fn add_attrs(tree: &mut Tree, id: NodeId, tag: &Tag) -> Result<(), PageFault
     requires { IsElement tree.old id }
     ensures { Grows tree.old tree.new }
 {
-    let attrs = attrs_of(tree.allocator(), Ns::Html, tag.attrs.as_slice())?;
+    let attrs = attrs_of(
+        tree.allocator(),
+        ElementNamespace::Html,
+        tag.attrs.as_slice(),
+    )?;
     settled(tree.add_missing_attrs_of(&id, attrs))
 }
 
@@ -124,9 +128,9 @@ fn create(
 
 /// What is particular of the element of a tag: whether it is a template, or an `annotation-xml`
 /// whose encoding is HTML.
-fn flags_of(ns: Ns, name: Name, tag: &Tag) -> ElementFlags {
+fn flags_of(ns: ElementNamespace, name: Name, tag: &Tag) -> ElementFlags {
     ElementFlags {
-        template: ns == Ns::Html && name == Name::Template,
+        template: ns == ElementNamespace::Html && name == Name::Template,
         mathml_annotation_xml_integration_point: holds_html(ns, name, tag),
     }
 }
@@ -134,8 +138,8 @@ fn flags_of(ns: Ns, name: Name, tag: &Tag) -> ElementFlags {
 /// Puts the element of a tag at a gap.
 pub fn put_element(
     tree: &mut Tree,
-    gap: Gap,
-    ns: Ns,
+    gap: InsertionPoint,
+    ns: ElementNamespace,
     name: Name,
     tag: &Tag,
 ) -> Result<Open, PageFault>
@@ -161,7 +165,7 @@ pub fn put_element(
 /// Puts a new element at a gap.
 fn put_new(
     tree: &mut Tree,
-    gap: Gap,
+    gap: InsertionPoint,
     name: QualName,
     attrs: Attrs,
     flags: ElementFlags,
@@ -173,7 +177,7 @@ fn put_new(
     if flags.template {
         return put_made(tree, gap, name, attrs, flags);
     }
-    let Gap::EndOf(parent) = gap else {
+    let InsertionPoint::EndOf(parent) = gap else {
         return put_made(tree, gap, name, attrs, flags);
     };
     let mathml = flags.mathml_annotation_xml_integration_point;
@@ -183,7 +187,7 @@ fn put_new(
 /// Makes an element, which stands alone, and then puts it at a gap.
 fn put_made(
     tree: &mut Tree,
-    gap: Gap,
+    gap: InsertionPoint,
     name: QualName,
     attrs: Attrs,
     flags: ElementFlags,
@@ -248,7 +252,7 @@ fn copy_of(tree: &mut Tree, element: Open) -> Result<Open, PageFault>
 }
 
 /// Puts a copy of an element at a gap.
-pub fn put_copy(tree: &mut Tree, gap: Gap, element: Open) -> Result<Open, PageFault>
+pub fn put_copy(tree: &mut Tree, gap: InsertionPoint, element: Open) -> Result<Open, PageFault>
     requires gap { IsOpenGap gap tree.old }
     requires element { IsElement tree.old element.id }
     ensures grows { Grows tree.old tree.new }
@@ -268,7 +272,7 @@ pub fn put_into_copy(tree: &mut Tree, element: Open, id: NodeId) -> Result<Open,
     ensures element { IfOk result (λ copy. IsAround tree.old tree.new copy.id id) }
 {
     let copy = copy_of(tree, element)?;
-    move_to(tree, Gap::EndOf(copy.id), id);
+    move_to(tree, InsertionPoint::EndOf(copy.id), id);
     Ok(copy)
 }
 
@@ -286,6 +290,6 @@ pub fn put_children_into_copy(
     let copy = copy_of(tree, element)?;
     reparent(tree, parent, copy.id);
     is_forest(tree);
-    move_to(tree, Gap::EndOf(parent), copy.id);
+    move_to(tree, InsertionPoint::EndOf(parent), copy.id);
     Ok(copy)
 }

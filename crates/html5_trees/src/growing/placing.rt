@@ -9,8 +9,8 @@ ghost use Rattle.html5_trees.specs.declared.stack.Open.{Open as AnOpen};
 
 use super::edits::is_forest;
 use crate::name::Name;
-use crate::stack::{Ns, Open, OpenElements};
-use dom_links::gap::Gap;
+use crate::stack::{ElementNamespace, Open, OpenElements};
+use dom_links::gap::InsertionPoint;
 use dom_nodes::node_id::NodeId;
 use dom_trees::tree::Tree;
 
@@ -35,7 +35,7 @@ pub enum Place {
 
 /// Whether foster parenting moves what is put into that element.
 pub fn is_foster_target(target: &Open) -> bool {
-    target.ns == Ns::Html
+    target.ns == ElementNamespace::Html
         && matches!(
             target.name,
             Name::Table | Name::Tbody | Name::Tfoot | Name::Thead | Name::Tr
@@ -140,7 +140,7 @@ fn place_above(tree: &Tree, id: NodeId) -> Place
 }
 
 /// The gap at a place.
-fn gap_of(tree: &Tree, place: Place) -> Gap
+fn gap_of(tree: &Tree, place: Place) -> InsertionPoint
     requires { IsPlace tree.now place }
     ensures open { IsOpenGap result tree.now }
     ensures lies { (elements : List AnOpen) → LiesAt tree.now elements place
@@ -148,16 +148,16 @@ fn gap_of(tree: &Tree, place: Place) -> Gap
 {
     is_forest(tree);
     match place {
-        Place::EndOf(parent) => Gap::EndOf(parent),
+        Place::EndOf(parent) => InsertionPoint::EndOf(parent),
         Place::Table(table, other) => match tree.parent_of(&table) {
-            Some(_) => Gap::Before(table),
-            None => Gap::EndOf(inside(tree, other)),
+            Some(_) => InsertionPoint::Before(table),
+            None => InsertionPoint::EndOf(inside(tree, other)),
         },
     }
 }
 
 /// The gap where a node goes with the last of these open elements as the target.
-pub fn gap_in(tree: &Tree, elements: &[Open], foster: bool) -> Gap
+pub fn gap_in(tree: &Tree, elements: &[Open], foster: bool) -> InsertionPoint
     requires root { IsRooted tree.now }
     requires open { AreOpen tree.now elements.now }
     ensures open { IsOpenGap result tree.now }
@@ -168,7 +168,7 @@ pub fn gap_in(tree: &Tree, elements: &[Open], foster: bool) -> Gap
 
 /// The gap where a node goes. Where the elements lie as deep as they may, it is behind the current
 /// node, not in it.
-pub fn gap(tree: &Tree, stack: &OpenElements, placing: Placing) -> Gap
+pub fn gap(tree: &Tree, stack: &OpenElements, placing: Placing) -> InsertionPoint
     requires root { IsRooted tree.now }
     requires stack { AreOpen tree.now stack.now.elements.items }
     ensures { IsOpenGap result tree.now }

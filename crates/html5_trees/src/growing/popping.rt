@@ -6,7 +6,7 @@ use super::GrowingTree;
 use crate::fault::PageFault;
 use crate::formatting::Entry;
 use crate::name::Name;
-use crate::sets::{Context, Scope, has_implied_end};
+use crate::sets::{Scope, TableContext, has_implied_end};
 use crate::stack::Open;
 use dom_nodes::node_id::NodeId;
 
@@ -148,7 +148,7 @@ impl GrowingTree {
     }
 
     /// Pops elements up to one that ends the context, which stays.
-    pub fn clear_to(&mut self, context: Context) {
+    pub fn clear_to(&mut self, context: TableContext) {
         for _ in 0..self.stack.len() {
             match self.stack.current() {
                 Some(open) if context.ends_at(&open) => return,

@@ -6,7 +6,7 @@ use crate::attributes::is_hidden;
 use crate::builder::{Mode, Next, TreeBuilder};
 use crate::name::Name;
 use crate::sets::{Scope, is_heading};
-use crate::stack::Ns;
+use crate::stack::ElementNamespace;
 use html5_tokens::token::Tag;
 use html5_tokens::tokenizer::State;
 
@@ -66,8 +66,8 @@ impl TreeBuilder {
             Group::Option => self.start_option(name, tag),
             Group::RubyBase => self.start_ruby(name, tag, None),
             Group::RubyText => self.start_ruby(name, tag, Some(Name::Rtc)),
-            Group::Math => self.insert_foreign(Ns::MathMl, name, tag),
-            Group::Svg => self.insert_foreign(Ns::Svg, name, tag),
+            Group::Math => self.insert_foreign(ElementNamespace::MathMl, name, tag),
+            Group::Svg => self.insert_foreign(ElementNamespace::Svg, name, tag),
             Group::Stray => Next::Done,
             _ => self.start_text(group, name, tag),
         }

@@ -2,7 +2,7 @@
 
 use crate::builder::{Mode, TreeBuilder};
 use crate::name::Name;
-use crate::stack::Ns;
+use crate::stack::ElementNamespace;
 
 /// The elements that ask for a mode. The outermost open element asks for one whatever it is.
 const ASKING: [Name; 15] = [
@@ -40,8 +40,8 @@ impl TreeBuilder {
     /// The mode that the element at a place of the stack asks for, if it asks for one.
     fn mode_at(&self, place: usize) -> Option<Mode> {
         let last = place == 0;
-        let open = self.tree.adjusted(place)?;
-        if open.ns != Ns::Html {
+        let open = self.tree.adjusted_current_node(place)?;
+        if open.ns != ElementNamespace::Html {
             return if last { Some(Mode::InBody) } else { None };
         }
         match open.name {

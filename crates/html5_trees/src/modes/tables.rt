@@ -4,7 +4,7 @@ use super::{Token, is_start, next_if};
 use crate::attributes::is_hidden;
 use crate::builder::{Mode, Next, TreeBuilder};
 use crate::name::Name;
-use crate::sets::{Context, Scope};
+use crate::sets::{Scope, TableContext};
 use html5_tokens::token::Tag;
 
 /// Whether an element stands between a table and its cells, or is a cell.
@@ -81,7 +81,7 @@ impl TreeBuilder {
     }
 
     fn start_table_part(&mut self, name: Name, tag: &Tag) -> Next {
-        self.tree.clear_to(Context::Table);
+        self.tree.clear_to(TableContext::Table);
         match name {
             Name::Caption => {
                 self.push_marker();
@@ -102,7 +102,7 @@ impl TreeBuilder {
     }
 
     fn start_table_form(&mut self, tag: &Tag) -> Next {
-        if !self.tree.bars_form() {
+        if !self.tree.ignores_form() {
             self.insert(Name::Form, tag);
             self.tree.set_form();
             self.tree.pop();
@@ -175,7 +175,7 @@ impl TreeBuilder {
     }
 
     fn end_section(&mut self) {
-        self.tree.clear_to(Context::Section);
+        self.tree.clear_to(TableContext::Section);
         self.tree.pop();
         self.mode = Mode::InTable;
     }
@@ -209,11 +209,11 @@ impl TreeBuilder {
     fn table_body_start(&mut self, name: Name, tag: &Tag) -> Next {
         match name {
             Name::Tr => {
-                self.tree.clear_to(Context::Section);
+                self.tree.clear_to(TableContext::Section);
                 self.insert_then(name, tag, Mode::InRow)
             }
             Name::Th | Name::Td => {
-                self.tree.clear_to(Context::Section);
+                self.tree.clear_to(TableContext::Section);
                 self.imply(Name::Tr, "tr", Mode::InRow)
             }
             _ if is_table_part(name) => self.leave_section(),
@@ -226,7 +226,7 @@ impl TreeBuilder {
         if !self.tree.open().in_scope(Name::Tr, Scope::Table) {
             return Next::Done;
         }
-        self.tree.clear_to(Context::Row);
+        self.tree.clear_to(TableContext::Row);
         self.tree.pop();
         self.mode = Mode::InTableBody;
         Next::Again
@@ -264,7 +264,7 @@ impl TreeBuilder {
     }
 
     fn start_cell(&mut self, name: Name, tag: &Tag) -> Next {
-        self.tree.clear_to(Context::Row);
+        self.tree.clear_to(TableContext::Row);
         self.insert(name, tag);
         self.push_marker();
         self.done_in(Mode::InCell)

@@ -1,6 +1,6 @@
 //! What is known of the open elements without a walk over them.
 
-use super::{Ns, Open};
+use super::{ElementNamespace, Open};
 use crate::fault::PageFault;
 use crate::name::{COUNT, Name};
 use crate::sets::{ends_default_scope, is_crossed_by_items, is_special};
@@ -146,7 +146,7 @@ impl Marks {
     fn set_top(&mut self, open: &Open, top: usize) {
         let old = self.tops_of(open);
         let tops = match open.ns {
-            Ns::Html => Tops { html: top, ..old },
+            ElementNamespace::Html => Tops { html: top, ..old },
             _ => Tops {
                 foreign: top,
                 ..old
@@ -204,7 +204,7 @@ impl Marks {
     fn mark_of(&self, open: &Open, top: usize) -> Mark {
         let below = self.last();
         let special = is_special(open);
-        let is_html = open.ns == Ns::Html;
+        let is_html = open.ns == ElementNamespace::Html;
         let same = self.tops_of(open);
         Mark {
             same: if is_html { same.html } else { same.foreign },
