@@ -1,4 +1,5 @@
-//! Texts in which the characters that an attribute's value can't hold are written by their names.
+//! Escaping of text as the value of a double-quoted attribute (HTML Standard, 13.3, "escaping a
+//! string").
 
 ghost use Rattle.std.specs.Prelude.{◌≡◌, ◌++◌, IfOk, OnOk, string_bytes};
 ghost use Rattle.dom_nodes.specs.Escaping.{escaped_value, value_char};
@@ -6,7 +7,8 @@ ghost use Rattle.dom_nodes.specs.Escaping.{escaped_value, value_char};
 use crate::fault::OutOfMemory;
 use std::alloc::{AllocError, Global};
 
-/// The text, escaped as an attribute's value is.
+/// Returns the text with `&`, `"` and the no-break space replaced by `&amp;`, `&quot;` and
+/// `&nbsp;`. `<` and `>` stay as they are. It fails with `OutOfMemory` when memory is refused.
 pub fn html_escape(alloc: Global, text: &str) -> Result<String, OutOfMemory>
     ensures { IfOk result (λ escaped. string_bytes escaped ≡ escaped_value text.now) }
 {
@@ -17,7 +19,7 @@ pub fn html_escape(alloc: Global, text: &str) -> Result<String, OutOfMemory>
     Ok(escaped)
 }
 
-/// Adds a character, by its name where it has one.
+/// Appends a character, escaped.
 fn push_escaped(text: &mut String, c: char) -> Result<(), AllocError>
     ensures { OnOk result (string_bytes text.new ≡ string_bytes text.old ++ value_char c) }
 {
