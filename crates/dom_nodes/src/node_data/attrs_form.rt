@@ -41,8 +41,7 @@ pub(super) enum AttrsForm {
     OneOf(u32, Rc<Vec<Attr>>),
     /// The two attributes from this index on in a shared list.
     TwoOf(u16, Rc<Vec<Attr>>),
-    /// The first `n` attributes of a block of three that nothing else shares, where `n` is the
-    /// number.
+    /// The first attributes of a block of three that nothing else shares. The integer counts them.
     Few(u32, Three),
     /// A list of any other length, which nothing else shares. It lies behind a pointer, so that the
     /// enum is no larger than its other variants need.
