@@ -1,4 +1,4 @@
-//! What most programs use, to be taken whole: `use dom_query::prelude::*;`.
+//! The names that most programs use, for `use dom_query::prelude::*;`.
 
 pub use dom_edits::edit::SelectionFault;
 pub use dom_edits::selection_mut::SelectionMut;
