@@ -1,5 +1,6 @@
-//! Escaping of text as the value of a double-quoted attribute (HTML Standard, 13.3, "escaping a
-//! string").
+//! Escaping of text as the value of a double-quoted attribute. The rule is that of `html_escape` in
+//! the crate dom_query. The HTML Standard (13.3, "escaping a string") had the same rule for the
+//! values of attributes until 2025; it now escapes `<` and `>` there too.
 
 ghost use Rattle.std.specs.Prelude.{◌≡◌, ◌++◌, IfOk, OnOk, string_bytes};
 ghost use Rattle.dom_nodes.specs.Escaping.{escaped_value, value_char};
