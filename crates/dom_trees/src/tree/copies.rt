@@ -27,7 +27,9 @@ impl Tree {
     }
 
     /// Copies nodes of this tree with their subtrees, and returns the ids of the copies, in order.
-    /// Each copy is detached. Ids and errors are as in `merge`.
+    /// Each copy is detached. The new nodes get ids as in `merge`. It fails with `UnknownNode` for
+    /// an unknown id, with `RootOrFragment` for a document or a fragment, and with `TooManyNodes`
+    /// or `Memory`. After an error the tree is unchanged.
     pub fn copy_nodes(&mut self, ids: &[NodeId]) -> Result<Vec<NodeId>, EditFault>
         ensures { Copies result self.old self.new self.old ids.now }
     {

@@ -30,7 +30,7 @@ impl Tree {
     }
 
     /// Copies nodes of this tree and inserts the copies, in their order, at a place relative to the
-    /// node `id`. Places and errors are as in `merge_at`.
+    /// node `id`. It fails as `merge_at` does, and then the tree is unchanged.
     pub fn copy_at(&mut self, id: &NodeId, place: Place, ids: &[NodeId]) -> Result<(), EditFault>
         ensures { Edits result self.old self.new (inserting self.old ids.now place id.now) }
     {
