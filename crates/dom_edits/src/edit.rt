@@ -82,7 +82,8 @@ fn strip_known(tree: &mut Tree, id: NodeId, names: &[&str]) -> Result<(), EditFa
     Ok(())
 }
 
-/// Makes the edit at each of the nodes, one after another, and stops at the first error.
+/// Makes the edit at each of the nodes, one after another. It stops at the first node at which
+/// `edit_node` fails, and returns that fault with the number of nodes that were done.
 pub fn edit_each(tree: &mut Tree, nodes: &[NodeId], edit: Edit) -> Result<(), SelectionFault>
     ensures { EditsEach result tree.old tree.new nodes.now (edit_at edit.entry) }
 {

@@ -37,7 +37,7 @@ impl<'a> SelectionMut<'a> {
         SelectionMut { tree, nodes }
     }
 
-    /// Detaches each of the nodes. It allocates no memory.
+    /// Detaches each of the nodes. It allocates no memory. It fails with `UnknownNode` only.
     pub fn remove(&mut self) -> Result<(), SelectionFault>
         ensures { EditsSelected result self.old self.new (edit_at Edit.Remove) }
     {
@@ -45,7 +45,8 @@ impl<'a> SelectionMut<'a> {
     }
 
     /// Replaces the children of each element by one text node, and the contents of each text node.
-    /// Other nodes are left alone. At a node it can also fail with `TooManyNodes` or `Memory`.
+    /// Other nodes are left alone. It fails with `UnknownNode`; at an element also with
+    /// `TooManyNodes`; at an element or a text also with `Memory`.
     pub fn set_text(&mut self, text: &str) -> Result<(), SelectionFault>
         ensures { EditsSelected result self.old self.new (edit_at (Edit.SetText text.entry)) }
     {
@@ -53,7 +54,7 @@ impl<'a> SelectionMut<'a> {
     }
 
     /// Replaces each element below the nodes whose local name is in `names` by its children. It
-    /// allocates no memory.
+    /// allocates no memory. It fails with `UnknownNode` only.
     pub fn strip_elements(&mut self, names: &[&str]) -> Result<(), SelectionFault>
         ensures { EditsSelected result self.old self.new (edit_at (Edit.Strip names.entry)) }
     {
@@ -68,8 +69,8 @@ impl<'a> SelectionMut<'a> {
     }
 
     /// Sets the value of the first attribute with this local name of each element. When there is
-    /// none, it appends an attribute without prefix and namespace. At an element it can also fail
-    /// with `Memory`.
+    /// none, it appends an attribute without prefix and namespace. It fails with `UnknownNode`, or
+    /// with `Memory` at an element.
     pub fn set_attr(&mut self, name: &str, value: &str) -> Result<(), SelectionFault>
         ensures { EditsSelected result self.old self.new
             (edit_at (Edit.Change (SetAttr name.entry value.entry))) }
@@ -77,8 +78,8 @@ impl<'a> SelectionMut<'a> {
         self.change(Change::SetAttr { name, value })
     }
 
-    /// Changes the local name of each element; prefix and namespace stay. At an element it can also
-    /// fail with `Memory`.
+    /// Changes the local name of each element; prefix and namespace stay. It fails with
+    /// `UnknownNode`, or with `Memory` at an element.
     pub fn rename(&mut self, name: &str) -> Result<(), SelectionFault>
         ensures { EditsSelected result self.old self.new
             (edit_at (Edit.Change (Rename name.entry))) }
@@ -87,8 +88,8 @@ impl<'a> SelectionMut<'a> {
     }
 
     /// Adds the words of `classes` that an element doesn't have yet to its first attribute `class`;
-    /// when there is no such attribute, one is appended. A blank `classes` changes nothing. At an
-    /// element it can also fail with `Memory`.
+    /// when there is no such attribute, one is appended. A blank `classes` changes nothing. It
+    /// fails with `UnknownNode`, or with `Memory` at an element.
     pub fn add_class(&mut self, classes: &str) -> Result<(), SelectionFault>
         ensures { EditsSelected result self.old self.new
             (edit_at (Edit.Change (AddClass classes.entry))) }
@@ -97,7 +98,8 @@ impl<'a> SelectionMut<'a> {
     }
 
     /// Removes the words of `classes` from the first attribute `class` of each element. A blank
-    /// `classes` changes nothing. At an element it can also fail with `Memory`.
+    /// `classes` changes nothing. It fails with `UnknownNode`, or with `Memory` at an element with
+    /// an attribute `class`.
     pub fn remove_class(&mut self, classes: &str) -> Result<(), SelectionFault>
         ensures { EditsSelected result self.old self.new
             (edit_at (Edit.Change (RemoveClass classes.entry))) }
@@ -105,7 +107,8 @@ impl<'a> SelectionMut<'a> {
         self.change(Change::RemoveClass(classes))
     }
 
-    /// Removes every attribute with this local name. It allocates no memory.
+    /// Removes every attribute with this local name. It allocates no memory. It fails with
+    /// `UnknownNode` only.
     pub fn remove_attr(&mut self, name: &str) -> Result<(), SelectionFault>
         ensures { EditsSelected result self.old self.new
             (edit_at (Edit.Change (RemoveAttr name.entry))) }
@@ -113,7 +116,8 @@ impl<'a> SelectionMut<'a> {
         self.change(Change::RemoveAttr(name))
     }
 
-    /// Removes every attribute whose local name is in `names`. It allocates no memory.
+    /// Removes every attribute whose local name is in `names`. It allocates no memory. It fails
+    /// with `UnknownNode` only.
     pub fn remove_attrs(&mut self, names: &[&str]) -> Result<(), SelectionFault>
         ensures { EditsSelected result self.old self.new
             (edit_at (Edit.Change (RemoveAttrs names.entry))) }
@@ -121,7 +125,8 @@ impl<'a> SelectionMut<'a> {
         self.change(Change::RemoveAttrs(names))
     }
 
-    /// Removes every attribute whose local name isn't in `names`. It allocates no memory.
+    /// Removes every attribute whose local name isn't in `names`. It allocates no memory. It fails
+    /// with `UnknownNode` only.
     pub fn retain_attrs(&mut self, names: &[&str]) -> Result<(), SelectionFault>
         ensures { EditsSelected result self.old self.new
             (edit_at (Edit.Change (RetainAttrs names.entry))) }
@@ -129,7 +134,7 @@ impl<'a> SelectionMut<'a> {
         self.change(Change::RetainAttrs(names))
     }
 
-    /// Removes every attribute. It allocates no memory.
+    /// Removes every attribute. It allocates no memory. It fails with `UnknownNode` only.
     pub fn remove_all_attrs(&mut self) -> Result<(), SelectionFault>
         ensures { EditsSelected result self.old self.new (edit_at (Edit.Change RemoveAllAttrs)) }
     {
