@@ -42,7 +42,7 @@ pub fn cleaning_twice_is_once()
     lines_of_a_forest();
 }
 
-/// The same lists make only one forest of a forest: the definition leaves no choice.
+/// The result of sanitizing a forest by some lists is determined: the definition allows only one.
 pub fn one_clean()
     ensures { (allow : Lists) (forest : Forest) → IsForest forest → HasOneClean allow forest }
 {
