@@ -41,7 +41,7 @@ pub trait DocumentSelect {
         ensures { IfOk result (SelectsSomeIn selectors.now (forest self.now)) };
 
     /// Returns the first of the elements that `select_matcher` returns, or an empty selection when
-    /// there is none.
+    /// there is none. It fails with `OutOfMemory` when memory is refused.
     fn select_single_matcher(&self, matcher: &Matcher) -> Result<Selection<'_>, OutOfMemory>
         ensures { IfOk result (SelectsFirstIn matcher.now (forest self.now)) };
 
