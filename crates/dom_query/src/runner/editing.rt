@@ -30,7 +30,8 @@ fn strip_each(tree: &mut Tree, nodes: &[NodeId], names: &str) -> Result<(), Edit
     do_each(tree, nodes, Edit::Strip(&names))
 }
 
-/// Makes the edit of a line at each selected node; `normalize` is made at the root.
+/// Makes the edit of a line at each selected node; `normalize` is made at the root. It fails with
+/// the fault of the first node at which the edit fails.
 pub fn edit_selected(tree: &mut Tree, nodes: &[NodeId], edit: &EditLine) -> Result<(), EditFault>
     ensures { EditsOrFails result tree.old tree.new (targets edit.now nodes.now)
         (line_edit edit.now) }

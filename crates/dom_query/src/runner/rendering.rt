@@ -97,7 +97,7 @@ fn value_of<'a>(tree: &'a Tree, selection: &[NodeId], name: &str) -> &'a str
 }
 
 /// Writes the value of the first node's first attribute with this local name and a line feed; if
-/// there is none, only the line feed.
+/// there is none, only the line feed. It fails when the writer does.
 pub fn write_attr<W: Write>(
     tree: &Tree,
     selection: &[NodeId],
@@ -111,7 +111,8 @@ pub fn write_attr<W: Write>(
     write_bytes(out, b"\n")
 }
 
-/// Writes what a line asks for, and a line feed.
+/// Writes what a line asks for, and a line feed. It fails when the writer does, or when memory is
+/// refused.
 pub fn render<W: Write>(
     tree: &Tree,
     selection: &[NodeId],
