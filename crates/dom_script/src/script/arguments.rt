@@ -49,7 +49,8 @@ fn is_memory(fault: SelectorFault) -> bool
     matches!(fault, SelectorFault::Memory)
 }
 
-/// Returns the selector after `word`, or `None` if the line isn't `word` and a selector.
+/// Returns the selector after `word`, or `None` if the line isn't `word` and a selector. It fails
+/// with `OutOfMemory` when memory is refused.
 pub fn selector_behind(
     alloc: Global,
     line: &str,
@@ -90,7 +91,8 @@ fn is_name_byte(byte: u8) -> bool
     )
 }
 
-/// Returns the name after `word`, or `None` if the line isn't `word` and a name.
+/// Returns the name after `word`, or `None` if the line isn't `word` and a name. It fails with
+/// `OutOfMemory` when memory is refused.
 pub fn name_behind(alloc: Global, line: &str, word: &str) -> Result<Option<Text>, OutOfMemory>
     ensures { Finds result (HasNoName line.now word.now) (HasName line.now word.now) }
 {

@@ -87,7 +87,8 @@ pub fn are_names(text: &str) -> bool
     true
 }
 
-/// Returns the names in a text that are separated by single spaces.
+/// Returns the names in a text that are separated by single spaces. It fails with `OutOfMemory`
+/// when memory is refused.
 pub fn names_of(alloc: Global, text: &str) -> Result<Vec<&str>, OutOfMemory>
     ensures { IfOk result (λ names. map (λ name. name.now) names.items ≡ names_in text.now) }
 {
@@ -220,7 +221,8 @@ fn put_of(alloc: Global, line: &str) -> Result<Option<(Place, Snippet)>, ScriptF
     Ok(None)
 }
 
-/// Returns the edit of the line, or `None` if the line isn't one.
+/// Returns the edit of the line, or `None` if the line isn't one. It fails with `TooManyNodes` when
+/// the markup in the line has more nodes than there are ids, and with `Memory`.
 pub fn edit_of(alloc: Global, line: &str) -> Result<Option<EditLine>, ScriptFault>
     ensures ok { Finds result (IsNoEdit line.now) (IsEdit line.now) }
     ensures refused { IfErr result (LineRefused line.now) }

@@ -36,7 +36,8 @@ fn are_lists(text: &str) -> bool
     count == 3
 }
 
-/// Returns the three lists after the word `sanitize`, or `None` if the line isn't that.
+/// Returns the three lists after the word `sanitize`, or `None` if the line isn't that. It fails
+/// with `OutOfMemory` when memory is refused.
 pub fn lists_behind(alloc: Global, line: &str) -> Result<Option<Text>, OutOfMemory>
     ensures { Finds result (IsNoSanitize line.now) (IsSanitize line.now) }
 {
@@ -49,14 +50,15 @@ pub fn lists_behind(alloc: Global, line: &str) -> Result<Option<Text>, OutOfMemo
     Ok(Some(Text::new(alloc, lists)?))
 }
 
-/// Returns the lists in the text, which semicolons separate.
+/// Returns the lists in the text, which semicolons separate. It fails with `OutOfMemory` when
+/// memory is refused.
 pub fn lists_of(alloc: Global, text: &str) -> Result<Vec<&str>, OutOfMemory>
     ensures { IfOk result (λ lists. map (λ list. list.now) lists.items ≡ lists_in text.now) }
 {
     Ok(text.split(';').collect(alloc)?)
 }
 
-/// Returns the names of a list.
+/// Returns the names of a list. It fails with `OutOfMemory` when memory is refused.
 pub fn listed_in(alloc: Global, list: &str) -> Result<Vec<&str>, OutOfMemory>
     ensures { IfOk result (λ names. map (λ name. name.now) names.items ≡ listed_in list.now) }
 {
