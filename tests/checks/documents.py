@@ -99,7 +99,7 @@ def faults_of(page, sources, printed_by_examples, counted):
                     fault = "the command prints nothing"
             elif words == ["sh"]:
                 printed, fault = fault_of_run(block, words, folder)
-            elif words[0] == "python" and has_python():
+            elif words == ["python"] and has_python():
                 printed, fault = fault_of_run(block, words, folder)
             elif words[0] == "rust":
                 fault = None if any(is_part_of(block, text) for text in sources) else "no file of crates/examples/src has this"

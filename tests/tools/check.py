@@ -43,6 +43,7 @@ import depth  # noqa: E402
 import documents  # noqa: E402
 import edits  # noqa: E402
 import hostile  # noqa: E402
+import options  # noqa: E402
 import paths  # noqa: E402
 import refusals  # noqa: E402
 import streams  # noqa: E402
@@ -261,7 +262,7 @@ def main():
     clock, rows_alone = Clock(), sys.argv[1:] == ["--rows"]
     counts, edits_left = (None, lambda: (0, 0)) if rows_alone else gate(clock)
     tables = [rows, cleaned, followed, asked_each_way]
-    tables += [documents.documents, wrong_bodies, coverage.coverage, hostile.hostile]
+    tables += [documents.documents, options.options, wrong_bodies, coverage.coverage, hostile.hostile]
     counts = [counts] if counts else []
     with ThreadPoolExecutor() as pool:
         # (what is done beside the edits neither measures the processor time of others nor changes a child before it starts)
