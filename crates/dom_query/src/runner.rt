@@ -150,8 +150,12 @@ fn root_alone(alloc: Global) -> Result<Vec<NodeId>, OutOfMemory>
     Ok(selection)
 }
 
-/// Does what the lines ask for, in order. At the beginning the root is selected.
-fn do_commands<W: Write>(
+/// Runs the commands of a script on a tree, in order, and writes their output to `out`. At the
+/// beginning the root is selected. It fails with `Edit` when an edit isn't allowed (with the number
+/// of the command, counted from 1), with `TooManyNodes` or `Memory` when ids or memory run out, and
+/// with `Write` when the writer fails. After an error, what the earlier commands did to the tree
+/// stays.
+pub fn run_commands<W: Write>(
     alloc: Global,
     tree: &mut Tree,
     commands: &[Command],
@@ -219,5 +223,5 @@ pub fn run<W: Write>(
     dom_select::laws::one_reading();
     let commands = read_script(alloc, script)?;
     let mut document = read_markup(alloc, markup)?;
-    do_commands(alloc, &mut document.tree, &commands, out)
+    run_commands(alloc, &mut document.tree, &commands, out)
 }

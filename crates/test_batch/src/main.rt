@@ -1,6 +1,7 @@
-//! Lines over `dom_query` alone. `batch LINE ..` reads the markup on standard input and prints what
-//! each line asks of it; `batch noted` prints the parse errors of the page that standard input has;
-//! `batch bulk WORD ..` reads many inputs, or makes streams fail: the rows of cases/batch.
+//! Lines over `dom_query` alone. `test_batch LINE ..` reads the markup on standard input and prints what
+//! each line asks of it; `test_batch noted` prints the parse errors of the page that standard input has;
+//! `test_batch bulk WORD ..` reads many inputs, or makes streams fail. Its rows are in
+//! tests/rows/test_batch.
 #![tactic(auto)]
 
 mod asking;

@@ -1,6 +1,6 @@
-//! Selectors, indexes and selections, asked at a shell. `queries LINE ..` reads the markup on
+//! Selectors, indexes and selections, asked at a shell. `test_queries LINE ..` reads the markup on
 //! standard input, asks each line of the document, in order, and prints what each answers: the rows
-//! of cases/queries.
+//! of tests/rows/test_queries.
 #![tactic(auto)]
 
 mod asking;

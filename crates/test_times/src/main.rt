@@ -1,5 +1,5 @@
-//! Times of calls over the markup on standard input, in this process: `times CALL RUNS SELECTOR`
-//! prints the best of so many runs in nanoseconds and what the call counted. `times` does each call
+//! Times of calls over the markup on standard input, in this process: `test_times CALL RUNS SELECTOR`
+//! prints the best of so many runs in nanoseconds and what the call counted. `test_times` does each call
 //! once and prints its count alone.
 #![tactic(auto)]
 
