@@ -1,4 +1,4 @@
-//! Mini selectors: selectors of one step, which are asked of a node without memory.
+//! Mini selectors: simple selectors for one node, which are matched without allocating memory.
 
 mod attributes;
 pub mod fault;
