@@ -85,7 +85,7 @@ pub enum Part {
     Class(Text),
     /// An attribute selector in brackets.
     Attribute(Attribute),
-    /// `:root` and `:scope`: a document matches.
+    /// `:root` and `:scope`: an element whose parent is the root of the tree.
     Root,
     /// `:link` and `:any-link`: an element that is a hyperlink.
     Link,
