@@ -24,7 +24,7 @@ HasLeft forest k Q n = (v : ℕ) × CombinatorHolds forest k v n × ((may_be_ope
 abbrev pub Propagates : Forest → Combinator → (ℕ → Type 0) → ℕ → Type 0
 Propagates forest k Q v = ((may_be_operand forest k v ≡ true) × Q v) ⊎ ((ends_at forest k v ≡ true → ⊥) × HasLeft forest k Q v)
 
--- the same for the next node to the left, if there is one
+-- there is a next node to the left, and it is such an operand or passes on that one is farther to its left
 abbrev pub PropagatesFrom : Forest → Combinator → (ℕ → Type 0) → Option ℕ → Type 0
 PropagatesFrom forest k Q None = ⊥
 PropagatesFrom forest k Q (Some v) = Propagates forest k Q v

@@ -18,7 +18,8 @@ pub record IsSetOf (table : List Bool) (count : ℕ) (P : ℕ → Type 0) : Type
   pub long : length table ≡ count
   pub each : (n : ℕ) → n < count → Decides (in_set table n) (P n)
 
--- the same for the ids in another set, while the flags of other ids do not matter
+-- of the ids in the set `wanted`, the set contains exactly those for which the statement holds; the flags of other ids do not
+-- matter
 pub record IsSetWithin (wanted table : List Bool) (count : ℕ) (P : ℕ → Type 0) : Type 0 where
   pub long : length table ≡ count
   pub each : (n : ℕ) → n < count → in_set wanted n ≡ true → Decides (in_set table n) (P n)

@@ -33,7 +33,7 @@ pub record AreSubtreeEnds (forest : Forest) (path : List ℕ) (visited ahead : �
   pub begun : (n : ℕ) → is_member n path ≡ true → (i : ℕ) × (i < visited) × (number_at (preorder forest) i ≡ n) × (i + 1 + length (descendants_in_order forest n) + length (run_past forest (n ∷ ancestors forest n)) ≡ visited + ahead)
   pub answer : (i : ℕ) → i < visited → is_member (number_at (preorder forest) i) path ≡ false → number_at subtree_ends (number_at (preorder forest) i) ≡ i + length (descendants_in_order forest (number_at (preorder forest) i))
 
--- the same after `n` was visited, with the path from `n` to its root
+-- the subtree ends that are stored while the path is `n` with its ancestors
 abbrev pub AreEndsBehind : Forest → ℕ → ℕ → List ℕ → Type 0
 AreEndsBehind forest n visited subtree_ends = AreSubtreeEnds forest (n ∷ ancestors forest n) visited (length (run_past forest (n ∷ ancestors forest n))) subtree_ends
 

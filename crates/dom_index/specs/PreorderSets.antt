@@ -82,7 +82,7 @@ SelectorsAsk selectors preorder wanted tests = SelectorsTests (read_list selecto
 abbrev pub ChainAsks : Compound → List Step → Preorder → List Bool → ℕ → Type 0
 ChainAsks first steps preorder wanted tests = SelectorTests (read_compound first) (read_steps steps) preorder.tree.now wanted tests
 
--- The same in `:has`: for relative selectors, for one of them, and for its steps.
+-- The numbers of tests that `:has` needs: for its relative selectors, for one of them, and for the steps of one.
 abbrev pub HasAsks : List Selector → Preorder → ℕ → Type 0
 HasAsks selectors preorder tests = HasTests (read_list selectors) preorder.tree.now tests
 

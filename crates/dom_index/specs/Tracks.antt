@@ -60,7 +60,7 @@ abbrev pub IsStepFlag : Chain → Forest → ℕ → ℕ → Bool → Type 0
 IsStepFlag chain forest n i flag =
     (s : Combinator × CompoundSelector) → slice_get (steps_in chain) i ≡ Some s → Decides flag (PropagatesFrom forest s.0 (StepsReach forest (first_in chain) (take i (steps_in chain))) (Some n))
 
--- the same for the flag that is stored in the row of `n`
+-- the row of `n` stores that flag at this index
 abbrev pub IsStepFlagAt : Chain → Forest → ℕ → List Bool → ℕ → Type 0
 IsStepFlagAt chain forest n flags i = IsStepFlag chain forest n i (slice_index_or flags (n * length chain.steps.now + i) false)
 
@@ -101,7 +101,7 @@ pub record IsFollowing (chain : Chain) (rows : Rows) (forest caches : Forest) : 
   pub tracked : IsTracked chain forest rows
   pub caches_are : caches ≡ forest
 
--- the same for several chains, with rows for each
+-- several chains: each is tracked by the rows at its index, and in `AreFollowing` all are prepared, too
 abbrev pub AreTracked : List Chain → Forest → List Rows → Type 0
 AreTracked chains forest all = (i : ℕ) (chain : Chain) (rows : Rows) → slice_get chains i ≡ Some chain → slice_get all i ≡ Some rows → IsTracked chain forest rows
 

@@ -76,7 +76,7 @@ IsOnePart c = (length c.parts.items ≡ 1) × (length c.nested.items ≡ 0)
 abbrev pub IsDecidedByType : Forest → ℕ → Option TypeFilter → Bool → Type 0
 IsDecidedByType forest n wanted answer = (c : CompoundSelector) → IfSome wanted (IsTypeFilterOf c) → Decides answer (Holds c forest n)
 
--- the same for every node with this type byte
+-- for every node with this type byte, the answer says whether a compound selector with this type filter matches it
 abbrev pub IsDecidedByByte : ℕ → Option TypeFilter → Bool → Type 0
 IsDecidedByByte byte wanted answer =
     (c : CompoundSelector) (forest : Forest) (n : ℕ) → HasTypeByte forest n byte → IfSome wanted (IsTypeFilterOf c) → Decides answer (Holds c forest n)

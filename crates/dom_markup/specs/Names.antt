@@ -20,10 +20,10 @@ is_template name = bytes_eq (codes "template") name
 
 -- how the text at some place is read
 pub data Mode : Type 0 where
-  -- as tags, texts, comments and doctypes
+  -- tags, texts, comments and doctypes
   markup : Mode
-  -- As the text of an element of this name, up to its end tag. In `text_of` character references are resolved, in `raw_text_of`
-  -- not.
+  -- the contents of an element with this name, up to its end tag: as text in which character references are resolved (`text_of`),
+  -- or as text in which they are not (`raw_text_of`)
   text_of : List ℕ → Mode
   raw_text_of : List ℕ → Mode
 

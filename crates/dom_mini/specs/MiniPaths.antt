@@ -32,7 +32,7 @@ onward forest n = walk (trees forest (n ∷ later forest false n))
 abbrev pub IsFound : List Mini → Forest → ℕ → List ℕ → Type 0
 IsFound minis forest x found = FiltersTo (λ n. (x < length forest.content) × PathLeads minis forest x n) (onward forest x) found
 
--- the same for a list of names, each of a descendant of the one before
+-- the nodes that a path of names reaches from `x`, where each name is that of a descendant of the element before
 abbrev pub IsFoundByNames : List (List ℕ) → Forest → ℕ → List ℕ → Type 0
 IsFoundByNames names forest x found = IsFound (map named names) forest x found
 

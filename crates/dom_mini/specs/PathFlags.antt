@@ -63,7 +63,7 @@ led_in forest minis flags (Tree n contents children later) =
     ++ (led_in forest minis (flags_below minis (data_at forest n) false flags) children
     ++ led_in forest minis (flags_beside minis (data_at forest n) false flags) later)
 
--- the same for a node, its descendants, and its later siblings and their descendants
+-- the nodes that the path reaches among `n`, its descendants, and its later siblings and their descendants, from the flags at `n`
 abbrev pub led_from : Forest → List Mini → Bool → List Bool → ℕ → List ℕ
 led_from forest minis here flags n =
     one_if (is_led minis (data_at forest n) here flags) n
@@ -137,7 +137,7 @@ IsPutBehind next front flags pending new_pending new_flags =
     ((n : ℕ) × (next ≡ Some n) × (new_pending ≡ pending ++ n ∷ []) × (new_flags ≡ front ++ flags))
     ⊎ (((next ≡ None) ⊎ (is_any flags ≡ false)) × (new_pending ≡ pending) × (new_flags ≡ front))
 
--- the same for a traversal, in which all else is unchanged
+-- the node and its flags were appended, on that condition, in the state of a traversal, and the rest of the state is unchanged
 pub record IsWaiting (next : Option ℕ) (front flags : List Bool) (old new : PathSearch) : Type 0 where
   pub put : IsPutBehind next front flags old.pending.items new.pending.items new.flags.items
   pub found : new.found.items ≡ old.found.items

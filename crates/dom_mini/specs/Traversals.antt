@@ -32,6 +32,6 @@ FindsFirst MayAnswer forest [] found = found ≡ None
 FindsFirst MayAnswer forest (n ∷ ns) found =
     (IsPassing MayAnswer forest n × (found ≡ Some n)) ⊎ (IsFailing MayAnswer forest n × FindsFirst MayAnswer forest ns found)
 
--- the same for the children of a node
+-- the first child of `n` that passes; `None` if all fail
 abbrev pub FindsChild : (TreeNode → Bool → Type 0) → Forest → ℕ → Option ℕ → Type 0
 FindsChild MayAnswer forest n found = FindsFirst MayAnswer forest (children_of forest n) found

@@ -14,6 +14,6 @@ AreAnswers no_lists forest n answers = answers ≡ []
 AreAnswers (nested list more) forest n [] = ⊥
 AreAnswers (nested list more) forest n (b ∷ answers) = Decides b (ListHolds list forest n) × AreAnswers more forest n answers
 
--- the same for a compound selector that the program holds
+-- each answer says whether the nested list at the same position in the program's compound selector matches node `n`
 abbrev pub AreAnswersAt : Compound → Forest → ℕ → List Bool → Type 0
 AreAnswersAt compound forest n answers = AreAnswers (lists_of (map read_nested compound.nested.items)) forest n answers

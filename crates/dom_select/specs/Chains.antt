@@ -87,7 +87,8 @@ FollowsChain chain steps level forest n followed = MatchOption followed
     (ChainMatches (BeginsChain chain forest) (steps_of (map read_step steps)) forest chain.exempt n → ⊥)
     (λ remainder. SuffixMatches forest chain.exempt (BeginsChain chain forest) level (map read_step steps) (map read_step remainder.left.now) n remainder.at)
 
--- The same from a node that the combinator relates to `n`; `None` if the chain matches no such node.
+-- How far the chain was matched to the left from a node that the combinator relates to `n`; `None` if the chain matches no such
+-- node.
 abbrev pub FollowsCandidate : Chain → List Step → Combinator → Forest → ℕ → Option Remainder → Type 0
 FollowsCandidate chain steps k forest n followed = MatchOption followed
     (SomeCandidateMatches forest chain.exempt (BeginsChain chain forest) (map read_step steps) k n → ⊥)

@@ -21,7 +21,7 @@ ImpliesType name c = (forest : Forest) (n : ℕ) → Holds c forest n → HasTyp
 abbrev pub SubjectImpliesType : List ℕ → CompoundSelector → List (Combinator × CompoundSelector) → Type 0
 SubjectImpliesType name first steps = (start : Start) (forest : Forest) (exempt n : ℕ) → ChainMatches (Begins start first forest) (steps_of steps) forest exempt n → HasType name forest n
 
--- the same for compound selectors that the program holds
+-- a chain, in the program's representation, that matches only elements of this type
 abbrev pub IsSubjectType : Compound → List Step → List ℕ → Type 0
 IsSubjectType first steps name = SubjectImpliesType name (read_compound first) (map read_step steps)
 

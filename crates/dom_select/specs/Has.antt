@@ -59,7 +59,8 @@ search_roots_from forest k (Some t) = t ∷ (if is_sideways k then later forest 
 abbrev pub MatchesWithin : Start → CompoundSelector → Steps → Forest → ℕ → Type 0
 MatchesWithin start first steps forest t = (y : ℕ) × ((y ≡ t) ⊎ (is_member y (descendants_in_order forest t) ≡ true)) × SelectorMatches start first steps forest y
 
--- The same for compound selectors that the program holds: they match `n`, a node at or below `t`, or an element relative to `x`.
+-- Matching for compound selectors in the program's representation: they match `n`, a node at or below `t`, or an element relative
+-- to `x`.
 abbrev pub CompoundsMatch : Start → Compound → List Step → Forest → ℕ → Type 0
 CompoundsMatch start first steps forest n = SelectorMatches start (read_compound first) (steps_of (map read_step steps)) forest n
 

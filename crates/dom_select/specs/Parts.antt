@@ -63,7 +63,7 @@ node_passes Universal node = true
 node_passes part (AnElement element) = element_passes part element
 node_passes part _ = false
 
--- the same for a node of the forest, by its id
+-- the simple selector matches the data of the node with this id; false for an unknown id
 abbrev pub data_passes : Part → Forest → ℕ → Bool
 data_passes part forest n = option_map_or (node_passes part) (slice_get forest.content n) false
 

@@ -207,7 +207,7 @@ stands_for context text TooDeep = context.depth + 1 ≤ how_many left_parenthesi
 stands_for context text Syntax = Unit {0}
 stands_for context text Memory = Unit {0}
 
--- the same for a text that follows the colon of a pseudo-class
+-- what such a text contains at least after the colon of the pseudo-class that is being read
 abbrev pub stands_behind : ParseContext → List ℕ → SelectorFault → Type 0
 stands_behind context text UnknownPseudoClass = Unit {0}
 stands_behind context text Number = 1 ≤ how_many_large text
