@@ -1,4 +1,6 @@
-//! Editing a tree by markup, which is parsed and inserted.
+//! Editing a tree by markup, which is parsed and inserted. The methods are named as those of
+//! `NodeRef` in the crate dom_query; the markup here has to be explicit markup, as
+//! `Document::parse` reads it.
 
 ghost use Rattle.std.specs.Prelude.{◌≡◌, IfErr, IfOk};
 ghost use Rattle.dom_links.specs.declared.gap.Place.TheVariants.{After, Around, AtEnd, AtFront};

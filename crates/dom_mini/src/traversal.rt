@@ -1,4 +1,5 @@
-//! Search for children and descendants by name or test, in the arena of a tree.
+//! Search for children and descendants by name or test, in the arena of a tree, as in the crate
+//! dom_query.
 
 ghost use Rattle.std.specs.Prelude.{◌≡◌, ◌≤◌, length, IfOk, None};
 ghost use Rattle.std.specs.Fn.{FnReturnsAt};

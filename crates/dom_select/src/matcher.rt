@@ -1,4 +1,5 @@
-//! `Matcher`: a parsed selector list that is matched against nodes.
+//! `Matcher`: a parsed selector list that is matched against nodes, as in the crate dom_query. What
+//! selectors match is as in Selectors Level 4.
 
 use crate::matcher::caches::SelectorCaches;
 use crate::matcher::matches::{matches_selector, means, sole_type};
@@ -62,11 +63,18 @@ impl Matcher {
     ghost use Rattle.dom_selectors.specs.Spelling.{Decides};
     ghost use Rattle.dom_selectors.specs.ValuesAsTrees.{read_list};
 
-    /// Parses a selector list.
+    /// Parses a selector list, as in Selectors Level 4 and the crate dom_query.
     ///
-    /// Fails with `Syntax`, `UnknownPseudoClass`, `Number`, `NestedHas` or `TooDeep` if the text is
-    /// no selector list, and with `Memory`. `UnknownPseudoClass` comes only if the text contains a
-    /// `:`, and `TooDeep` only if it contains 65 `(`.
+    /// The text has to be a selector list as a whole. An error says why it is none:
+    ///
+    /// - `Syntax`: it does not follow the grammar;
+    /// - `UnknownPseudoClass`: a pseudo-class is unknown, or its arguments have the wrong form; the
+    ///   text then contains a `:`;
+    /// - `Number`: a number is greater than 2147483647;
+    /// - `NestedHas`: a `:has` is inside another `:has`;
+    /// - `TooDeep`: parentheses are nested more than 64 levels deep; the text then contains 65 `(`.
+    ///
+    /// The call also fails with `Memory` when memory runs out.
     pub fn new(alloc: Global, text: &str) -> Result<Matcher, SelectorFault>
         ensures ok { IfOk result (λ matcher. StandsFor (chars text.now) matcher) }
         ensures refused { IfErr result (λ fault. Refused (chars text.now) fault) }

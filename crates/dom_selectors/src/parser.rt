@@ -448,9 +448,16 @@ fn parse(alloc: Global, text: &[char]) -> Result<Vec<Selector>, SelectorFault>
 
 /// Parses a text as a list of selectors separated by commas, and returns them in order.
 ///
-/// Fails with `Syntax`, `UnknownPseudoClass`, `Number`, `NestedHas` or `TooDeep` if the text is no
-/// selector list, and with `Memory`. `UnknownPseudoClass` comes only if the text contains a `:`,
-/// and `TooDeep` only if it contains 65 `(`.
+/// The text has to be a selector list as a whole. An error says why it is none:
+///
+/// - `Syntax`: it does not follow the grammar;
+/// - `UnknownPseudoClass`: a pseudo-class is unknown, or its arguments have the wrong form; the
+///   text then contains a `:`;
+/// - `Number`: a number is greater than 2147483647;
+/// - `NestedHas`: a `:has` is inside another `:has`;
+/// - `TooDeep`: parentheses are nested more than 64 levels deep; the text then contains 65 `(`.
+///
+/// The call also fails with `Memory` when memory runs out.
 pub fn parse_selectors(alloc: Global, text: &str) -> Result<Vec<Selector>, SelectorFault>
     ensures { Parses result (chars text.now) }
 {

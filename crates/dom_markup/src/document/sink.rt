@@ -1,4 +1,5 @@
-//! `TreeSink`: the calls by which a parser of the caller's own fills a document.
+//! `TreeSink`: the calls by which a parser of the caller's own fills a document. They are named as
+//! in html5ever's trait, which the crate dom_query implements.
 
 ghost use Rattle.std.specs.Prelude.{◌≡◌};
 ghost use Rattle.dom_markup.specs.Sinks.{gap_by_parent};

@@ -1,4 +1,5 @@
-//! Questions to one node with mini selectors and with paths of them.
+//! Questions to one node with mini selectors and with paths of them: methods of `NodeRef` in the
+//! crate dom_query.
 
 ghost use Rattle.std.specs.Prelude.{◌≡◌, ◌⊎◌, [], IfOk, MatchBool, MatchResult};
 ghost use Rattle.dom_trees.specs.Views.{refs_to};
