@@ -8,7 +8,7 @@ it: `name(..)`, in a file that imports the name; `Type::name`; or `x.name(..)`, 
 `let`, `for` and patterns, from the fields of structs, and from what the functions that are called return by their
 declarations. The method is the type's own, or else that of a trait which it implements, or by which a type parameter is bound.
 A call whose receiver isn't shown so counts for nothing, and neither does one that a function of the libraries makes. What a call
-answers is compared by the rows of cases/; this finds only that it is made.
+answers is compared by the rows of tests/; this finds only that it is made.
 
 Of the other public functions of the crates, but for laws, it finds that something calls one of that name, in a library too."""
 import collections
@@ -17,8 +17,8 @@ import pathlib
 import re
 import sys
 
-ROOT = pathlib.Path(__file__).resolve().parent.parent
-ROOTS, SHARED = ("calls", "queries", "times", "samples", "batch", "dq", "hq", "hq_pages"), "lines"
+ROOT = pathlib.Path(__file__).resolve().parents[2]
+ROOTS, SHARED = ("test_calls", "test_queries", "test_times", "test_batch", "examples", "dq", "hq", "hq_pages"), "test_lines"
 # Comments, strings, characters, and imports of specs.
 BLANK = re.compile(r'//[^\n]*|"(?:\\.|[^"\\])*"|\'(?:\\[^\']+|[^\'\\])\'|\bghost use [^;]*;', re.S)
 GENERICS = re.compile(r"<(?:[^<>]|<[^<>]*>)*>")

@@ -1,5 +1,5 @@
 """Hostile inputs. Of each text below, which together use every rule of its grammar, every prefix, every text with one byte
-changed to each of CHANGED, and every text with a byte left out is read by the program `batch bulk` in one process, and the answer
+changed to each of CHANGED, and every text with a byte left out is read by the program `test_batch bulk` in one process, and the answer
 is compared with that of the grammar in grammars.py: read, with the same result, or refused. A fault has a name that the
 documents have, and a place inside the text.
 
@@ -8,12 +8,16 @@ are a forest exactly where the definition in docs/FOREST.md says so.
 
 Pages: each of some texts in each beginning and with each character replaced, bytes that are no UTF-8, and random pages are one
 page by each way of reading them."""
+import pathlib
 import random
 import re
 import subprocess
+import sys
 
-import grammars
-from rows import SECONDS, built
+for folder in ("tools", "second_definitions"):
+    sys.path.insert(0, str(pathlib.Path(__file__).resolve().parents[1] / folder))
+import grammars  # noqa: E402
+from rows import SECONDS, built  # noqa: E402
 
 CHANGED = b"<>/\"'=&-!?#; \x00\x80\xff"
 MARKUPS = (
@@ -106,7 +110,7 @@ def is_right(kind, data, answer):
 def texts(kind, whole):
     """Has the program asked each variant of the texts; returns how many answers are right and how many aren't."""
     inputs = sorted(set().union(*(variants(text) for text in whole)))
-    answers = asked("batch", ["inputs", kind], [data.hex() for data in inputs])
+    answers = asked("test_batch", ["inputs", kind], [data.hex() for data in inputs])
     wrong = [(data, answer) for data, answer in zip(inputs, answers) if not is_right(kind, data, answer)]
     for data, answer in wrong[:10]:
         print(f"hostile {kind}: {data!r}: {answer!r}, and the grammar says {wanted_of(kind, data)!r}")
@@ -232,7 +236,7 @@ def many_nodes():
     ring = [f"element {number % MANY_NODES + 1} - - - -" for number in range(1, MANY_NODES + 1)]
     nested = [f"element {number - 1} - - {number + 1} {number + 1}" for number in range(1, MANY_NODES)]
     lone, last = "document - - - - -", f"element {MANY_NODES - 1} - - - -"
-    answers = asked("calls", ["raw"], [";".join([lone, *ring]), ";".join(["document - - - 1 1", *nested, last])])
+    answers = asked("test_calls", ["raw"], [";".join([lone, *ring]), ";".join(["document - - - 1 1", *nested, last])])
     wanted = ["Cycle true", "forest true true"]
     if answers != wanted:
         print(f"many raw nodes: {answers}"[:300])
@@ -243,7 +247,7 @@ def raw_nodes():
     """Has `from_nodes` and `validate` asked; returns how many answers are right and how many aren't."""
     trees = list(dict.fromkeys(changed_trees()))
     spelled = [";".join(" ".join("-" if word is None else str(word) for word in node) for node in nodes) for nodes in trees]
-    answers = asked("calls", ["raw"], spelled)
+    answers = asked("test_calls", ["raw"], spelled)
     good = passed = 0
     for nodes, answer in zip(trees, answers):
         is_good = is_forest(nodes)
@@ -341,12 +345,12 @@ def pages():
     by each way, and how many aren't. Noting errors, tags are read character by character; so, and in pieces, calm pages are read
     by tree construction."""
     inputs = list(dict.fromkeys(page_inputs()))
-    whole = dict(zip(inputs, asked("batch", ["pages", "whole"], [data.hex() for data in inputs])))
-    ended = dict(zip(PAGE_BYTES, asked("batch", ["pages", "whole"], [(data + "é".encode()).hex() for data in PAGE_BYTES])))
+    whole = dict(zip(inputs, asked("test_batch", ["pages", "whole"], [data.hex() for data in inputs])))
+    ended = dict(zip(PAGE_BYTES, asked("test_batch", ["pages", "whole"], [(data + "é".encode()).hex() for data in PAGE_BYTES])))
     passed = failed = 0
     ways = [("noted", [data for data in inputs if is_text(data)], whole), ("mixed", PAGE_BYTES, ended)]
     for way, given, wanted in [*ways, *((size, inputs, whole) for size in ("1", "2", "3", "4", "5", "64"))]:
-        answers = asked("batch", ["pages", way], [data.hex() for data in given])
+        answers = asked("test_batch", ["pages", way], [data.hex() for data in given])
         wrong = [data for data, answer in zip(given, answers) if not answer.startswith("read ") or answer != wanted.get(data)]
         for data in wrong[:3]:
             print(f"hostile pages, {way}: {data!r} isn't the page that it is whole")

@@ -3,7 +3,7 @@ of a run, and N is counted up until a run meets no refusal. A refusal is reporte
 5; what was written is then a beginning of the output, and all that was asked for is given back. Where a refusal is passed by,
 as that of a cache or of room that was asked for in advance, the answer is the right one.
 
-A line of the programs `calls`, `queries` and `batch` is asked between two lines `state`, which print all that the document holds and ask for nothing.
+A line of the programs `test_calls`, `test_queries` and `test_batch` is asked between two lines `state`, which print all that the document holds and ask for nothing.
 Where a request of that line is refused, each line that it prints says so, or is printed with ample memory too, and the
 document is as it was before, or as it is where the line is asked of the first nodes alone.
 
@@ -16,9 +16,11 @@ import re
 import resource
 import shutil
 import subprocess
+import sys
 import tempfile
 
-from rows import ROOT, SECONDS, built, given, words_of
+sys.path.insert(0, str(pathlib.Path(__file__).resolve().parents[1] / "tools"))
+from rows import ROOT, SECONDS, built, given, words_of  # noqa: E402
 
 REPORTED = (b"dq: out of memory\n", b"dq: write failed\n", b"dq: read failed\n")
 MANY = 3_000
@@ -26,14 +28,14 @@ MANY = 3_000
 STATE = b"state"
 # The programs, and the files of their rows whose lines are asked.
 FILES = {
-    "calls": "memory apart changes documents moves pages reading sanitising sinks texts values".split(),
-    "queries": "indexes minis selections selectors several".split(),
-    "batch": ["lines"],
+    "test_calls": "memory apart changes documents moves pages reading sanitising sinks texts values".split(),
+    "test_queries": "indexes minis selections selectors several".split(),
+    "test_batch": ["lines"],
 }
 # What is asked in small address spaces, over so many paragraphs.
-LIMITED = [("batch", b"texts"), *(("calls", line) for line in (b"print", b"clone", b"to-fragment 0", b"htmls 0", b"md 0", b"walk 0"))]
-LIMITED += [("calls", b"nodes 1,5,9 append_html " + b"<i>x</i>" * 2_000)]
-LIMITED += [("queries", line) for line in (b"places", b"select p b", b"selection p, b", b"step b", b"find 0 p > b")]
+LIMITED = [("test_batch", b"texts"), *(("test_calls", line) for line in (b"print", b"clone", b"to-fragment 0", b"htmls 0", b"md 0", b"walk 0"))]
+LIMITED += [("test_calls", b"nodes 1,5,9 append_html " + b"<i>x</i>" * 2_000)]
+LIMITED += [("test_queries", line) for line in (b"places", b"select p b", b"selection p, b", b"step b", b"find 0 p > b")]
 PARAGRAPH, PARAGRAPHS = b"<p class='a'>text that a node keeps apart, for it is long<b>b</b></p>", 1_000
 # Address spaces are told apart by pages. The heap grows by pages too, so that a small request is refused where the space ends.
 PAGE, BELOW, ABOVE = 4096, 64, 4
@@ -67,7 +69,7 @@ def library(folder):
         print("refusals: skipped, there is no cc")
         return None
     file = pathlib.Path(folder) / "refuse.so"
-    ran = subprocess.run([compiler, "-O2", "-shared", "-fPIC", "-o", file, ROOT / "cases" / "refuse.c"], capture_output=True)
+    ran = subprocess.run([compiler, "-O2", "-shared", "-fPIC", "-o", file, ROOT / "tests" / "checks" / "refuse.c"], capture_output=True)
     if ran.returncode == 0 and counts(file, [built("dq"), b""], b"")[3]:
         return file
     print("refusals: skipped, the counter can't be built or preloaded")
@@ -111,7 +113,7 @@ def chosen():
     """Rows: those of the first path, and from the other files one for each set of lines and each status."""
     seen = set()
     for name in ("first_path", "lines", "markup", "formatted", "md", "selectors"):
-        for number, line in enumerate((ROOT / "cases" / f"{name}.jsonl").read_text(encoding="utf-8").splitlines(), 1):
+        for number, line in enumerate((ROOT / "tests" / "rows" / "dq" / f"{name}.jsonl").read_text(encoding="utf-8").splitlines(), 1):
             case = json.loads(line)
             if len(given(case, "markup")) > MANY:
                 continue
@@ -147,7 +149,7 @@ def asked_lines(program):
     """The lines of the rows of a program by their calls: each with the program, the row's markup and the lines in front of it."""
     lines = {}
     for name in FILES[program]:
-        for line in (ROOT / "cases" / program / f"{name}.jsonl").read_text(encoding="utf-8").splitlines():
+        for line in (ROOT / "tests" / "rows" / program / f"{name}.jsonl").read_text(encoding="utf-8").splitlines():
             case = json.loads(line)
             words, markup = words_of(case), given(case, "markup")
             if len(markup) <= MANY and words[0] != b"bulk":

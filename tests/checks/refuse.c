@@ -1,4 +1,4 @@
-/* A counter in place of malloc, calloc, realloc and free, preloaded by cases/refusals.py. REFUSE=N refuses the Nth request
+/* A counter in place of malloc, calloc, realloc and free, preloaded by tests/checks/refusals.py. REFUSE=N refuses the Nth request
    of the process, REFUSE=N+ that and each one after it; without it none is refused. At the end it writes to the descriptor
    REFUSE_TO how many requests there were, how many were refused, and how many blocks weren't given back. */
 #include <stddef.h>

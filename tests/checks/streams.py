@@ -2,8 +2,10 @@
 import os
 import pathlib
 import subprocess
+import sys
 
-from rows import SECONDS, built
+sys.path.insert(0, str(pathlib.Path(__file__).resolve().parents[1] / "tools"))
+from rows import SECONDS, built  # noqa: E402
 
 PAGE = b"<p>" + b"a" * 3_000_000 + b"</p>"
 WROTE = (5, b"dq: write failed\n")

@@ -14,7 +14,7 @@ import subprocess
 import sys
 import time
 
-PROGRAM = pathlib.Path(__file__).resolve().parent.parent / "crates" / "dq" / "out" / "dq"
+PROGRAM = pathlib.Path(__file__).resolve().parents[2] / "crates" / "dq" / "out" / "dq"
 TOGETHER = 200
 SECONDS = 60
 SHOWN = 5

@@ -1,6 +1,6 @@
 """The grammars of docs/MARKUP.md, docs/SELECTORS.md, docs/MINI_SELECTORS.md and docs/RUN.md, written from those documents
 alone, so that hostile.py can ask what each input is to be read as. Each reader takes a text and returns what the program
-`batch bulk inputs` must print for it: `read ..`, or the name of a fault."""
+`test_batch bulk inputs` must print for it: `read ..`, or the name of a fault."""
 import re
 
 WHITE = "\t\n\f\r "

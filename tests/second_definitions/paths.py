@@ -8,14 +8,14 @@ root is compared too, and below another start it must have all that the path fin
 A process is asked for many forests: each stands in an element `hr-f`, and paths start at the document, at such elements and
 at nodes in them.
 
-`paths.py [SEED [COUNT]]` compares so many forests, over the program `queries` that stands built in the workspace."""
+`paths.py [SEED [COUNT]]` compares so many forests, over the program `test_queries` that stands built in the workspace."""
 import pathlib
 import random
 import subprocess
 import sys
 import time
 
-PROGRAM = pathlib.Path(__file__).resolve().parent.parent / "crates" / "queries" / "out" / "queries"
+PROGRAM = pathlib.Path(__file__).resolve().parents[2] / "crates" / "test_queries" / "out" / "test_queries"
 TOGETHER = 100
 PATHS = 3
 SECONDS = 60

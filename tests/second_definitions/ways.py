@@ -1,13 +1,15 @@
 """Asks random selectors below random roots of random forests in each way: the tables of an index, and the choice between them
 and asking, must select what asking each node does.
 
-`ways.py [SEED [COUNT]]` asks so many, over the program `queries` that stands built in the workspace."""
+`ways.py [SEED [COUNT]]` asks so many, over the program `test_queries` that stands built in the workspace."""
+import pathlib
 import random
 import subprocess
 import sys
 import time
 
-from rows import SECONDS, built
+sys.path.insert(0, str(pathlib.Path(__file__).resolve().parents[1] / "tools"))
+from rows import SECONDS, built  # noqa: E402
 
 STARTS = [("<div>", "div"), ("<p class=k>", "p"), ("<b>", "b"), ("<i id=x>", "i"), ("<x-y>", "x-y"), ("<template>", "template")]
 LEAVES = ["t", " ", "<!--c-->", "<p></p>"]
@@ -66,7 +68,7 @@ def compared(program, seed, count):
 def main():
     seed, count = (int(word) for word in (*sys.argv[1:], *["1", "400"][len(sys.argv) - 1 :]))
     begun = time.monotonic()
-    passed, failed = compared(built("queries"), seed, count)
+    passed, failed = compared(built("test_queries"), seed, count)
     print(f"ways: seed {seed}, {count} selectors, {passed} as wanted, {failed} not, {time.monotonic() - begun:.1f} s")
     return 1 if failed else 0
 

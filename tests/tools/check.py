@@ -1,29 +1,27 @@
-"""The test command. It runs the gate, `rt ci` (cases/gate.py), which proves every crate from nothing and runs the programs, and beside it
-tries the must-fail edits over each crate that the gate has proved (cases/edits.py). Then it runs the program that the
-gate built on the cases in cases/ and on streams that fail, compares the snippets of the documents with those
-of the crate `samples`, and tries the callers that must not compile. Its last line counts all, and its status is 0
-where nothing failed. `check --cases` leaves the gate and the edits out. What an earlier run on this machine showed of the
-same files is kept; `check --anew` shows all again.
+"""The test command. Its last line is 'N passed, M failed', and its status is 0 where nothing failed.
 
-A case is a line of a file cases/*.jsonl: `markup` is standard input and `script` the argument (`args` a list of
-arguments in its place; `markup_hex` and `script_hex` give bytes that are no text), `output` and `error` are what must
-stand on standard output and standard error, and `status` is the exit status, 0 if not given. A text may be given as a
-list of pieces, each a text and how often it stands there, with {n} in it for the number of each; an argument may be given
-with how often it stands there. A case of cases/calls is one of the program `calls`, whose arguments are calls of the libraries,
-one of cases/queries one of `queries`, whose arguments ask selectors, indexes and selections, one of cases/times one of `times`,
-one of cases/batch one of `batch`, which is over `dom_query` alone, and one of cases/hq or cases/pages (html5lib's tests of tree construction) is one of `hq`.
+It does this, in this order:
 
-refusals.py refuses each request for memory in turn, and asks in ever larger address spaces; hostile.py has texts and nodes read that are changed in every place, and depth.py deep and wide
-trees. What the line `sanitize` leaves of random forests is compared with cases/clean.py, what paths find with cases/paths.py, and
-what selectors select with what they select in another way (cases/ways.py).
-Which public functions the programs call themselves is counted by cases/coverage.py.
+1. It runs the gate, `rt ci` (through tests/tools/gate.py), which proves every crate and runs every program once. Beside it,
+   tests/tools/edits.py tries the must-fail edits of each crate as soon as the gate has proved it.
+2. It runs the built programs on rows. A row is a line of JSON in tests/rows/PROGRAM/*.jsonl, or in tests/html5lib/*.jsonl
+   (html5lib's tests of tree construction, which are rows of the program `hq`).
+3. It runs the checks of tests/checks, the comparisons with the second definitions of tests/second_definitions, and the
+   callers of tests/must-not-compile.
 
-A snippet is a block of README.md, docs/API.md, docs/SINK.md or docs/PAGES.md: one of rust stands in a file of
-crates/samples/src, line for line but for its indentation, and one of text in its stdout, which the gate compares
-with what it prints.
+`check --rows` leaves out the first step. What an earlier run on this machine showed of the same files is kept; `check --anew`
+shows all of it again.
 
-A caller that must not compile is a file cases/must-not-compile/NAME-WHAT.txt, a program that uses the crate NAME alone. One
-line of it ends in '// refused: WORDS': with that line the compiler refuses the program with those words, without it it compiles."""
+The fields of a row: `markup` is the standard input; `args` is the list of arguments, or `script` is the only argument; `output`
+and `error` are what the program must write to standard output and standard error; `status` is its exit status, 0 if the field is
+missing. `markup_hex` and `script_hex` hold bytes in hexadecimal, for inputs that are not UTF-8. A text may also be a list of
+pieces, each a text and how often it is repeated, in which {n} is replaced by the number of the repetition; an argument may be
+a list of a text and how often it is repeated.
+
+tests/checks/documents.py says how the commands, programs and outputs in the documents are checked.
+
+A caller that must not compile is a file tests/must-not-compile/CRATE-WHAT.txt, a program that uses that crate alone. One line of it
+ends in '// refused: WORDS': with that line the compiler must refuse the program with those words, and without it, it must compile."""
 import json
 import os
 import pathlib
@@ -32,16 +30,20 @@ import resource
 import shutil
 import subprocess
 import sys
-import textwrap
 import time
 from concurrent.futures import ThreadPoolExecutor
 
 sys.dont_write_bytecode = True
+TESTS = pathlib.Path(__file__).resolve().parents[1]
+for folder in ("tools", "checks", "second_definitions"):
+    sys.path.insert(0, str(TESTS / folder))
 import clean  # noqa: E402
 import coverage  # noqa: E402
 import depth  # noqa: E402
+import documents  # noqa: E402
 import edits  # noqa: E402
 import hostile  # noqa: E402
+import options  # noqa: E402
 import paths  # noqa: E402
 import refusals  # noqa: E402
 import streams  # noqa: E402
@@ -49,10 +51,9 @@ import ways  # noqa: E402
 from rows import ROOT, SECONDS, built, given, words_of  # noqa: E402
 
 NO_FUNCTION = "no_function_of_this_name"
-SNIPPETS = "samples"
 SEED, FORESTS, PATHS, WAYS = 1, 2000, 500, 400
-# The memory, in bytes, that must be free for each proof at a time: a crate's took up to 3.2 GB, that of `calls`, before
-# it was split, 4.8. `rt` reckons with up to 9, which leaves processors idle.
+# The memory, in bytes, that must be free for each proof at a time: a crate's took up to 3.2 GB, the largest before
+# it was split took 4.8. `rt` reckons with up to 9, which leaves processors idle.
 PROOF = 4_000_000_000
 
 
@@ -103,7 +104,7 @@ def gate(clock):
     anew = ["--anew"] if "--anew" in sys.argv and trials.refusals.kept else []
     side_by_side = max(1, min(trials.processors, trials.rt.free() // PROOF))
     env = {"RT_JOBS": str(side_by_side), **os.environ}
-    command = [sys.executable, ROOT / "cases" / "gate.py", *anew]
+    command = [sys.executable, TESTS / "tools" / "gate.py", *anew]
     ran = subprocess.Popen(command, cwd=ROOT, env=env, stdout=subprocess.PIPE, stderr=subprocess.STDOUT, text=True)
     last, proved_at, functions = "", begun, []
     for line in ran.stdout:
@@ -146,7 +147,7 @@ def fault_of(program, case):
     return None if got == wanted else f"wanted {wanted}, got {got}"[:2000]
 
 
-def run_cases(what, program, files):
+def run_rows(what, program, files):
     """Has the program asked each line of the files, and returns how many passed and failed."""
     passed = failed = 0
     for file in sorted(files):
@@ -161,19 +162,13 @@ def run_cases(what, program, files):
     return passed, failed if passed else failed + 1
 
 
-def table():
-    """Runs the program on every case, and returns how many passed and failed."""
-    return run_cases("the program's cases", "dq", (ROOT / "cases").glob("*.jsonl"))
-
-
-def cases_of(name):
-    """What runs the program of that name on its cases, and returns how many passed and failed."""
-    return lambda: run_cases(f"cases of {name}", name, (ROOT / "cases" / name).glob("*.jsonl"))
-
-
-def pages():
-    """Runs the program `hq` on its cases and on those of html5lib, and returns how many passed and failed."""
-    return run_cases("cases of pages", "hq", [*(ROOT / "cases").glob("hq/*.jsonl"), *(ROOT / "cases").glob("pages/*.jsonl")])
+def rows():
+    """Runs each program on its rows, and returns how many passed and failed."""
+    counts = []
+    for folder in sorted((TESTS / "rows").iterdir()):
+        counts.append(run_rows(f"rows of {folder.name}", folder.name, folder.glob("*.jsonl")))
+    counts.append(run_rows("html5lib's tests of tree construction", "hq", (TESTS / "html5lib").glob("*.jsonl")))
+    return tuple(sum(column) for column in zip(*counts))
 
 
 def cleaned():
@@ -185,66 +180,25 @@ def cleaned():
 
 def asked_each_way():
     """Compares what selectors select in random forests by each way."""
-    passed, failed = ways.compared(built("queries"), SEED, WAYS)
+    passed, failed = ways.compared(built("test_queries"), SEED, WAYS)
     print(f"selectors in random forests, each way: {passed} passed, {failed} failed")
     return passed, failed
 
 
 def followed():
     """Compares what paths find in random forests with a meaning of our own."""
-    passed, failed = paths.compared(built("queries"), SEED, PATHS)
+    passed, failed = paths.compared(built("test_queries"), SEED, PATHS)
     print(f"paths in random forests: {passed} passed, {failed} failed")
     return passed, failed
 
 
-def blocks(file):
-    """The fenced blocks of a document: the kind, the number of the first line, and the lines."""
-    kind, start, held = None, 0, []
-    for number, line in enumerate(file.read_text(encoding="utf-8").splitlines(), 1):
-        if not line.startswith("```"):
-            held.append(line)
-        elif kind is None:
-            kind, start, held = line[3:], number, []
-        else:
-            yield kind, start, held
-            kind = None
-
-
-def stands_in(block, text):
-    """Whether the block's lines stand in the text, one after the other, but for their indentation."""
-    lines = text.splitlines()
-    wanted = textwrap.dedent("\n".join(block))
-    pieces = (lines[at : at + len(block)] for at in range(len(lines) - len(block) + 1))
-    return any(textwrap.dedent("\n".join(piece)) == wanted for piece in pieces)
-
-
-def snippets():
-    """Compares the documents' snippets with those of the crate SNIPPETS, and returns how many stand there and how many don't."""
-    crate = ROOT / "crates" / SNIPPETS
-    known = {
-        "rust": [file.read_text(encoding="utf-8") for file in sorted((crate / "src").glob("*.rt"))],
-        "text": [(crate / "stdout").read_text(encoding="utf-8")],
-    }
-    passed = failed = 0
-    for document in (ROOT / "README.md", *(ROOT / "docs" / name for name in ("API.md", "SINK.md", "PAGES.md"))):
-        for kind, start, block in blocks(document):
-            if any(stands_in(block, text) for text in known.get(kind, [])):
-                passed += 1
-            else:
-                failed += 1
-                print(f"{document.name}:{start}: this {kind or 'plain'} block isn't in crate {SNIPPETS}")
-    print(f"snippets: {passed} passed, {failed} failed")
-    return passed, failed if passed else failed + 1
-
-
 def wrong_bodies():
-    """Looks for each must-fail edit that docs/PROVED.md names, and returns how many are there and how many aren't."""
-    text = (ROOT / "docs" / "PROVED.md").read_text(encoding="utf-8")
-    table = text.partition("# Wrong bodies")[2].partition("\n# ")[0]
-    there = {file.stem for file in (ROOT / "cases" / "must-fail").rglob("*.edit")}
-    named = set(re.findall(r"`(\w+-[\w-]+)`", table))
+    """Looks for each must-fail edit that docs/WRONG_BODIES.md names, and returns how many are there and how many aren't."""
+    text = (ROOT / "docs" / "WRONG_BODIES.md").read_text(encoding="utf-8")
+    there = {file.stem for file in (TESTS / "must-fail").rglob("*.edit")}
+    named = set(re.findall(r"`(\w+-[\w-]+)`", text))
     for name in sorted(named - there):
-        print(f"PROVED.md: there is no must-fail edit {name}")
+        print(f"WRONG_BODIES.md: there is no must-fail edit {name}")
     passed, failed = len(named & there), len(named - there)
     print(f"wrong bodies: {passed} passed, {failed} failed")
     return passed, failed if passed else failed + 1
@@ -283,7 +237,7 @@ def caller_fault(rt, root, file):
 def refused_callers():
     """Tries the callers that must not compile in a copy of the workspace, and returns how many are refused and how many
     aren't."""
-    files = sorted((ROOT / "cases" / "must-not-compile").glob("*.txt"))
+    files = sorted((TESTS / "must-not-compile").glob("*.txt"))
     trials, passed, failed = edits.Trials(), 0, 0
     for name in trials.crates:
         trials.lend(name)
@@ -300,22 +254,22 @@ def refused_callers():
 
 
 def main():
-    if sys.argv[1:] not in ([], ["--cases"], ["--anew"]):
-        print("usage: check [--cases | --anew]: what it does stands at the head of cases/check.py", file=sys.stderr)
+    if sys.argv[1:] not in ([], ["--rows"], ["--anew"]):
+        print("usage: check [--rows | --anew]; the head of tests/tools/check.py says what it does", file=sys.stderr)
         return 2
     # (the prover gives its memory back to the system again and again, unless it is told not to: 2 % of its time)
     os.environ.setdefault("MIMALLOC_PURGE_DELAY", "-1")
-    clock, cases_alone = Clock(), sys.argv[1:] == ["--cases"]
-    counts, edits_left = (None, lambda: (0, 0)) if cases_alone else gate(clock)
-    tables = [table, *map(cases_of, ("calls", "queries", "times", "batch")), pages, cleaned, followed, asked_each_way]
-    tables += [snippets, wrong_bodies, coverage.coverage, hostile.hostile]
+    clock, rows_alone = Clock(), sys.argv[1:] == ["--rows"]
+    counts, edits_left = (None, lambda: (0, 0)) if rows_alone else gate(clock)
+    tables = [rows, cleaned, followed, asked_each_way]
+    tables += [documents.documents, options.options, wrong_bodies, coverage.coverage, hostile.hostile]
     counts = [counts] if counts else []
     with ThreadPoolExecutor() as pool:
         # (what is done beside the edits neither measures the processor time of others nor changes a child before it starts)
         beside = [("the edits, once the gate had ended", edits_left), ("the refusals", refusals.refusals)]
         beside = [pool.submit(clock.timed, *part) for part in beside]
         counts += [clock.timed("the callers that must not compile", refused_callers)]
-        counts += clock.timed("the cases", lambda: [each() for each in tables])
+        counts += clock.timed("the rows and checks", lambda: [each() for each in tables])
         counts += [it.result() for it in beside]
     alone = [("streams that fail", streams.streams), ("small address spaces", refusals.limited), ("deep and wide trees", depth.depth)]
     counts += [clock.timed(part, each) for part, each in alone]

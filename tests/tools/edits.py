@@ -1,7 +1,7 @@
-"""Tries the must-fail edits of cases/must-fail, many at once. An edit turns the meaning of one function, and the prover
+"""Tries the must-fail edits of tests/must-fail, many at once. An edit turns the meaning of one function, and the prover
 must refuse that function: a function that calls it doesn't count, nor does the crate as a whole.
 
-An edit is a file cases/must-fail/CRATE/NAME.edit, in the form of `rt must-fail`: a line 'file: src/FILE.rt', then pairs
+An edit is a file tests/must-fail/CRATE/NAME.edit, in the form of `rt must-fail`: a line 'file: src/FILE.rt', then pairs
 of lines 'old: TEXT' and 'new: TEXT', where the old text stands in the file once. The edits of different functions are
 put into one copy of the crate, which is checked over the libraries that the gate built. A proof cites the contracts of
 what it calls and no code, so in that copy every other function has an endless loop for a body and a hole for a proof,
@@ -30,8 +30,8 @@ import threading
 import time
 from concurrent.futures import ThreadPoolExecutor
 
-ROOT = pathlib.Path(__file__).resolve().parent.parent
-EDITS = ROOT / "cases" / "must-fail"
+ROOT = pathlib.Path(__file__).resolve().parents[2]
+EDITS = ROOT / "tests" / "must-fail"
 HEAD = re.compile(r"(\s*)(?:pub(?:\([^)]*\))? )?(?:const )?(?:unsafe )?fn (\w+)")
 NOTE = re.compile(r"(?:note: )?(?:\./)?(src/\S+?):(\d+):\d+: ")
 IMPL = re.compile(r"impl\b(?:<(.*?)>)? (?:(\w+)(?:<(?:'\w+,? ?)*&?(\w*).*>)? for )?(\w+)")

@@ -1,7 +1,7 @@
-"""What the rows of cases/ say, and where the programs are that are asked them. check.py says what a row is."""
+"""Reads the rows of tests/rows, and finds the programs that answer them. check.py describes the format of a row."""
 import pathlib
 
-ROOT = pathlib.Path(__file__).resolve().parent.parent
+ROOT = pathlib.Path(__file__).resolve().parents[2]
 SECONDS = 60
 
 

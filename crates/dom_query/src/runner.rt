@@ -149,8 +149,13 @@ fn root_alone(alloc: Global) -> Result<Vec<NodeId>, OutOfMemory>
     Ok(selection)
 }
 
-/// Does the lines in their order, at first with the root selected.
-fn do_commands<W: Write>(
+/// Runs the commands of a script on a tree, in order, and writes to `out` what they print. At first
+/// the root is selected.
+///
+/// Fails with `Edit` where an edit is refused (with the line of the command, counted from 1), with
+/// `TooManyNodes` or `Memory` where these run out, and with `Write` where the writer fails. What the
+/// commands before it did to the tree stays done.
+pub fn run_commands<W: Write>(
     alloc: Global,
     tree: &mut Tree,
     commands: &[Command],
@@ -213,5 +218,5 @@ pub fn run<W: Write>(
     dom_select::laws::one_reading();
     let commands = read_script(alloc, script)?;
     let mut document = read_markup(alloc, markup)?;
-    do_commands(alloc, &mut document.tree, &commands, out)
+    run_commands(alloc, &mut document.tree, &commands, out)
 }

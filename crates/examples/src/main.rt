@@ -1,5 +1,5 @@
 //! The snippets of README.md and of documents in docs/, and whole programs over `dom_query`:
-//! `samples` prints what each prints. `check` compares the documents with these files.
+//! `examples` prints what each prints. `check` compares the documents with these files.
 #![tactic(auto)]
 
 mod article;

@@ -1,6 +1,6 @@
-//! Calls of the libraries, asked at a shell. `calls LINE ..` reads the markup on standard input,
+//! Calls of the libraries, asked at a shell. `test_calls LINE ..` reads the markup on standard input,
 //! makes the call of each line on the document, in order, and prints what each answers: the rows of
-//! cases/calls. `calls bulk raw` makes the call of each line on standard input.
+//! tests/rows/test_calls. `test_calls bulk raw` makes the call of each line on standard input.
 #![tactic(auto)]
 
 mod apart;
