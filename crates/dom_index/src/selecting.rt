@@ -24,11 +24,11 @@ use dom_trees::tree::Tree;
 /// The strategy depends on the structure of the selectors and on the size of the tree below the
 /// roots:
 ///
-/// - Each candidate is matched by itself, if it visits at most one node for each compound selector,
-///   or if few nodes are above the candidates and, for `~`, beside them and their ancestors.
+/// - Each node below the roots is matched by itself, if all combinators are `>` and `+`, or if
+///   these nodes have few ancestors in total and, for `~`, few siblings at each level.
 /// - Otherwise one traversal with flags is made, if the combinators of each selector are whitespace
-///   and `>`, or are `+` and `~`.
-/// - For all other selectors, an index is made.
+///   and `>`, or are `+` and `~`, and the list has at most 32 compound selectors.
+/// - For all other selectors, and for nested lists that would repeat tests, an index is made.
 pub fn select_ids(
     tree: &Tree,
     roots: &[NodeId],

@@ -18,9 +18,9 @@ const MOST_COMPOUNDS: u64 = 32;
 /// The number of nodes of which one counts as few.
 const FEW: usize = 32;
 
-/// Returns whether each candidate is matched by itself. Nested lists then have to be near (see
-/// `is_near`), and only last compound selectors may have `:has`, since others are tested at one
-/// node for several candidates.
+/// Returns whether each candidate, which is a node below the roots, is matched by itself. Nested
+/// lists then have to be near (see `is_near`), and only last compound selectors may have `:has`,
+/// since others are tested at one node for several candidates.
 ///
 /// The combinators are `>` and `+`, or few nodes are around the candidates. A candidate tests no
 /// compound selector twice at itself, an ancestor or a sibling of these, so fewer tests are made
