@@ -9,6 +9,7 @@ mod code;
 mod emphasis;
 mod images;
 mod items;
+mod levels;
 mod links;
 mod lists;
 mod names;
@@ -21,6 +22,7 @@ mod urls;
 pub(crate) mod words;
 
 use crate::context::FormatOpts;
+use crate::serializer::levels::{Front, Level, ends_near_letter};
 use crate::serializer::names::is_default_skipped;
 use crate::serializer::nodes::holds_texts;
 use crate::serializer::tables::Table;
@@ -86,10 +88,13 @@ struct Writer<'a> {
     skip_tags: Option<&'a [&'a str]>,
     /// What is still to be written, the last first.
     tasks: Vec<Task>,
-    /// The text that is being written.
+    /// The text that is being written, behind the pieces of `front`.
     text: String,
+    front: Front,
     /// The texts that it will be part of, the outermost first.
-    outer: Vec<String>,
+    outer: Vec<Level>,
+    /// How many items of lists were being written when the text began.
+    items_before: usize,
     /// The items of lists that are being written, the outermost first.
     items: Vec<Item>,
     /// The table that is being written; a table with a table below isn't written as one.
@@ -109,7 +114,9 @@ impl<'a> Writer<'a> {
             skip_tags,
             tasks: Vec::new(alloc),
             text: String::new(alloc),
+            front: Front::new(alloc),
             outer: Vec::new(alloc),
+            items_before: 0,
             items: Vec::new(alloc),
             table: Table::new(alloc),
         }
@@ -125,6 +132,7 @@ impl<'a> Writer<'a> {
             ≡ joined_words_of self.old.tree.now id) }
     {
         if include_node {
+            self.push(Task::Join)?;
             return self.push(Task::Node {
                 id,
                 opts: FormatOpts::new().include_node(),
@@ -156,11 +164,15 @@ impl<'a> Writer<'a> {
 
     /// Writes the beginning of what a task asks for, and pushes the rest.
     fn step(&mut self, task: Task) -> Result<(), OutOfMemory> {
+        if !self.front.is_empty() && self.looks_at_front(&task) {
+            self.join_front()?;
+        }
         match task {
             Task::Row { id, opts } => self.write_row(id, opts),
             Task::Node { id, opts } => self.open_node(id, opts),
             Task::Close { id, opts } => self.close_node(id, opts),
             Task::Trim => trim_space(&mut self.text),
+            Task::Join => Ok(()),
             Task::EndLine { table_cell } => self.end_line(table_cell),
             Task::EndEmphasis { marker, merged } => self.end_emphasis(marker, merged),
             Task::EndLink { id } => self.end_link(id),
@@ -205,9 +217,14 @@ impl<'a> Writer<'a> {
 
     /// Begins a text that will be part of the one that is being written.
     fn begin_text(&mut self) -> Result<(), OutOfMemory> {
-        let empty = String::new(self.tree.allocator());
-        let outer = std::mem::replace(&mut self.text, empty);
-        match self.outer.push(outer) {
+        let alloc = self.tree.allocator();
+        let level = Level {
+            front: std::mem::replace(&mut self.front, Front::new(alloc)),
+            text: std::mem::replace(&mut self.text, String::new(alloc)),
+            items: self.items_before,
+        };
+        self.items_before = self.items.len();
+        match self.outer.push(level) {
             Ok(()) => Ok(()),
             Err(_) => Err(OutOfMemory),
         }
@@ -215,11 +232,48 @@ impl<'a> Writer<'a> {
 
     /// Ends the text, goes on with the one that it will be part of, and hands it out.
     fn end_text(&mut self) -> String {
+        let ended = self.end_level();
+        ended.text
+    }
+
+    /// Ends the text and goes on with the one that it will be part of.
+    fn end_level(&mut self) -> Level {
+        let alloc = self.tree.allocator();
         let outer = match self.outer.pop() {
             Some(outer) => outer,
-            None => String::new(self.tree.allocator()),
+            None => Level {
+                front: Front::new(alloc),
+                text: String::new(alloc),
+                items: 0,
+            },
         };
-        std::mem::replace(&mut self.text, outer)
+        let items = self.items_before;
+        self.items_before = outer.items;
+        Level {
+            front: std::mem::replace(&mut self.front, outer.front),
+            text: std::mem::replace(&mut self.text, outer.text),
+            items,
+        }
+    }
+
+    /// Whether a task may look further back than to the last letter of the text.
+    fn looks_at_front(&self, task: &Task) -> bool {
+        match task {
+            Task::EndEmphasis { .. } => false,
+            Task::Row { .. } | Task::Node { .. } | Task::Close { .. } => {
+                !ends_near_letter(self.text.as_str())
+            }
+            _ => true,
+        }
+    }
+
+    /// Joins the text and the pieces before it.
+    fn join_front(&mut self) -> Result<(), OutOfMemory> {
+        let alloc = self.tree.allocator();
+        let front = std::mem::replace(&mut self.front, Front::new(alloc));
+        let text = std::mem::replace(&mut self.text, String::new(alloc));
+        self.text = front.joined(text)?;
+        Ok(())
     }
 
     /// Whether elements of that name are left out.

@@ -14,6 +14,8 @@ pub(super) enum Task {
     Close { id: NodeId, opts: FormatOpts },
     /// The text loses the whitespace at both ends.
     Trim,
+    /// The text and the pieces before it become one.
+    Join,
     /// The line of an item ends.
     EndLine { table_cell: bool },
     /// The text of an emphasis ends; `merged` where it stands in one of the same kind.
