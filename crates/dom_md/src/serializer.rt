@@ -10,6 +10,7 @@ mod code;
 mod emphasis;
 mod images;
 mod items;
+mod levels;
 mod links;
 mod lists;
 mod names;
@@ -22,6 +23,7 @@ mod urls;
 pub(crate) mod words;
 
 use crate::context::FormatOpts;
+use crate::serializer::levels::{Front, Level, ends_near_letter};
 use crate::serializer::names::is_default_skipped;
 use crate::serializer::nodes::holds_texts;
 use crate::serializer::tables::Table;
@@ -90,11 +92,14 @@ struct Writer<'a> {
     skip_tags: Option<&'a [&'a str]>,
     /// The tasks that remain; the last one is the next to run.
     tasks: Vec<Task>,
-    /// The text that is being written.
+    /// The text that is being written, behind the pieces of `front`.
     text: String,
-    /// The unfinished texts that it will be inserted into, the outermost first.
-    outer: Vec<String>,
-    /// The list items that are being written, the outermost first.
+    front: Front,
+    /// The texts that it will be part of, the outermost first.
+    outer: Vec<Level>,
+    /// How many items of lists were being written when the text began.
+    items_before: usize,
+    /// The items of lists that are being written, the outermost first.
     items: Vec<Item>,
     /// The table that is being written. One is enough, since a table with a table below it is not
     /// written as a Markdown table.
@@ -114,7 +119,9 @@ impl<'a> Writer<'a> {
             skip_tags,
             tasks: Vec::new(alloc),
             text: String::new(alloc),
+            front: Front::new(alloc),
             outer: Vec::new(alloc),
+            items_before: 0,
             items: Vec::new(alloc),
             table: Table::new(alloc),
         }
@@ -131,6 +138,7 @@ impl<'a> Writer<'a> {
             ≡ joined_words_of self.old.tree.now id) }
     {
         if include_node {
+            self.push(Task::Join)?;
             return self.push(Task::Node {
                 id,
                 opts: FormatOpts::new().include_node(),
@@ -162,11 +170,15 @@ impl<'a> Writer<'a> {
 
     /// Runs a task: writes its beginning, and pushes tasks for the rest.
     fn step(&mut self, task: Task) -> Result<(), OutOfMemory> {
+        if !self.front.is_empty() && self.looks_at_front(&task) {
+            self.join_front()?;
+        }
         match task {
             Task::Row { id, opts } => self.write_row(id, opts),
             Task::Node { id, opts } => self.open_node(id, opts),
             Task::Close { id, opts } => self.close_node(id, opts),
             Task::Trim => trim_space(&mut self.text),
+            Task::Join => Ok(()),
             Task::EndLine { table_cell } => self.end_line(table_cell),
             Task::EndEmphasis { marker, merged } => self.end_emphasis(marker, merged),
             Task::EndLink { id } => self.end_link(id),
@@ -211,9 +223,14 @@ impl<'a> Writer<'a> {
 
     /// Begins a new text, which will be inserted into the current one.
     fn begin_text(&mut self) -> Result<(), OutOfMemory> {
-        let empty = String::new(self.tree.allocator());
-        let outer = std::mem::replace(&mut self.text, empty);
-        match self.outer.push(outer) {
+        let alloc = self.tree.allocator();
+        let level = Level {
+            front: std::mem::replace(&mut self.front, Front::new(alloc)),
+            text: std::mem::replace(&mut self.text, String::new(alloc)),
+            items: self.items_before,
+        };
+        self.items_before = self.items.len();
+        match self.outer.push(level) {
             Ok(()) => Ok(()),
             Err(_) => Err(OutOfMemory),
         }
@@ -222,11 +239,48 @@ impl<'a> Writer<'a> {
     /// Ends the current text and returns it; the one that it will be inserted into becomes current
     /// again.
     fn end_text(&mut self) -> String {
+        let ended = self.end_level();
+        ended.text
+    }
+
+    /// Ends the text and goes on with the one that it will be part of.
+    fn end_level(&mut self) -> Level {
+        let alloc = self.tree.allocator();
         let outer = match self.outer.pop() {
             Some(outer) => outer,
-            None => String::new(self.tree.allocator()),
+            None => Level {
+                front: Front::new(alloc),
+                text: String::new(alloc),
+                items: 0,
+            },
         };
-        std::mem::replace(&mut self.text, outer)
+        let items = self.items_before;
+        self.items_before = outer.items;
+        Level {
+            front: std::mem::replace(&mut self.front, outer.front),
+            text: std::mem::replace(&mut self.text, outer.text),
+            items,
+        }
+    }
+
+    /// Whether a task may look further back than to the last letter of the text.
+    fn looks_at_front(&self, task: &Task) -> bool {
+        match task {
+            Task::EndEmphasis { .. } => false,
+            Task::Row { .. } | Task::Node { .. } | Task::Close { .. } => {
+                !ends_near_letter(self.text.as_str())
+            }
+            _ => true,
+        }
+    }
+
+    /// Joins the text and the pieces before it.
+    fn join_front(&mut self) -> Result<(), OutOfMemory> {
+        let alloc = self.tree.allocator();
+        let front = std::mem::replace(&mut self.front, Front::new(alloc));
+        let text = std::mem::replace(&mut self.text, String::new(alloc));
+        self.text = front.joined(text)?;
+        Ok(())
     }
 
     /// Whether elements with that name are left out.

@@ -2,10 +2,15 @@
 
 use crate::context::{EmphasisScope, FormatOpts};
 use crate::serializer::Writer;
+use crate::serializer::levels::Level;
 use crate::serializer::tasks::{Marker, Task};
-use crate::serializer::texts::{cut_at, escape_trailing_bang};
+use crate::serializer::texts::{cut_at, ends_in_byte, escape_trailing_bang};
 use dom_nodes::fault::OutOfMemory;
 use dom_nodes::node_id::NodeId;
+
+/// A text of so many bytes isn't copied to the end of another one, but keeps that one before it in
+/// a piece of its own.
+const LONG: usize = 256;
 
 impl<'a> Writer<'a> {
     /// Begins emphasized text. Within emphasis of the same kind, no markers are written.
@@ -23,9 +28,56 @@ impl<'a> Writer<'a> {
     }
 
     pub(super) fn end_emphasis(&mut self, marker: Marker, merged: bool) -> Result<(), OutOfMemory> {
+        let is_long = !self.front.is_empty() || self.text.as_str().len() >= LONG;
+        if merged && is_long && self.has_no_items_outside() {
+            return self.end_merged();
+        }
+        self.join_front()?;
         let content = self.end_text();
         let marker = if merged { "" } else { marker.as_str() };
         push_emphasis(&mut self.text, content, marker)
+    }
+
+    /// Whether no item of a list is being written in the text that this one will be part of. The
+    /// places where items begin count from the start of a text that is in one piece.
+    fn has_no_items_outside(&self) -> bool {
+        match self.outer.last() {
+            Some(outer) => outer.items == self.items_before,
+            None => false,
+        }
+    }
+
+    /// Ends an emphasis within another of its kind: its text goes behind the outer one, which
+    /// becomes a piece before it.
+    fn end_merged(&mut self) -> Result<(), OutOfMemory> {
+        let Level { front, text, .. } = self.end_level();
+        if self.front.is_empty() && self.text.as_str().is_empty() {
+            self.front = front;
+            self.text = text;
+            return Ok(());
+        }
+        let is_blank = front.is_blank_before(text.as_str());
+        if !is_blank {
+            open_before(&mut self.text, front.first_byte_before(text.as_str()))?;
+        }
+        let outer_front = std::mem::replace(&mut self.front, front);
+        let outer = std::mem::replace(&mut self.text, text);
+        self.front.put(outer_front, outer, is_blank)
+    }
+}
+
+/// Makes the end of a text ready for words that begin with that byte: one space is enough.
+fn open_before(text: &mut String, first: Option<u8>) -> Result<(), OutOfMemory> {
+    match first {
+        Some(b' ') => {
+            if ends_in_byte(text.as_str(), b' ') {
+                let end = text.as_str().len().saturating_sub(1);
+                cut_at(text, end);
+            }
+            Ok(())
+        }
+        Some(b'[') => escape_trailing_bang(text),
+        _ => Ok(()),
     }
 }
 

@@ -14,7 +14,9 @@ pub(super) enum Task {
     Close { id: NodeId, opts: FormatOpts },
     /// Removes the whitespace at both ends of the current text.
     Trim,
-    /// Ends the line of an item.
+    /// The text and the pieces before it become one.
+    Join,
+    /// The line of an item ends.
     EndLine { table_cell: bool },
     /// Ends an emphasized text; `merged` says whether it is in emphasis of the same kind.
     EndEmphasis { marker: Marker, merged: bool },

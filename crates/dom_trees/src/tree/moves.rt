@@ -1,9 +1,12 @@
 //! Moves of nodes: they are detached, and then put at an insertion point or left detached. The
 //! moves allocate no memory. When one fails, the tree is unchanged.
 
+ghost use Rattle.std.specs.Prelude.{◌≡◌};
+ghost use Rattle.dom_links.specs.ListMoves.{moved_nodes};
+ghost use Rattle.dom_links.specs.Moves.{moved_to};
 ghost use Rattle.dom_links.specs.declared.gap.InsertionPoint.TheVariants.{After, Before, EndOf, FrontOf};
 ghost use Rattle.dom_links.specs.declared.gap.MovedNodes.TheVariants.{Node, WholeList, WithLater};
-ghost use Rattle.dom_trees.specs.Edits.{Edits, moving_to, removing, removing_children, reparenting};
+ghost use Rattle.dom_trees.specs.Edits.{Edits, MayMove, moving_to, removing, removing_children, reparenting};
 ghost use Rattle.dom_trees.specs.Edits.{replacing, unwrapping, wrapping};
 
 use crate::checks::{check_known, check_move, check_reparent, check_wrap};
@@ -23,11 +26,20 @@ impl Tree {
         ensures { Edits result self.old self.new (moving_to gap moving) }
     {
         check_move(&self.nodes, &gap, &moving)?;
-        TreeNodeOps::move_to(&mut self.nodes, gap, moving);
+        self.move_allowed(gap, moving);
         Ok(())
     }
 
-    /// Moves a node to the end of the children of the node `id`. It fails as `move_to` does.
+    /// Moves nodes to a gap where they may go. No ancestors are searched for a cycle, so the time
+    /// depends on what is moved alone.
+    pub fn move_allowed(&mut self, gap: InsertionPoint, moving: MovedNodes)
+        requires { MayMove gap moving self.old }
+        ensures { self.new ≡ moved_to (moved_nodes self.old moving) gap self.old }
+    {
+        TreeNodeOps::move_to(&mut self.nodes, gap, moving);
+    }
+
+    /// Moves a node to the end of the children of another.
     pub fn append_child_of(&mut self, id: &NodeId, new_child: &NodeId) -> Result<(), EditFault>
         ensures { Edits result self.old self.new (moving_to (EndOf id.now) (Node new_child.now)) }
     {

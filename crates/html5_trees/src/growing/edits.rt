@@ -34,9 +34,7 @@ pub fn move_to(tree: &mut Tree, gap: InsertionPoint, id: NodeId)
     requires { MayMove gap (Node id) tree.old }
     ensures { tree.new ≡ moved_to (id ∷ []) gap tree.old }
 {
-    let Ok(()) = tree.move_to(gap, MovedNodes::Node(id)) else {
-        unreachable!();
-    };
+    tree.move_allowed(gap, MovedNodes::Node(id));
 }
 
 /// Moves the children of an element to another, where they are allowed.
@@ -100,20 +98,7 @@ pub fn put_doctype(tree: &mut Tree, parts: [&str; 3]) -> Result<(), PageFault>
     Ok(())
 }
 
-/// Adds those attributes of a tag to an element that it doesn't have yet.
-pub fn add_attrs(tree: &mut Tree, id: NodeId, tag: &Tag) -> Result<(), PageFault>
-    requires { IsElement tree.old id }
-    ensures { Grows tree.old tree.new }
-{
-    let attrs = attrs_of(
-        tree.allocator(),
-        ElementNamespace::Html,
-        tag.attrs.as_slice(),
-    )?;
-    settled(tree.add_missing_attrs_of(&id, attrs))
-}
-
-/// Makes a detached element and returns its id.
+/// Makes an element, which stands alone.
 fn create(
     tree: &mut Tree,
     name: QualName,
@@ -159,7 +144,6 @@ pub fn put_element(
         name,
         number: 0,
         holds_html: flags.mathml_annotation_xml_integration_point,
-        fingerprint: 0,
     })
 }
 
@@ -248,7 +232,6 @@ fn copy_of(tree: &mut Tree, element: Open) -> Result<Open, PageFault>
         name: element.name,
         number: element.number,
         holds_html: false,
-        fingerprint: element.fingerprint,
     })
 }
 
