@@ -30,8 +30,9 @@ impl Tree {
         Ok(())
     }
 
-    /// Moves nodes to a gap where they may go. No ancestors are searched for a cycle, so the time
-    /// depends on what is moved alone.
+    /// Moves nodes to an insertion point, if the caller has proved that this move is allowed
+    /// (`MayMove`). It searches no ancestors for a cycle, so its time depends only on the nodes that
+    /// are moved.
     pub fn move_allowed(&mut self, gap: InsertionPoint, moving: MovedNodes)
         requires { MayMove gap moving self.old }
         ensures { self.new ≡ moved_to (moved_nodes self.old moving) gap self.old }
@@ -39,7 +40,8 @@ impl Tree {
         TreeNodeOps::move_to(&mut self.nodes, gap, moving);
     }
 
-    /// Moves a node to the end of the children of another.
+    /// Moves the node `new_child` to the end of the children of the node `id`. It fails as `move_to`
+    /// does.
     pub fn append_child_of(&mut self, id: &NodeId, new_child: &NodeId) -> Result<(), EditFault>
         ensures { Edits result self.old self.new (moving_to (EndOf id.now) (Node new_child.now)) }
     {
