@@ -1,5 +1,5 @@
 -- Plain tags, as the tokenizer reads them.
-use Rattle.std.specs.Prelude.{◌≡◌, ℕ, Bool, true, false, not, ◌&&◌, nat_le, List, [], ◌∷◌, ◌++◌, map, flat_map, drop, length, reverse, codes, refl}
+use Rattle.std.specs.Prelude.{Option, None, Some, ◌≡◌, ℕ, Bool, true, false, ◌&&◌, nat_le, List, [], ◌∷◌, ◌++◌, map, flat_map, drop, length, reverse, codes, refl}
 use Rattle.std.specs.Char.{is_ascii_lowercase}
 use Rattle.std.specs.List.{list_all}
 use Rattle.std.proofs.lemmas.Bool.{and_parts}
@@ -7,22 +7,22 @@ use Rattle.std.proofs.lemmas.List.{append-nil, append_assoc}
 use mathlib.Core.List.{reverse-cons}
 use mathlib.Core.Path.{◌∙◌, sym, ap, subst}
 use native.Mathlib.Omega.{arith}
-use Rattle.html_standard.proofs.PlainParts.{IsRead, IsReference, amp_is, behind_name, gt_is, lt_is, named_taken, nbsp_is, quot_is, taking}
-use Rattle.html_standard.proofs.Steps.{go_on, loud, other, silent}
+use Rattle.html_standard.proofs.PlainParts.{IsRead, IsReference, amp_is, behind_name, gt_is, lt_is, named_taken, nbsp_is, quot_is}
+use Rattle.html_standard.proofs.Steps.{go_on, other, silent, step_to, taking}
 use Rattle.html_standard.specs.Entries.{Current, These, Stay, Switch, Reconsume, SwitchBack, ReturnTo, SetEmpty, Add, Buffer, BufferName, Flush, NewTag, NewAttr, TheTagName, AttrName, AttrValue, EmitTag, TagKind, Starting, Ending}
 use Rattle.html_standard.specs.Machine.{Machine, Tag, at_state, distinct, last_start_of, token_of, taken, value_of}
-use Rattle.html_standard.specs.PlainMarkup.{Piece, PlainAttr, StartTag, EndTag, attr_of, is_attr_name, is_plain_attr, is_plain_item, is_tag_name, tokens, written, written_attr, Itself, Amp, Lt, Gt, Quot, Nbsp, character, is_name_char, is_value_char, is_plain_piece, written_piece}
-use Rattle.html_standard.specs.Reading.{Feedback, IsFeedback, Reads, here, is_switching, may_switch, reader}
+use Rattle.html_standard.specs.PlainMarkup.{Piece, PlainAttr, attr_of, is_name, is_plain_attr, is_tag_name, start_token, written_attr, written_end, written_start, Itself, Amp, Lt, Gt, Quot, Nbsp, character, is_name_char, is_value_char, is_plain_piece, written_piece}
+use Rattle.html_standard.specs.Reading.{Feedback, IsFeedback, Reads, here, reader, switched}
 use Rattle.html_standard.specs.States.{State, Data, TagOpen, EndTagOpen, TagName, BeforeAttributeName, AttributeName, BeforeAttributeValue, AttributeValueDoubleQuoted, AfterAttributeValueQuoted, CharacterReference, NamedCharacterReference}
 use Rattle.html_standard.specs.Table.{entries}
-use Rattle.html_standard.specs.Tokens.{Attr, Token, AStart}
+use Rattle.html_standard.specs.Tokens.{Attr, Token, AStart, AnEnd}
 
 -- ---- letters
 
-letter_is_no_upper : (c : ℕ) → is_name_char c ≡ true → (nat_le 65 c && nat_le c 90) ≡ false
-letter_is_no_upper c h = grind arith
+pub name_char_is_no_upper : (c : ℕ) → is_name_char c ≡ true → (nat_le 65 c && nat_le c 90) ≡ false
+name_char_is_no_upper c h = grind arith
 
-lower_is_name_char : (c : ℕ) → is_ascii_lowercase c ≡ true → is_name_char c ≡ true
+pub lower_is_name_char : (c : ℕ) → is_ascii_lowercase c ≡ true → is_name_char c ≡ true
 lower_is_name_char c h = grind arith
 
 name_taken : (foreign : Bool) (m : Machine) (c : ℕ) (text : List ℕ) → is_name_char c ≡ true →
@@ -36,7 +36,7 @@ name_taken foreign m c text h =
       other is_name_char 32 c h refl,
       other is_name_char 47 c h refl,
       other is_name_char 62 c h refl,
-      letter_is_no_upper c h,
+      name_char_is_no_upper c h,
       other is_name_char 0 c h refl,
     ) refl
 
@@ -44,12 +44,12 @@ open_taken : (foreign : Bool) (m : Machine) (c : ℕ) (text : List ℕ) → is_a
     taken foreign m (c ∷ text) (entries TagOpen) ≡ taking (NewTag Starting ∷ []) (Reconsume TagName) (c ∷ [])
 unfolding taken entries
 open_taken foreign m c text h =
-    rw (other is_ascii_lowercase 33 c h refl, other is_ascii_lowercase 47 c h refl, letter_is_no_upper c (lower_is_name_char c h), h) refl
+    rw (other is_ascii_lowercase 33 c h refl, other is_ascii_lowercase 47 c h refl, name_char_is_no_upper c (lower_is_name_char c h), h) refl
 
 end_taken : (foreign : Bool) (m : Machine) (c : ℕ) (text : List ℕ) → is_ascii_lowercase c ≡ true →
     taken foreign m (c ∷ text) (entries EndTagOpen) ≡ taking (NewTag Ending ∷ []) (Reconsume TagName) (c ∷ [])
 unfolding taken entries
-end_taken foreign m c text h = rw (letter_is_no_upper c (lower_is_name_char c h), h) refl
+end_taken foreign m c text h = rw (name_char_is_no_upper c (lower_is_name_char c h), h) refl
 
 begin_taken : (foreign : Bool) (m : Machine) (c : ℕ) (text : List ℕ) → is_name_char c ≡ true →
     taken foreign m (c ∷ text) (entries BeforeAttributeName) ≡ taking (NewAttr ∷ []) (Reconsume AttributeName) (c ∷ [])
@@ -77,7 +77,7 @@ attr_taken foreign m c text h =
       other is_name_char 47 c h refl,
       other is_name_char 62 c h refl,
       other is_name_char 61 c h refl,
-      letter_is_no_upper c h,
+      name_char_is_no_upper c h,
       other is_name_char 0 c h refl,
     ) refl
 
@@ -198,7 +198,7 @@ begin_attr f false tag c h m rest seen =
     go_on a (silent (taking (NewAttr ∷ []) (Reconsume AttributeName) (c ∷ [])) (begin_taken (f.in_foreign seen) (tagging m BeforeAttributeName tag) c rest h) refl refl)
 
 -- a space, and an attribute's name
-begun_part : (f : Feedback) (b : Bool) (tag : Tag) (name : List ℕ) → is_attr_name name ≡ true →
+begun_part : (f : Feedback) (b : Bool) (tag : Tag) (name : List ℕ) → is_name name ≡ true →
     IsPart f (place b) tag (32 ∷ name) AttributeName (at_attr tag name [])
 begun_part f b tag [] h = cc
 begun_part f b tag (c ∷ name) h = λ m rest seen.
@@ -225,7 +225,7 @@ with_attr tag a = record tag { attrs = attr_of a ∷ tag.attrs }
 attr_part : (f : Feedback) → (b : Bool) (tag : Tag) (a : PlainAttr) → is_plain_attr a ≡ true →
     IsPart f (place b) tag (written_attr a) AfterAttributeValueQuoted (with_attr tag a)
 attr_part f b tag a h =
-    let parts : (is_attr_name a.name ≡ true) × (list_all (is_plain_piece is_value_char) a.value ≡ true) = and_parts (is_attr_name a.name) (list_all (is_plain_piece is_value_char) a.value) h in
+    let parts : (is_name a.name ≡ true) × (list_all (is_plain_piece is_value_char) a.value ≡ true) = and_parts (is_name a.name) (list_all (is_plain_piece is_value_char) a.value) h in
     let D : State = AttributeValueDoubleQuoted in
     let t0 : Tag = at_attr tag a.name [] in
     let t1 : Tag = at_attr tag a.name (map character a.value) in
@@ -280,23 +280,28 @@ end_opens f c h m rest seen =
     silent (taking [] (Switch EndTagOpen) (47 ∷ [])) refl refl refl in
     go_on a (go_on b (silent (taking (NewTag Ending ∷ []) (Reconsume TagName) (c ∷ [])) (end_taken (f.in_foreign seen) (at_state m EndTagOpen) c rest h) refl refl))
 
--- `>` ends the tag
-closes : (f : Feedback) → IsFeedback f → (b : Bool) (tag : Tag) → may_switch (token_of tag) ≡ false → (m : Machine) (rest : List ℕ) (seen : List Token) →
-    (n : Machine) × Reads f (reader (tagging m (place b) tag) (62 ∷ rest) seen) (reader (at_state n Data) rest (seen ++ token_of tag ∷ []))
+-- `>` ends the tag, behind which tree construction answers
+closes : (f : Feedback) (b : Bool) (tag : Tag) (answer : Option State) (m : Machine) (rest : List ℕ) (seen : List Token) → f.switch (seen ++ token_of tag ∷ []) ≡ answer →
+    Reads f (reader (tagging m (place b) tag) (62 ∷ rest) seen)
+    (reader (switched answer (record m { state = Data; tag = tag; last_start = last_start_of tag m.last_start })) rest (seen ++ token_of tag ∷ []))
 unfolding taken entries
-closes f honest true tag h m rest seen = (record m { tag = tag; last_start = last_start_of tag m.last_start }, loud honest (taking (EmitTag ∷ []) (Switch Data) (62 ∷ [])) (token_of tag) refl refl refl h)
-closes f honest false tag h m rest seen = (record m { tag = tag; last_start = last_start_of tag m.last_start }, loud honest (taking (EmitTag ∷ []) (Switch Data) (62 ∷ [])) (token_of tag) refl refl refl h)
+closes f true tag answer m rest seen h =
+    let n : Machine = record m { state = Data; tag = tag; last_start = last_start_of tag m.last_start } in
+    step_to (taking (EmitTag ∷ []) (Switch Data) (62 ∷ [])) (token_of tag ∷ []) (switched answer n) refl refl refl (ap (λ state. switched state n) h)
+closes f false tag answer m rest seen h =
+    let n : Machine = record m { state = Data; tag = tag; last_start = last_start_of tag m.last_start } in
+    step_to (taking (EmitTag ∷ []) (Switch Data) (62 ∷ [])) (token_of tag ∷ []) (switched answer n) refl refl refl (ap (λ state. switched state n) h)
 
-not_true : (b : Bool) → not b ≡ true → b ≡ false
-not_true true h = cc
-not_true false h = refl
+-- behind the start tag of this name, and tree construction's answer
+abbrev pub started : Machine → Option State → List ℕ → Machine
+started m answer name = switched answer (record m { state = Data; last_start = Some name })
 
 -- `name`, the attributes and `>`, behind `<`
-start_behind : (f : Feedback) → IsFeedback f → (name : List ℕ) (attrs : List PlainAttr) → list_all is_name_char name ≡ true →
-    is_switching name ≡ false → list_all is_plain_attr attrs ≡ true → (m : Machine) (rest : List ℕ) (seen : List Token) →
+start_behind : (f : Feedback) (name : List ℕ) (attrs : List PlainAttr) (answer : Option State) → list_all is_name_char name ≡ true →
+    list_all is_plain_attr attrs ≡ true → (m : Machine) (rest : List ℕ) (seen : List Token) → f.switch (seen ++ start_token name attrs ∷ []) ≡ answer →
     (n : Machine) × Reads f (reader (tagging m TagName (fresh Starting)) (name ++ (flat_map written_attr attrs ++ 62 ∷ []) ++ rest) seen)
-    (reader (at_state n Data) rest (seen ++ tokens (StartTag name attrs)))
-start_behind f honest name attrs letters stays plain m rest seen =
+    (reader (started n answer name) rest (seen ++ start_token name attrs ∷ []))
+start_behind f name attrs answer letters plain m rest seen h =
     let t1 : Tag = named (fresh Starting) name in
     let inner : (d : Bool) × IsPart f TagName t1 (flat_map written_attr attrs) (place d) (record t1 { attrs = stacked attrs [] }) = attrs_part f false t1 attrs plain in
     let t2 : Tag = record t1 { attrs = stacked attrs [] } in
@@ -304,34 +309,34 @@ start_behind f honest name attrs letters stays plain m rest seen =
     let a : (n : Machine) × Reads f (reader (tagging m TagName (fresh Starting)) (name ++ (flat_map written_attr attrs ++ tail)) seen) (reader (tagging n TagName t1) (flat_map written_attr attrs ++ tail) seen) =
     name_part f (fresh Starting) name letters m (flat_map written_attr attrs ++ tail) seen in
     let b : (n : Machine) × Reads f (reader (tagging a.0 TagName t1) (flat_map written_attr attrs ++ tail) seen) (reader (tagging n (place inner.0) t2) tail seen) = inner.1 a.0 tail seen in
-    let d : (n : Machine) × Reads f (reader (tagging b.0 (place inner.0) t2) tail seen) (reader (at_state n Data) rest (seen ++ token_of t2 ∷ [])) =
-    closes f honest inner.0 t2 stays b.0 rest seen in
-    let is : token_of t2 ≡ AStart name (distinct (map attr_of attrs)) false = ap (λ list. AStart name (distinct list) false) (reverse-stacked attrs []) in
-    let all : Reads f (reader (tagging m TagName (fresh Starting)) (name ++ (flat_map written_attr attrs ++ tail)) seen) (reader (at_state d.0 Data) rest (seen ++ token_of t2 ∷ [])) =
-    go_on a.1 (go_on b.1 d.1) in
+    let is : token_of t2 ≡ start_token name attrs = ap (λ list. AStart name (distinct list) false) (reverse-stacked attrs []) in
+    let n : Machine = record b.0 { tag = t2 } in
+    let d : Reads f (reader (tagging b.0 (place inner.0) t2) tail seen) (reader (started n answer name) rest (seen ++ token_of t2 ∷ [])) =
+    closes f inner.0 t2 answer b.0 rest seen (ap (λ token. f.switch (seen ++ token ∷ [])) is ∙ h) in
+    let all : Reads f (reader (tagging m TagName (fresh Starting)) (name ++ (flat_map written_attr attrs ++ tail)) seen) (reader (started n answer name) rest (seen ++ token_of t2 ∷ [])) =
+    go_on a.1 (go_on b.1 d) in
     let same : name ++ (flat_map written_attr attrs ++ tail) ≡ name ++ (flat_map written_attr attrs ++ 62 ∷ []) ++ rest =
     ap (λ text. name ++ text) (sym (append_assoc (flat_map written_attr attrs) (62 ∷ []) rest)) ∙ sym (append_assoc name (flat_map written_attr attrs ++ 62 ∷ []) rest) in (
-      d.0,
-      subst (λ text. Reads f (reader (tagging m TagName (fresh Starting)) text seen) (reader (at_state d.0 Data) rest (seen ++ tokens (StartTag name attrs)))) same
-          (subst (λ token. Reads f (reader (tagging m TagName (fresh Starting)) (name ++ (flat_map written_attr attrs ++ tail)) seen) (reader (at_state d.0 Data) rest (seen ++ token ∷ []))) is all),
+      n,
+      subst (λ text. Reads f (reader (tagging m TagName (fresh Starting)) text seen) (reader (started n answer name) rest (seen ++ start_token name attrs ∷ []))) same
+          (subst (λ token. Reads f (reader (tagging m TagName (fresh Starting)) (name ++ (flat_map written_attr attrs ++ tail)) seen) (reader (started n answer name) rest (seen ++ token ∷ []))) is all),
     )
 
-pub start_read : (f : Feedback) → IsFeedback f → (name : List ℕ) (attrs : List PlainAttr) → is_plain_item (StartTag name attrs) ≡ true →
-    IsRead f (written (StartTag name attrs)) (tokens (StartTag name attrs))
-start_read f honest [] attrs h = cc
-start_read f honest (c ∷ name) attrs h = λ m rest seen.
+-- a start tag, and tree construction's answer
+pub start_read : (f : Feedback) (name : List ℕ) (attrs : List PlainAttr) (answer : Option State) → is_tag_name name ≡ true → list_all is_plain_attr attrs ≡ true →
+    (m : Machine) (rest : List ℕ) (seen : List Token) → f.switch (seen ++ start_token name attrs ∷ []) ≡ answer →
+    (n : Machine) × Reads f (reader (at_state m Data) (written_start name attrs ++ rest) seen) (reader (started n answer name) rest (seen ++ start_token name attrs ∷ []))
+start_read f [] attrs answer h plain = cc
+start_read f (c ∷ name) attrs answer h plain = λ m rest seen answers.
     let whole : List ℕ = c ∷ name in
-    let parts : (is_tag_name whole ≡ true) × ((not (is_switching whole) && list_all is_plain_attr attrs) ≡ true) =
-    and_parts (is_tag_name whole) (not (is_switching whole) && list_all is_plain_attr attrs) h in
-    let more : (not (is_switching whole) ≡ true) × (list_all is_plain_attr attrs ≡ true) = and_parts (not (is_switching whole)) (list_all is_plain_attr attrs) parts.1 in
-    let letters : (is_ascii_lowercase c ≡ true) × (list_all is_name_char name ≡ true) = and_parts (is_ascii_lowercase c) (list_all is_name_char name) parts.0 in
+    let letters : (is_ascii_lowercase c ≡ true) × (list_all is_name_char name ≡ true) = and_parts (is_ascii_lowercase c) (list_all is_name_char name) h in
     let all : list_all is_name_char whole ≡ true = rw (lower_is_name_char c letters.0, letters.1) refl in
     let a : (n : Machine) × Reads f (reader (tagging m TagName (fresh Starting)) (whole ++ (flat_map written_attr attrs ++ 62 ∷ []) ++ rest) seen)
-    (reader (at_state n Data) rest (seen ++ tokens (StartTag whole attrs))) =
-    start_behind f honest whole attrs all (not_true (is_switching whole) more.0) more.1 m rest seen in
+    (reader (started n answer whole) rest (seen ++ start_token whole attrs ∷ [])) =
+    start_behind f whole attrs answer all plain m rest seen answers in
     (a.0, go_on (start_opens f c letters.0 m (name ++ (flat_map written_attr attrs ++ 62 ∷ []) ++ rest) seen) a.1)
 
-pub end_read : (f : Feedback) → IsFeedback f → (name : List ℕ) → is_tag_name name ≡ true → IsRead f (written (EndTag name)) (tokens (EndTag name))
+pub end_read : (f : Feedback) → IsFeedback f → (name : List ℕ) → is_tag_name name ≡ true → IsRead f (written_end name) (AnEnd name ∷ [])
 end_read f honest [] h = cc
 end_read f honest (c ∷ name) h = λ m rest seen.
     let whole : List ℕ = c ∷ name in
@@ -340,10 +345,10 @@ end_read f honest (c ∷ name) h = λ m rest seen.
     let t1 : Tag = named (fresh Ending) whole in
     let a : (n : Machine) × Reads f (reader (tagging m TagName (fresh Ending)) (whole ++ 62 ∷ rest) seen) (reader (tagging n TagName t1) (62 ∷ rest) seen) =
     name_part f (fresh Ending) whole all m (62 ∷ rest) seen in
-    let b : (n : Machine) × Reads f (reader (tagging a.0 TagName t1) (62 ∷ rest) seen) (reader (at_state n Data) rest (seen ++ tokens (EndTag whole))) =
-    closes f honest false t1 refl a.0 rest seen in
-    let d : Reads f (reader (tagging m TagName (fresh Ending)) (whole ++ 62 ∷ rest) seen) (reader (at_state b.0 Data) rest (seen ++ tokens (EndTag whole))) = go_on a.1 b.1 in (
-      b.0,
+    let b : Reads f (reader (tagging a.0 TagName t1) (62 ∷ rest) seen) (reader (record a.0 { state = Data; tag = t1 }) rest (seen ++ AnEnd whole ∷ [])) =
+    closes f false t1 None a.0 rest seen (honest seen (AnEnd whole) refl) in
+    let d : Reads f (reader (tagging m TagName (fresh Ending)) (whole ++ 62 ∷ rest) seen) (reader (record a.0 { state = Data; tag = t1 }) rest (seen ++ AnEnd whole ∷ [])) = go_on a.1 b in (
+      record a.0 { tag = t1 },
       go_on (end_opens f c letters.0 m (name ++ 62 ∷ [] ++ rest) seen)
-          (subst (λ text. Reads f (reader (tagging m TagName (fresh Ending)) text seen) (reader (at_state b.0 Data) rest (seen ++ tokens (EndTag whole)))) (sym (append_assoc whole (62 ∷ []) rest)) d),
+          (subst (λ text. Reads f (reader (tagging m TagName (fresh Ending)) text seen) (reader (record a.0 { state = Data; tag = t1 }) rest (seen ++ AnEnd whole ∷ []))) (sym (append_assoc whole (62 ∷ []) rest)) d),
     )

@@ -1,10 +1,8 @@
 use Rattle.html_standard.proofs.PlainPages.{plain_page, plain_page_only}
 use Rattle.html_standard.proofs.laws.plain_pages.Goals as goal
 
--- src/lib.rt:11:1
 pub returns-clause-read : goal.returns-clause-read
 returns-clause-read c = plain_page
 
--- src/lib.rt:11:1
 pub returns-clause-only : goal.returns-clause-only
 returns-clause-only c = plain_page_only
