@@ -18,8 +18,7 @@ missing. `markup_hex` and `script_hex` hold bytes in hexadecimal, for inputs tha
 pieces, each a text and how often it is repeated, in which {n} is replaced by the number of the repetition; an argument may be
 a list of a text and how often it is repeated.
 
-A snippet is a fenced block of a document: a block of rust must be part of a file of crates/examples/src, line for line but for
-its indentation, and a block of text must be part of what the program `examples` prints.
+tests/checks/documents.py says how the commands, programs and outputs in the documents are checked.
 
 A caller that must not compile is a file tests/must-not-compile/CRATE-WHAT.txt, a program that uses that crate alone. One line of it
 ends in '// refused: WORDS': with that line the compiler must refuse the program with those words, and without it, it must compile."""
@@ -31,7 +30,6 @@ import resource
 import shutil
 import subprocess
 import sys
-import textwrap
 import time
 from concurrent.futures import ThreadPoolExecutor
 
@@ -42,8 +40,10 @@ for folder in ("tools", "checks", "second_definitions"):
 import clean  # noqa: E402
 import coverage  # noqa: E402
 import depth  # noqa: E402
+import documents  # noqa: E402
 import edits  # noqa: E402
 import hostile  # noqa: E402
+import options  # noqa: E402
 import paths  # noqa: E402
 import refusals  # noqa: E402
 import streams  # noqa: E402
@@ -51,7 +51,6 @@ import ways  # noqa: E402
 from rows import ROOT, SECONDS, built, given, words_of  # noqa: E402
 
 NO_FUNCTION = "no_function_of_this_name"
-SNIPPETS = "examples"
 SEED, FORESTS, PATHS, WAYS = 1, 2000, 500, 400
 # The memory, in bytes, that must be free for each proof at a time: a crate's took up to 3.2 GB, the largest before
 # it was split took 4.8. `rt` reckons with up to 9, which leaves processors idle.
@@ -193,54 +192,13 @@ def followed():
     return passed, failed
 
 
-def blocks(file):
-    """The fenced blocks of a document: the kind, the number of the first line, and the lines."""
-    kind, start, held = None, 0, []
-    for number, line in enumerate(file.read_text(encoding="utf-8").splitlines(), 1):
-        if not line.startswith("```"):
-            held.append(line)
-        elif kind is None:
-            kind, start, held = line[3:], number, []
-        else:
-            yield kind, start, held
-            kind = None
-
-
-def stands_in(block, text):
-    """Whether the block's lines stand in the text, one after the other, but for their indentation."""
-    lines = text.splitlines()
-    wanted = textwrap.dedent("\n".join(block))
-    pieces = (lines[at : at + len(block)] for at in range(len(lines) - len(block) + 1))
-    return any(textwrap.dedent("\n".join(piece)) == wanted for piece in pieces)
-
-
-def snippets():
-    """Compares the documents' snippets with those of the crate SNIPPETS, and returns how many stand there and how many don't."""
-    crate = ROOT / "crates" / SNIPPETS
-    known = {
-        "rust": [file.read_text(encoding="utf-8") for file in sorted((crate / "src").glob("*.rt"))],
-        "text": [(crate / "stdout").read_text(encoding="utf-8")],
-    }
-    passed = failed = 0
-    for document in (ROOT / "README.md", *(ROOT / "docs" / name for name in ("API.md", "SINK.md", "PAGES.md"))):
-        for kind, start, block in blocks(document):
-            if any(stands_in(block, text) for text in known.get(kind, [])):
-                passed += 1
-            else:
-                failed += 1
-                print(f"{document.name}:{start}: this {kind or 'plain'} block isn't in crate {SNIPPETS}")
-    print(f"snippets: {passed} passed, {failed} failed")
-    return passed, failed if passed else failed + 1
-
-
 def wrong_bodies():
-    """Looks for each must-fail edit that docs/PROVED.md names, and returns how many are there and how many aren't."""
-    text = (ROOT / "docs" / "PROVED.md").read_text(encoding="utf-8")
-    table = text.partition("# Wrong bodies")[2].partition("\n# ")[0]
+    """Looks for each must-fail edit that docs/WRONG_BODIES.md names, and returns how many are there and how many aren't."""
+    text = (ROOT / "docs" / "WRONG_BODIES.md").read_text(encoding="utf-8")
     there = {file.stem for file in (TESTS / "must-fail").rglob("*.edit")}
-    named = set(re.findall(r"`(\w+-[\w-]+)`", table))
+    named = set(re.findall(r"`(\w+-[\w-]+)`", text))
     for name in sorted(named - there):
-        print(f"PROVED.md: there is no must-fail edit {name}")
+        print(f"WRONG_BODIES.md: there is no must-fail edit {name}")
     passed, failed = len(named & there), len(named - there)
     print(f"wrong bodies: {passed} passed, {failed} failed")
     return passed, failed if passed else failed + 1
@@ -304,7 +262,7 @@ def main():
     clock, rows_alone = Clock(), sys.argv[1:] == ["--rows"]
     counts, edits_left = (None, lambda: (0, 0)) if rows_alone else gate(clock)
     tables = [rows, cleaned, followed, asked_each_way]
-    tables += [snippets, wrong_bodies, coverage.coverage, hostile.hostile]
+    tables += [documents.documents, options.options, wrong_bodies, coverage.coverage, hostile.hostile]
     counts = [counts] if counts else []
     with ThreadPoolExecutor() as pool:
         # (what is done beside the edits neither measures the processor time of others nor changes a child before it starts)

@@ -1,5 +1,5 @@
-//! How a list of selectors is selected, by its structure: so that no compound is tested at more
-//! than all nodes once.
+//! The choice of a strategy from the structure of the selectors, so that no compound selector is
+//! tested more often than once at each node.
 
 ghost use Rattle.std.specs.Prelude.{◌≡◌, true};
 ghost use Rattle.dom_index.specs.FlagRows.{is_sideways};
@@ -11,17 +11,20 @@ use dom_nodes::node_id::NodeId;
 use dom_selectors::syntax::{Combinator, Compound, Nested, Selector, Step};
 use dom_trees::tree::Tree;
 
-/// How many compounds a list may have to be selected in one traversal, which keeps for each node a
-/// flag for each selector and one for each combinator.
+/// How many compound selectors a list may have to be selected in one traversal, which keeps for
+/// each node a flag for each selector and one for each combinator.
 const MOST_COMPOUNDS: u64 = 32;
 
-/// One node of so many is few.
+/// The number of nodes of which one counts as few.
 const FEW: usize = 32;
 
-/// Whether each candidate is asked. Nested lists are near and `:has` stands in last compounds
-/// alone, since others are tested at one node for several candidates. The combinators are `>` and
-/// `+`, or few nodes are round the candidates: a candidate tests no compound twice at itself, an
-/// ancestor or a sibling of these, so fewer tests are made than at all nodes.
+/// Returns whether each candidate, which is a node below the roots, is matched by itself. Nested
+/// lists then have to be near (see `is_near`), and only last compound selectors may have `:has`,
+/// since others are tested at one node for several candidates.
+///
+/// The combinators are `>` and `+`, or few nodes are around the candidates. A candidate tests no
+/// compound selector twice at itself, an ancestor or a sibling of these, so fewer tests are made
+/// than one at each node.
 pub(crate) fn matches_node_by_node(tree: &Tree, roots: &[NodeId], selectors: &[Selector]) -> bool {
     if !selectors.iter().all(is_askable) {
         return false;
@@ -41,12 +44,12 @@ fn is_askable(selector: &Selector) -> bool {
     has_near_lists(selector) && !has_has_before(&selector.first, &selector.rest)
 }
 
-/// Whether left operands are one node at most.
+/// Returns whether each combinator has at most one left operand.
 fn is_tight(selector: &Selector) -> bool {
     selector.rest.iter().all(|step| is_bound(step.combinator))
 }
 
-/// Whether a left operand is an ancestor.
+/// Returns whether a combinator leads to ancestors.
 fn leads_up(selector: &Selector) -> bool {
     selector
         .rest
@@ -54,7 +57,7 @@ fn leads_up(selector: &Selector) -> bool {
         .any(|step| !is_sideways(step.combinator))
 }
 
-/// Whether a left operand is any of the siblings before a node.
+/// Returns whether a combinator leads to any previous sibling.
 fn leads_along(selector: &Selector) -> bool {
     selector
         .rest
@@ -62,9 +65,9 @@ fn leads_along(selector: &Selector) -> bool {
         .any(|step| matches!(step.combinator, Combinator::Sibling))
 }
 
-/// Whether the nodes below the roots have few ancestors in all, up to that height, beside the nodes
-/// of the tree, and with siblings few children of these. It counts no farther. No clause: nothing
-/// but time depends on it.
+/// Returns whether the nodes below the roots have few ancestors in total up to that height,
+/// compared with the size of the tree; with siblings, also few children of these. It stops counting
+/// when there are too many. It has no contract, since only the time depends on it.
 fn have_few_around(
     tree: &Tree,
     roots: &[NodeId],
@@ -93,7 +96,7 @@ fn have_few_around(
     true
 }
 
-/// How many children a node has; it counts no farther than one more than `most`.
+/// Returns how many children a node has; it stops counting at more than `most`.
 fn count_children(tree: &Tree, id: NodeId, most: usize) -> usize {
     let mut count: usize = 0;
     for _ in tree.child_ids_of_it(&id, false) {
@@ -105,12 +108,12 @@ fn count_children(tree: &Tree, id: NodeId, most: usize) -> usize {
     count
 }
 
-/// Whether left operands are one node at most: of `>` and `+`.
+/// Returns whether the combinator has at most one left operand, as `>` and `+` do.
 fn is_bound(combinator: Combinator) -> bool {
     matches!(combinator, Combinator::Child | Combinator::Adjacent)
 }
 
-/// Whether the compound has a list `:has`.
+/// Returns whether the compound selector has `:has`.
 fn has_has(compound: &Compound) -> bool {
     compound
         .nested
@@ -118,7 +121,7 @@ fn has_has(compound: &Compound) -> bool {
         .any(|list| matches!(list, Nested::Has(_)))
 }
 
-/// Whether a compound but the last has a list `:has`.
+/// Returns whether a compound selector other than the last has `:has`.
 pub(crate) fn has_has_before(first: &Compound, steps: &[Step]) -> bool {
     match steps.split_last() {
         None => false,
@@ -126,8 +129,8 @@ pub(crate) fn has_has_before(first: &Compound, steps: &[Step]) -> bool {
     }
 }
 
-/// Whether the compound's nested lists test each of their compounds, where it is tested at each
-/// node, no more often than at each node once.
+/// Returns whether the nested lists of the compound selector are near: if it is tested once at each
+/// node, they test each of their compound selectors at most once at each node.
 fn is_near(compound: &Compound) -> bool {
     compound.nested.iter().all(|list| match list {
         Nested::Is(selectors) | Nested::Not(selectors) => are_bound(selectors),
@@ -135,7 +138,7 @@ fn is_near(compound: &Compound) -> bool {
     })
 }
 
-/// Whether the combinators of selectors without nested lists are `>` and `+`.
+/// Returns whether the selectors have no nested lists and only the combinators `>` and `+`.
 fn are_bound(selectors: &[Selector]) -> bool {
     selectors
         .iter()
@@ -150,8 +153,9 @@ fn has_no_lists(selector: &Selector) -> bool {
             .all(|step| step.compound.nested.is_empty())
 }
 
-/// Whether the relative selector, without nested lists, leads to a child, to a child by several
-/// compounds side by side, or to the next sibling: each node is looked at for one anchor alone.
+/// Returns whether the relative selector has no nested lists and leads to a child, to a child by
+/// compound selectors side by side, or to the next sibling. Each node is then visited for one
+/// anchor alone.
 fn is_near_anchor(selector: &Selector) -> bool {
     if !has_no_lists(selector) {
         return false;
@@ -166,8 +170,9 @@ fn is_near_anchor(selector: &Selector) -> bool {
     }
 }
 
-/// Whether the list is selected in one traversal: it has few compounds, the combinators of each
-/// selector are whitespace and `>` or are `+` and `~`, and nested lists are near.
+/// Returns whether the list can be selected in one traversal: it has few compound selectors, the
+/// combinators of each selector are whitespace and `>` or are `+` and `~`, and nested lists are
+/// near.
 pub(crate) fn are_traversed(selectors: &[Selector]) -> bool
     ensures { result ≡ true → ArePlain selectors.now }
 {
@@ -180,12 +185,12 @@ pub(crate) fn are_traversed(selectors: &[Selector]) -> bool
     are_plain(selectors)
 }
 
-/// Whether nested lists are near.
+/// Returns whether all nested lists of the selector are near.
 fn has_near_lists(selector: &Selector) -> bool {
     is_near(&selector.first) && selector.rest.iter().all(|step| is_near(&step.compound))
 }
 
-/// Whether the combinators of each selector are whitespace and `>`, or are `+` and `~`.
+/// Returns whether the combinators of each selector are whitespace and `>`, or are `+` and `~`.
 fn are_plain(selectors: &[Selector]) -> bool
     ensures { result ≡ true → ArePlain selectors.now }
 {
@@ -197,7 +202,7 @@ fn are_plain(selectors: &[Selector]) -> bool
     true
 }
 
-/// Whether these combinators are.
+/// Returns whether these combinators are whitespace and `>`, or are `+` and `~`.
 fn is_plain(steps: &[Step]) -> bool
     ensures { result ≡ true → IsPlain steps.now }
 {
@@ -210,7 +215,7 @@ fn is_plain(steps: &[Step]) -> bool
     true
 }
 
-/// Whether left operands of both combinators are ancestors, or are siblings.
+/// Returns whether both combinators lead to ancestors, or both to siblings.
 fn is_along(way: Combinator, combinator: Combinator) -> bool
     ensures { result ≡ true → is_sideways combinator ≡ is_sideways way }
 {
@@ -220,7 +225,7 @@ fn is_along(way: Combinator, combinator: Combinator) -> bool
     }
 }
 
-/// Whether left operands of the combinator are siblings.
+/// Returns whether the combinator relates siblings.
 fn is_sideways(combinator: Combinator) -> bool
     ensures { result ≡ is_sideways combinator }
 {

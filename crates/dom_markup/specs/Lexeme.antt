@@ -1,4 +1,4 @@
--- The item at the front of a text, as it is written.
+-- The token at the start of a text, as slices of the source.
 use Rattle.std.specs.Prelude.{◌≡◌, ℕ, List, ◌∷◌, ◌++◌, codes, true, Result, MatchResult}
 use Rattle.std.specs.Borrow.{Bor}
 use Rattle.dom_nodes.specs.Ascii.{less_than}
@@ -17,19 +17,20 @@ use Rattle.dom_markup.specs.declared.document.front.Lexeme.TheVariants.{StartTag
 abbrev pub BeginsLetter : List ℕ → Type 0
 BeginsLetter tag = (b : ℕ) × (more : List ℕ) × (tag ≡ b ∷ more) × (is_letter b ≡ true)
 
--- a start tag may begin: the text is `<` and then rest, which begins with a letter
+-- The text is `<` and then `rest`, which starts with a letter, so a start tag may begin here.
 abbrev pub OpensTag : List ℕ → List ℕ → Type 0
 OpensTag text rest = (text ≡ less_than ∷ rest) × BeginsLetter rest
 
--- what follows a `<!` begins no comment
+-- what follows a `<!` does not start a comment
 abbrev pub IsNoComment : List ℕ → Type 0
 IsNoComment tag = (more : List ℕ) → tag ≡ codes "--" ++ more → ⊥
 
--- a declaration may begin: the text is `<!` and then rest, and is no comment
+-- The text is `<!` and then `rest`, and does not start a comment, so a doctype may begin here.
 abbrev pub OpensDeclaration : List ℕ → List ℕ → Type 0
 OpensDeclaration text rest = (text ≡ codes "<!" ++ rest) × IsNoComment rest
 
--- the item is so written at the front of the text, and then rest follows
+-- This token is at the start of the text, and `rest` follows it. For a start tag and a declaration only their first characters
+-- are read.
 abbrev pub IsLexeme : Mode → List ℕ → Lexeme → List ℕ → Type 0
 IsLexeme mode text StartTag rest = (mode ≡ markup) × OpensTag text rest
 IsLexeme mode text (Text written) rest = Begins mode text (characters (contents_in mode written.now)) rest
@@ -38,14 +39,15 @@ IsLexeme mode text (EndTag name) rest = Begins mode text (end_tag (folded name.n
 IsLexeme mode text (Comment contents) rest = Begins mode text (comment contents.now) rest
 IsLexeme mode text Declaration rest = (mode ≡ markup) × OpensDeclaration text rest
 
--- the item at the front and what follows it, or why none begins there
+-- the token at the start of the text and what follows it, or the reason that no token starts there
 abbrev pub TakesLexeme : Mode → List ℕ → Result (Lexeme × Bor (List ℕ)) MarkupFaultKind → Type 0
 TakesLexeme mode text result = MatchResult result (λ found. IsLexeme mode text found.0 found.1.now) (λ kind. BeginsNothing mode text × Cause mode text kind)
 
--- the doctype at the front and what follows it, or why no item begins there
+-- the doctype at the start of the text and what follows it, or the reason that no token starts there
 abbrev pub TakesDoctype : List ℕ → Result (Doctype × Bor (List ℕ)) MarkupFaultKind → Type 0
 TakesDoctype text result = MatchResult result (λ found. Begins markup text (doctype_item found.0) found.1.now) (λ kind. BeginsNothing markup text × Cause markup text kind)
 
--- the name of the start tag at the front, as it is written, and what follows the tag; or why none begins there
+-- the name of the start tag at the start of the text, as in the source, and what follows the tag; or the reason that there is
+-- none
 abbrev pub TakesStart : List ℕ → Result (Bor (List ℕ) × Bor (List ℕ)) MarkupFaultKind → Type 0
 TakesStart text result = MatchResult result (λ found. (all : List Attribute) × BeginsStart text (folded found.0.now) all found.1.now) (StartCause text)

@@ -1,4 +1,4 @@
--- Edits that a parser makes while it fills a tree.
+-- The edits with which a parser builds a tree.
 use Rattle.std.specs.Prelude.{ℕ, ◌≡◌, ◌≤◌, ◌+◌, Bool, true, false, List, None, Some, length, if◌then◌else◌}
 use Rattle.dom_nodes.specs.Changes.{with_attrs, with_missing}
 use Rattle.dom_nodes.specs.declared.fault.EditFault.{EditFault}
@@ -18,7 +18,8 @@ use Rattle.dom_trees.specs.Edits.{IsKnown, TreeEdit}
 use Rattle.dom_trees.specs.Refusals.{LacksChildren, LacksSiblings}
 use Rattle.dom_trees.specs.declared.tree.growing.ElementFlags.{ElementFlags}
 
--- the element of that name, these attributes and flags that is made as the next node; a template's contents are the node after it
+-- The element with this name, these attributes and flags, made as the next node. With the flag
+-- `template`, its template contents are the node after it.
 abbrev pub flagged_element : NameParts → List Attr → ElementFlags → Forest → NodeData
 flagged_element name attrs flags forest = Element (record {
   name = name;
@@ -27,18 +28,19 @@ flagged_element name attrs flags forest = Element (record {
   mathml_annotation_xml_integration_point = flags.mathml_annotation_xml_integration_point;
 })
 
--- the forest with that element, and with a template's contents behind it; both stand alone
+-- The forest with that element, and, with the flag `template`, a fragment after it. Both are
+-- detached.
 abbrev pub with_new_element : NameParts → List Attr → ElementFlags → Forest → Forest
 with_new_element name attrs flags forest =
     if flags.template then with_lone_template (flagged_element name attrs flags forest) forest
     else with_node (flagged_element name attrs flags forest) forest
 
--- why no element could be made; a template takes two numbers
+-- When making an element may fail. With template contents it takes two ids.
 abbrev pub ElementCause : (template : Bool) → ℕ → EditFault → Type 0
 ElementCause true count fault = NoRoomForTwo count fault
 ElementCause false count fault = NoRoom count fault
 
--- an element is made, which stands alone
+-- Making a detached element.
 abbrev pub making_element : NameParts → List Attr → ElementFlags → TreeEdit
 making_element name attrs flags = record {
   after = with_new_element name attrs flags;
@@ -46,24 +48,25 @@ making_element name attrs flags = record {
   Cause = λ forest fault. ElementCause flags.template (length forest.content) fault;
 }
 
--- why no text could come to a gap
+-- When adding text at an insertion point may fail.
 abbrev pub AddTextCause : InsertionPoint → Forest → EditFault → Type 0
 AddTextCause gap forest UnknownNode = length forest.content ≤ target gap
 AddTextCause gap forest NoChildrenHere = LacksChildren forest gap
 AddTextCause gap forest RootOrFragment = LacksSiblings forest gap
 AddTextCause gap forest fault = TextCause gap forest fault
 
--- a text comes to a gap: the text that stands right before it grows, else a new one is put there
+-- Adding text at an insertion point: the text node immediately before it grows; if there is none, a
+-- new text node is made there.
 abbrev pub adding_text : InsertionPoint → List ℕ → TreeEdit
 adding_text gap text = record { after = with_text_at gap text; Allowed = IsOpenGap gap; Cause = AddTextCause gap }
 
--- why no attributes could be added to x
+-- When adding attributes to x may fail.
 abbrev pub AttrsCause : ℕ → Forest → EditFault → Type 0
 AttrsCause x forest UnknownNode = length forest.content ≤ x
 AttrsCause x forest Memory = element_at forest x ≡ true
 AttrsCause x forest _ = ⊥
 
--- the attributes whose names x lacks are added to it
+-- Appending the attributes whose names x doesn't have.
 abbrev pub adding_attrs : ℕ → List Attr → TreeEdit
 adding_attrs x attrs = record {
   after = with_content x (with_attrs (with_missing attrs));

@@ -1,4 +1,4 @@
-//! Whether an edit is allowed, and the fault that states why not.
+//! The tests for whether an edit is allowed, each with the fault that says why not.
 
 ghost use Rattle.std.specs.Prelude.{◌≡◌, ◌<◌, ◌≤◌, MatchResult, length, true};
 ghost use Rattle.dom_nodes.specs.declared.fault.EditFault.TheVariants.{TooManyNodes};
@@ -18,7 +18,7 @@ use dom_nodes::fault::EditFault;
 use dom_nodes::node_data::TreeNode;
 use dom_nodes::node_id::NodeId;
 
-/// Whether there is a node of that number.
+/// Tests that there is a node with this id. It fails with `UnknownNode`.
 pub(crate) fn check_known(nodes: &[TreeNode], x: NodeId) -> Result<(), EditFault>
     requires { IsSoundArena nodes.now }
     ensures { MatchResult result (λ _. IsKnown x (forest_of nodes.now))
@@ -31,7 +31,8 @@ pub(crate) fn check_known(nodes: &[TreeNode], x: NodeId) -> Result<(), EditFault
     }
 }
 
-/// Whether nodes may be put at the gap.
+/// Tests that nodes may be put at the insertion point. It fails with `NoChildrenHere` or
+/// `RootOrFragment`.
 pub(crate) fn check_open(nodes: &[TreeNode], gap: &InsertionPoint) -> Result<(), EditFault>
     requires sound { IsSoundArena nodes.now }
     requires known { IsKnown (target gap.now) (forest_of nodes.now) }
@@ -53,7 +54,8 @@ pub(crate) fn check_open(nodes: &[TreeNode], gap: &InsertionPoint) -> Result<(),
     Ok(())
 }
 
-/// Whether nodes may be put at a place.
+/// Tests that the node `x` exists and that nodes may be put at this place relative to it. It fails
+/// with `UnknownNode`, `NoChildrenHere` or `RootOrFragment`.
 pub(crate) fn check_place(nodes: &[TreeNode], x: NodeId, place: Place) -> Result<(), EditFault>
     requires { IsSoundArena nodes.now }
     ensures { MatchResult result (λ _. IsKnown x (forest_of nodes.now)
@@ -64,7 +66,7 @@ pub(crate) fn check_place(nodes: &[TreeNode], x: NodeId, place: Place) -> Result
     check_open(nodes, &place.gap(x))
 }
 
-/// The node that the gap names.
+/// Returns the node that describes the insertion point.
 pub(crate) fn target_of(gap: &InsertionPoint) -> NodeId
     ensures { result ≡ target gap.now }
 {
@@ -76,7 +78,7 @@ pub(crate) fn target_of(gap: &InsertionPoint) -> NodeId
     }
 }
 
-/// The node that names what is moved.
+/// Returns the node that describes which nodes are moved.
 fn moving_id_of(moving: &MovedNodes) -> NodeId
     ensures { result ≡ moving_id moving.now }
 {
@@ -85,7 +87,8 @@ fn moving_id_of(moving: &MovedNodes) -> NodeId
     }
 }
 
-/// Whether each of the moved nodes may go to a gap at t.
+/// Tests that each of the moved nodes may be moved to `t`. It fails with `RootOrFragment` or
+/// `Cycle`.
 #[tactic(auto, using(crate::proofs::Whole::mover_stands))]
 fn check_moved(nodes: &[TreeNode], t: NodeId, moving: &MovedNodes) -> Result<(), EditFault>
     requires sound { IsSoundArena nodes.now }
@@ -105,7 +108,7 @@ fn check_moved(nodes: &[TreeNode], t: NodeId, moving: &MovedNodes) -> Result<(),
     }
 }
 
-/// Whether there is a number left for a new node.
+/// Tests that an id is left for a new node. It fails with `TooManyNodes`.
 pub(crate) fn check_room(nodes: &[TreeNode]) -> Result<(), EditFault>
     requires { IsSoundArena nodes.now }
     ensures { let count = length (forest_of nodes.now).content
@@ -118,7 +121,8 @@ pub(crate) fn check_room(nodes: &[TreeNode]) -> Result<(), EditFault>
     }
 }
 
-/// Whether the nodes may be moved to the gap.
+/// Tests that the nodes may be moved to the insertion point. It fails with `UnknownNode`,
+/// `NoChildrenHere`, `RootOrFragment` or `Cycle`.
 pub(crate) fn check_move(
     nodes: &[TreeNode],
     gap: &InsertionPoint,
@@ -135,7 +139,8 @@ pub(crate) fn check_move(
     check_moved(nodes, t, moving)
 }
 
-/// Whether the children of x may be moved to the end of those of another node, or out of x.
+/// Tests that the children of `x` may be moved to the end of the children of another node, or
+/// detached. It fails with `UnknownNode`, `NoChildrenHere` or `Cycle`.
 pub(crate) fn check_reparent(
     nodes: &[TreeNode],
     x: NodeId,
@@ -157,7 +162,7 @@ pub(crate) fn check_reparent(
     check_moved(nodes, t, &MovedNodes::WithLater(first))
 }
 
-/// Whether x may be wrapped in w.
+/// Tests that `x` may be wrapped in `w`.
 pub(crate) fn check_wrap(nodes: &[TreeNode], x: NodeId, w: NodeId) -> Result<(), EditFault>
     requires { IsSoundArena nodes.now }
     ensures { MatchResult result (λ _. MayWrap (forest_of nodes.now) x w)

@@ -1,4 +1,4 @@
-//! Names and attributes of elements, as the tree has them.
+//! Element names and attributes of tags, in the form in which the tree stores them.
 
 use crate::adjusting::{mathml_attr, svg_attr, svg_tag};
 use crate::fault::PageFault;
@@ -19,7 +19,7 @@ fn namespace(ns: ElementNamespace) -> Namespace {
     }
 }
 
-/// The local name of a tag's element.
+/// Returns the local name of the element that a tag makes. An HTML `image` becomes `img`.
 fn local_name(ns: ElementNamespace, name: Name, tag: &Tag) -> &str {
     match ns {
         ElementNamespace::Svg => svg_tag(tag.name.as_str()),
@@ -28,7 +28,7 @@ fn local_name(ns: ElementNamespace, name: Name, tag: &Tag) -> &str {
     }
 }
 
-/// The name of a tag's element.
+/// Returns the qualified name of the element that a tag makes. Fails only when memory runs out.
 pub fn element_name(
     alloc: Global,
     ns: ElementNamespace,
@@ -41,7 +41,8 @@ pub fn element_name(
     Ok(QualName::new(alloc, NameParts { prefix, ns, local })?)
 }
 
-/// The attributes that foreign content has in a namespace, as they are written.
+/// The attributes that have a namespace in foreign content, as they are in the source (13.2.6.1,
+/// "adjust foreign attributes").
 static NAMESPACED: [&str; 11] = [
     "xlink:actuate",
     "xlink:arcrole",
@@ -64,7 +65,7 @@ fn prefix_of(alloc: Global, prefix: &str) -> Result<Option<RareText>, PageFault>
     Ok(Some(prefix))
 }
 
-/// What stands before the colon of a name, and what behind it.
+/// Splits a name at its colon. Without a colon the first part is empty.
 fn parts_of(name: &str) -> (&str, &str) {
     match name.split_once(':') {
         Some(parts) => parts,
@@ -82,7 +83,7 @@ fn namespace_of(name: &str) -> Namespace {
     }
 }
 
-/// The name of an attribute in a namespace: prefix, colon and local name, or `xmlns`.
+/// Returns the qualified name of an attribute in a namespace, from `prefix:local` or `xmlns`.
 fn qualified(alloc: Global, name: &str) -> Result<QualName, PageFault> {
     let (prefix, local) = parts_of(name);
     let prefix = prefix_of(alloc, prefix)?;
@@ -91,7 +92,7 @@ fn qualified(alloc: Global, name: &str) -> Result<QualName, PageFault> {
     Ok(QualName::new(alloc, NameParts { prefix, ns, local })?)
 }
 
-/// The name of an attribute in no namespace, as foreign content writes it.
+/// Returns the name of an attribute without a namespace, in its proper case in foreign content.
 fn adjusted_attr(ns: ElementNamespace, name: &str) -> &str {
     match ns {
         ElementNamespace::Html => name,
@@ -108,14 +109,14 @@ fn attr_name(alloc: Global, ns: ElementNamespace, name: &str) -> Result<QualName
     Ok(QualName::plain(local))
 }
 
-/// An attribute of a tag's element.
+/// Returns an attribute of the element that a tag makes.
 fn attr_of(alloc: Global, ns: ElementNamespace, given: &TagAttr) -> Result<Attr, PageFault> {
     let name = attr_name(alloc, ns, given.name.as_str())?;
     let value = Text::new(alloc, given.value.as_str())?;
     Ok(Attr { name, value })
 }
 
-/// The attributes of a tag's element.
+/// Returns the attributes of the element that a tag makes. Fails only when memory runs out.
 pub fn attrs_of(
     alloc: Global,
     ns: ElementNamespace,
@@ -129,7 +130,7 @@ pub fn attrs_of(
     Ok(attrs)
 }
 
-/// The value of a tag's attribute.
+/// Returns the value of a tag's attribute, if the tag has it.
 pub fn value_of<'a>(tag: &'a Tag, name: &str) -> Option<&'a str> {
     for attr in tag.attrs.as_slice() {
         if attr.name.as_str() == name {
@@ -139,7 +140,7 @@ pub fn value_of<'a>(tag: &'a Tag, name: &str) -> Option<&'a str> {
     None
 }
 
-/// Whether an `input` is hidden.
+/// Returns whether an `input` is hidden, that is, has `type=hidden`.
 pub fn is_hidden(tag: &Tag) -> bool {
     match value_of(tag, "type") {
         Some(kind) => kind.eq_ignore_ascii_case("hidden"),
@@ -147,7 +148,8 @@ pub fn is_hidden(tag: &Tag) -> bool {
     }
 }
 
-/// Whether an element is an `annotation-xml` whose encoding is HTML.
+/// Returns whether the element is an `annotation-xml` whose encoding is HTML or XHTML, and so an
+/// HTML integration point.
 pub fn holds_html(ns: ElementNamespace, name: Name, tag: &Tag) -> bool {
     if ns != ElementNamespace::MathMl || name != Name::AnnotationXml {
         return false;

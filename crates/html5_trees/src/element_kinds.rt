@@ -1,4 +1,5 @@
-//! The kinds of elements that the rules on calm trees tell apart.
+//! Categories of elements, as the rules on calm pages need them. A calm page is explicit markup
+//! that tree construction leaves as it is.
 
 ghost use Rattle.std.specs.Prelude.{◌≡◌, map};
 ghost use Rattle.html5_trees.specs.ElementKinds.{holds_comments, holds_doctype, holds_flow};
@@ -10,33 +11,33 @@ use crate::name::KNOWN;
 use dom_nodes::name::LocalRef;
 use dom_nodes::words::is_one_of;
 
-/// The kind of an element, by its name.
+/// The category of an element, by its name.
 #[derive(Clone, Copy, Drop)]
 pub enum ElementCategory {
-    /// The document itself; no name is of this kind.
+    /// The document itself; no element name is in this category.
     Document,
     Html,
     Head,
     Body,
     /// `base`, `link`, `meta`.
     Metadata,
-    /// `script`, `style`, `title`: they hold a text alone.
+    /// `script`, `style`, `title`: their content is text.
     Verbatim,
-    /// What may stand wherever a body's contents may.
+    /// Phrasing content, which may occur anywhere in the content of a body.
     Phrase,
-    /// `a`, not inside another.
+    /// `a`, which may not be inside another.
     Anchor,
-    /// Not inside another.
+    /// `button`, which may not be inside another.
     Button,
     /// `p`.
     Paragraph,
-    /// What ends an open `p`.
+    /// Block elements, whose start tag closes an open `p`.
     Block,
     /// `h1` to `h6`.
     Heading,
-    /// Not inside another.
+    /// `form`, which may not be inside another.
     Form,
-    /// `pre`, whose first line feed is dropped.
+    /// `pre`, after whose start tag a line feed is ignored.
     Pre,
     /// `dir`, `menu`, `ol`, `ul`.
     ItemList,
@@ -55,28 +56,28 @@ pub enum ElementCategory {
     TableRow,
     /// `td`, `th`.
     Cell,
-    /// What no calm tree has.
+    /// Elements that no calm page has.
     Other,
 }
 
-/// What an element is to the contents of a body.
+/// Whether an element occurs in the content of a body, and what its own content is.
 #[derive(Clone, Copy, Drop)]
 pub enum Role {
-    /// It stands among them, and holds them too.
+    /// It occurs in the content of a body, and may hold the same.
     Flow,
-    /// It holds them, and stands elsewhere.
+    /// It may hold the same content as a body, but occurs elsewhere.
     FlowHolder,
-    /// It stands among them, and holds text alone.
+    /// It occurs in the content of a body, and holds text alone.
     FlowLeaf,
-    /// It stands among them, and holds parts of its own: elements, white space and comments.
+    /// It occurs in the content of a body, and holds certain elements, whitespace and comments.
     FlowTable,
-    /// It holds such parts, and stands elsewhere.
+    /// It holds certain elements, whitespace and comments, and occurs elsewhere.
     Parts,
-    /// It has nothing to do with them.
+    /// None of these.
     Apart,
 }
 
-/// The kinds that have names.
+/// The categories that have names.
 const NAMED: [ElementCategory; 24] = [
     ElementCategory::Html,
     ElementCategory::Head,
@@ -105,7 +106,7 @@ const NAMED: [ElementCategory; 24] = [
 ];
 
 impl ElementCategory {
-    /// The kind of the elements of that name.
+    /// Returns the category of elements with that name.
     pub fn of(name: &LocalRef<'_>) -> ElementCategory
         ensures { result ≡ kind_of name.now }
     {
@@ -115,7 +116,7 @@ impl ElementCategory {
         }
     }
 
-    /// The same, where the tree knows the name by no number.
+    /// Returns the category of elements with a name that has no number in the tree.
     #[tactic(auto, unfolding(crate::specs::ElementKinds::kind_of))]
     fn of_text(name: &str) -> ElementCategory
         ensures { result ≡ kind_of name.now }
@@ -123,7 +124,7 @@ impl ElementCategory {
         ElementCategory::among(name, &NAMED)
     }
 
-    /// The first of the kinds that has the name.
+    /// Returns the first category of the list that has the name.
     fn among(name: &str, kinds: &[ElementCategory]) -> ElementCategory
         ensures { result ≡ kind_among name.now kinds.now }
     {
@@ -137,14 +138,14 @@ impl ElementCategory {
         ElementCategory::Other
     }
 
-    /// Whether elements of that name are of this kind.
+    /// Returns whether elements with that name are in this category.
     fn is_named(self, name: &str) -> bool
         ensures { result ≡ is_among name.now (names_of self) }
     {
         is_one_of(name, self.names())
     }
 
-    /// The names of the elements of this kind.
+    /// Returns the element names in this category.
     #[tactic(auto, unfolding(crate::specs::ElementKinds::names_of))]
     fn names(self) -> &'static [&'static str]
         ensures { map (λ name. name.now) result.now ≡ names_of self }
@@ -206,7 +207,7 @@ impl ElementCategory {
         }
     }
 
-    /// What elements of this kind are to the contents of a body.
+    /// Returns the role of elements in this category.
     fn role(self) -> Role
         ensures { result ≡ role_of self }
     {
@@ -236,28 +237,28 @@ impl ElementCategory {
         }
     }
 
-    /// Whether such elements hold what a body holds.
+    /// Returns whether such elements may hold the same content as a body.
     pub fn holds_flow(self) -> bool
         ensures { result ≡ holds_flow self }
     {
         matches!(self.role(), Role::Flow | Role::FlowHolder)
     }
 
-    /// Whether such elements may stand where a body's contents may.
+    /// Returns whether such elements may occur in the content of a body.
     pub fn is_flow(self) -> bool
         ensures { result ≡ is_flow self }
     {
         matches!(self.role(), Role::Flow | Role::FlowLeaf | Role::FlowTable)
     }
 
-    /// Whether such elements hold elements of certain kinds, white space and comments alone.
+    /// Returns whether such elements hold only certain elements, whitespace and comments.
     pub fn holds_parts(self) -> bool
         ensures { result ≡ holds_parts self }
     {
         matches!(self.role(), Role::FlowTable | Role::Parts)
     }
 
-    /// Whether an element of the other kind may be a child of one of this kind.
+    /// Returns whether an element of the other category may be a child of one of this category.
     pub fn may_hold(self, kind: ElementCategory) -> bool
         ensures { result ≡ may_hold self kind }
     {
@@ -279,14 +280,14 @@ impl ElementCategory {
         }
     }
 
-    /// Whether such elements hold comments.
+    /// Returns whether comments may be children of such elements.
     pub fn holds_comments(self) -> bool
         ensures { result ≡ holds_comments self }
     {
         self.holds_parts() || self.holds_flow()
     }
 
-    /// Whether a doctype may stand there.
+    /// Returns whether a doctype may be a child: only the document may have one.
     pub fn holds_doctype(self) -> bool
         ensures { result ≡ holds_doctype self }
     {

@@ -1,4 +1,4 @@
-//! SVG and MathML.
+//! Foreign content: SVG and MathML (13.2.6.5).
 
 use crate::attributes::value_of;
 use crate::builder::{Next, TreeBuilder};
@@ -9,7 +9,7 @@ use crate::stack::{ElementNamespace, Open};
 use html5_tokens::token::{Tag, TagKind};
 
 impl Open {
-    /// A MathML text integration point.
+    /// Returns whether the element is a MathML text integration point.
     pub fn is_text_point(&self) -> bool {
         self.ns == ElementNamespace::MathMl
             && matches!(
@@ -18,7 +18,7 @@ impl Open {
             )
     }
 
-    /// An HTML integration point.
+    /// Returns whether the element is an HTML integration point.
     pub fn is_html_point(&self) -> bool {
         match self.ns {
             ElementNamespace::Svg => matches!(
@@ -32,15 +32,15 @@ impl Open {
 }
 
 impl Open {
-    /// Whether what stands in the element is read by the rules for foreign content, but for some
-    /// tags.
+    /// Returns whether the content of the element is parsed by the rules for foreign content, apart
+    /// from some tags.
     pub fn holds_foreign(&self) -> bool {
         self.ns != ElementNamespace::Html && !self.is_text_point() && !self.is_html_point()
     }
 }
 
 impl TreeBuilder {
-    /// Whether a tag is read by the rules for foreign content.
+    /// Returns whether a tag is processed by the rules for foreign content.
     pub fn is_tag_foreign(&self, kind: TagKind, name: Name) -> bool {
         let Some(open) = self.tree.adjusted_current() else {
             return false;
@@ -63,8 +63,8 @@ impl TreeBuilder {
         !open.is_html_point()
     }
 
-    /// Whether the adjusted current node is foreign. A comment then stands in it, and a CDATA
-    /// section may begin.
+    /// Returns whether the adjusted current node is an SVG or MathML element. A comment is then
+    /// inserted there, and a CDATA section may start.
     pub fn is_current_foreign(&self) -> bool {
         match self.tree.adjusted_current() {
             Some(open) => open.ns != ElementNamespace::Html,

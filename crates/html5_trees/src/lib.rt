@@ -1,4 +1,8 @@
-//! Trees of pages: the tree construction of the HTML Standard (13.2.6).
+//! Tree construction for web pages, as in the HTML Standard (13.2.6).
+//!
+//! Start at `reading::PageReader`, which connects the tokenizer with `builder::TreeBuilder`. The
+//! insertion modes are in `modes`, the tree and the stack of open elements in `growing` and
+//! `stack`.
 #![tactic(auto)]
 
 mod adjusting;

@@ -1,9 +1,9 @@
-//! The names of elements that rules of tree construction name.
+//! The element names that the rules of tree construction mention.
 
 use crate::element_kinds::ElementCategory;
 use dom_nodes::name::LocalRef;
 
-/// The name of an element; `Other` stands for all that no rule names.
+/// The name of an element. `Other` is any name that no rule mentions.
 #[derive(Clone, Copy, PartialEq, Eq, Drop)]
 pub enum Name {
     A,
@@ -135,13 +135,14 @@ pub enum Name {
     Other,
 }
 
-/// How many names there are, with `Other`.
+/// How many names there are, including `Other`.
 pub const COUNT: usize = 127;
 
-/// A name that no rule names.
+/// A name that is in neither of the two types.
 const NEITHER: (Name, ElementCategory) = (Name::Other, ElementCategory::Other);
 
-/// Each name that the tree knows by a number, and the kind of its elements, in order of number.
+/// For each name that has a number in the tree, in the order of the numbers: the name and its
+/// category.
 #[rattlefmt::skip]
 pub static KNOWN: [(Name, ElementCategory); 247] = [
     NEITHER, (Name::A, ElementCategory::Anchor), (Name::B, ElementCategory::Phrase), NEITHER, (Name::I, ElementCategory::Phrase),
@@ -204,7 +205,7 @@ pub static KNOWN: [(Name, ElementCategory); 247] = [
     NEITHER, NEITHER, NEITHER,
 ];
 
-/// The names that the tree knows by no number.
+/// The names that have no number in the tree.
 static RARE: [(&str, Name); 15] = [
     ("annotation-xml", Name::AnnotationXml),
     ("desc", Name::Desc),
@@ -224,7 +225,7 @@ static RARE: [(&str, Name); 15] = [
 ];
 
 impl Name {
-    /// The name that a local name in lower case is.
+    /// Returns the name for a local name in lower case.
     pub fn of(local: &LocalRef<'_>) -> Name {
         match local.number() {
             Some(number) => KNOWN[number as usize].0,
@@ -232,7 +233,7 @@ impl Name {
         }
     }
 
-    /// The name, where the tree knows it by no number.
+    /// Returns the name for a local name that has no number in the tree.
     fn rare(written: &str) -> Name {
         for (known, name) in &RARE {
             if *known == written {

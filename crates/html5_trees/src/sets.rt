@@ -1,9 +1,9 @@
-//! Sets of elements that rules name.
+//! Sets of elements that the standard names: scopes, special elements and so on.
 
 use crate::name::Name;
 use crate::stack::{ElementNamespace, Open};
 
-/// Where a search for an element in scope ends.
+/// The scopes of "has an element in scope" (13.2.4.2).
 #[derive(Clone, Copy, Drop)]
 pub enum Scope {
     Default,
@@ -46,13 +46,13 @@ pub fn ends_default_scope(open: &Open) -> bool {
     }
 }
 
-/// Whether it ends the scope of a list of options.
+/// Returns whether the element ends the select scope.
 pub fn ends_select_scope(open: &Open) -> bool {
     !(open.ns == ElementNamespace::Html && matches!(open.name, Name::Optgroup | Name::Option))
 }
 
-/// What the elements of a table are put into: a table, a section of one, or a row; else a template
-/// or the outermost element.
+/// The contexts to which the stack is cleared in a table: a table, a table section or a row. A
+/// template and the element `html` end each of them.
 #[derive(Clone, Copy, Drop)]
 pub enum TableContext {
     Table,
@@ -103,12 +103,12 @@ fn is_special_name(name: Name) -> bool {
     )
 }
 
-/// Whether an item of a list may end one beyond that element, which is special.
+/// Returns whether the search for an open list item goes on past that special element.
 pub fn is_crossed_by_items(open: &Open) -> bool {
     open.is_html(Name::Address) || open.is_html(Name::Div) || open.is_html(Name::P)
 }
 
-/// Elements whose end tags are implied.
+/// Returns whether the element's end tag can be implied (13.2.6.3).
 pub fn has_implied_end(open: &Open) -> bool {
     open.ns == ElementNamespace::Html
         && matches!(
@@ -126,7 +126,7 @@ pub fn has_implied_end(open: &Open) -> bool {
         )
 }
 
-/// Start tags that end foreign content.
+/// Returns whether a start tag with that name ends foreign content.
 #[rattlefmt::skip]
 pub fn breaks_out(name: Name) -> bool {
     matches!(

@@ -1,4 +1,4 @@
-//! Lines, each of which asks what `dom_query` adds to the crates below it.
+//! Lines, each of which calls something that `dom_query` adds to the crates below it.
 
 use crate::inputs::input;
 use crate::streams::serialize;
@@ -18,7 +18,7 @@ const RUNS: [RunFault; 6] = [
     RunFault::Write,
 ];
 
-/// Prints a value that is read, or the fault in its place.
+/// Prints the value of a call, or its error.
 pub fn show_read<D: Display + Drop, F: Display + Drop>(
     rt: &HostRuntime,
     what: &str,
@@ -30,7 +30,7 @@ pub fn show_read<D: Display + Drop, F: Display + Drop>(
     }
 }
 
-/// Answers each line, over the markup that standard input has.
+/// Makes the call in each line on the document that is read from standard input.
 pub fn answer_all(rt: &HostRuntime, lines: &[String]) -> Option<()> {
     let markup = input(rt)?;
     let document = Document::parse(rt.alloc(), markup.as_str()).ok()?;
@@ -55,7 +55,7 @@ fn answer(rt: &HostRuntime, document: &Document, word: &str, rest: &str) -> Opti
     }
 }
 
-/// The text of each fault of a run.
+/// Prints the message of each error of a run.
 fn print_faults(rt: &HostRuntime) -> Option<()> {
     for fault in &RUNS {
         println!(rt; "{fault}").ok()?;
@@ -63,7 +63,7 @@ fn print_faults(rt: &HostRuntime) -> Option<()> {
     Some(())
 }
 
-/// The parse errors that are noted of a page: `PAGE`.
+/// Prints the parse errors of a page: `PAGE`.
 fn print_noted(rt: &HostRuntime, page: &str) -> Option<()> {
     match parse_page(rt.alloc(), page, NOTING) {
         Ok(document) => print_errors(rt, &document),
@@ -78,30 +78,30 @@ fn print_errors(rt: &HostRuntime, document: &Document) -> Option<()> {
     Some(())
 }
 
-/// The parse errors that are noted of the page that standard input has.
+/// Prints the parse errors of the page on standard input.
 pub fn note_input(rt: &HostRuntime) -> Option<()> {
     let page = input(rt)?;
     print_noted(rt, page.as_str())
 }
 
-/// All that the document holds.
+/// Prints the whole tree of the document.
 fn print_state(rt: &HostRuntime, document: &Document) -> Option<()> {
     println!(rt; "{:?}", document.tree).ok()
 }
 
-/// The formatted text of the document, and its Markdown.
+/// Prints the formatted text of the document, and its Markdown.
 fn print_texts(rt: &HostRuntime, document: &Document) -> Option<()> {
     show_read(rt, "formatted_text", document.formatted_text())?;
     show_read(rt, "md", document.md(None))
 }
 
-/// The Markdown of the document without the elements of some names: `NAME NAME ..`.
+/// Prints the Markdown of the document without the elements with some names: `NAME NAME ..`.
 fn print_without(rt: &HostRuntime, document: &Document, line: &str) -> Option<()> {
     let names = line.split(' ').collect::<Vec<&str>>(rt.alloc()).ok()?;
     show_read(rt, "md", document.md(Some(&names)))
 }
 
-/// The formatted text of the nodes that a selector selects: `SELECTOR`.
+/// Prints the formatted text of the nodes that a selector selects: `SELECTOR`.
 fn print_selected(rt: &HostRuntime, document: &Document, line: &str) -> Option<()> {
     match document.select(line) {
         Ok(all) => show_read(rt, "formatted_text", all.formatted_text()),

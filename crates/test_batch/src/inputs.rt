@@ -1,6 +1,6 @@
-//! Many inputs in one process: `bulk inputs KIND` reads them in hexadecimal, one a line on standard
-//! input, and prints one answer a line; so does `bulk pages WAY` of pages that are read in that
-//! way.
+//! Many inputs in one process. `test_batch bulk inputs KIND` reads inputs in hexadecimal from
+//! standard input, one on each line, and prints one line for each. `test_batch bulk pages WAY` does
+//! so with pages that are parsed in that way.
 
 use crate::web::show_bytes;
 use dom_query::{Document, Matcher, parse_selector_list, run};
@@ -8,7 +8,7 @@ use std::alloc::Global;
 use std::io::Read;
 use std::str;
 
-/// What the scripts are run over.
+/// The markup that the scripts are run on.
 const MARKUP: &str = "<p id=a>x</p>";
 
 fn digit_of(byte: u8) -> Option<u8> {
@@ -19,7 +19,7 @@ fn digit_of(byte: u8) -> Option<u8> {
     }
 }
 
-/// The bytes that a line spells.
+/// Returns the bytes that a line has in hexadecimal; `None` if it has another character.
 fn bytes_of(alloc: Global, line: &str) -> Option<Vec<u8>> {
     let mut bytes = Vec::new(alloc);
     let mut is_second = false;
@@ -36,7 +36,7 @@ fn bytes_of(alloc: Global, line: &str) -> Option<Vec<u8>> {
     Some(bytes)
 }
 
-/// How a run ends.
+/// Prints how a run ends.
 fn show_run(rt: &HostRuntime, markup: &[u8], script: &[u8]) -> Option<()> {
     let mut out: Vec<u8> = Vec::new(rt.alloc());
     match run(rt.alloc(), markup, script, &mut out) {
@@ -45,7 +45,7 @@ fn show_run(rt: &HostRuntime, markup: &[u8], script: &[u8]) -> Option<()> {
     }
 }
 
-/// The HTML of the document that is read, or why it is refused.
+/// Prints the HTML of the document that is parsed, or why it is rejected.
 fn show_document(rt: &HostRuntime, text: &str) -> Option<()> {
     match Document::parse(rt.alloc(), text) {
         Ok(document) => {
@@ -66,7 +66,7 @@ fn show_selector(rt: &HostRuntime, text: &str) -> Option<()> {
     }
 }
 
-/// How many mini selectors are read, and how many bytes are left.
+/// Prints how many mini selectors are parsed, and how many bytes remain.
 fn show_path(rt: &HostRuntime, text: &str) -> Option<()> {
     match parse_selector_list(rt.alloc(), text) {
         Ok((rest, list)) => {
@@ -77,7 +77,7 @@ fn show_path(rt: &HostRuntime, text: &str) -> Option<()> {
     }
 }
 
-/// What the bytes are read as.
+/// Prints what the bytes are parsed as. Bytes that are not UTF-8 are the markup of a run.
 fn answer(rt: &HostRuntime, kind: &str, bytes: &[u8]) -> Option<()> {
     if kind == "script" {
         return show_run(rt, MARKUP.as_bytes(), bytes);
@@ -93,14 +93,14 @@ fn answer(rt: &HostRuntime, kind: &str, bytes: &[u8]) -> Option<()> {
     }
 }
 
-/// What standard input has.
+/// Reads standard input to its end.
 pub fn input(rt: &HostRuntime) -> Option<String> {
     let mut text = String::new(rt.alloc());
     rt.stdin().read_to_string(&mut text).ok()?;
     Some(text)
 }
 
-/// Answers each input.
+/// Prints the result for each input.
 pub fn answer_all(rt: &HostRuntime, kind: &str) -> Option<()> {
     let text = input(rt)?;
     for line in text.as_str().lines() {
@@ -110,7 +110,7 @@ pub fn answer_all(rt: &HostRuntime, kind: &str) -> Option<()> {
     Some(())
 }
 
-/// Reads each input as a page.
+/// Parses each input as a page, and prints it.
 pub fn read_pages(rt: &HostRuntime, way: &str) -> Option<()> {
     let text = input(rt)?;
     for line in text.as_str().lines() {

@@ -1,6 +1,7 @@
-//! Lines over `dom_query` alone. `test_batch LINE ..` reads the markup on standard input and prints what
-//! each line asks of it; `test_batch noted` prints the parse errors of the page that standard input has;
-//! `test_batch bulk WORD ..` reads many inputs, or makes streams fail. Its rows are in
+//! A program that tests `dom_query`, and depends on it alone. `test_batch LINE ..` reads markup
+//! from standard input and prints the result of the call in each line; `test_batch noted` prints
+//! the parse errors of the page on standard input; `test_batch bulk WORD ..` reads many inputs, or
+//! makes streams fail. The calls and their expected output are in the rows of
 //! tests/rows/test_batch.
 #![tactic(auto)]
 
@@ -12,7 +13,7 @@ mod web;
 use std::env;
 use std::process::ExitCode;
 
-/// Does what the words say.
+/// Runs the command in the words.
 fn run(rt: &HostRuntime, words: &[String]) -> Option<()> {
     match words {
         [word, words @ ..] if word.as_str() == "bulk" => read_many(rt, words),
@@ -21,7 +22,7 @@ fn run(rt: &HostRuntime, words: &[String]) -> Option<()> {
     }
 }
 
-/// Does what the words behind `bulk` say.
+/// Runs the command in the words after `bulk`.
 fn read_many(rt: &HostRuntime, words: &[String]) -> Option<()> {
     let (word, words) = words.split_first()?;
     match word.as_str() {
@@ -32,7 +33,7 @@ fn read_many(rt: &HostRuntime, words: &[String]) -> Option<()> {
     }
 }
 
-/// The word that stands alone.
+/// Returns the word if there is exactly one.
 fn only(words: &[String]) -> Option<&str> {
     match words {
         [word] => Some(word.as_str()),
@@ -40,7 +41,7 @@ fn only(words: &[String]) -> Option<&str> {
     }
 }
 
-/// Runs the words of the command line.
+/// Runs the command in the program's arguments.
 fn obey(rt: &HostRuntime) -> Option<()> {
     let words = env::args(rt).ok()?.skip(1);
     run(rt, &words.collect::<Vec<String>>(rt.alloc()).ok()?)

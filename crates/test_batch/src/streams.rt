@@ -6,7 +6,7 @@ use dom_query::{NodeId, NodeRef, RunFault, SerializableNodeRef, TraversalScope, 
 use std::alloc::Global;
 use std::io::{self, ErrorKind, Read, Write};
 
-/// A writer that takes so many writes, at most so many bytes in each, and then fails.
+/// A writer that accepts `left` writes, of at most `most` bytes each, and then fails.
 #[derive(Drop)]
 struct Failing {
     left: usize,
@@ -30,7 +30,7 @@ impl Write for Failing {
     }
 }
 
-/// A reader that fails in that way.
+/// A reader that fails with this kind of error.
 #[derive(Drop)]
 struct NoReader(ErrorKind);
 
@@ -40,7 +40,8 @@ impl Read for NoReader {
     }
 }
 
-/// What writers get of a node's HTML that take all of it, some, and no byte: `N`.
+/// Prints what is written of a node's HTML to a writer that accepts all of it, to one that accepts
+/// some, and to one that accepts no byte: `N`.
 pub fn serialize(rt: &HostRuntime, tree: &Tree, line: &str) -> Option<()> {
     let id = NodeId::new(line.parse::<usize>().ok()?)?;
     let node = SerializableNodeRef::from(NodeRef::new(id, tree));
@@ -58,8 +59,8 @@ pub fn serialize(rt: &HostRuntime, tree: &Tree, line: &str) -> Option<()> {
     Some(())
 }
 
-/// How a drive with these words ends whose reader is given, and whose writer takes so many writes:
-/// its status, and what it says on standard error.
+/// Runs `drive` with these arguments, this reader, and a writer that accepts `left` writes of at
+/// most `most` bytes. Prints and returns its exit status, and prints its output on standard error.
 fn drive_into<R: Read>(
     rt: &HostRuntime,
     words: &[String],
@@ -74,14 +75,16 @@ fn drive_into<R: Read>(
     Some(status)
 }
 
-/// How drives with these words and runs of the first end, over the markup that standard input has.
+/// Prints how `drive` with these arguments, and runs of the first one as a script, end on the
+/// markup from standard input.
 pub fn drive_all(rt: &HostRuntime, words: &[String]) -> Option<()> {
     let markup = input(rt)?;
     drive_over(rt, words, markup.as_str())
 }
 
-/// How drives with these words end: where the reader fails, where there is no memory for it, where
-/// the writer takes no byte, and for each number of bytes that it takes, until those are enough.
+/// Prints how `drive` with these arguments ends if the reader fails, if there is no memory for the
+/// reader, if the writer accepts no byte, and if it accepts 0, 1, 2 .. bytes, until those are
+/// enough.
 fn drive_over(rt: &HostRuntime, words: &[String], markup: &str) -> Option<()> {
     for kind in &[ErrorKind::BrokenPipe, ErrorKind::OutOfMemory] {
         drive_into(rt, words, &mut NoReader(*kind), (9, 9))?;
@@ -95,7 +98,8 @@ fn drive_over(rt: &HostRuntime, words: &[String], markup: &str) -> Option<()> {
     run_all(rt, markup, words.first()?)
 }
 
-/// How a run ends whose writer takes so many writes of so many bytes, and what that got.
+/// Runs a script with a writer that accepts `left` writes of at most `most` bytes; returns how the
+/// run ends, and the writer.
 fn run_into(
     alloc: Global,
     markup: &str,
@@ -108,8 +112,8 @@ fn run_into(
     (ended, out)
 }
 
-/// How runs of a script end: where the writer takes no byte, and where it takes that many in each
-/// write, for each number of writes, until those are enough.
+/// Prints how runs of a script end if the writer accepts no byte, and if it accepts up to 1, 2, 7
+/// or all bytes in each write, for 0, 1, 2 .. writes, until those are enough.
 fn run_all(rt: &HostRuntime, markup: &str, script: &str) -> Option<()> {
     let (ended, out) = run_into(rt.alloc(), markup, script, (9, 0));
     println!(rt; "run, 0: {ended:?}, {} writes left", out.left).ok()?;
@@ -120,7 +124,8 @@ fn run_all(rt: &HostRuntime, markup: &str, script: &str) -> Option<()> {
     Some(())
 }
 
-/// Prints the number of writes that are enough, and whether fewer got beginnings of the whole.
+/// Prints the number of writes that are enough, and whether all runs with fewer wrote a prefix of
+/// the whole output.
 fn run_until_whole(
     rt: &HostRuntime,
     markup: &str,

@@ -1,4 +1,4 @@
-//! Pages of the web: each way of reading them.
+//! Pages of the web, and each way of parsing them.
 
 ghost use Rattle.std.specs.Prelude.{◌<◌};
 
@@ -6,14 +6,15 @@ use dom_query::{Document, Options, PageFault, PageParser, parse_page, parse_page
 use std::alloc::Global;
 use std::str;
 
-/// With errors noted tags are read character by character, and calm pages by tree construction.
+/// Options that collect parse errors. With them, tags are read character by character, and explicit
+/// markup goes through tree construction, too.
 pub const NOTING: Options = Options {
     scripting: false,
     max_depth: None,
     errors: true,
 };
 
-/// The page of bytes in pieces of this size.
+/// Parses the bytes of a page in pieces of this size.
 fn in_pieces(alloc: Global, bytes: &[u8], size: usize) -> Result<Document, PageFault>
     requires { 0 < size }
 {
@@ -24,7 +25,7 @@ fn in_pieces(alloc: Global, bytes: &[u8], size: usize) -> Result<Document, PageF
     parser.finish()
 }
 
-/// The page of bytes and the text `é` behind them.
+/// Parses the bytes of a page, followed by the text `é`.
 fn mixed(alloc: Global, bytes: &[u8]) -> Result<Document, PageFault> {
     let mut parser = PageParser::new(alloc, Options::default())?;
     feed_mixed(&mut parser, bytes)?;
@@ -36,7 +37,8 @@ fn feed_mixed(parser: &mut PageParser, bytes: &[u8]) -> Result<(), PageFault> {
     parser.feed("é")
 }
 
-/// The page of bytes, read in the way of that name; None where the bytes aren't read so.
+/// Parses the bytes of a page in the way with that name; returns `None` if the way is unknown, or
+/// if it needs UTF-8 and the bytes are not.
 fn read_by(alloc: Global, way: &str, bytes: &[u8]) -> Option<Result<Document, PageFault>> {
     match way {
         "whole" => Some(parse_page_bytes(alloc, bytes, Options::default())),
@@ -46,7 +48,7 @@ fn read_by(alloc: Global, way: &str, bytes: &[u8]) -> Option<Result<Document, Pa
     }
 }
 
-/// Prints what bytes are read as in the way of that name.
+/// Parses bytes in the way with that name, and prints the page.
 pub fn show_bytes(rt: &HostRuntime, way: &str, bytes: &[u8]) -> Option<()> {
     match read_by(rt.alloc(), way, bytes)? {
         Ok(page) => show_page(rt, &page),

@@ -1,4 +1,4 @@
-//! Values apart from a tree: copies of a node and of what it holds, changed, and what they answer.
+//! Values outside a tree: copies of a node and of what is in it, changed and queried.
 
 use dom_nodes::case_sensitivity::CaseSensitivity;
 use dom_nodes::fault::OutOfMemory;
@@ -12,7 +12,7 @@ use std::fmt::Debug;
 use test_lines::printing::{show, show_flags, show_some};
 use test_lines::words::node_of;
 
-/// Prints what a value holds that was made.
+/// Prints a value that was made, or the fault.
 pub fn show_made<V: Debug + Drop>(rt: &HostRuntime, what: &str, made: Result<V, OutOfMemory>) {
     match made {
         Ok(value) => println!(rt; "{what}: {value:?}").ok(),
@@ -20,7 +20,7 @@ pub fn show_made<V: Debug + Drop>(rt: &HostRuntime, what: &str, made: Result<V, 
     };
 }
 
-/// Changes copies of a node, of its data, and of the element that it is: `N`.
+/// Changes copies of a node, of its data and of its element: `N`.
 pub fn change(rt: &HostRuntime, tree: &Tree, line: &str) -> Option<()> {
     let node = tree.nodes().get(node_of(line)?.value())?;
     show_made(rt, "changed node", changed_node(node));
@@ -46,7 +46,7 @@ fn change_element(rt: &HostRuntime, element: &Element) {
     show_made(rt, "changed attributes", attrs);
 }
 
-/// A copy with another name, other attributes and other template contents.
+/// Returns a copy with another name, other attributes and other template contents.
 fn with_other_parts(alloc: Global, element: &Element) -> Result<Element, OutOfMemory> {
     let mut other = element.try_clone()?.with_template_contents(NodeId::new(7));
     other.set_name(QualName::plain(LocalName::new(alloc, "o")?));
@@ -54,7 +54,7 @@ fn with_other_parts(alloc: Global, element: &Element) -> Result<Element, OutOfMe
     Ok(other)
 }
 
-/// The attributes `class` and `z`.
+/// Returns the attributes `class` and `z`.
 fn given(alloc: Global) -> Result<Attrs, OutOfMemory> {
     let mut attrs = Attrs::new(alloc);
     for (name, value) in &[("class", "g"), ("z", "3")] {
@@ -152,7 +152,7 @@ fn change_attrs(alloc: Global, attrs: &mut Attrs) -> Result<(), OutOfMemory> {
     Ok(())
 }
 
-/// What a node, its data, and the element that it is answer: `N`.
+/// Prints the answers of a node, of its data and of its element: `N`.
 pub fn ask(rt: &HostRuntime, tree: &Tree, line: &str) -> Option<()> {
     let node = tree.nodes().get(node_of(line)?.value())?;
     let (kinds, all) = (node_kinds(node), data_kinds(&node.content));
@@ -163,8 +163,8 @@ pub fn ask(rt: &HostRuntime, tree: &Tree, line: &str) -> Option<()> {
     Some(())
 }
 
-/// Whether it is a document, a doctype, a text, a comment, an element or a link, or a fragment, and
-/// may have children.
+/// Whether a node is a document, a doctype, a text, a comment, an element, a link, a fragment, and
+/// whether it may have children.
 fn node_kinds(node: &TreeNode) -> [bool; 8] {
     [
         node.is_document(),
@@ -178,7 +178,8 @@ fn node_kinds(node: &TreeNode) -> [bool; 8] {
     ]
 }
 
-/// The same of its data, and whether that is of a document or a fragment.
+/// The same questions as in `node_kinds`, for a node's data, and whether it is a document or a
+/// fragment.
 fn data_kinds(data: &NodeData) -> [bool; 9] {
     [
         data.is_document(),

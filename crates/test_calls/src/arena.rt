@@ -1,4 +1,4 @@
-//! Calls of `TreeNodeOps` on nodes that stand in no tree: copies of those of the document.
+//! Calls of `TreeNodeOps` on nodes that are in no tree: copies of the nodes of the document.
 
 ghost use Rattle.std.specs.Prelude.{◌≡◌, IfSome, true};
 ghost use Rattle.dom_links.specs.ListMoves.{CanMove, moving_id};
@@ -51,8 +51,8 @@ const CALLS: [(&str, Call); 16] = [
     ("create_node", Call::CreateNode), ("normalize", Call::Normalize),
 ];
 
-/// Edits copies of the nodes, and prints the HTML of the tree that they then are: `CALL N M`, or
-/// `CALL N` twice for a call of one node.
+/// Edits copies of the nodes, and prints the HTML of the tree that they then are: `CALL N M`. A
+/// call of one node takes it twice: `CALL N N`.
 pub fn edit(rt: &HostRuntime, tree: &Tree, line: &str) -> Option<()> {
     let (word, rest) = cut(line);
     let (target, moved) = cut(rest);
@@ -71,7 +71,7 @@ fn show_tree(rt: &HostRuntime, what: &str, tree: &Tree) {
     show(rt, "len", tree.len());
 }
 
-/// Copies of the nodes of a tree.
+/// Returns copies of the nodes of a tree.
 fn copies(tree: &Tree) -> Option<Vec<TreeNode>>
     ensures { IfSome result (λ nodes. IsSoundArena nodes.items) }
 {
@@ -81,7 +81,7 @@ fn copies(tree: &Tree) -> Option<Vec<TreeNode>>
     Some(nodes)
 }
 
-/// Whether nodes may be moved to a gap.
+/// Returns whether nodes may be moved to an insertion point.
 fn may_move(
     nodes: &[TreeNode],
     gap: InsertionPoint,
@@ -128,7 +128,7 @@ fn move_node(nodes: &mut [TreeNode], call: Call, t: NodeId, x: NodeId)
     }
 }
 
-/// Moves a node and others of its list.
+/// Moves a node with siblings of it.
 fn move_nodes(nodes: &mut [TreeNode], call: Call, t: NodeId, x: NodeId)
     requires { IsSoundArena nodes.old }
 {
@@ -169,7 +169,7 @@ fn move_nodes(nodes: &mut [TreeNode], call: Call, t: NodeId, x: NodeId)
     }
 }
 
-/// Takes nodes out of their lists, or all elements `b`.
+/// Detaches nodes, or replaces all elements `b` by their children.
 fn cut_out(nodes: &mut [TreeNode], call: Call, x: NodeId)
     requires { IsSoundArena nodes.old }
 {
@@ -203,7 +203,7 @@ fn edit_nodes(nodes: &mut Vec<TreeNode>, call: Call, t: NodeId, x: NodeId) -> Op
     Some(())
 }
 
-/// Puts the elements `b` out of the way, and joins the texts that then stand side by side.
+/// Replaces the elements `b` by their children, and joins the texts that are adjacent after that.
 fn joined(alloc: Global, nodes: &mut [TreeNode], t: NodeId) -> Option<()>
     requires { IsSoundArena nodes.old }
 {
@@ -211,7 +211,7 @@ fn joined(alloc: Global, nodes: &mut [TreeNode], t: NodeId) -> Option<()>
     TreeNodeOps::normalize(alloc, nodes, t).ok()
 }
 
-/// What calls answer of two nodes: `N M`.
+/// Prints what the queries answer about two nodes: `N M`.
 pub fn ask(rt: &HostRuntime, tree: &Tree, line: &str) -> Option<()> {
     let (first, second) = cut(line);
     let (t, x) = (node_of(first)?, node_of(second)?);
@@ -230,7 +230,7 @@ pub fn ask(rt: &HostRuntime, tree: &Tree, line: &str) -> Option<()> {
     Some(())
 }
 
-/// The first element in a node, its last sibling, and the elements beside it.
+/// The first child element of a node, its last sibling, and the nearest elements beside it.
 fn around(nodes: &[TreeNode], t: NodeId) -> [Option<NodeId>; 4]
     requires { IsSoundArena nodes.now }
 {
@@ -242,8 +242,8 @@ fn around(nodes: &[TreeNode], t: NodeId) -> [Option<NodeId>; 4]
     ]
 }
 
-/// What walks begin with: above a node, its children from either end, and behind the first below
-/// it, by a walk and one that is begun again there.
+/// The first results of iterators: over the ancestors of a node; over its children from both ends;
+/// over its descendants, from the second one on, by the iterator and by a copy of it.
 fn walks(nodes: &[TreeNode], t: NodeId) -> [Option<NodeId>; 5]
     requires { IsSoundArena nodes.now }
 {
@@ -259,8 +259,8 @@ fn walks(nodes: &[TreeNode], t: NodeId) -> [Option<NodeId>; 5]
     ]
 }
 
-/// Whether t may have children and siblings, and whether x alone, x with its later siblings, and
-/// all of x's list may be moved there.
+/// Whether `t` may have children and siblings, and whether `x` alone, `x` with its later siblings,
+/// and all siblings of `x` may be moved there.
 fn allowed(nodes: &[TreeNode], t: NodeId, x: NodeId) -> Option<[bool; 5]>
     requires { IsSoundArena nodes.now }
 {

@@ -12,7 +12,7 @@ use dom_trees::tree::Tree;
 use std::alloc::Global;
 use test_lines::printing::{show, show_edit, show_read};
 
-/// Builds a tree, and prints it; then a fragment of its nodes, and what is refused.
+/// Builds a tree, and prints it; then a fragment of its nodes, and the edits that fail.
 pub fn build(rt: &HostRuntime) {
     match built(rt.alloc()) {
         Ok((mut tree, id)) => {
@@ -36,7 +36,7 @@ fn named(alloc: Global, name: &str) -> Result<QualName, OutOfMemory> {
     Ok(QualName::html(LocalName::new(alloc, name)?))
 }
 
-/// The attribute `id`.
+/// Returns the attribute `id`.
 fn attrs(alloc: Global) -> Result<Attrs, OutOfMemory> {
     let mut attrs = Attrs::new(alloc);
     let name = QualName::plain(LocalName::new(alloc, "id")?);
@@ -45,7 +45,7 @@ fn attrs(alloc: Global) -> Result<Attrs, OutOfMemory> {
     Ok(attrs)
 }
 
-/// The tree, and the number of its paragraph.
+/// Returns the tree, and the id of its paragraph.
 fn built(alloc: Global) -> Result<(Tree, NodeId), EditFault> {
     let mut tree = Tree::new(alloc, NodeData::Document)?;
     let id = make_element(&mut tree)?;
@@ -56,7 +56,7 @@ fn built(alloc: Global) -> Result<(Tree, NodeId), EditFault> {
     Ok((tree, id))
 }
 
-/// Makes an element that stands alone.
+/// Makes a detached element.
 fn make_element(tree: &mut Tree) -> Result<NodeId, EditFault> {
     let (alloc, flags) = (
         tree.allocator(),
@@ -68,7 +68,7 @@ fn make_element(tree: &mut Tree) -> Result<NodeId, EditFault> {
     tree.create_element(named(alloc, "p")?, Attrs::new(alloc), flags)
 }
 
-/// Puts the element below the root, between an instruction and a doctype.
+/// Puts the element below the root, between a processing instruction and a doctype.
 fn place(tree: &mut Tree, id: &NodeId) -> Result<(), EditFault> {
     let root = NodeId::root();
     tree.reserve(8);
@@ -78,7 +78,7 @@ fn place(tree: &mut Tree, id: &NodeId) -> Result<(), EditFault> {
     tree.move_to(Place::Before.gap(*id), MovedNodes::Node(instruction))
 }
 
-/// Puts texts into the element, the second behind the first, and changes its attributes.
+/// Puts two texts into the element, one after the other, and changes its attributes.
 fn fill(tree: &mut Tree, id: &NodeId) -> Result<(), EditFault> {
     tree.add_text_at(InsertionPoint::FrontOf(*id), "a")?;
     tree.add_text_at(InsertionPoint::EndOf(*id), "b")?;
@@ -86,13 +86,14 @@ fn fill(tree: &mut Tree, id: &NodeId) -> Result<(), EditFault> {
     tree.try_change_of(id, Change::AddClass("l"))
 }
 
-/// A template that holds this node.
+/// Returns the data of a `template` with this node as its contents.
 fn holder(alloc: Global, contents: &NodeId) -> Result<NodeData, OutOfMemory> {
     let name = named(alloc, "template")?;
     Ok(NodeData::Element(Element::new(name, Attrs::new(alloc), Some(*contents), false)))
 }
 
-/// What is refused: a template that holds a paragraph, and one that is put into what it holds.
+/// Prints the edits that fail: a template with a paragraph as its contents, and a template that is
+/// put into its own contents.
 fn show_refused(rt: &HostRuntime, tree: &mut Tree, id: &NodeId) {
     show_edit(rt, "a template of a paragraph", made(tree, id));
     show_edit(rt, "a template in itself", put_into_itself(tree));

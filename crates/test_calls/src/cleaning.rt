@@ -1,11 +1,11 @@
-//! What a sanitiser leaves of the document.
+//! What the sanitizer leaves of the document.
 
 use dom_markup::document::Document;
 use dom_sanitize::sanitize::{Allow, sanitize};
 use test_lines::printing::show;
 use test_lines::words::words_of;
 
-/// Cleans the document by three lists of names: `ELEMENTS;ATTRIBUTES;DROPPED`.
+/// Sanitizes the document by three lists of names: `ELEMENTS;ATTRIBUTES;DROPPED`.
 pub fn clean(rt: &HostRuntime, document: &mut Document, line: &str) -> Option<()> {
     let (elements, rest) = line.split_once(';')?;
     let (attrs, dropped) = rest.split_once(';')?;

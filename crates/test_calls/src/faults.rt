@@ -1,4 +1,4 @@
-//! The texts of faults.
+//! The messages of faults, and the position of a fault in a text.
 
 use dom_edits::edit::SelectionFault;
 use dom_html5::PageFault;
@@ -70,14 +70,14 @@ const RAW: [ValidateFault; 13] = [
     ValidateFault::Memory,
 ];
 
-/// Prints the text of each of the faults.
+/// Prints the message of each of the faults.
 fn print_each<D: Display>(rt: &HostRuntime, faults: &[D]) {
     for fault in faults {
         println!(rt; "{fault}").ok();
     }
 }
 
-/// Prints the text of each fault.
+/// Prints the message of each kind of fault.
 pub fn print_all(rt: &HostRuntime) {
     print_each(rt, &WRITES);
     print_each(rt, &SELECTORS);
@@ -91,7 +91,7 @@ pub fn print_all(rt: &HostRuntime) {
     print_each(rt, &[OutOfMemory]);
 }
 
-/// On which line and in which column a byte of a text stands: `AT TEXT`.
+/// Prints the line and the column of a byte of a text: `AT TEXT`.
 pub fn find_position(rt: &HostRuntime, line: &str) -> Option<()> {
     let (word, text) = cut(line);
     let (kind, at) = (MarkupFaultKind::BadTag, word.parse::<usize>().ok()?);

@@ -1,6 +1,7 @@
-//! Calls of the libraries, asked at a shell. `test_calls LINE ..` reads the markup on standard input,
-//! makes the call of each line on the document, in order, and prints what each answers: the rows of
-//! tests/rows/test_calls. `test_calls bulk raw` makes the call of each line on standard input.
+//! A test program that makes calls of the libraries. `test_calls LINE ..` parses the markup on
+//! standard input, makes the call of each line on the document, in order, and prints the answers.
+//! `test_calls bulk raw` makes the call `raw` for each line on standard input. The rows with the
+//! expected output are in tests/rows/test_calls.
 #![tactic(auto)]
 
 mod apart;
@@ -44,7 +45,7 @@ fn change(rt: &HostRuntime, document: &mut Document, group: &str, line: &str) ->
     }
 }
 
-/// Makes a call that changes the document, whatever the line is.
+/// Makes a call that changes the document and succeeds for every line.
 fn mend(rt: &HostRuntime, document: &mut Document, group: &str, line: &str) -> Option<()> {
     match group {
         "sink-note" => sinks::note(rt, document, line),
@@ -93,7 +94,7 @@ fn read_nodes(rt: &HostRuntime, document: &Document, group: &str, line: &str) ->
     }
 }
 
-/// Makes a call of a text alone.
+/// Makes a call that only takes a text.
 fn write(rt: &HostRuntime, group: &str, line: &str) -> Option<()> {
     match group {
         "parse" => pages::read_document(rt, line),
@@ -115,7 +116,7 @@ fn write(rt: &HostRuntime, group: &str, line: &str) -> Option<()> {
     Some(())
 }
 
-/// Makes a call of a text alone, which it may not fit.
+/// Makes a call that only takes a text, and fails for a text of another form.
 fn make(rt: &HostRuntime, group: &str, line: &str) -> Option<()> {
     match group {
         "chunk" => texts::escape_chunk(rt, line),
@@ -131,7 +132,7 @@ fn make(rt: &HostRuntime, group: &str, line: &str) -> Option<()> {
     }
 }
 
-/// Makes the call of each line on the markup that standard input has.
+/// Parses the markup on standard input, and makes the call of each line on the document.
 fn call_all(rt: &HostRuntime, lines: &[String]) -> Option<()> {
     let markup = input(rt)?;
     let mut document = Document::parse(rt.alloc(), markup.as_str()).ok()?;
@@ -142,7 +143,7 @@ fn call_all(rt: &HostRuntime, lines: &[String]) -> Option<()> {
     Some(())
 }
 
-/// Does what the words say.
+/// Does what the arguments ask for.
 fn run(rt: &HostRuntime, words: &[String]) -> Option<()> {
     match words {
         [bulk, word] if bulk.as_str() == "bulk" && word.as_str() == "raw" => raw::check_all(rt),

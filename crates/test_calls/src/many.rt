@@ -1,4 +1,4 @@
-//! Calls of `SelectionMut`, which change several nodes.
+//! Calls of `SelectionMut`, which edits several nodes.
 
 use dom_edits::edit::SelectionFault;
 use dom_edits::selection_mut::SelectionMut;
@@ -7,7 +7,7 @@ use dom_trees::tree::Tree;
 use test_lines::printing::show_edit;
 use test_lines::words::{cut, nodes_of, words_of};
 
-/// A call at nodes: `N,M CALL WORDS`; nodes that are given are written `N,M` too.
+/// Makes a call at nodes: `N,M CALL WORDS`. Nodes as arguments are written `N,M` too.
 pub fn call(rt: &HostRuntime, tree: &mut Tree, line: &str) -> Option<()> {
     let alloc = tree.allocator();
     let (numbers, rest) = cut(line);
@@ -39,7 +39,7 @@ fn given(
     })
 }
 
-/// Puts markup at each of the nodes.
+/// Inserts markup at each of the nodes.
 fn put(nodes: &mut SelectionMut<'_>, call: &str, html: &str) -> Option<Result<(), SelectionFault>> {
     Some(match call {
         "set_html" => nodes.set_html(html),
@@ -70,7 +70,7 @@ fn changed(
     })
 }
 
-/// Takes elements out, or attributes, by their names.
+/// Removes elements or attributes by their names.
 fn lessened(
     nodes: &mut SelectionMut<'_>,
     call: &str,

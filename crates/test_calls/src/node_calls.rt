@@ -1,4 +1,4 @@
-//! Calls of a node that is lent to be changed: `NodeMut` and `NodeMutMarkup`.
+//! Calls of `NodeMut` and `NodeMutMarkup`, which edit a node by a mutable borrow of its tree.
 
 use dom_markup::setters::NodeMutMarkup;
 use dom_nodes::fault::EditFault;
@@ -9,12 +9,12 @@ use dom_trees::node_mut::NodeMut;
 use dom_trees::tree::Tree;
 use test_lines::words::{cut, named, node_of, words_of};
 
-/// Makes the call of a line `N CALL WORDS`; None, where no call has this name.
+/// Makes the call of a line `N CALL WORDS`. Returns `None` if there is no such call.
 pub fn edited(tree: &mut Tree, line: &str) -> Option<Result<(), EditFault>> {
     let (word, rest) = cut(line);
     let id = node_of(word)?;
     let mut node = tree.node_mut(&NodeId::root())?;
-    // A number that the tree doesn't have is refused by the calls.
+    // For an id that the tree doesn't have, the calls fail.
     node.id = id;
     called(&mut node, rest)
 }
@@ -40,7 +40,7 @@ fn put_or_changed(
     }
 }
 
-/// A call that moves the node or another.
+/// A call that moves the node or another one.
 #[derive(Clone, Copy, Drop)]
 enum Moving {
     AppendChild,
@@ -80,7 +80,7 @@ fn moved(node: &mut NodeMut<'_>, moving: Moving, other: &NodeId) -> Result<(), E
     }
 }
 
-/// A call that puts markup at the node.
+/// A call that inserts markup at the node.
 #[derive(Clone, Copy, Drop)]
 enum Putting {
     Set,
@@ -112,7 +112,7 @@ const PUTS: [(&str, Putting); 7] = [
     ("wrap_html", Putting::Wrap),
 ];
 
-/// A change that may be refused.
+/// A change that can fail.
 #[derive(Clone, Copy, Drop)]
 enum Changing {
     RemoveFromParent,
@@ -150,7 +150,7 @@ fn changed(node: &mut NodeMut<'_>, changing: Changing, words: &str) -> Result<()
     }
 }
 
-/// A change that is never refused.
+/// A change that can't fail.
 #[derive(Clone, Copy, Drop)]
 enum Cutting {
     StripElements,
@@ -181,7 +181,7 @@ fn changed_always(node: &mut NodeMut<'_>, cutting: Cutting, words: &str) -> Opti
     Some(())
 }
 
-/// Puts other contents into the node, and takes its attributes away.
+/// Replaces the contents of a text or a comment by an update. Other nodes are unchanged.
 fn update(node: &mut NodeMut<'_>, text: &str) -> Option<()> {
     let contents = Text::new(node.tree.allocator(), text).ok()?;
     node.update(move |edit: &mut NodeEdit| edit.contents = contents);

@@ -10,7 +10,7 @@ use dom_trees::tree::Tree;
 use test_lines::printing::{show, show_edit, show_node, show_read, show_some};
 use test_lines::words::{cut, node_of, nodes_of};
 
-/// What a document answers of all of it, and its tree.
+/// Prints what a document and its tree answer as a whole.
 pub fn read(rt: &HostRuntime, document: &Document) {
     show(rt, "len", document.tree.len());
     show(rt, "root", document.root().id.value());
@@ -39,18 +39,18 @@ fn read_tree(rt: &HostRuntime, tree: &Tree) {
     show(rt, "validate", tree.validate().is_ok());
 }
 
-/// The number of nodes of a document, and its HTML.
+/// Prints the number of nodes of a document, and its HTML.
 pub fn print_page(rt: &HostRuntime, document: &Document) {
     show(rt, "len", document.tree.len());
     show_read(rt, "html", document.html());
 }
 
-/// The HTML of a document.
+/// Prints the HTML of a document.
 pub fn print_html(rt: &HostRuntime, document: &Document) {
     show_read(rt, "html", document.html());
 }
 
-/// The number of nodes of a document, its HTML, and what was noted of it.
+/// Prints the number of nodes of a document, its HTML, its parse errors and its quirks mode.
 fn print_whole(rt: &HostRuntime, document: &Document) {
     print_page(rt, document);
     for error in document.errors.as_slice() {
@@ -60,7 +60,7 @@ fn print_whole(rt: &HostRuntime, document: &Document) {
     println!(rt; "quirks_mode: {mode:?}").ok();
 }
 
-/// A copy of a document.
+/// Prints a copy of a document.
 pub fn print_copy(rt: &HostRuntime, document: &Document) {
     match document.try_clone() {
         Ok(copy) => print_whole(rt, &copy),
@@ -68,12 +68,12 @@ pub fn print_copy(rt: &HostRuntime, document: &Document) {
     }
 }
 
-/// Joins the texts of a document.
+/// Joins adjacent texts of a document.
 pub fn normalize(rt: &HostRuntime, document: &mut Document) {
     show_edit(rt, "Document::normalize", document.normalize());
 }
 
-/// The fragment that a parser fills, before it does.
+/// Prints the fragment that a parser begins with.
 pub fn print_sink(rt: &HostRuntime) {
     match Document::fragment_sink(rt.alloc()) {
         Ok(fragment) => print_page(rt, &fragment),
@@ -81,7 +81,7 @@ pub fn print_sink(rt: &HostRuntime) {
     }
 }
 
-/// The fragment that is read of a text, or why it is refused.
+/// Prints the fragment that a text is parsed to, or the fault.
 pub fn read_fragment(rt: &HostRuntime, markup: &str) {
     match Document::fragment(rt.alloc(), markup) {
         Ok(fragment) => print_page(rt, &fragment),
@@ -89,7 +89,7 @@ pub fn read_fragment(rt: &HostRuntime, markup: &str) {
     }
 }
 
-/// The document that is read of a text, or why it is refused.
+/// Prints the document that a text is parsed to, or the fault.
 pub fn read_document(rt: &HostRuntime, markup: &str) {
     match Document::parse(rt.alloc(), markup) {
         Ok(document) => print_page(rt, &document),
@@ -100,7 +100,7 @@ pub fn read_document(rt: &HostRuntime, markup: &str) {
     }
 }
 
-/// The fragment of a node: `N`.
+/// Prints the fragment that is made of a node: `N`.
 pub fn make_fragment(rt: &HostRuntime, document: &Document, line: &str) -> Option<()> {
     match document.tree.get_unchecked(&node_of(line)?).to_fragment() {
         Ok(fragment) => print_whole(rt, &fragment),
@@ -109,7 +109,7 @@ pub fn make_fragment(rt: &HostRuntime, document: &Document, line: &str) -> Optio
     Some(())
 }
 
-/// Puts markup, which is read once, behind the children of nodes: `N,M HTML`.
+/// Parses markup once, and appends it to the children of several nodes: `N,M HTML`.
 pub fn put_snippet(rt: &HostRuntime, tree: &mut Tree, line: &str) -> Option<()> {
     let (numbers, html) = cut(line);
     let ids = nodes_of(rt.alloc(), numbers)?;
@@ -126,7 +126,7 @@ fn put_at_each(rt: &HostRuntime, tree: &mut Tree, snippet: &Snippet, ids: &[Node
     }
 }
 
-/// The HTML of a node, and of what is below it, by each call: `N`.
+/// Prints the HTML of a node and of its children, by each call: `N`.
 pub fn write_html(rt: &HostRuntime, tree: &Tree, line: &str) -> Option<()> {
     let node = tree.get_unchecked(&node_of(line)?);
     show_read(rt, "html", node.html());

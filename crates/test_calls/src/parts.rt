@@ -1,4 +1,4 @@
-//! Parts of a list of attributes, changed.
+//! Parts of a list of attributes, and changes of them.
 
 use crate::apart::show_made;
 use dom_nodes::fault::OutOfMemory;
@@ -10,7 +10,7 @@ use std::alloc::Global;
 use std::rc::Rc;
 use test_lines::words::{cut, node_of};
 
-/// The changes of a part, and what each is called.
+/// The changes of a part, and what each is called in the output.
 const EDITS: [(&str, Edit); 5] = [
     ("without x", Edit::WithoutX),
     ("without y", Edit::WithoutY),
@@ -19,7 +19,7 @@ const EDITS: [(&str, Edit); 5] = [
     ("made anew", Edit::MadeAnew),
 ];
 
-/// Prints part of a list of a node's attributes, and copies of it after a change: `N FROM TO`.
+/// Prints part of the list of a node's attributes, and copies of it after each change: `N FROM TO`.
 pub fn show(rt: &HostRuntime, tree: &Tree, line: &str) -> Option<()> {
     let (number, places) = cut(line);
     let (from, to) = cut(places);
@@ -35,7 +35,7 @@ pub fn show(rt: &HostRuntime, tree: &Tree, line: &str) -> Option<()> {
     Some(())
 }
 
-/// A change of a list.
+/// A change of a list of attributes.
 #[derive(Clone, Copy)]
 enum Edit {
     WithoutX,
@@ -45,7 +45,7 @@ enum Edit {
     MadeAnew,
 }
 
-/// Copies of attributes.
+/// Returns copies of the attributes.
 fn copies(alloc: Global, attrs: &[Attr]) -> Result<Vec<Attr>, OutOfMemory> {
     let mut made = Vec::new(alloc);
     for attr in attrs {
@@ -54,13 +54,13 @@ fn copies(alloc: Global, attrs: &[Attr]) -> Result<Vec<Attr>, OutOfMemory> {
     Ok(made)
 }
 
-/// A part of a list of the element's attributes.
+/// Returns a part of a list of the element's attributes.
 fn part(alloc: Global, element: &Element, from: usize, to: usize) -> Result<Attrs, OutOfMemory> {
     let list = Rc::new(alloc, copies(alloc, element.attrs().as_slice())?)?;
     Attrs::part(alloc, &list, from, to)
 }
 
-/// A copy of a part after a change.
+/// Returns a copy of a part after a change.
 fn changed(alloc: Global, part: &Attrs, edit: Edit) -> Result<Attrs, OutOfMemory> {
     let mut attrs = part.try_clone()?;
     match edit {

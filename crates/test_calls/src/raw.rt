@@ -1,5 +1,5 @@
-//! Nodes with their links, which may be a forest's: `raw` reads those of its words, and `bulk raw`
-//! those of each line on standard input.
+//! Nodes with their links, which may or may not be linked as a forest. `raw` takes those of a line,
+//! and `bulk raw` those of each line on standard input.
 
 use dom_links::validation::ValidateFault;
 use dom_nodes::link::Link;
@@ -11,7 +11,8 @@ use dom_trees::tree::Tree;
 use std::alloc::Global;
 use test_lines::words::{cut, input, node_of};
 
-/// What a node is: `document`, `fragment`, `text`, `element`, or an element with these contents.
+/// Returns the data of a node: `document`, `fragment`, `text`, `element`, or an id, for an element
+/// with these template contents.
 fn data_of(alloc: Global, word: &str) -> Option<NodeData> {
     match word {
         "document" => Some(NodeData::Document),
@@ -26,13 +27,13 @@ fn text(alloc: Global) -> Option<NodeData> {
     Some(NodeData::Text { contents })
 }
 
-/// An element with these contents.
+/// Returns the data of an element with these template contents.
 fn element(alloc: Global, contents: Option<NodeId>) -> Option<NodeData> {
     let name = QualName::html(LocalName::new(alloc, "b").ok()?);
     Some(NodeData::Element(Element::new(name, Attrs::new(alloc), contents, false)))
 }
 
-/// The node of this number: `KIND PARENT PREV NEXT FIRST LAST`.
+/// Returns the node with this id: `KIND PARENT PREV NEXT FIRST LAST`.
 fn raw_node(alloc: Global, number: usize, line: &str) -> Option<TreeNode> {
     let (kind, links) = cut(line);
     let (parent, siblings) = cut(links);
@@ -59,13 +60,13 @@ fn nodes_of(alloc: Global, line: &str) -> Option<Vec<TreeNode>> {
     Some(nodes)
 }
 
-/// What nodes print for a programmer.
+/// Returns the nodes as `Debug` prints them.
 fn printed(alloc: Global, nodes: &[TreeNode]) -> Option<String> {
     format!(in alloc; "{nodes:?}").ok()
 }
 
-/// Whether the nodes are a forest's, by `from_nodes` and `validate`, and whether they come back as
-/// they were given.
+/// Prints whether the nodes are linked as a forest, by `from_nodes` and `validate`, and whether a
+/// failing `from_nodes` returns them unchanged.
 fn check(rt: &HostRuntime, nodes: Vec<TreeNode>) -> Option<()> {
     let given = printed(rt.alloc(), &nodes)?;
     match Tree::from_nodes(nodes) {
@@ -90,12 +91,12 @@ fn show_refused(
     println!(rt; "{fault:?} {is_kept}").ok()
 }
 
-/// Answers for the nodes of a line, which stand apart by `;`.
+/// Checks the nodes of a line, which `;` separates.
 pub fn check_line(rt: &HostRuntime, line: &str) -> Option<()> {
     check(rt, nodes_of(rt.alloc(), line)?)
 }
 
-/// Answers for the nodes of each line.
+/// Checks the nodes of each line on standard input.
 pub fn check_all(rt: &HostRuntime) -> Option<()> {
     let text = input(rt)?;
     for line in text.as_str().lines() {

@@ -5,7 +5,7 @@ use dom_trees::tree::Tree;
 use test_lines::printing::{show, show_flags, show_node, show_read, show_some};
 use test_lines::words::{cut, node_of};
 
-/// What a node is, has and says: `N`, or `N WORD` for the attribute, class or name of that word.
+/// Prints what a node is and has: `N`; or what it has of an attribute, a class or a name: `N WORD`.
 pub fn read(rt: &HostRuntime, tree: &Tree, line: &str) -> Option<()> {
     let (number, word) = cut(line);
     let node = tree.get_unchecked(&node_of(number)?);
@@ -18,7 +18,7 @@ pub fn read(rt: &HostRuntime, tree: &Tree, line: &str) -> Option<()> {
     Some(())
 }
 
-/// Which kind of node it is, and what closures answer of it.
+/// Prints the kind of the node, and the answers of closures.
 fn read_kind(rt: &HostRuntime, node: &NodeRef<'_>) {
     let flags = [
         ("is_document", node.is_document()),
@@ -37,7 +37,7 @@ fn read_kind(rt: &HostRuntime, node: &NodeRef<'_>) {
     show(rt, "query_or", node.query_or(false, |it| it.is_text()));
 }
 
-/// What it has as an element.
+/// Prints what the node has as an element.
 fn read_element(rt: &HostRuntime, node: &NodeRef<'_>) {
     show_some(rt, "node_name", node.node_name());
     match node.element_ref() {
@@ -52,7 +52,7 @@ fn read_element(rt: &HostRuntime, node: &NodeRef<'_>) {
     read_texts(rt, node);
 }
 
-/// What it has of some attributes, and its texts.
+/// Prints some attributes and the texts of the node.
 fn read_texts(rt: &HostRuntime, node: &NodeRef<'_>) {
     show_some(rt, "class", node.class());
     show_some(rt, "id_attr", node.id_attr());
@@ -62,7 +62,7 @@ fn read_texts(rt: &HostRuntime, node: &NodeRef<'_>) {
     show(rt, "normalized_char_count", node.normalized_char_count());
 }
 
-/// What it has of a name.
+/// Prints what the node has with this name.
 fn read_named(rt: &HostRuntime, node: &NodeRef<'_>, word: &str) {
     let flags = [
         ("has_name", node.has_name(word)),
@@ -75,7 +75,7 @@ fn read_named(rt: &HostRuntime, node: &NodeRef<'_>, word: &str) {
     println!(rt; "attr_or: {value}").ok();
 }
 
-/// The nodes around a node, and the elements: `N`.
+/// Prints the nodes and the elements around a node: `N`.
 pub fn look_around(rt: &HostRuntime, tree: &Tree, line: &str) -> Option<()> {
     let node = tree.get_unchecked(&node_of(line)?);
     show_around(rt, &node);

@@ -9,7 +9,7 @@ use test_lines::names::{attributes, name_of};
 use test_lines::printing::{show, show_edit, show_read, show_some};
 use test_lines::words::{cut, node_of};
 
-/// A call that makes a node: `CALL WORDS`.
+/// Makes a node: `CALL WORDS`.
 pub fn make(rt: &HostRuntime, document: &mut Document, line: &str) -> Option<()> {
     let (call, words) = cut(line);
     let (name, rest) = cut(words);
@@ -23,8 +23,8 @@ pub fn make(rt: &HostRuntime, document: &mut Document, line: &str) -> Option<()>
     Some(())
 }
 
-/// Makes an element with these attributes: a template, where the name is `template`, and one that
-/// marks a MathML annotation, where it is `mathml:annotation-xml`.
+/// Makes an element with these attributes. The name `template` makes a template, and the name
+/// `mathml:annotation-xml` an element with the flag of an integration point.
 fn element(document: &mut Document, name: &str, attrs: &str) -> Option<Result<NodeId, EditFault>> {
     let alloc = document.tree.allocator();
     let attrs = attributes(alloc, attrs)?;
@@ -36,8 +36,8 @@ fn element(document: &mut Document, name: &str, attrs: &str) -> Option<Result<No
     Some(document.create_element(name, attrs, flags))
 }
 
-/// A call that puts a node or a text somewhere: `CALL N M`, `CALL N TEXT`, or with another node
-/// behind the first for the call that chooses by the parent.
+/// Inserts a node or a text: `CALL N M` or `CALL N TEXT`. The call that chooses by the parent takes
+/// another node after the first one.
 pub fn put(rt: &HostRuntime, document: &mut Document, line: &str) -> Option<()> {
     let (call, rest) = cut(line);
     let (word, words) = cut(rest);
@@ -56,7 +56,7 @@ pub fn put(rt: &HostRuntime, document: &mut Document, line: &str) -> Option<()> 
     Some(())
 }
 
-/// The node whose number this is, or else a text.
+/// Returns the node with this id, or otherwise the text.
 fn child_of(words: &str) -> NodeOrText<'_> {
     match node_of(words) {
         Some(child) => NodeOrText::AppendNode(child),
@@ -64,7 +64,7 @@ fn child_of(words: &str) -> NodeOrText<'_> {
     }
 }
 
-/// Another call that changes the document: `CALL N WORDS`.
+/// Makes another call that changes the document: `CALL N WORDS`.
 pub fn change(rt: &HostRuntime, document: &mut Document, line: &str) -> Option<()> {
     let (call, rest) = cut(line);
     let (word, words) = cut(rest);
@@ -83,7 +83,7 @@ pub fn change(rt: &HostRuntime, document: &mut Document, line: &str) -> Option<(
     Some(())
 }
 
-/// Notes an error and the mode, and prints what the document has of them.
+/// Stores a parse error and the quirks mode, and prints what the document has of them.
 pub fn note(rt: &HostRuntime, document: &mut Document, error: &str) {
     if let Err(fault) = document.parse_error(error) {
         show(rt, "parse_error", fault);
@@ -96,7 +96,7 @@ pub fn note(rt: &HostRuntime, document: &mut Document, error: &str) {
     show(rt, "limited quirks", is_limited);
 }
 
-/// What a sink answers of a node: `N`.
+/// Prints what a sink answers about a node: `N`.
 pub fn ask(rt: &HostRuntime, document: &Document, line: &str) -> Option<()> {
     let id = node_of(line)?;
     let root = document.get_document();

@@ -1,4 +1,4 @@
-//! Markdown and its pieces, and the tokens of a text.
+//! Markdown and its parts, formatted text, and tokens.
 
 use dom_markup::document::{Token, Tokens};
 use dom_md::cells::escape_table_cell_inplace;
@@ -14,7 +14,7 @@ use dom_trees::tree::Tree;
 use test_lines::printing::{show, show_read, show_some};
 use test_lines::words::{cut, node_of, words_of};
 
-/// The Markdown of a node, by each call: `N`.
+/// Prints the Markdown of a node, by each call: `N`.
 pub fn write_node(rt: &HostRuntime, tree: &Tree, line: &str) -> Option<()> {
     let node = NodeRef::new(node_of(line)?, tree);
     show_read(rt, "md", node.md(None));
@@ -26,7 +26,8 @@ pub fn write_node(rt: &HostRuntime, tree: &Tree, line: &str) -> Option<()> {
     Some(())
 }
 
-/// The Markdown of a node without the elements of some names, by each call: `N NAME NAME ..`.
+/// Prints the Markdown of a node without the elements with some names, by each call: `N NAME NAME
+/// ..`.
 pub fn write_without(rt: &HostRuntime, tree: &Tree, line: &str) -> Option<()> {
     let (word, names) = cut(line);
     let node = NodeRef::new(node_of(word)?, tree);
@@ -39,7 +40,7 @@ pub fn write_without(rt: &HostRuntime, tree: &Tree, line: &str) -> Option<()> {
     Some(())
 }
 
-/// The formatted text of a node: `N`.
+/// Prints the formatted text of a node: `N`.
 pub fn format(rt: &HostRuntime, tree: &Tree, line: &str) -> Option<()> {
     let node = NodeRef::new(node_of(line)?, tree);
     show_read(rt, "formatted_text", node.formatted_text());
@@ -47,7 +48,7 @@ pub fn format(rt: &HostRuntime, tree: &Tree, line: &str) -> Option<()> {
     Some(())
 }
 
-/// A chunk of text, escaped: `TEXT`.
+/// Prints a chunk of text, escaped for Markdown: `TEXT`.
 pub fn escape_chunk(rt: &HostRuntime, text: &str) -> Option<()> {
     let mut chunk = String::from_str(rt.alloc(), "x").ok()?;
     match push_escaped_chunk(&mut chunk, text, true, true) {
@@ -57,7 +58,7 @@ pub fn escape_chunk(rt: &HostRuntime, text: &str) -> Option<()> {
     Some(())
 }
 
-/// A cell of a table, escaped: `TEXT`.
+/// Prints the text of a table cell, escaped for Markdown: `TEXT`.
 pub fn escape_cell(rt: &HostRuntime, text: &str) -> Option<()> {
     let mut cell = String::from_str(rt.alloc(), text).ok()?;
     match escape_table_cell_inplace(&mut cell) {
@@ -67,18 +68,19 @@ pub fn escape_cell(rt: &HostRuntime, text: &str) -> Option<()> {
     Some(())
 }
 
-/// A text, escaped as the value of an attribute: `TEXT`.
+/// Prints a text, escaped as the value of an attribute: `TEXT`.
 pub fn escape_value(rt: &HostRuntime, text: &str) {
     show_read(rt, "html_escape", html_escape(rt.alloc(), text));
 }
 
-/// How long the fence of a text is: `TEXT`.
+/// Prints the length of the fence that a code block with this text needs: `TEXT`.
 pub fn measure_fence(rt: &HostRuntime, text: &str) {
     show(rt, "fence_len 1", fence_len(text, 1));
     show(rt, "fence_len 3", fence_len(text, 3));
 }
 
-/// A list that is numbered from here on at this offset, and one with marks: `NUMBER OFFSET`.
+/// Prints an ordered list that begins with this number at this offset, and an unordered one:
+/// `NUMBER OFFSET`.
 pub fn number_list(rt: &HostRuntime, line: &str) -> Option<()> {
     let (number, offset) = cut(line);
     let opts = FormatOpts::new().offset(offset.parse::<usize>().ok()?);
@@ -97,14 +99,14 @@ fn show_list(rt: &HostRuntime, list: &ListContext) {
     show(rt, "list_indent_len", list.list_indent_len());
 }
 
-/// What a mark of emphasis stands for: `MARK`.
+/// Prints the emphasis of a mark: `MARK`.
 pub fn read_mark(rt: &HostRuntime, mark: &str) {
     let scope = EmphasisScope::from(mark);
     show(rt, "italic", scope.contains(EmphasisScope::ITALIC));
     show(rt, "bold", scope.contains(EmphasisScope::BOLD));
 }
 
-/// The tokens of a text: `TEXT`.
+/// Prints the tokens of a text: `TEXT`.
 pub fn cut_tokens(rt: &HostRuntime, text: &str) {
     for token in Tokens::new(text) {
         match token {
@@ -119,7 +121,7 @@ fn show_token(rt: &HostRuntime, token: &Token<'_>) -> Option<()> {
     println!(rt; "{kind:?} {start} {end}: {}", token.text).ok()
 }
 
-/// Options that are set one after the other, emphasis that is added, and marks of lists.
+/// Prints options that are set one after another, emphasis that is added, and the marks of lists.
 pub fn print_options(rt: &HostRuntime) {
     let plain = FormatOpts::new();
     let (bold, cell) = (

@@ -1,4 +1,4 @@
-//! Calls of `Tree` that change it: moves, new nodes, texts and copies.
+//! Calls of `Tree` that edit it: moves, new nodes, texts and copies.
 
 use crate::node_calls::edited;
 use dom_links::gap::Place;
@@ -11,7 +11,7 @@ use dom_trees::tree::Tree;
 use test_lines::printing::{show_edit, show_ids_read, show_read};
 use test_lines::words::{cut, node_of, nodes_of, words_of};
 
-/// A move: `CALL N M`, or `CALL N`.
+/// Makes a move: `CALL N M`, or `CALL N`.
 pub fn move_nodes(rt: &HostRuntime, tree: &mut Tree, line: &str) -> Option<()> {
     let (call, rest) = cut(line);
     let (word, behind) = cut(rest);
@@ -24,7 +24,7 @@ pub fn move_nodes(rt: &HostRuntime, tree: &mut Tree, line: &str) -> Option<()> {
     Some(())
 }
 
-/// Moves two nodes; None, where no call of two nodes has this name.
+/// Makes a move of two nodes. Returns `None` if there is no such call.
 fn moved(
     tree: &mut Tree,
     call: &str,
@@ -47,7 +47,7 @@ fn moved(
     })
 }
 
-/// Moves or joins nodes by a call that names one node; None, where none has this name.
+/// Makes an edit that takes one node. Returns `None` if there is no such call.
 fn cut_out(tree: &mut Tree, call: &str, id: &NodeId) -> Option<Result<(), EditFault>> {
     Some(match call {
         "remove_from_parent" => tree.remove_from_parent(id),
@@ -59,7 +59,7 @@ fn cut_out(tree: &mut Tree, call: &str, id: &NodeId) -> Option<Result<(), EditFa
     })
 }
 
-/// A call at a node that is lent: `N CALL WORDS`.
+/// Makes a call at a node, by a mutable borrow: `N CALL WORDS`.
 pub fn edit_node(rt: &HostRuntime, tree: &mut Tree, line: &str) -> Option<()> {
     let (_, rest) = cut(line);
     let (call, _) = cut(rest);
@@ -67,7 +67,7 @@ pub fn edit_node(rt: &HostRuntime, tree: &mut Tree, line: &str) -> Option<()> {
     Some(())
 }
 
-/// A new node: `CALL TEXT`.
+/// Makes a new node: `CALL TEXT`.
 pub fn make_node(rt: &HostRuntime, tree: &mut Tree, line: &str) -> Option<()> {
     let (call, text) = cut(line);
     let made = made(tree, call, text)?;
@@ -75,7 +75,7 @@ pub fn make_node(rt: &HostRuntime, tree: &mut Tree, line: &str) -> Option<()> {
     Some(())
 }
 
-/// Makes a node of that text; None, where no call that makes nodes has this name.
+/// Makes a node with this text. Returns `None` if there is no such call.
 fn made(tree: &mut Tree, call: &str, text: &str) -> Option<Result<NodeId, EditFault>> {
     Some(match call {
         "new_element" => tree.new_element(text),
@@ -90,7 +90,7 @@ fn made(tree: &mut Tree, call: &str, text: &str) -> Option<Result<NodeId, EditFa
     })
 }
 
-/// A change of a node: `CALL N TEXT`.
+/// Changes a node: `CALL N TEXT`.
 pub fn change_node(rt: &HostRuntime, tree: &mut Tree, line: &str) -> Option<()> {
     let (call, rest) = cut(line);
     let (word, text) = cut(rest);
@@ -108,13 +108,14 @@ pub fn change_node(rt: &HostRuntime, tree: &mut Tree, line: &str) -> Option<()> 
     Some(())
 }
 
-/// Puts other contents into a node.
+/// Replaces the contents of a node by an update.
 fn updated(tree: &mut Tree, id: &NodeId, text: &str) -> Option<Result<(), EditFault>> {
     let contents = Text::new(tree.allocator(), text).ok()?;
     Some(tree.update_node(id, move |edit: &mut NodeEdit| edit.contents = contents))
 }
 
-/// Copies: `CALL N,M`, or `CALL N,M K` for copies that go behind the children of node K.
+/// Copies nodes: `CALL N,M`; or copies them and appends the copies to the children of the node K:
+/// `CALL N,M K`.
 pub fn copy_nodes(rt: &HostRuntime, tree: &mut Tree, line: &str) -> Option<()> {
     let (call, rest) = cut(line);
     let (words, at) = cut(rest);
@@ -126,7 +127,8 @@ pub fn copy_nodes(rt: &HostRuntime, tree: &mut Tree, line: &str) -> Option<()> {
     Some(())
 }
 
-/// Puts copies of nodes of this tree, or of one that is the same, behind the children of another.
+/// Appends copies of nodes to the children of another node. They are nodes of this tree, or of a
+/// copy of it.
 fn put(tree: &mut Tree, call: &str, ids: &[NodeId], at: &NodeId) -> Option<Result<(), EditFault>> {
     if call == "copy_at" {
         return Some(tree.copy_at(at, Place::AtEnd, ids));
@@ -135,7 +137,7 @@ fn put(tree: &mut Tree, call: &str, ids: &[NodeId], at: &NodeId) -> Option<Resul
     Some(tree.merge_at(at, Place::AtEnd, &other, ids))
 }
 
-/// Copies nodes of this tree, or of one that is the same, which then stand alone.
+/// Copies nodes of this tree, or of a copy of it. The copies are detached.
 fn copied(tree: &mut Tree, call: &str, ids: &[NodeId]) -> Option<Result<Vec<NodeId>, EditFault>> {
     if call == "copy_nodes" {
         return Some(tree.copy_nodes(ids));

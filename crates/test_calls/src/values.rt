@@ -1,4 +1,4 @@
-//! What nodes hold: names, numbers, copies.
+//! What nodes are made of: names, ids, texts, and copies of them.
 
 use crate::apart::show_made;
 use dom_nodes::case_sensitivity::CaseSensitivity;
@@ -13,7 +13,7 @@ use test_lines::names::{local_of, namespace_of};
 use test_lines::printing::{show, show_flags, show_same, show_some};
 use test_lines::words::{cut, node_of};
 
-/// Copies of what each node holds, and which of them take no memory.
+/// Prints copies of the data of each node, and which of them need no memory.
 pub fn print_copies(rt: &HostRuntime, tree: &Tree) {
     for node in tree.nodes() {
         print_copy(rt, &node.content);
@@ -32,7 +32,7 @@ fn print_copy(rt: &HostRuntime, data: &NodeData) {
     show_flags(rt, &flags);
 }
 
-/// The prefix that a word spells, if it isn't empty.
+/// Returns the prefix, or `None` in `Some` for an empty word.
 fn prefix_of(alloc: Global, word: &str) -> Option<Option<RareText>> {
     if word.is_empty() {
         return Some(None);
@@ -40,8 +40,8 @@ fn prefix_of(alloc: Global, word: &str) -> Option<Option<RareText>> {
     Some(Some(RareText::new(alloc, word).ok()?))
 }
 
-/// The name that a word spells: `PREFIX,NAMESPACE:LOCAL`, where there may be no prefix; without a
-/// colon its namespace is `urn:x`.
+/// Returns the name that is written `PREFIX,NAMESPACE:LOCAL`. The prefix may be empty. Without a
+/// colon the namespace is `urn:x`.
 fn name_of(alloc: Global, word: &str) -> Option<QualName> {
     let (prefix, name) = word.split_once(',')?;
     let ns = match namespace_of(name) {
@@ -53,8 +53,8 @@ fn name_of(alloc: Global, word: &str) -> Option<QualName> {
     QualName::new(alloc, NameParts { prefix, ns, local }).ok()
 }
 
-/// What a name says, whether it is another, and what it says with the local name of that: `NAME
-/// NAME`.
+/// Prints a name, whether it is equal to another one, and the name with the local name of the
+/// other: `NAME NAME`.
 pub fn compare_names(rt: &HostRuntime, line: &str) -> Option<()> {
     let (first, second) = cut(line);
     let name = name_of(rt.alloc(), first)?;
@@ -77,7 +77,7 @@ fn show_names(rt: &HostRuntime, name: &QualName, other: &QualName) {
     show_same(rt, "the same as a copy", name, &name.try_clone());
 }
 
-/// The same of names that are lent.
+/// Prints the same about borrowed names.
 fn show_lent(rt: &HostRuntime, name: &NameRef<'_>, other: &NameRef<'_>) {
     show_some(rt, "lent prefix", name.prefix());
     show_some(rt, "lent number in HTML", name.html_number());
@@ -97,7 +97,7 @@ fn rename(rt: &HostRuntime, mut name: QualName, local: LocalName) -> Option<()> 
     println!(rt; "{name:?}").ok()
 }
 
-/// What numbers of nodes two words spell, and whether the first is below the second: `N M`.
+/// Prints two node ids, and whether the first is smaller: `N M`.
 pub fn compare_numbers(rt: &HostRuntime, line: &str) -> Option<()> {
     let (first, second) = cut(line);
     let (first, second) = (node_of(first), node_of(second));
@@ -106,7 +106,7 @@ pub fn compare_numbers(rt: &HostRuntime, line: &str) -> Option<()> {
     Some(())
 }
 
-/// What a name is in lower case, and whether another and it are the same: `NAME NAME`.
+/// Prints a name in lower case, and whether it is equal to another one: `NAME NAME`.
 pub fn compare_folded(rt: &HostRuntime, line: &str) -> Option<()> {
     let (word, second) = cut(line);
     let other = LocalName::new(rt.alloc(), second).ok()?;
@@ -134,8 +134,8 @@ fn show_folded(rt: &HostRuntime, name: &LocalName, other: &LocalName) {
     show_made(rt, "copy", name.try_clone());
 }
 
-/// Copies of the parts of a name, of an attribute of that name and of its value, which grows alone:
-/// `NAME VALUE`.
+/// Prints copies of the parts of a name, of an attribute with that name, and of its value with more
+/// text: `NAME VALUE`.
 pub fn copy_names(rt: &HostRuntime, line: &str) -> Option<()> {
     let (word, value) = cut(line);
     let parts = parts_of(rt.alloc(), word)?;
@@ -186,7 +186,7 @@ fn lengthened(text: &Text) -> Result<Text, OutOfMemory> {
     Ok(copy)
 }
 
-/// A text in a block, behind another one, with more added to it.
+/// Returns a text in a block, after another text, with more text appended.
 fn within(alloc: Global, text: &str) -> Result<Text, OutOfMemory> {
     let mut bytes = Vec::from_slice(alloc, b"x")?;
     bytes.extend_from_slice(text.as_bytes())?;
@@ -195,7 +195,8 @@ fn within(alloc: Global, text: &str) -> Result<Text, OutOfMemory> {
     lengthened(&part)
 }
 
-/// How large a node and an attribute are: nodes take most of the memory of a large page.
+/// Prints the sizes of a node and of an attribute in bytes. Nodes take most of the memory of a
+/// large page.
 pub fn print_sizes(rt: &HostRuntime) {
     show(rt, "TreeNode", size_of::<TreeNode>());
     show(rt, "Attr", size_of::<Attr>());

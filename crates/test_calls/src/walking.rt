@@ -1,4 +1,4 @@
-//! Lists of nodes, and calls of `Tree` that read nodes by their numbers.
+//! Lists of nodes, and calls of `Tree` that read nodes by their ids.
 
 use dom_links::ops::TreeNodeOps;
 use dom_nodes::node_id::NodeId;
@@ -8,7 +8,7 @@ use dom_trees::tree::Tree;
 use test_lines::printing::{show, show_ids_read, show_node, show_nodes_read, show_some};
 use test_lines::words::{node_of, nodes_of};
 
-/// The lists of nodes above and below a node, and beside it by number: `N`.
+/// Prints the lists of nodes above and below a node, and the nodes beside it: `N`.
 pub fn walk(rt: &HostRuntime, tree: &Tree, line: &str) -> Option<()> {
     let id = node_of(line)?;
     list(rt, &NodeRef::new(id, tree));
@@ -19,7 +19,7 @@ pub fn walk(rt: &HostRuntime, tree: &Tree, line: &str) -> Option<()> {
     Some(())
 }
 
-/// The children of nodes: `N,M`.
+/// Prints the children of nodes: `N,M`.
 pub fn list_children(rt: &HostRuntime, tree: &Tree, line: &str) -> Option<()> {
     for id in &nodes_of(rt.alloc(), line)? {
         show_ids_read(rt, "child_ids_of", tree.child_ids_of(id));
@@ -27,7 +27,7 @@ pub fn list_children(rt: &HostRuntime, tree: &Tree, line: &str) -> Option<()> {
     Some(())
 }
 
-/// Nodes by their numbers, and by references.
+/// Prints lists of nodes, as ids and as references.
 fn list(rt: &HostRuntime, node: &NodeRef<'_>) {
     let (id, tree) = (&node.id, node.tree);
     show_ids_read(rt, "child_ids_of", tree.child_ids_of(id));
@@ -43,7 +43,7 @@ fn list(rt: &HostRuntime, node: &NodeRef<'_>) {
     show_nodes_read(rt, "ancestors_of", tree.ancestors_of(id, None));
 }
 
-/// The nodes beside it.
+/// Prints the nodes beside a node.
 fn list_beside(rt: &HostRuntime, tree: &Tree, id: &NodeId) {
     show_node(rt, "parent_of", &tree.parent_of(id));
     show_node(rt, "first_child_of", &tree.first_child_of(id));
@@ -53,7 +53,7 @@ fn list_beside(rt: &HostRuntime, tree: &Tree, id: &NodeId) {
     show_node(rt, "last_sibling_of", &tree.last_sibling_of(id));
 }
 
-/// The first and the last child of a node, and how many nodes the walks from it give: `N`.
+/// Prints the first and the last child of a node, and the lengths of the walks from it: `N`.
 pub fn count(rt: &HostRuntime, tree: &Tree, line: &str) -> Option<()> {
     count_steps(rt, tree, &node_of(line)?);
     Some(())
@@ -77,7 +77,7 @@ fn count_reads(rt: &HostRuntime, tree: &Tree, id: &NodeId) {
     show(rt, "reads", walk.reads());
 }
 
-/// The nodes that the walks begin with.
+/// Prints the first nodes of the iterators.
 fn begin(rt: &HostRuntime, node: &NodeRef<'_>) {
     show_node(rt, "children_it", &node.children_it(false).next());
     let last = node.children_it(true).next();
@@ -86,7 +86,7 @@ fn begin(rt: &HostRuntime, node: &NodeRef<'_>) {
     show_node(rt, "descendants_it", &node.descendants_it().next());
 }
 
-/// What the tree answers of the node.
+/// Prints what the tree answers about the node.
 fn ask(rt: &HostRuntime, tree: &Tree, id: &NodeId) {
     let root = tree.root_id();
     show_some(rt, "query_node", tree.query_node(id, |node| node.is_text()));

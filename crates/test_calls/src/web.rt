@@ -1,4 +1,4 @@
-//! Pages of the web: what texts are read as, and their tokens.
+//! Pages of the web: the trees that texts are parsed to, and their tokens.
 
 use dom_html5::{
     Context, Options, PageFault, make_page, parse_page, parse_page_bytes, parse_page_fragment,
@@ -9,14 +9,15 @@ use html5_tokens::token::{TagKind, Token};
 use html5_tokens::tokenizer::{Step, Tokenizer};
 use test_lines::printing::{show, show_edit, show_read};
 
-/// With errors noted tags are read character by character, and calm pages by tree construction.
+/// Options that store parse errors. They turn off two quick ways: tags are read character by
+/// character, and simple pages are built by the full tree construction too.
 const NOTING: Options = Options {
     scripting: false,
     max_depth: None,
     errors: true,
 };
 
-/// Prints the HTML of a page that is read, or why it isn't.
+/// Prints the HTML of a page, or the fault.
 fn show_page(rt: &HostRuntime, what: &str, page: Result<Document, PageFault>) {
     match page {
         Ok(page) => show_read(rt, what, page.html()),
@@ -24,7 +25,7 @@ fn show_page(rt: &HostRuntime, what: &str, page: Result<Document, PageFault>) {
     }
 }
 
-/// What a text is read as by each call that reads it whole: `TEXT`.
+/// Prints what a text is parsed to, by each call that parses it whole: `TEXT`.
 pub fn read(rt: &HostRuntime, text: &str) {
     let (alloc, plain) = (rt.alloc(), Options::default());
     show_page(rt, "parse_page", parse_page(alloc, text, plain));
@@ -33,7 +34,7 @@ pub fn read(rt: &HostRuntime, text: &str) {
     show_page(rt, "parse_page_bytes", page);
 }
 
-/// What a text is read as that stands in a row of a table: `TEXT`.
+/// Prints what a text is parsed to as the contents of a table row: `TEXT`.
 pub fn read_row(rt: &HostRuntime, text: &str) {
     let row = parse_page_fragment(rt.alloc(), text, Context::Html("tr"), Options::default());
     show_page(rt, "parse_page_fragment", row);
@@ -44,7 +45,7 @@ pub fn shape(rt: &HostRuntime, tree: &mut Tree) {
     show_edit(rt, "make_page", make_page(tree));
 }
 
-/// The kind of a token, and its name or text.
+/// Returns the kind of a token, and its name or text.
 fn parts(token: &Token) -> (&str, &str) {
     match token {
         Token::Tag(tag) => match tag.kind {
@@ -59,7 +60,7 @@ fn parts(token: &Token) -> (&str, &str) {
     }
 }
 
-/// Prints the token that ends a stretch of text.
+/// Prints the token that ends a piece of text.
 fn show_token(rt: &HostRuntime, token: &Token) {
     let (kind, text) = parts(token);
     println!(rt; "{kind}: {text}").ok();
@@ -73,8 +74,8 @@ fn show_step(rt: &HostRuntime, what: &str, step: Step) {
     }
 }
 
-/// The token that ends each stretch up to a `>`, the text that is left, and the token at the end:
-/// `TEXT`.
+/// Prints the token that ends each piece up to a `>`, the text that is left, and the token at the
+/// end: `TEXT`.
 pub fn cut_stretches(rt: &HostRuntime, text: &str) {
     let mut tokens = Tokenizer::new(rt.alloc());
     for stretch in text.split_inclusive('>') {
@@ -85,7 +86,7 @@ pub fn cut_stretches(rt: &HostRuntime, text: &str) {
     first_token(rt, text);
 }
 
-/// The first token, and what follows it.
+/// Prints the first token, and what follows it.
 fn first_token(rt: &HostRuntime, text: &str) {
     let mut tokens = Tokenizer::new(rt.alloc());
     let mut token = None;

@@ -1,5 +1,5 @@
-//! Lines that programs are asked at a shell: their words, names and attributes in them, and what is
-//! printed of answers.
+//! Help for the test programs: splitting the lines that they are given into words, reading names
+//! and attributes in them, and printing answers.
 #![tactic(auto)]
 
 pub mod names;

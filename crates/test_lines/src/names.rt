@@ -1,11 +1,11 @@
-//! Names and attributes that the words of a line spell.
+//! Names and attributes in the words of a line.
 
 use dom_nodes::name::{Attr, LocalName, NameParts, Namespace, QualName};
 use dom_nodes::node_data::Attrs;
 use dom_nodes::text::Text;
 use std::alloc::Global;
 
-/// The namespace that is written before a colon, if there is one.
+/// Returns the namespace that is written before a colon, or `None` if there is no such word.
 pub fn namespace_of(written: &str) -> Option<Namespace> {
     let (prefix, _) = written.split_once(':')?;
     Some(match prefix {
@@ -20,7 +20,7 @@ pub fn namespace_of(written: &str) -> Option<Namespace> {
     })
 }
 
-/// What is written behind the colon, or all of it.
+/// Returns what is written after the colon, or everything if there is no colon.
 pub fn local_of(written: &str) -> &str {
     match written.split_once(':') {
         Some((_, local)) => local,
@@ -28,8 +28,8 @@ pub fn local_of(written: &str) -> &str {
     }
 }
 
-/// The name that is written `NAMESPACE:LOCAL`, or `LOCAL` alone for one in the namespace that is
-/// given.
+/// Returns the name that is written `NAMESPACE:LOCAL`, or `LOCAL` alone for a name in the namespace
+/// `ns`.
 pub fn name_of(alloc: Global, written: &str, ns: Namespace) -> Option<QualName> {
     let ns = namespace_of(written).unwrap_or(ns);
     let local = LocalName::new(alloc, local_of(written)).ok()?;
@@ -37,7 +37,7 @@ pub fn name_of(alloc: Global, written: &str, ns: Namespace) -> Option<QualName> 
     QualName::new(alloc, NameParts { prefix, ns, local }).ok()
 }
 
-/// The attributes that are written `name=value name=value`.
+/// Returns the attributes that are written `name=value name=value`.
 pub fn attributes(alloc: Global, written: &str) -> Option<Attrs> {
     let mut attrs = Attrs::new(alloc);
     for attr in written.split(' ') {

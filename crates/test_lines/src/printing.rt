@@ -1,5 +1,5 @@
-//! What calls answer, one answer to a line. A line that can't be printed is missing in the output,
-//! which is compared.
+//! Printing answers, one to a line. Errors of printing are ignored: a missing line shows when the
+//! output is compared.
 
 use dom_nodes::fault::OutOfMemory;
 use dom_nodes::node_id::NodeId;
@@ -7,19 +7,19 @@ use dom_trees::node_ref::NodeRef;
 use dom_trees::tree::Tree;
 use std::fmt::Display;
 
-/// Prints a value.
+/// Prints a value after what it is.
 pub fn show<D: Display + Drop>(rt: &HostRuntime, what: &str, value: D) {
     println!(rt; "{what}: {value}").ok();
 }
 
-/// Prints what holds and what doesn't.
+/// Prints flags, one to a line.
 pub fn show_flags(rt: &HostRuntime, flags: &[(&str, bool)]) {
     for (what, flag) in flags {
         show(rt, what, *flag);
     }
 }
 
-/// Prints a value, or `-` where there is none.
+/// Prints a value, or `-` if there is none.
 pub fn show_some<D: Display + Drop>(rt: &HostRuntime, what: &str, value: Option<D>) {
     match value {
         Some(value) => show(rt, what, value),
@@ -27,7 +27,7 @@ pub fn show_some<D: Display + Drop>(rt: &HostRuntime, what: &str, value: Option<
     }
 }
 
-/// Prints a value that is read, or the fault in its place.
+/// Prints the value of a result, or the fault.
 pub fn show_read<D: Display + Drop, F: Display + Drop>(
     rt: &HostRuntime,
     what: &str,
@@ -39,7 +39,7 @@ pub fn show_read<D: Display + Drop, F: Display + Drop>(
     }
 }
 
-/// Prints a value that is read, `-` where there is none, or the fault.
+/// Prints the value of a result, `-` if there is none, or the fault.
 pub fn show_some_read<D: Display + Drop, F: Display + Drop>(
     rt: &HostRuntime,
     what: &str,
@@ -51,7 +51,7 @@ pub fn show_some_read<D: Display + Drop, F: Display + Drop>(
     }
 }
 
-/// Prints that an edit is done, or why it is refused.
+/// Prints `done` for an edit that succeeded, or the fault.
 pub fn show_edit<F: Display + Drop>(rt: &HostRuntime, what: &str, edit: Result<(), F>) {
     match edit {
         Ok(()) => show(rt, what, "done"),
@@ -59,7 +59,7 @@ pub fn show_edit<F: Display + Drop>(rt: &HostRuntime, what: &str, edit: Result<(
     }
 }
 
-/// Prints the number of a node, or `-` where there is none.
+/// Prints the id of a node, or `-` if there is none.
 pub fn show_node(rt: &HostRuntime, what: &str, found: &Option<NodeRef<'_>>) {
     match found {
         Some(node) => show(rt, what, node.id.value()),
@@ -67,12 +67,12 @@ pub fn show_node(rt: &HostRuntime, what: &str, found: &Option<NodeRef<'_>>) {
     }
 }
 
-/// Begins a line of numbers.
+/// Begins a line of ids.
 pub fn begin(rt: &HostRuntime, what: &str) {
     print!(rt; "{what}:").ok();
 }
 
-/// Prints the next number of the line.
+/// Prints the next id of the line.
 pub fn show_next(rt: &HostRuntime, id: NodeId) {
     let value = id.value();
     print!(rt; " {value}").ok();
@@ -83,7 +83,7 @@ pub fn end(rt: &HostRuntime) {
     println!(rt; "").ok();
 }
 
-/// Prints the numbers of nodes.
+/// Prints the ids in one line.
 pub fn show_ids(rt: &HostRuntime, what: &str, ids: &[NodeId]) {
     begin(rt, what);
     for id in ids {
@@ -92,7 +92,7 @@ pub fn show_ids(rt: &HostRuntime, what: &str, ids: &[NodeId]) {
     end(rt);
 }
 
-/// Prints the numbers of nodes.
+/// Prints the ids of the nodes in one line.
 pub fn show_nodes(rt: &HostRuntime, what: &str, nodes: &[NodeRef<'_>]) {
     begin(rt, what);
     for node in nodes {
@@ -101,7 +101,7 @@ pub fn show_nodes(rt: &HostRuntime, what: &str, nodes: &[NodeRef<'_>]) {
     end(rt);
 }
 
-/// Prints the numbers of nodes that are read, or the fault in their place.
+/// Prints the ids of a result in one line, or the fault.
 pub fn show_ids_read<F: Display + Drop>(rt: &HostRuntime, what: &str, ids: Result<Vec<NodeId>, F>) {
     match ids {
         Ok(ids) => show_ids(rt, what, &ids),
@@ -109,7 +109,7 @@ pub fn show_ids_read<F: Display + Drop>(rt: &HostRuntime, what: &str, ids: Resul
     }
 }
 
-/// The same of nodes.
+/// Prints the ids of the nodes of a result in one line, or the fault.
 pub fn show_nodes_read<F: Display + Drop>(
     rt: &HostRuntime,
     what: &str,
@@ -121,7 +121,7 @@ pub fn show_nodes_read<F: Display + Drop>(
     }
 }
 
-/// Whether a copy is the same as a value.
+/// Prints whether a copy is equal to the value, or the fault.
 pub fn show_same<T: PartialEq>(
     rt: &HostRuntime,
     what: &str,
@@ -134,7 +134,7 @@ pub fn show_same<T: PartialEq>(
     }
 }
 
-/// Prints all that a document holds: the nodes of its tree, and the errors that were noted.
+/// Prints everything in a document: the nodes of its tree, and its list of parse errors.
 pub fn print_state(rt: &HostRuntime, tree: &Tree, errors: &[String]) {
     let nodes = tree.nodes();
     println!(rt; "{nodes:?} {errors:?}").ok();

@@ -1,22 +1,22 @@
-//! The words of the command line and of a line, and what standard input has.
+//! Words of the command line and of lines of input, and standard input.
 
 use dom_nodes::node_id::NodeId;
 use std::alloc::Global;
 use std::env;
 use std::io::Read;
 
-/// The words that the program is given.
+/// Returns the arguments of the program.
 pub fn arguments(rt: &HostRuntime) -> Option<Vec<String>> {
     let words = env::args(rt).ok()?.skip(1);
     words.collect::<Vec<String>>(rt.alloc()).ok()
 }
 
-/// The first word of a line, and what stands behind it.
+/// Returns the first word of a line, and what comes after it and one space.
 pub fn cut(line: &str) -> (&str, &str) {
     line.split_once(' ').unwrap_or((line, ""))
 }
 
-/// What stands beside a name in a table.
+/// Returns the value of a name in a table, or `None` if the name isn't in it.
 pub fn named<T: Copy + Drop>(table: &[(&str, T)], name: &str) -> Option<T> {
     for (each, value) in table {
         if *each == name {
@@ -26,12 +26,12 @@ pub fn named<T: Copy + Drop>(table: &[(&str, T)], name: &str) -> Option<T> {
     None
 }
 
-/// The node of the number that a word spells.
+/// Returns the node id that is written in a word, in decimal digits.
 pub fn node_of(word: &str) -> Option<NodeId> {
     NodeId::new(word.parse::<usize>().ok()?)
 }
 
-/// The nodes of the numbers that a word spells with commas between them.
+/// Returns the node ids that are written in a word, in decimal digits, separated by commas.
 pub fn nodes_of(alloc: Global, word: &str) -> Option<Vec<NodeId>> {
     let mut ids = Vec::new(alloc);
     for number in word.split(',') {
@@ -42,7 +42,7 @@ pub fn nodes_of(alloc: Global, word: &str) -> Option<Vec<NodeId>> {
     Some(ids)
 }
 
-/// The words of a line, with spaces between them.
+/// Returns the words of a line, which spaces separate.
 pub fn words_of(alloc: Global, line: &str) -> Option<Vec<&str>> {
     let mut words = Vec::new(alloc);
     for word in line.split(' ') {
@@ -53,7 +53,7 @@ pub fn words_of(alloc: Global, line: &str) -> Option<Vec<&str>> {
     Some(words)
 }
 
-/// What standard input has.
+/// Returns everything from standard input.
 pub fn input(rt: &HostRuntime) -> Option<String> {
     let mut text = String::new(rt.alloc());
     rt.stdin().read_to_string(&mut text).ok()?;

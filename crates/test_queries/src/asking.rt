@@ -1,4 +1,4 @@
-//! What `NodeSelect` answers of a node.
+//! Questions about single nodes that `NodeSelect` answers.
 
 use dom_nodes::case_sensitivity::CaseSensitivity;
 use dom_nodes::name::Namespace;
@@ -10,7 +10,7 @@ use dom_trees::tree::Tree;
 use test_lines::printing::show;
 use test_lines::words::{cut, node_of};
 
-/// What a node is: `N`.
+/// Prints which kinds the node is of: `N`.
 pub fn show_kinds(rt: &HostRuntime, tree: &Tree, line: &str) -> Option<()> {
     let node = NodeRef::new(node_of(line)?, tree);
     show(rt, "is_root", NodeSelect::is_root(&node));
@@ -27,8 +27,8 @@ fn is_html(node: &NodeRef<'_>) -> bool {
     node.has_namespace(&Namespace::Html)
 }
 
-/// What it has of a name, an id and a text, and whether it is of the type of the first node: `N
-/// NAME ID TEXT`.
+/// Prints whether the node has a name, an id and a text, and whether it has the same element type
+/// as the first child of the root: `N NAME ID TEXT`.
 pub fn show_named(rt: &HostRuntime, tree: &Tree, line: &str) -> Option<()> {
     let (word, words) = cut(line);
     let (name, rest) = cut(words);
@@ -59,7 +59,7 @@ fn show_id(rt: &HostRuntime, node: &NodeRef<'_>, word: &str) -> Option<()> {
     Some(())
 }
 
-/// What it answers to pseudo-classes: `N`.
+/// Prints which of four pseudo-classes match the node: `N`.
 pub fn show_pseudos(rt: &HostRuntime, tree: &Tree, line: &str) -> Option<()> {
     let node = NodeRef::new(node_of(line)?, tree);
     for (name, pseudo) in &[

@@ -1,5 +1,5 @@
-//! What is found and counted on the way to a selection: children by a test, matches below several
-//! nodes, indexes in caches, and tests of compounds.
+//! The steps of a selection: children found by a test, matches below several nodes, indexes in
+//! caches, and the number of tests of compound selectors.
 
 use crate::selecting::{matcher_of, show_each};
 use dom_index::selecting::select_counted;
@@ -19,8 +19,9 @@ use dom_trees::tree::Tree;
 use test_lines::printing::{begin, end, show, show_next, show_nodes, show_read, show_some};
 use test_lines::words::{cut, node_of, nodes_of};
 
-/// The first child of a node that is an element without children, and that of a name: `N NAME`; and
-/// whether the node is an element of that name itself, and empty.
+/// Prints the node's first child that is an element without children, and its first child element
+/// with a name; then whether the node is empty, and whether it is itself an element with that name:
+/// `N NAME`.
 pub fn find_child(rt: &HostRuntime, tree: &Tree, line: &str) -> Option<()> {
     let (word, name) = cut(line);
     let (id, nodes) = (node_of(word)?, tree.nodes());
@@ -40,7 +41,7 @@ pub fn find_child(rt: &HostRuntime, tree: &Tree, line: &str) -> Option<()> {
     Some(())
 }
 
-/// What a selector selects below nodes, by each call that gives it one by one: `N,M SELECTOR`.
+/// Prints what a selector selects below nodes, by each of the iterators: `N,M SELECTOR`.
 pub fn match_several(rt: &HostRuntime, tree: &Tree, line: &str) -> Option<()> {
     let (numbers, text) = cut(line);
     let ids = nodes_of(rt.alloc(), numbers)?;
@@ -89,7 +90,8 @@ fn list(rt: &HostRuntime, what: &str, matches: Matches<'_, '_, '_>) {
     end(rt);
 }
 
-/// The indexes of a node that caches give, and how many they give again: `N`.
+/// Prints the node's indexes among its siblings as the caches return them, and how many of them
+/// came from a cache: `N`.
 pub fn index(rt: &HostRuntime, tree: &Tree, line: &str) -> Option<()> {
     let id = node_of(line)?;
     let mut caches = SelectorCaches::new(tree);
@@ -108,7 +110,8 @@ pub fn index(rt: &HostRuntime, tree: &Tree, line: &str) -> Option<()> {
     Some(())
 }
 
-/// How many nodes below the root are selected, and how many tests that adds to 100: `SELECTOR`.
+/// Prints how many nodes below the root are selected, and the number of tests, counted from 100 on:
+/// `SELECTOR`.
 pub fn count_tests(rt: &HostRuntime, tree: &Tree, line: &str) {
     if let Some(matcher) = matcher_of(rt, line) {
         let mut tests = 100;

@@ -1,4 +1,4 @@
-//! What is written in CSS.
+//! Output of selectors and values as CSS, and for debugging.
 
 use crate::selecting::matcher_of;
 use dom_nodes::fault::OutOfMemory;
@@ -8,7 +8,7 @@ use dom_selectors::mini_selector::selector::MiniSelector;
 use dom_selectors::pseudo_class::{NonTSPseudoClass, PseudoElement};
 use test_lines::printing::{show, show_same};
 
-/// Prints what is written of a value.
+/// Prints a value as CSS.
 fn show_css<C: ToCss>(rt: &HostRuntime, what: &str, value: &C) {
     let mut css = String::new(rt.alloc());
     match value.to_css(&mut css) {
@@ -17,7 +17,7 @@ fn show_css<C: ToCss>(rt: &HostRuntime, what: &str, value: &C) {
     }
 }
 
-/// Prints what is written of a copy.
+/// Prints a copy of a value as CSS.
 fn show_copy<C: ToCss + Drop>(rt: &HostRuntime, what: &str, copy: Result<C, OutOfMemory>) {
     match copy {
         Ok(copy) => show_css(rt, what, &copy),
@@ -25,7 +25,7 @@ fn show_copy<C: ToCss + Drop>(rt: &HostRuntime, what: &str, copy: Result<C, OutO
     }
 }
 
-/// What is written of a copy of each selector of a list: `SELECTOR`.
+/// Prints a copy of each selector in a list as CSS: `SELECTOR`.
 pub fn write_selectors(rt: &HostRuntime, line: &str) {
     if let Some(matcher) = matcher_of(rt, line) {
         write_copy(rt, &matcher);
@@ -45,8 +45,8 @@ fn write_each(rt: &HostRuntime, selectors: &[InnerSelector]) {
     }
 }
 
-/// What is printed for a programmer of a list, and whether a copy of its first selector is the same
-/// as its first and as its last: `SELECTOR`.
+/// Prints the debug output of a selector list, and whether its first and last selectors equal a
+/// copy of the first one: `SELECTOR`.
 pub fn print_selector(rt: &HostRuntime, line: &str) {
     if let Some(matcher) = matcher_of(rt, line) {
         print_matcher(rt, &matcher);
@@ -63,8 +63,8 @@ fn print_matcher(rt: &HostRuntime, matcher: &Matcher) {
     }
 }
 
-/// What is printed for a programmer of a text as a string, a name, a mini selector and in a
-/// pseudo-class, of which copies are the same: `TEXT`.
+/// Prints the debug output of a text as a string, as a name, in a pseudo-class and as a mini
+/// selector, and whether copies of the first three are equal to them: `TEXT`.
 pub fn print_values(rt: &HostRuntime, text: &str) -> Option<()> {
     let string = CssString::new(rt.alloc(), text).ok()?;
     print_names(rt, &string, &CssLocalName::new(rt.alloc(), text).ok()?);
@@ -87,7 +87,7 @@ fn print_pseudo(rt: &HostRuntime, pseudo: &NonTSPseudoClass) {
     show(rt, "another", *pseudo == NonTSPseudoClass::OnlyText);
 }
 
-/// What is written of copies of a text as a string, a name and in a pseudo-class: `TEXT`.
+/// Prints copies of a text as CSS: as a string, in a pseudo-class and as a name: `TEXT`.
 pub fn write_values(rt: &HostRuntime, text: &str) -> Option<()> {
     write_string(rt, &CssString::new(rt.alloc(), text).ok()?)?;
     let name = CssLocalName::new(rt.alloc(), text).ok()?;

@@ -1,5 +1,5 @@
-//! Edits of the document that is then asked: elements that no markup spells, and nodes whose
-//! numbers stand in another order than they do.
+//! Edits of the document before it is asked. They make elements that no markup reads as, and nodes
+//! whose ids are not in document order.
 
 use dom_markup::document::Document;
 use dom_markup::document::sink::{ElementFlags, TreeSink};
@@ -15,7 +15,7 @@ const PLAIN: ElementFlags = ElementFlags {
     mathml_annotation_xml_integration_point: false,
 };
 
-/// A move: `prepend_child_of N M`, or `remove_from_parent N`.
+/// Moves a node: `prepend_child_of N M`, or `remove_from_parent N`.
 pub fn move_node(rt: &HostRuntime, tree: &mut Tree, line: &str) -> Option<()> {
     let (call, words) = cut(line);
     let (word, other) = cut(words);
@@ -29,7 +29,7 @@ pub fn move_node(rt: &HostRuntime, tree: &mut Tree, line: &str) -> Option<()> {
     Some(())
 }
 
-/// Makes an element with these attributes, which stands alone: `create_element NAME ATTRIBUTES`.
+/// Creates a detached element with these attributes: `create_element NAME ATTRIBUTES`.
 pub fn make_element(rt: &HostRuntime, document: &mut Document, line: &str) -> Option<()> {
     let alloc = document.tree.allocator();
     let (name, attrs) = cut(line.strip_prefix("create_element ")?);

@@ -7,7 +7,7 @@ use dom_trees::tree::Tree;
 use test_lines::printing::{begin, end, show, show_next, show_some};
 use test_lines::words::{cut, node_of};
 
-/// What an index answers of two nodes: `N M`.
+/// Prints what an index answers about two nodes: `N M`.
 pub fn ask(rt: &HostRuntime, tree: &Tree, line: &str) -> Option<()> {
     let (first, second) = cut(line);
     let (id, other) = (node_of(first)?, node_of(second)?);
@@ -26,7 +26,7 @@ fn ask_index(rt: &HostRuntime, index: &mut TreeIndex<'_>, id: &NodeId, other: &N
     count(rt, index, id);
 }
 
-/// The nodes below one.
+/// Prints the descendants of a node.
 fn list(rt: &HostRuntime, index: &TreeIndex<'_>, id: &NodeId) {
     begin(rt, "descendants");
     for below in index.descendants(id) {
@@ -35,7 +35,7 @@ fn list(rt: &HostRuntime, index: &TreeIndex<'_>, id: &NodeId) {
     end(rt);
 }
 
-/// The indexes of a node among its siblings.
+/// Prints the indexes of a node among its siblings.
 fn count(rt: &HostRuntime, index: &mut TreeIndex<'_>, id: &NodeId) {
     for (name, kind) in &[
         ("child", IndexKind::Child),
@@ -47,7 +47,7 @@ fn count(rt: &HostRuntime, index: &mut TreeIndex<'_>, id: &NodeId) {
     }
 }
 
-/// The position of each node.
+/// Prints the position of each node in document order.
 pub fn show_places(rt: &HostRuntime, tree: &Tree) {
     match TreeIndex::new(tree) {
         Ok(index) => list_places(rt, &index, tree.len()),

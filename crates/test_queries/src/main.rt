@@ -1,6 +1,6 @@
-//! Selectors, indexes and selections, asked at a shell. `test_queries LINE ..` reads the markup on
-//! standard input, asks each line of the document, in order, and prints what each answers: the rows
-//! of tests/rows/test_queries.
+//! A program that tests selectors, indexes and selections. `test_queries LINE ..` reads markup from
+//! standard input, makes the call in each line on the document, in order, and prints the results.
+//! The calls and their expected output are in the rows of tests/rows/test_queries.
 #![tactic(auto)]
 
 mod asking;
@@ -18,7 +18,7 @@ use std::process::ExitCode;
 use test_lines::printing::print_state;
 use test_lines::words::{arguments, cut, input};
 
-/// Makes a call that changes the document.
+/// Makes a call that changes the document, or passes other calls on.
 fn change(rt: &HostRuntime, document: &mut Document, group: &str, line: &str) -> Option<()> {
     match group {
         "move" => edits::move_node(rt, &mut document.tree, line),
@@ -27,7 +27,7 @@ fn change(rt: &HostRuntime, document: &mut Document, group: &str, line: &str) ->
     }
 }
 
-/// Makes a call that reads the document.
+/// Makes a call that reads the document, or passes other calls on.
 fn read(rt: &HostRuntime, document: &Document, group: &str, line: &str) -> Option<()> {
     match group {
         "state" => print_state(rt, &document.tree, &document.errors),
@@ -47,7 +47,7 @@ fn read(rt: &HostRuntime, document: &Document, group: &str, line: &str) -> Optio
     Some(())
 }
 
-/// Makes a call that asks nodes.
+/// Makes a call that asks about nodes, or passes other calls on.
 fn ask(rt: &HostRuntime, tree: &Tree, group: &str, line: &str) -> Option<()> {
     match group {
         "select-below" => selecting::select_below_several(rt, tree, line),
@@ -67,7 +67,7 @@ fn ask(rt: &HostRuntime, tree: &Tree, group: &str, line: &str) -> Option<()> {
     }
 }
 
-/// Makes a call of a text alone.
+/// Makes a call that needs only a text; returns `None` for an unknown call.
 fn write(rt: &HostRuntime, group: &str, line: &str) -> Option<()> {
     match group {
         "fault-of" => selecting::show_fault(rt, line),
@@ -82,7 +82,7 @@ fn write(rt: &HostRuntime, group: &str, line: &str) -> Option<()> {
     Some(())
 }
 
-/// Asks each line of the markup that standard input has.
+/// Makes the call in each line on the document that is read from standard input.
 fn ask_all(rt: &HostRuntime, lines: &[String]) -> Option<()> {
     let markup = input(rt)?;
     let mut document = Document::parse(rt.alloc(), markup.as_str()).ok()?;

@@ -1,4 +1,4 @@
-//! Mini selectors and paths of them.
+//! Mini selectors, and paths of them.
 
 use dom_markup::document::Document;
 use dom_mini::mini_selector::extension::MiniSelect;
@@ -13,8 +13,8 @@ use dom_trees::tree::Tree;
 use test_lines::printing::{show, show_ids_read, show_nodes_read, show_read, show_some};
 use test_lines::words::{cut, node_of, words_of};
 
-/// Follows a path, and prints the id of each node that it finds, in order, or `-` where a node has
-/// none: `PATH`.
+/// Follows a path, and prints the `id` attribute of each node that it finds, in order, or `-` for a
+/// node without one: `PATH`.
 pub fn follow(rt: &HostRuntime, document: &Document, line: &str) {
     match document.root().try_find_descendants(line) {
         Ok(found) => show_each(rt, &found),
@@ -33,7 +33,7 @@ fn show_fault(rt: &HostRuntime, fault: MiniFault) {
     println!(rt; "{fault:?}").ok();
 }
 
-/// What a mini selector says, and what is left of the text: `TEXT`.
+/// Prints the parts of a mini selector and the remaining text: `TEXT`.
 pub fn read(rt: &HostRuntime, line: &str) {
     match parse_mini_selector(rt.alloc(), line) {
         Ok((rest, mini)) => {
@@ -59,7 +59,7 @@ fn show_parts(rt: &HostRuntime, mini: &MiniSelector<'_>) {
     println!(rt; "combinator: {lead:?}").ok();
 }
 
-/// How many steps a path has, and what is left of the text: `TEXT`.
+/// Prints how many steps a path has, and the remaining text: `TEXT`.
 pub fn read_list(rt: &HostRuntime, line: &str) {
     match parse_selector_list(rt.alloc(), line) {
         Ok((rest, list)) => {
@@ -70,7 +70,7 @@ pub fn read_list(rt: &HostRuntime, line: &str) {
     }
 }
 
-/// What a path finds below a node: `N PATH`.
+/// Prints what a path finds below a node: `N PATH`.
 pub fn find(rt: &HostRuntime, tree: &Tree, line: &str) -> Option<()> {
     let (word, path) = cut(line);
     let node = NodeRef::new(node_of(word)?, tree);
@@ -79,7 +79,7 @@ pub fn find(rt: &HostRuntime, tree: &Tree, line: &str) -> Option<()> {
     Some(())
 }
 
-/// What names, each of a step, find below a node: `N NAME NAME`.
+/// Prints what a path of names, one for each step, finds below a node: `N NAME NAME`.
 pub fn find_names(rt: &HostRuntime, tree: &Tree, line: &str) -> Option<()> {
     let (word, words) = cut(line);
     let id = node_of(word)?;
@@ -96,7 +96,7 @@ fn find_steps(rt: &HostRuntime, tree: &Tree, id: NodeId, names: &[&str]) {
     show_ids_read(rt, "find_descendant_elements", all);
 }
 
-/// Whether a text is a mini selector that means a node: `N TEXT`.
+/// Prints whether a text is a mini selector that matches a node: `N TEXT`.
 pub fn is_meant(rt: &HostRuntime, tree: &Tree, line: &str) -> Option<()> {
     let (word, text) = cut(line);
     show_read(
@@ -107,7 +107,7 @@ pub fn is_meant(rt: &HostRuntime, tree: &Tree, line: &str) -> Option<()> {
     Some(())
 }
 
-/// Whether a mini selector means a node: `N TEXT`.
+/// Prints whether a mini selector, which is parsed first, matches a node: `N TEXT`.
 pub fn ask(rt: &HostRuntime, tree: &Tree, line: &str) -> Option<()> {
     let (word, text) = cut(line);
     let node = NodeRef::new(node_of(word)?, tree);

@@ -1,4 +1,4 @@
-//! Selectors: what they select in a document, and what nodes answer to them.
+//! Selectors: what they select in a document, and which nodes they match.
 
 use dom_index::index::TreeIndex;
 use dom_index::selecting::select_nodes;
@@ -18,7 +18,7 @@ use test_lines::printing::{
 };
 use test_lines::words::{cut, node_of, nodes_of};
 
-/// The matcher of a text; where it is no selector, why is printed.
+/// Returns the matcher of a selector text; if it cannot be parsed, prints why and returns `None`.
 pub fn matcher_of(rt: &HostRuntime, text: &str) -> Option<Matcher> {
     match Matcher::new(rt.alloc(), text) {
         Ok(matcher) => Some(matcher),
@@ -29,7 +29,8 @@ pub fn matcher_of(rt: &HostRuntime, text: &str) -> Option<Matcher> {
     }
 }
 
-/// What a selector selects below the root, by each call: `SELECTOR`; or why it is none.
+/// Prints what a selector selects below the root, by each of the calls, or why the text is not a
+/// selector: `SELECTOR`.
 pub fn select(rt: &HostRuntime, document: &Document, line: &str) {
     if let Some(matcher) = matcher_of(rt, line) {
         select_by_each(rt, &document.tree, &matcher);
@@ -48,7 +49,7 @@ fn select_by_each(rt: &HostRuntime, tree: &Tree, matcher: &Matcher) {
     }
 }
 
-/// What a walk below the root selects, one by one.
+/// Prints what a walk below the root selects, one node after another.
 fn walk_below_root(rt: &HostRuntime, tree: &Tree, matcher: &Matcher) {
     begin(rt, "DescendantMatches");
     for node in DescendantMatches::new(tree.root(), matcher) {
@@ -57,7 +58,7 @@ fn walk_below_root(rt: &HostRuntime, tree: &Tree, matcher: &Matcher) {
     end(rt);
 }
 
-/// What walks below nodes select, one by one.
+/// Prints the nodes of an iterator over matches, one after another.
 pub fn show_each(rt: &HostRuntime, what: &str, matches: MatcherIter<'_, '_, '_>) {
     begin(rt, what);
     for node in matches {
@@ -66,7 +67,8 @@ pub fn show_each(rt: &HostRuntime, what: &str, matches: MatcherIter<'_, '_, '_>)
     end(rt);
 }
 
-/// What is selected below roots, by asking each node, by the structure of the list, and by tables.
+/// Prints what is selected below roots by each strategy: by testing each node, as the structure of
+/// the list suggests, and with tables.
 fn list_below(rt: &HostRuntime, tree: &Tree, roots: &[NodeId], matcher: &Matcher) {
     let found = select_below_all(tree, roots, matcher);
     show_ids_read(rt, "select_below_all", found);
@@ -81,7 +83,7 @@ fn list_below(rt: &HostRuntime, tree: &Tree, roots: &[NodeId], matcher: &Matcher
     }
 }
 
-/// What is selected below several roots: `N,M SELECTOR`.
+/// Prints what is selected below several roots: `N,M SELECTOR`.
 pub fn select_below_several(rt: &HostRuntime, tree: &Tree, line: &str) -> Option<()> {
     let (numbers, text) = cut(line);
     let roots = nodes_of(rt.alloc(), numbers)?;
@@ -91,8 +93,8 @@ pub fn select_below_several(rt: &HostRuntime, tree: &Tree, line: &str) -> Option
     Some(())
 }
 
-/// How many nodes an index selects below the root, by tables or as the list asks, and how many
-/// tests that takes: `SELECTOR`.
+/// Prints how many nodes an index selects below the root, and the number of tests that takes; the
+/// index uses tables, or chooses the strategy by itself: `SELECTOR`.
 pub fn count_tests(rt: &HostRuntime, tree: &Tree, line: &str, by_tables: bool) {
     if let Some(matcher) = matcher_of(rt, line) {
         match TreeIndex::new(tree) {
@@ -115,7 +117,7 @@ fn show_tests(rt: &HostRuntime, found: Result<Vec<NodeRef<'_>>, OutOfMemory>, te
     show(rt, "tests", tests);
 }
 
-/// Why a text is no selector, or that it is one: `SELECTOR`.
+/// Prints why a text is not a selector, or that it is one: `SELECTOR`.
 pub fn show_fault(rt: &HostRuntime, line: &str) {
     match Matcher::new(rt.alloc(), line) {
         Ok(_) => println!(rt; "read").ok(),
@@ -123,7 +125,7 @@ pub fn show_fault(rt: &HostRuntime, line: &str) {
     };
 }
 
-/// What a node answers to a selector: `N SELECTOR`.
+/// Prints whether a selector matches a node, by each of the calls: `N SELECTOR`.
 pub fn ask(rt: &HostRuntime, tree: &Tree, line: &str) -> Option<()> {
     let (word, text) = cut(line);
     let node = NodeRef::new(node_of(word)?, tree);

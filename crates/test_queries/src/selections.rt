@@ -13,7 +13,7 @@ use test_lines::printing::{
 };
 use test_lines::words::cut;
 
-/// Prints the nodes of a selection, or the fault in its place.
+/// Prints the nodes of a selection, or the error.
 fn show_found<F: Display + Drop>(rt: &HostRuntime, what: &str, found: Result<Selection<'_>, F>) {
     match found {
         Ok(found) => show_nodes(rt, what, found.nodes()),
@@ -21,7 +21,7 @@ fn show_found<F: Display + Drop>(rt: &HostRuntime, what: &str, found: Result<Sel
     }
 }
 
-/// Prints the nodes of a selection, or `-` where there is none.
+/// Prints the nodes of a selection, `-` if there is none, or the error.
 fn show_tried(rt: &HostRuntime, what: &str, found: Result<Option<Selection<'_>>, OutOfMemory>) {
     match found {
         Ok(Some(found)) => show_nodes(rt, what, found.nodes()),
@@ -30,7 +30,7 @@ fn show_tried(rt: &HostRuntime, what: &str, found: Result<Option<Selection<'_>>,
     }
 }
 
-/// What a document selects by each call: `SELECTOR`.
+/// Prints what is selected in a document by each of the calls: `SELECTOR`.
 pub fn select(rt: &HostRuntime, document: &Document, line: &str) {
     show_found(rt, "select", document.select(line));
     show_found(rt, "nip", document.nip(line));
@@ -47,7 +47,7 @@ fn select_by_matcher(rt: &HostRuntime, document: &Document, matcher: &Matcher) {
     show_found(rt, "select_single_matcher", one);
 }
 
-/// Where each step leads from the nodes that a selector selects: `SELECTOR`.
+/// Prints where each step leads from the nodes that a selector selects: `SELECTOR`.
 pub fn step(rt: &HostRuntime, document: &Document, line: &str) {
     match document.select(line) {
         Ok(all) => step_from(rt, &all),
@@ -55,7 +55,7 @@ pub fn step(rt: &HostRuntime, document: &Document, line: &str) {
     }
 }
 
-/// A way from nodes to others.
+/// A step from nodes to other nodes.
 #[derive(Clone, Copy, Drop)]
 enum Way {
     Parent,
@@ -86,7 +86,7 @@ fn stepped<'a>(all: &Selection<'a>, way: Way) -> Result<Selection<'a>, OutOfMemo
     }
 }
 
-/// Where each way leads, and the nodes as a list.
+/// Prints where each step leads, and the nodes as a list.
 fn step_from(rt: &HostRuntime, all: &Selection<'_>) {
     for (name, way) in &WAYS {
         show_found(rt, name, stepped(all, *way));
@@ -99,7 +99,7 @@ fn step_from(rt: &HostRuntime, all: &Selection<'_>) {
     }
 }
 
-/// How many nodes there are, and their numbers.
+/// Prints how many nodes there are, and their ids.
 fn count(rt: &HostRuntime, all: &Selection<'_>) {
     show(rt, "length", all.length());
     show(rt, "size", all.size());
@@ -109,7 +109,8 @@ fn count(rt: &HostRuntime, all: &Selection<'_>) {
     show_ids_read(rt, "ids", all.ids());
 }
 
-/// What a selector chooses from the nodes that another selects: `CHOICE SELECTOR`.
+/// Prints what the selector `CHOICE` selects from the nodes that another one selects: `CHOICE
+/// SELECTOR`.
 pub fn choose(rt: &HostRuntime, document: &Document, line: &str) {
     let (choice, text) = cut(line);
     match document.select(text) {
@@ -118,7 +119,7 @@ pub fn choose(rt: &HostRuntime, document: &Document, line: &str) {
     }
 }
 
-/// What a text chooses.
+/// A call that selects from a selection by the text of a selector.
 #[derive(Clone, Copy, Drop)]
 enum Choice {
     Select,
@@ -175,7 +176,7 @@ fn choose_by_matcher(rt: &HostRuntime, all: &Selection<'_>, matcher: &Matcher) {
     show_found(rt, "add_matcher", all.add_matcher(matcher));
 }
 
-/// What the nodes of two selectors make together: `OTHER SELECTOR`.
+/// Prints what combinations of the nodes of two selectors give: `OTHER SELECTOR`.
 pub fn combine(rt: &HostRuntime, document: &Document, line: &str) {
     let (other, text) = cut(line);
     match (document.select(text), document.select(other)) {
@@ -191,7 +192,7 @@ fn show_both<'a>(rt: &HostRuntime, all: &Selection<'a>, other: &Selection<'a>) {
     println!(rt; "{all:?}").ok();
 }
 
-/// What is read of the nodes that a selector selects: `NAME SELECTOR`.
+/// Prints attributes and texts of the nodes that a selector selects: `NAME SELECTOR`.
 pub fn read(rt: &HostRuntime, document: &Document, line: &str) {
     let (name, text) = cut(line);
     match document.select(text) {
@@ -215,7 +216,7 @@ fn read_nodes(rt: &HostRuntime, all: &Selection<'_>, name: &str) {
     read_texts(rt, all);
 }
 
-/// What is read of all of them.
+/// Prints the texts and the HTML of all of them.
 fn read_texts(rt: &HostRuntime, all: &Selection<'_>) {
     show_read(rt, "text", all.text());
     show_read(rt, "immediate_text", all.immediate_text());

@@ -1,6 +1,7 @@
-//! Times of calls over the markup on standard input, in this process: `test_times CALL RUNS SELECTOR`
-//! prints the best of so many runs in nanoseconds and what the call counted. `test_times` does each call
-//! once and prints its count alone.
+//! A program that measures the time of calls on the markup from standard input, within its process.
+//! `test_times CALL RUNS SELECTOR` prints the shortest time of that many runs, in nanoseconds, and
+//! what the call counted. `test_times` without arguments makes each call once and prints only its
+//! count.
 #![tactic(auto)]
 
 use dom_html5::{Options, parse_page};
@@ -23,7 +24,7 @@ use std::process::ExitCode;
 use std::time::{Duration, Instant};
 use test_lines::words::{arguments, input, named, words_of};
 
-/// What is timed.
+/// The calls that are timed.
 #[derive(Clone, Copy, Drop)]
 enum Call {
     Parse,
@@ -63,7 +64,7 @@ const CALLS: [(&str, Call); 23] = [
     ("sanitize", Call::Sanitize),
 ];
 
-/// What of a page stays where it is cleaned.
+/// The elements and attributes that the cleaning of a page keeps.
 const ELEMENTS: &str = "a b blockquote br code dd div dl dt em h1 h2 h3 i img li ol p pre span \
     strong table td tr ul";
 
@@ -76,18 +77,18 @@ struct Run {
     count: usize,
 }
 
-/// What the calls are done on.
+/// What the calls work on.
 #[derive(Drop)]
 struct Page<'a> {
     source: String,
     document: Document,
     matcher: Matcher,
-    /// The selector, which is also read as a path of mini selectors.
+    /// The text of the selector, which is also read as a path of mini selectors.
     selector: &'a str,
 }
 
 impl<'a> Page<'a> {
-    /// The markup on standard input, with the matcher of a selector.
+    /// Reads the markup from standard input, and makes the matcher of a selector.
     fn read(rt: &HostRuntime, selector: &'a str) -> Option<Page<'a>> {
         let source = input(rt)?;
         Some(Page {
@@ -99,7 +100,8 @@ impl<'a> Page<'a> {
     }
 }
 
-/// Does a call once; one that changes a document on one of its own, whose reading isn't timed.
+/// Makes a call once. A call that changes a document gets a document of its own, and the time for
+/// parsing that is not counted.
 fn run_once(rt: &HostRuntime, page: &Page<'_>, call: Call) -> Option<Run> {
     match call {
         Call::Drop | Call::Edits | Call::Clean | Call::Copy | Call::Merge => run_fresh(
@@ -132,7 +134,8 @@ fn run_drop(rt: &HostRuntime, document: Document) -> Option<Run> {
     Some(Run { took, count })
 }
 
-/// Changes a document. Where it is cleaned, what is left below its root is counted afterwards.
+/// Changes a document. After cleaning, the nodes that remain below its root are counted; that is
+/// not timed.
 fn run_change(
     rt: &HostRuntime,
     page: &Page<'_>,
@@ -148,7 +151,7 @@ fn run_change(
     Some(Run { took, count })
 }
 
-/// Cleans a document by lists of names.
+/// Cleans a document by lists of allowed names.
 fn clean(document: &mut Document) -> Option<()> {
     let alloc = document.tree.allocator();
     let elements = words_of(alloc, ELEMENTS)?;
@@ -161,7 +164,7 @@ fn clean(document: &mut Document) -> Option<()> {
     sanitize(document, &allow).ok()
 }
 
-/// Changes a document, and counts the nodes that it then has, or those that moved.
+/// Changes a document. Returns how many nodes it then has, or for `edits` how many were moved.
 fn changed(page: &Page<'_>, document: &mut Document, call: Call) -> Option<usize> {
     match call {
         Call::Edits => return Some(move_all(&mut document.tree)),
@@ -174,7 +177,7 @@ fn changed(page: &Page<'_>, document: &mut Document, call: Call) -> Option<usize
     Some(document.tree.len())
 }
 
-/// Copies all nodes of the tree, or of one that is the same.
+/// Copies all nodes of the tree into it, or merges all nodes of an equal tree into it.
 fn copy_all(page: &Page<'_>, tree: &mut Tree, call: Call) -> Option<()> {
     let ids = page.document.tree.child_ids_of(&NodeId::root()).ok()?;
     let copied = match call {
@@ -184,7 +187,7 @@ fn copy_all(page: &Page<'_>, tree: &mut Tree, call: Call) -> Option<()> {
     copied.is_ok().then_some(())
 }
 
-/// Leaves one kind of element.
+/// Cleans the tree so that `i` elements are the only ones that remain.
 fn strip_all(document: &mut Document) -> Option<()> {
     let allow = Allow {
         elements: &["i"],
@@ -194,8 +197,8 @@ fn strip_all(document: &mut Document) -> Option<()> {
     sanitize_tree(&mut document.tree, &allow).ok()
 }
 
-/// Moves each node to the end of the first node's children, where it may go there; answers how many
-/// moved.
+/// Moves each node to the end of the children of node 1, where this is allowed. Returns how many
+/// were moved.
 fn move_all(tree: &mut Tree) -> usize {
     let mut moved: usize = 0;
     let Some(first) = NodeId::new(1) else {
@@ -211,7 +214,7 @@ fn move_all(tree: &mut Tree) -> usize {
     moved
 }
 
-/// Does a call, and counts bytes or nodes of what it gives.
+/// Makes a call, and counts bytes or nodes of its result.
 fn count_of(rt: &HostRuntime, page: &Page<'_>, call: Call) -> Option<usize> {
     let source = page.source.as_str();
     match call {
@@ -222,7 +225,7 @@ fn count_of(rt: &HostRuntime, page: &Page<'_>, call: Call) -> Option<usize> {
     }
 }
 
-/// Reads the source, and counts the nodes, or the bytes of tokens.
+/// Reads the source, and counts the nodes, or the bytes of the tokens.
 fn count_read(alloc: Global, source: &str, call: Call) -> Option<usize> {
     match call {
         Call::Parse => nodes_of(&Document::parse(alloc, source)),
@@ -231,7 +234,7 @@ fn count_read(alloc: Global, source: &str, call: Call) -> Option<usize> {
     }
 }
 
-/// How many nodes a document has that was made.
+/// Returns how many nodes a document has, if it could be made.
 fn nodes_of<F>(made: &Result<Document, F>) -> Option<usize> {
     match made {
         Ok(document) => Some(document.tree.len()),
@@ -239,7 +242,7 @@ fn nodes_of<F>(made: &Result<Document, F>) -> Option<usize> {
     }
 }
 
-/// Writes the document, and counts the bytes.
+/// Writes the document as a text, and counts its bytes.
 fn length_of(document: &Document, call: Call) -> Option<usize> {
     let root = document.root();
     let written = match call {
@@ -254,7 +257,7 @@ fn length_of(document: &Document, call: Call) -> Option<usize> {
     }
 }
 
-/// Copies, tests or walks the document, and counts the nodes.
+/// Copies, validates or walks the document, and counts the nodes.
 fn count_nodes(page: &Page<'_>, call: Call) -> Option<usize> {
     let document = &page.document;
     match call {
@@ -269,7 +272,7 @@ fn count_nodes(page: &Page<'_>, call: Call) -> Option<usize> {
     }
 }
 
-/// Makes an index, or selects, and counts what is found.
+/// Makes an index or selects, and counts what is found.
 fn count_found(page: &Page<'_>, call: Call) -> Option<usize> {
     let document = &page.document;
     match call {
@@ -288,7 +291,8 @@ fn count_found(page: &Page<'_>, call: Call) -> Option<usize> {
     }
 }
 
-/// What an index counts below the root, or selects there by tables.
+/// Returns the greatest position at or below the root, or how many nodes the index selects there
+/// with tables.
 fn count_indexed(index: &mut TreeIndex<'_>, matcher: &Matcher, call: Call) -> Option<usize> {
     match call {
         Call::Index => index.last_below(&NodeId::root()),
@@ -299,8 +303,8 @@ fn count_indexed(index: &mut TreeIndex<'_>, matcher: &Matcher, call: Call) -> Op
     }
 }
 
-/// Copies the document, and puts markup, which is read once, behind the children of each node that
-/// is selected; answers how many those were.
+/// Copies the document, and appends markup, which is parsed once, to the children of each selected
+/// node. Returns how many nodes were selected.
 fn append_to_all(page: &Page<'_>) -> Option<usize> {
     let mut document = page.document.try_clone().ok()?;
     let found = select_below(&document.tree, &NodeId::root(), &page.matcher).ok()?;
@@ -316,7 +320,7 @@ fn append_at_each(tree: &mut Tree, ids: &[NodeId]) -> Option<()> {
     Some(())
 }
 
-/// Where the last token ends.
+/// Returns where the last token ends.
 fn last_end(source: &str) -> Option<usize> {
     let mut end = 0;
     for token in Tokens::new(source) {
@@ -325,7 +329,7 @@ fn last_end(source: &str) -> Option<usize> {
     Some(end)
 }
 
-/// Prints the best of so many runs.
+/// Prints the shortest time of that many runs.
 fn time(rt: &HostRuntime, page: &Page<'_>, name: &str, runs: u64) -> Option<()> {
     let call = named(&CALLS, name)?;
     let mut best = Duration::MAX;
@@ -350,7 +354,7 @@ fn count_all(rt: &HostRuntime, page: &Page<'_>) -> Option<()> {
     Some(())
 }
 
-/// Does what the words say: nothing, or a call, how often, and a selector.
+/// Runs the command in the words: nothing, or a call, the number of runs and a selector.
 fn time_calls(rt: &HostRuntime, words: &[String]) -> Option<()> {
     match words {
         [] => count_all(rt, &Page::read(rt, "*")?),

@@ -1,4 +1,4 @@
-//! Which nodes may stand where, so that tree construction leaves a tree as it is spelled.
+//! Which nodes may be children of which, so that tree construction leaves the tree as it is.
 
 ghost use Rattle.std.specs.Prelude.{◌≡◌, if◌then◌else◌};
 ghost use Rattle.dom_html5.specs.Calm.{admits, bars, inside, may_hold_comment, may_hold_text};
@@ -8,7 +8,7 @@ use crate::calm::texts::{begins_line, has_close, is_whitespace, lacks_greater_th
 use dom_nodes::node_data::{NodeData, TreeNode};
 use html5_trees::ElementCategory;
 
-/// What a node stands in: the kind of its parent, and which elements are open.
+/// The scope of a node: the category of its parent, and which kinds of elements are open around it.
 #[derive(Clone, Copy, Drop)]
 pub struct Scope {
     pub parent: ElementCategory,
@@ -18,7 +18,7 @@ pub struct Scope {
     pub in_form: bool,
 }
 
-/// What the nodes at the top stand in.
+/// The scope of the root's children.
 pub const TOP: Scope = Scope {
     parent: ElementCategory::Document,
     in_paragraph: false,
@@ -28,7 +28,7 @@ pub const TOP: Scope = Scope {
 };
 
 impl Scope {
-    /// Whether an element of that kind may not stand in one that is open.
+    /// Returns whether an open element forbids an element of that category, such as a `p` in a `p`.
     fn bars(&self, kind: ElementCategory) -> bool
         ensures { result ≡ bars self.now kind }
     {
@@ -47,7 +47,7 @@ impl Scope {
         }
     }
 
-    /// What the children of an element of that kind stand in.
+    /// Returns the scope of the children of an element of that category.
     fn inside(&self, kind: ElementCategory) -> Scope
         ensures { result ≡ inside self.now kind }
     {
@@ -63,14 +63,14 @@ impl Scope {
         scope
     }
 
-    /// Whether an element of that kind may stand there.
+    /// Returns whether an element of that category may be in this scope.
     fn admits(&self, kind: ElementCategory) -> bool
         ensures { result ≡ admits self.now kind }
     {
         self.parent.may_hold(kind) && !self.bars(kind)
     }
 
-    /// What the children of this node stand in, where it may stand here.
+    /// Returns the scope of the node's children, or `None` if the node may not be in this scope.
     pub fn below(&self, node: &NodeData) -> Option<Scope>
         ensures { result ≡ scope_below self.now node.now }
     {
@@ -87,14 +87,15 @@ impl Scope {
         }
     }
 
-    /// The same scope, where it holds a node that has no children.
+    /// Returns this scope, if it may hold a node that has no children.
     fn held(&self, holds: bool) -> Option<Scope>
         ensures { result ≡ (if holds then Some self.now else None) }
     {
         if holds { Some(*self) } else { None }
     }
 
-    /// What the children of an element of that kind stand in, where it may stand here.
+    /// Returns the scope of the children of an element of that category, or `None` if the element
+    /// may not be in this scope.
     fn below_element(&self, kind: ElementCategory) -> Option<Scope>
         ensures { result ≡ (if admits self.now kind then Some (inside self.now kind) else None) }
     {
@@ -105,8 +106,8 @@ impl Scope {
     }
 }
 
-/// What the children of this node stand in, by the scopes of the nodes before it; None where it may
-/// not stand there.
+/// Returns the scope of the node's children, from the scopes of the nodes before it, or `None` if
+/// the node may not be in the scope of its parent.
 pub fn next_scope(node: &TreeNode, scopes: &[Scope]) -> Option<Scope>
     ensures { result ≡ next_scope scopes.now node.now.parent node.now.content }
 {
@@ -115,7 +116,7 @@ pub fn next_scope(node: &TreeNode, scopes: &[Scope]) -> Option<Scope>
     scope.below(&node.content)
 }
 
-/// Whether a child of such an element may be this text.
+/// Returns whether such an element may have this text as a child.
 fn holds_text(parent: ElementCategory, contents: &str) -> bool
     ensures { result ≡ may_hold_text parent contents.now }
 {
@@ -128,7 +129,7 @@ fn holds_text(parent: ElementCategory, contents: &str) -> bool
     }
 }
 
-/// Whether a child of such an element may be a comment of these contents.
+/// Returns whether such an element may have a comment with these contents as a child.
 fn holds_comment(parent: ElementCategory, contents: &str) -> bool
     ensures { result ≡ may_hold_comment parent contents.now }
 {

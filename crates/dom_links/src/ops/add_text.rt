@@ -1,4 +1,5 @@
-//! A text comes to a gap: the text that stands right before it grows, or a new one is put there.
+//! Adding text at an insertion point: the text node before it grows, or a new text node is
+//! inserted.
 
 ghost use Rattle.std.specs.Prelude.{◌≡◌, ◌<◌, IfErr, OnErr, OnOk, None, Some, length};
 ghost use Rattle.dom_nodes.specs.declared.fault.EditFault.TheVariants.{Memory};
@@ -19,8 +20,9 @@ use dom_nodes::node_data::{NodeData, TreeNode};
 use dom_nodes::node_id::NodeId;
 use dom_nodes::text::Text;
 
-/// Lengthens the text that stands right before the gap, or puts a new text there. Refused as
-/// `Memory`, and as `TooManyNodes` where a new one is to be put; then nothing changes.
+/// Appends `text` to the text node immediately before the insertion point, or inserts a new text
+/// node there. It fails with `Memory` when memory is refused, and with `TooManyNodes` when a new
+/// node is needed and no id is left. The arena is unchanged after an error.
 pub fn add_text(nodes: &mut Vec<TreeNode>, gap: InsertionPoint, text: &str) -> Result<(), EditFault>
     requires sound { IsSoundArena nodes.old.items }
     requires open { IsOpenGap gap (forest_of nodes.old.items) }
@@ -32,7 +34,8 @@ pub fn add_text(nodes: &mut Vec<TreeNode>, gap: InsertionPoint, text: &str) -> R
     lengthen(nodes, before, text)
 }
 
-/// The text that stands right before the gap.
+/// Returns the text node immediately before the insertion point, or `None` when no text node is
+/// there.
 fn text_before(nodes: &[TreeNode], gap: &InsertionPoint) -> Option<NodeId>
     requires sound { IsSoundArena nodes.now }
     requires target_known { target gap.now < length (forest_of nodes.now).content }
@@ -48,7 +51,7 @@ fn text_before(nodes: &[TreeNode], gap: &InsertionPoint) -> Option<NodeId>
     }
 }
 
-/// The node that stands right before the gap.
+/// Returns the node immediately before the insertion point, or `None`.
 #[inline(always)]
 fn node_before(nodes: &[TreeNode], gap: &InsertionPoint) -> Option<NodeId>
     requires sound { IsSoundArena nodes.now }
@@ -61,7 +64,7 @@ fn node_before(nodes: &[TreeNode], gap: &InsertionPoint) -> Option<NodeId>
     }
 }
 
-/// Adds more at the end of a text. Refused as `Memory`.
+/// Appends `more` to a text node. It fails with `Memory`.
 fn lengthen(nodes: &mut [TreeNode], x: NodeId, more: &str) -> Result<(), EditFault>
     requires { IsSoundArena nodes.old }
     ensures ok { OnOk result (Changed nodes.old nodes.new x (lengthened more.now)) }
@@ -89,7 +92,7 @@ fn lengthen_node(node: &mut TreeNode, more: &str) -> Result<(), OutOfMemory>
     }
 }
 
-/// Makes a text and puts it at the gap.
+/// Inserts a new text node at the insertion point.
 fn put_new_text(nodes: &mut Vec<TreeNode>, gap: InsertionPoint, text: &str) -> Result<(), EditFault>
     requires sound { IsSoundArena nodes.old.items }
     requires open { IsOpenGap gap (forest_of nodes.old.items) }
@@ -103,7 +106,7 @@ fn put_new_text(nodes: &mut Vec<TreeNode>, gap: InsertionPoint, text: &str) -> R
     }
 }
 
-/// Makes a text as the last child of a node.
+/// Appends a new text node to the children of a node.
 #[inline(always)]
 fn append_text(nodes: &mut Vec<TreeNode>, t: NodeId, contents: Text) -> Result<(), EditFault>
     requires sound { IsSoundArena nodes.old.items }
@@ -116,7 +119,7 @@ fn append_text(nodes: &mut Vec<TreeNode>, t: NodeId, contents: Text) -> Result<(
     Ok(())
 }
 
-/// Makes a text that stands alone, and moves it to the gap.
+/// Makes a detached text node and moves it to the insertion point.
 fn place_text(
     nodes: &mut Vec<TreeNode>,
     gap: InsertionPoint,

@@ -1,5 +1,5 @@
-//! Copies of nodes that go to a place in an arena: all that allocates memory comes before a link of
-//! an old node changes.
+//! Inserting copies of nodes at a place in an arena. All memory is allocated before a link of an
+//! old node changes, so an error leaves the tree as it was.
 
 ghost use Rattle.std.specs.Prelude.{◌≡◌, ◌<◌, ◌∷◌, [], false, length, true};
 ghost use Rattle.dom_links.specs.Forest.{IsArenaOf, forest_of};
@@ -18,8 +18,8 @@ use dom_nodes::fault::EditFault;
 use dom_nodes::node_data::TreeNode;
 use dom_nodes::node_id::NodeId;
 
-/// Makes copies of nodes of another arena, which go to a place: all or none. Of one node no list is
-/// made of its copy's number.
+/// Copies nodes of another arena and inserts the copies at a place relative to the node `x`. It
+/// fails as `merge` does, and then nothing changes. For a single node no list of ids is allocated.
 pub fn merge_at(
     nodes: &mut Vec<TreeNode>,
     x: NodeId,
@@ -44,7 +44,8 @@ pub fn merge_at(
     Ok(())
 }
 
-/// Makes copies of nodes of the same arena, which go to a place: all or none.
+/// Copies nodes of this arena and inserts the copies at a place relative to the node `x`. It fails
+/// as `copy_nodes` does, and then nothing changes.
 pub fn copy_at(
     nodes: &mut Vec<TreeNode>,
     x: NodeId,
@@ -62,7 +63,7 @@ pub fn copy_at(
     Ok(())
 }
 
-/// Puts nodes that may go there at a place.
+/// Inserts nodes at a place relative to `x`; they must be allowed there.
 fn put_copies(nodes: &mut [TreeNode], x: NodeId, place: Place, new: &[NodeId])
     requires sound { IsSoundArena nodes.old }
     requires new { AreNodes (forest_of nodes.old) new.now }
@@ -73,7 +74,7 @@ fn put_copies(nodes: &mut [TreeNode], x: NodeId, place: Place, new: &[NodeId])
     put_new(nodes, x, place, new);
 }
 
-/// Puts nodes at a place.
+/// Inserts nodes at a place relative to `x`.
 fn put_new(nodes: &mut [TreeNode], x: NodeId, place: Place, new: &[NodeId])
     requires linked { IsArenaOf (forest_of nodes.old) nodes.old }
     requires known { x < length nodes.old }
@@ -98,7 +99,8 @@ fn put_new(nodes: &mut [TreeNode], x: NodeId, place: Place, new: &[NodeId])
     }
 }
 
-/// Makes nodes a run, and wraps x in the first of them, if that is an element.
+/// Detaches the nodes as one list of siblings, and wraps `x` in the first of them if that is an
+/// element.
 fn put_around(nodes: &mut [TreeNode], x: NodeId, new: &[NodeId])
     requires linked { IsArenaOf (forest_of nodes.old) nodes.old }
     requires known { x < length nodes.old }
@@ -122,7 +124,7 @@ fn is_element(nodes: &[TreeNode], x: NodeId) -> bool
     nodes[x.value()].content.is_element()
 }
 
-/// Moves nodes, in their order, to a gap.
+/// Moves nodes, in this order, to an insertion point.
 fn move_list(nodes: &mut [TreeNode], gap: InsertionPoint, moved: &[NodeId])
     requires linked { IsArenaOf (forest_of nodes.old) nodes.old }
     requires target_known { target gap < length nodes.old }
@@ -136,8 +138,7 @@ fn move_list(nodes: &mut [TreeNode], gap: InsertionPoint, moved: &[NodeId])
     put_at(nodes, gap, start);
 }
 
-/// Cuts nodes out of their lists, and returns the first of them. They are then a run of their own,
-/// in their order.
+/// Detaches the nodes, makes them siblings in this order, and returns the first of them.
 fn gather(nodes: &mut [TreeNode], moved: &[NodeId]) -> Option<NodeId>
     requires linked { IsArenaOf (forest_of nodes.old) nodes.old }
     requires moved { AreNodes (forest_of nodes.old) moved.now }

@@ -1,4 +1,4 @@
-//! The writing steps that the moves of lists are made of.
+//! Writing the links for moves of several siblings.
 
 ghost use Rattle.std.specs.Prelude.{◌≡◌, ◌<◌, length, Some};
 ghost use Rattle.dom_links.specs.Lists.{last};
@@ -11,7 +11,7 @@ use dom_nodes::link::Link;
 use dom_nodes::node_data::TreeNode;
 use dom_nodes::node_id::NodeId;
 
-/// Gives a parent to a node and to all that follow it by next links, and returns the last of them.
+/// Sets the parent of a node and of all siblings after it, and returns the last of them.
 pub(crate) fn set_parents(nodes: &mut [TreeNode], x: NodeId, owner: Option<NodeId>) -> NodeId
     requires known { x < length nodes.old }
     requires nexts_known { NextsKnown nodes.old }
@@ -34,7 +34,7 @@ pub(crate) fn set_parents(nodes: &mut [TreeNode], x: NodeId, owner: Option<NodeI
     end
 }
 
-/// Puts a node and all that follow it between two neighbours below an owner.
+/// Links a node and all siblings after it between two neighbours below a parent.
 pub(crate) fn attach_run(nodes: &mut [TreeNode], x: NodeId, point: &ResolvedPoint)
     requires known { x < length nodes.old }
     requires nexts_known { NextsKnown nodes.old }

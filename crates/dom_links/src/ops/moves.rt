@@ -1,4 +1,5 @@
-//! The moves. They take no memory.
+//! The moves of nodes. They allocate no memory and can't fail; that a move is possible is a
+//! condition of the call, and `placing` has the tests for it.
 
 ghost use Rattle.std.specs.Prelude.{◌≡◌, ◌<◌, [], ◌∷◌, false, length, Some};
 ghost use Rattle.dom_links.specs.Forest.{IsArenaOf, forest_of, run_of};
@@ -19,7 +20,8 @@ use dom_nodes::node_data::TreeNode;
 use dom_nodes::node_id::NodeId;
 
 impl TreeNodeOps {
-    /// Cuts a node out of its list. It is then a run of its own.
+    /// Detaches a node from its parent and its siblings. A node that is detached already stays as
+    /// it is.
     pub fn remove_from_parent(nodes: &mut [TreeNode], x: NodeId)
         requires linked { IsArenaOf (forest_of nodes.old) nodes.old }
         requires known { x < length nodes.old }
@@ -34,7 +36,7 @@ impl TreeNodeOps {
         set_links(nodes, x, None, None, None);
     }
 
-    /// Moves nodes to a gap.
+    /// Moves nodes to an insertion point.
     pub fn move_to(nodes: &mut [TreeNode], gap: InsertionPoint, moving: MovedNodes)
         requires { CanMove nodes.old gap moving }
         ensures { Moves nodes.old nodes.new gap moving }
@@ -43,7 +45,7 @@ impl TreeNodeOps {
         put_at(nodes, gap, start);
     }
 
-    /// Moves a node to the end of the children of another.
+    /// Moves a node to the end of the children of `t`.
     pub fn append_child_of(nodes: &mut [TreeNode], t: NodeId, x: NodeId)
         requires { CanMove nodes.old (end_of t) (Node x) }
         ensures { Moves nodes.old nodes.new (end_of t) (Node x) }
@@ -51,7 +53,7 @@ impl TreeNodeOps {
         TreeNodeOps::move_to(nodes, InsertionPoint::EndOf(t), MovedNodes::Node(x));
     }
 
-    /// Moves a node to the front of the children of another.
+    /// Moves a node to the front of the children of `t`.
     pub fn prepend_child_of(nodes: &mut [TreeNode], t: NodeId, x: NodeId)
         requires { CanMove nodes.old (front_of t) (Node x) }
         ensures { Moves nodes.old nodes.new (front_of t) (Node x) }
@@ -59,7 +61,7 @@ impl TreeNodeOps {
         TreeNodeOps::move_to(nodes, InsertionPoint::FrontOf(t), MovedNodes::Node(x));
     }
 
-    /// Moves a node to the place right before another.
+    /// Moves a node to the place immediately before `t`.
     pub fn insert_before_of(nodes: &mut [TreeNode], t: NodeId, x: NodeId)
         requires { CanMove nodes.old (before_node t) (Node x) }
         ensures { Moves nodes.old nodes.new (before_node t) (Node x) }
@@ -67,7 +69,7 @@ impl TreeNodeOps {
         TreeNodeOps::move_to(nodes, InsertionPoint::Before(t), MovedNodes::Node(x));
     }
 
-    /// Moves a node to the place right after another.
+    /// Moves a node to the place immediately after `t`.
     pub fn insert_after_of(nodes: &mut [TreeNode], t: NodeId, x: NodeId)
         requires { CanMove nodes.old (after_node t) (Node x) }
         ensures { Moves nodes.old nodes.new (after_node t) (Node x) }
@@ -75,7 +77,7 @@ impl TreeNodeOps {
         TreeNodeOps::move_to(nodes, InsertionPoint::After(t), MovedNodes::Node(x));
     }
 
-    /// Moves a node and its later siblings to the end of the children of another.
+    /// Moves a node and its later siblings to the end of the children of `t`.
     pub fn append_children_of(nodes: &mut [TreeNode], t: NodeId, x: NodeId)
         requires { CanMove nodes.old (end_of t) (WithLater x) }
         ensures { Moves nodes.old nodes.new (end_of t) (WithLater x) }
@@ -83,8 +85,7 @@ impl TreeNodeOps {
         TreeNodeOps::move_to(nodes, InsertionPoint::EndOf(t), MovedNodes::WithLater(x));
     }
 
-    /// Moves the whole list of a node, it and all its siblings, to the front of the children of
-    /// another.
+    /// Moves a node and all its siblings to the front of the children of `t`.
     pub fn prepend_children_of(nodes: &mut [TreeNode], t: NodeId, x: NodeId)
         requires { CanMove nodes.old (front_of t) (WholeList x) }
         ensures { Moves nodes.old nodes.new (front_of t) (WholeList x) }
@@ -92,7 +93,7 @@ impl TreeNodeOps {
         TreeNodeOps::move_to(nodes, InsertionPoint::FrontOf(t), MovedNodes::WholeList(x));
     }
 
-    /// Moves a node and its later siblings to the place right before another.
+    /// Moves a node and its later siblings to the place immediately before `t`.
     pub fn insert_siblings_before(nodes: &mut [TreeNode], t: NodeId, x: NodeId)
         requires { CanMove nodes.old (before_node t) (WithLater x) }
         ensures { Moves nodes.old nodes.new (before_node t) (WithLater x) }
@@ -100,7 +101,7 @@ impl TreeNodeOps {
         TreeNodeOps::move_to(nodes, InsertionPoint::Before(t), MovedNodes::WithLater(x));
     }
 
-    /// Moves a node and its later siblings to the place right after another.
+    /// Moves a node and its later siblings to the place immediately after `t`.
     pub fn insert_siblings_after(nodes: &mut [TreeNode], t: NodeId, x: NodeId)
         requires { CanMove nodes.old (after_node t) (WithLater x) }
         ensures { Moves nodes.old nodes.new (after_node t) (WithLater x) }
@@ -109,7 +110,7 @@ impl TreeNodeOps {
     }
 }
 
-/// Moves one node that may stand there to a gap.
+/// Moves one node, which must be allowed there, to an insertion point.
 #[tactic(auto, using(crate::proofs::moves::Cuts::no_other))]
 pub(crate) fn put_alone(nodes: &mut [TreeNode], gap: InsertionPoint, x: NodeId)
     requires sound { IsSoundArena nodes.old }
@@ -121,7 +122,8 @@ pub(crate) fn put_alone(nodes: &mut [TreeNode], gap: InsertionPoint, x: NodeId)
     TreeNodeOps::move_to(nodes, gap, MovedNodes::Node(x));
 }
 
-/// Cuts nodes out of their list, and returns the first of them. They are then a run of their own.
+/// Detaches the nodes that are to be moved, and returns the first of them. They are then siblings
+/// of each other without a parent.
 fn cut_out(nodes: &mut [TreeNode], moving: MovedNodes) -> NodeId
     requires linked { IsArenaOf (forest_of nodes.old) nodes.old }
     requires known { moving_id moving < length nodes.old }
@@ -147,7 +149,7 @@ fn cut_out(nodes: &mut [TreeNode], moving: MovedNodes) -> NodeId
     }
 }
 
-/// What nodes at a gap have as their parent, and beside them.
+/// The parent and the neighbours that nodes at an insertion point get.
 #[derive(Drop)]
 pub(crate) struct ResolvedPoint {
     pub(crate) owner: Option<NodeId>,
@@ -155,6 +157,7 @@ pub(crate) struct ResolvedPoint {
     pub(crate) right: Option<NodeId>,
 }
 
+/// Returns the parent and the neighbours for an insertion point.
 pub(crate) fn resolved_point_at(nodes: &[TreeNode], gap: InsertionPoint) -> ResolvedPoint
     requires linked { IsArenaOf (forest_of nodes.now) nodes.now }
     requires target_known { target gap < length nodes.now }
@@ -186,7 +189,8 @@ pub(crate) fn resolved_point_at(nodes: &[TreeNode], gap: InsertionPoint) -> Reso
     }
 }
 
-/// Puts a run, given by its first node, at a gap.
+/// Links a node that starts a detached list of siblings, and the rest of that list, at an insertion
+/// point.
 pub(crate) fn put_at(nodes: &mut [TreeNode], gap: InsertionPoint, x: NodeId)
     requires linked { IsArenaOf (forest_of nodes.old) nodes.old }
     requires target_known { target gap < length nodes.old }

@@ -1,4 +1,4 @@
-//! The item at the front of a text, as it is written.
+//! The token at the start of a text, as slices of the source.
 
 ghost use Rattle.std.specs.Prelude.{◌≢◌, ◌++◌, [], codes, IfSome};
 ghost use Rattle.dom_markup.specs.Bytes.{folded};
@@ -15,9 +15,9 @@ use crate::document::tags::end_tag_end;
 use crate::document::within::ContentModel;
 use dom_nodes::fault::MarkupFaultKind;
 
-/// An item as it is written: a text, one that stands for itself, the name of an end tag, the
-/// contents of a comment. Of a start tag only its `<` is taken, and of a declaration only its `<!`:
-/// what a reader needs of them is taken while they are scanned.
+/// A token as it is in the source: a text, a text without character references (`Plain`), the name
+/// of an end tag, or the contents of a comment. For a start tag only its `<` is read, and for a
+/// declaration only its `<!`; the caller reads the rest while it scans.
 #[derive(Clone, Copy)]
 pub enum Lexeme<'a> {
     StartTag,
@@ -28,7 +28,7 @@ pub enum Lexeme<'a> {
     Declaration,
 }
 
-/// What follows the `<` of a start tag that may begin here: a letter stands behind it.
+/// Returns the text after the `<` of a start tag, if a letter follows the `<`.
 #[inline(always)]
 fn opened_tag(text: &str) -> Option<&str>
     ensures { Leaves (OpensTag text.now) result }
@@ -43,7 +43,7 @@ fn opened_tag(text: &str) -> Option<&str>
     Some(tag)
 }
 
-/// The item at the front of markup, and what follows it.
+/// Returns the token at the start of markup, and the text after it.
 fn markup_lexeme(text: &str) -> Result<(Lexeme<'_>, &str), MarkupFaultKind>
     requires { text.now ≢ [] }
     ensures { TakesLexeme markup text.now result }
@@ -73,7 +73,8 @@ fn markup_lexeme(text: &str) -> Result<(Lexeme<'_>, &str), MarkupFaultKind>
     Err(MarkupFaultKind::Instruction)
 }
 
-/// The doctype that a declaration is, which stands here behind its `<!`, and what follows it.
+/// Returns the doctype of a declaration, whose `<!` is already read, and the text after it. Fails
+/// with `BadDeclaration` if the declaration is no doctype.
 pub fn declared_doctype(tag: &str) -> Result<(Doctype<'_>, &str), MarkupFaultKind>
     requires { IsNoComment tag.now }
     ensures { TakesDoctype (codes "<!" ++ tag.now) result }
@@ -84,8 +85,8 @@ pub fn declared_doctype(tag: &str) -> Result<(Doctype<'_>, &str), MarkupFaultKin
     }
 }
 
-/// The item at the front of the text of an element of this name: the text, or where none is left
-/// the end tag.
+/// Returns the token at the start of the text inside an element of this name: the text, or the end
+/// tag if no text is left. Fails with `Unclosed` if the end tag is missing.
 fn front_in_text<'a>(
     text: &'a str,
     name: &'a str,
@@ -103,7 +104,7 @@ fn front_in_text<'a>(
     Ok((Lexeme::Text(contents), rest))
 }
 
-/// The item at the front, and what follows it, whatever it is.
+/// Returns the token at the start of the text in any mode, and the text after it.
 #[inline(never)]
 fn any_lexeme<'a>(
     text: &'a str,
@@ -119,8 +120,8 @@ fn any_lexeme<'a>(
     }
 }
 
-/// The same. What the call returns has a place in memory, which is set up where this begins: what
-/// is found without the call needs none.
+/// Calls `any_lexeme`. The result of that call needs a place in memory, which is set up here, so a
+/// token that is found without the call doesn't pay for it.
 #[inline(always)]
 fn other_front<'a>(
     text: &'a str,
@@ -133,7 +134,8 @@ fn other_front<'a>(
     Ok((front, rest))
 }
 
-/// The start tag, plain text or end tag at the front of markup, if one of these is found there.
+/// Returns the start tag, plain text or end tag at the start of markup, if it is one that can be
+/// read quickly.
 #[inline(always)]
 fn common_lexeme(text: &str) -> Option<(Lexeme<'_>, &str)>
     requires { text.now ≢ [] }
@@ -151,7 +153,8 @@ fn common_lexeme(text: &str) -> Option<(Lexeme<'_>, &str)>
     Some((Lexeme::EndTag(name), rest))
 }
 
-/// The item at the front, and what follows it. What is common is found without a call.
+/// Returns the token at the start of the text, and the text after it. Common tokens are read
+/// without a call.
 #[inline(always)]
 pub fn front_at<'a>(
     text: &'a str,

@@ -1,4 +1,4 @@
-//! A tree that grows while markup is read.
+//! The tree under construction while markup is parsed.
 
 ghost use Rattle.std.specs.Prelude.{◌≡◌, ◌+◌, ◌++◌, OnErr, OnOk, IfOk, length};
 ghost use Rattle.dom_nodes.specs.Changes.{with_attrs, with_missing};
@@ -20,10 +20,10 @@ use std::marker::Model;
 use std::mem;
 use std::rc::Rc;
 
-/// How many attributes stand one behind another at most before their elements get them.
+/// The longest shared list of attributes before it is handed out to the elements.
 const ROOM: usize = 512;
 
-/// An element that gets its attributes later: its number, and from where up to where they stand.
+/// An element whose attributes are stored later: its node id, and its range in the shared list.
 #[derive(Clone, Copy)]
 struct PendingText {
     number: NodeId,
@@ -31,9 +31,9 @@ struct PendingText {
     to: usize,
 }
 
-/// A tree that grows. Elements of one attribute or two get them later: those of many elements
-/// stand one behind another in one list, which the elements then share. A contract sees the forest
-/// in which each element has its attributes.
+/// A tree under construction. The attributes of an element with one or two are collected in one
+/// list first, and many elements then share that list, which saves allocations. A contract sees the
+/// forest in which each element already has its attributes.
 #[derive(Drop)]
 pub struct TreeUnderConstruction<'a> {
     tree: DeferredTexts<'a>,
@@ -55,7 +55,7 @@ impl<'a> Model for TreeUnderConstruction<'a> {
 }
 
 impl<'a> TreeUnderConstruction<'a> {
-    /// A document without children.
+    /// Returns a document without children. Fails only when memory runs out.
     pub fn new(alloc: Global) -> Result<TreeUnderConstruction<'a>, OutOfMemory>
         ensures { IfOk result (λ growing. growing ≡ lone contents.Document) }
     {
@@ -66,14 +66,15 @@ impl<'a> TreeUnderConstruction<'a> {
         })
     }
 
-    /// Makes room for so many more nodes, where there is memory.
+    /// Reserves room for `additional` more nodes, if there is memory for it.
     pub fn reserve(&mut self, additional: usize)
         ensures { self.new ≡ self.old }
     {
         self.tree.reserve(additional);
     }
 
-    /// Makes a node as the last child of another.
+    /// Makes a node as the last child of another and returns its id. Fails only with `TooManyNodes`
+    /// or `Memory`.
     #[inline(always)]
     pub fn append(&mut self, parent: &NodeId, content: NodeData) -> Result<NodeId, MarkupFaultKind>
         requires may { MayGrowAt self.old parent.now }
@@ -84,7 +85,8 @@ impl<'a> TreeUnderConstruction<'a> {
         self.tree.append(parent, content)
     }
 
-    /// Makes a text as the last child of a node.
+    /// Makes a text as the last child of a node and returns its id. Fails only with `TooManyNodes`
+    /// or `Memory`.
     #[inline(always)]
     pub fn append_text(&mut self, parent: &NodeId, text: &'a str) -> Result<NodeId, MarkupFaultKind>
         requires { MayGrowAt self.old parent.now }
@@ -100,8 +102,8 @@ impl<'a> TreeUnderConstruction<'a> {
         }
     }
 
-    /// Makes an element with contents as the last child of a node, and returns the contents'
-    /// number. It takes its attributes out of the list.
+    /// Makes a template as the last child of a node, and returns the id of its contents fragment.
+    /// The attributes are moved out of the list. Fails only with `TooManyNodes` or `Memory`.
     pub fn append_template(
         &mut self,
         parent: &NodeId,
@@ -120,7 +122,8 @@ impl<'a> TreeUnderConstruction<'a> {
         self.tree.append_template(parent, name, attrs)
     }
 
-    /// Makes an element as the last child of a node. It takes its attributes out of the list.
+    /// Makes an element as the last child of a node, and returns its id. The attributes are moved
+    /// out of the list. Fails only with `TooManyNodes` or `Memory`.
     pub fn append_element(
         &mut self,
         parent: &NodeId,
@@ -144,7 +147,8 @@ impl<'a> TreeUnderConstruction<'a> {
         self.append(parent, element_of(name, attrs))
     }
 
-    /// The same of an element that gets its attributes later.
+    /// Makes an element as the last child of a node, whose attributes go to the shared list for
+    /// now.
     fn append_waiting(
         &mut self,
         parent: &NodeId,
@@ -171,7 +175,7 @@ impl<'a> TreeUnderConstruction<'a> {
         }
     }
 
-    /// Gives the elements that wait their attributes, where the list has no room for two more.
+    /// Stores the collected attributes in their elements, if the list has no room for two more.
     fn settle_where_full(&mut self) -> Result<(), OutOfMemory>
         ensures { OnOk result (self.new ≡ self.old) }
     {
@@ -185,7 +189,7 @@ impl<'a> TreeUnderConstruction<'a> {
         given
     }
 
-    /// The tree, in which each element has its attributes.
+    /// Returns the tree, in which each element has its attributes. Fails only when memory runs out.
     pub fn finish(self) -> Result<Tree, OutOfMemory>
         ensures { IfOk result (λ tree. tree ≡ self.entry) }
     {
@@ -200,7 +204,7 @@ impl<'a> TreeUnderConstruction<'a> {
     }
 }
 
-/// An element without contents.
+/// Returns an element without template contents.
 #[inline(always)]
 fn element_of(name: QualName, attrs: Attrs) -> NodeData
     ensures is { result ≡ plain_element name attrs }
@@ -209,7 +213,7 @@ fn element_of(name: QualName, attrs: Attrs) -> NodeData
     NodeData::Element(Element::new(name, attrs, None, false))
 }
 
-/// An element without attributes and contents.
+/// Returns an element without attributes and template contents.
 #[inline(always)]
 fn bare_of(alloc: Global, name: QualName) -> NodeData
     ensures is { result ≡ bare_element name }
@@ -218,8 +222,8 @@ fn bare_of(alloc: Global, name: QualName) -> NodeData
     element_of(name, Attrs::new(alloc))
 }
 
-/// Moves all attributes of a list behind those of another. One that has no memory yet takes over
-/// the list's.
+/// Moves all attributes to the end of `list`. A list that has no memory yet takes over the memory
+/// of `attrs`.
 fn move_behind(list: &mut Vec<Attr>, attrs: &mut Vec<Attr>) -> Result<(), OutOfMemory>
     ensures ok { OnOk result (list.new.items ≡ list.old.items ++ attrs.old.items) }
     ensures err { OnErr result (list.new.items ≡ list.old.items) }
@@ -232,7 +236,7 @@ fn move_behind(list: &mut Vec<Attr>, attrs: &mut Vec<Attr>) -> Result<(), OutOfM
     Ok(())
 }
 
-/// Gives each element that waits its attributes, which it shares with the list.
+/// Gives each waiting element its range of the attributes; the elements share the list.
 fn give(
     tree: &mut DeferredTexts<'_>,
     attrs: Vec<Attr>,

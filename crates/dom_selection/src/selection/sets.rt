@@ -1,4 +1,4 @@
-//! Selections as sets: what two of them share, and both together.
+//! Selections as sets of nodes: intersection and union.
 
 ghost use Rattle.std.specs.Prelude.{◌≡◌, ◌++◌, ◌∷◌, [], IfOk, OnOk};
 ghost use Rattle.std.specs.List.{list_any};
@@ -13,7 +13,7 @@ use dom_nodes::fault::OutOfMemory;
 use dom_nodes::node_id::NodeId;
 use dom_trees::node_ref::NodeRef;
 
-/// Whether the number is that of one of the nodes.
+/// Returns whether the id is that of one of the nodes.
 fn is_member(id: NodeId, nodes: &[NodeRef<'_>]) -> bool
     ensures { result ≡ is_member id (ids_of nodes.now) }
 {
@@ -33,8 +33,8 @@ fn has_number(node: &NodeRef<'_>, id: NodeId) -> bool
 }
 
 impl<'a> Selection<'a> {
-    /// Whether some number stands in both selections. Where memory is refused, the numbers are
-    /// compared one by one.
+    /// Returns whether the two selections have a node in common, by id. When memory is refused, the
+    /// ids are compared one by one, so the call can't fail.
     pub fn is_selection(&self, other: &Selection<'_>) -> bool
         ensures { result ≡ have_common self.now other.now }
     {
@@ -47,7 +47,9 @@ impl<'a> Selection<'a> {
         }
     }
 
-    /// The nodes whose numbers stand in the other selection too; all of them where that is empty.
+    /// Returns the nodes whose ids are also in the other selection, in their order. If the other
+    /// selection is empty, the result is all nodes. It fails with `OutOfMemory` when memory is
+    /// refused.
     pub fn filter_selection(&self, other: &Selection<'_>) -> Result<Selection<'a>, OutOfMemory>
         ensures { Lists result (common self.now other.now) }
     {
@@ -62,8 +64,9 @@ impl<'a> Selection<'a> {
         Ok(Selection::of_one_tree(kept))
     }
 
-    /// The nodes, and then those of the other selection that don't stand among them, each for the
-    /// node of its number in this selection's tree; the other selection where this one is empty.
+    /// Returns the nodes of this selection, then those of the other one whose ids aren't among
+    /// them. These are taken by id from this selection's tree. If this selection is empty, the
+    /// result is the other one. It fails with `OutOfMemory` when memory is refused.
     pub fn add_selection(&self, other: &Selection<'a>) -> Result<Selection<'a>, OutOfMemory>
         ensures { Lists result (added self.now other.now) }
     {

@@ -1,4 +1,4 @@
-//! New elements with contents.
+//! Making elements with template contents.
 
 ghost use Rattle.std.specs.Prelude.{◌≡◌, ◌+◌, IfOk, length};
 ghost use Rattle.dom_trees.specs.Edits.{Edits, appending_template};
@@ -13,10 +13,11 @@ use dom_nodes::node_data::{Attrs, Element, NodeData};
 use dom_nodes::node_id::NodeId;
 
 impl Tree {
-    /// Makes an element with contents as the last child of a node, and returns the numbers of both.
-    /// The contents are a new fragment, whose number is the next one. Both are made or none.
-    /// Refused as `UnknownNode`; as `NoChildrenHere`, where the node has no children; as
-    /// `TooManyNodes`, where there are no two numbers left; as `Memory`.
+    /// Makes an element with template contents as the last child of a node, and returns the ids of
+    /// the element and of the contents. The contents are a new fragment with the id after that of
+    /// the element; either both are made or neither. It fails with `UnknownNode`, with
+    /// `NoChildrenHere` when the node can't have children, with `TooManyNodes` when there are no
+    /// two ids left, and with `Memory`.
     pub fn append_template_of(
         &mut self,
         id: &NodeId,

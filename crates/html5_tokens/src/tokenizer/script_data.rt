@@ -1,4 +1,5 @@
-//! Script data behind `<!--`.
+//! The escaped states of script data, which start at `<!--` (13.2.5.18 to 13.2.5.22 and 13.2.5.26
+//! to 13.2.5.31).
 
 use super::state::{DoubleState, EndTagState, Raw, ScriptState};
 use super::{Progress, State, Tokenizer, push};
@@ -36,8 +37,8 @@ impl Tokenizer {
         self.text_then(shown, next)
     }
 
-    /// A character of the name of a tag: script data is escaped twice from a start tag `script` on,
-    /// up to its end tag.
+    /// Processes a character of a tag name in escaped script data. A start tag `script` makes the
+    /// data double escaped, and its end tag ends that.
     fn double_name(&mut self, is_end: bool, c: char) -> Progress {
         let is_script = self.letters.as_str() == "script";
         match c {
@@ -48,7 +49,7 @@ impl Tokenizer {
         }
     }
 
-    /// Goes on in script data that is escaped once or twice, with a character that is text.
+    /// Appends the character to the text, and changes to escaped or double escaped script data.
     fn escape(&mut self, c: char, twice: bool) -> Progress {
         let state = if twice {
             ScriptState::Double(DoubleState::Escaped)

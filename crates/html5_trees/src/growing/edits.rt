@@ -1,5 +1,5 @@
-//! Edits of the tree that tree construction makes. Limits alone refuse them, and elements stay
-//! elements.
+//! The edits of the tree that tree construction makes. They fail only because of limits, and
+//! elements stay elements.
 
 ghost use Rattle.std.specs.Prelude.{◌≡◌, ◌∷◌, [], IfOk, None, OnErr, Some, false};
 ghost use Rattle.dom_links.specs.ListMoves.{reparented};
@@ -22,14 +22,14 @@ use dom_nodes::node_id::NodeId;
 use dom_trees::tree::{ElementFlags, Tree};
 use html5_tokens::token::Tag;
 
-/// Every tree is a forest.
+/// Every tree is a well-formed forest. The function does nothing; it is called for its contract.
 pub fn is_forest(tree: &Tree)
     ensures { IsForest tree.now }
 {
     let _ = tree.nodes();
 }
 
-/// Moves a node to a gap where it may go.
+/// Moves a node to an insertion point at which it is allowed.
 pub fn move_to(tree: &mut Tree, gap: InsertionPoint, id: NodeId)
     requires { MayMove gap (Node id) tree.old }
     ensures { tree.new ≡ moved_to (id ∷ []) gap tree.old }
@@ -39,7 +39,7 @@ pub fn move_to(tree: &mut Tree, gap: InsertionPoint, id: NodeId)
     };
 }
 
-/// Moves the children of an element below another, where they may go.
+/// Moves the children of an element to another, where they are allowed.
 pub fn reparent(tree: &mut Tree, id: NodeId, parent: NodeId)
     requires { MayReparentOf id (Some parent) tree.old }
     ensures { tree.new ≡ reparented id (Some parent) tree.old }
@@ -49,7 +49,7 @@ pub fn reparent(tree: &mut Tree, id: NodeId, parent: NodeId)
     };
 }
 
-/// Cuts an element out of its list.
+/// Detaches an element.
 pub fn cut_out(tree: &mut Tree, id: NodeId)
     requires { IsElement tree.old id }
     ensures { Grows tree.old tree.new }
@@ -59,7 +59,7 @@ pub fn cut_out(tree: &mut Tree, id: NodeId)
     };
 }
 
-/// Puts a text at a gap.
+/// Inserts a text at an insertion point.
 pub fn put_text(tree: &mut Tree, gap: InsertionPoint, text: &str) -> Result<(), PageFault>
     requires { IsOpenGap gap tree.old }
     ensures { Grows tree.old tree.new }
@@ -68,7 +68,7 @@ pub fn put_text(tree: &mut Tree, gap: InsertionPoint, text: &str) -> Result<(), 
     settled(tree.add_text_at(gap, text))
 }
 
-/// Makes a comment, which stands alone.
+/// Makes a detached comment and returns its id.
 fn create_comment(tree: &mut Tree, text: &str) -> Result<NodeId, PageFault>
     ensures ok { IfOk result (IsNew tree.old tree.new) }
     ensures err { OnErr result (tree.new ≡ tree.old) }
@@ -76,7 +76,7 @@ fn create_comment(tree: &mut Tree, text: &str) -> Result<NodeId, PageFault>
     made(tree.new_comment(text))
 }
 
-/// Puts a new comment at a gap.
+/// Inserts a new comment at an insertion point.
 pub fn put_comment(tree: &mut Tree, gap: InsertionPoint, text: &str) -> Result<(), PageFault>
     requires { IsOpenGap gap tree.old }
     ensures { Grows tree.old tree.new }
@@ -88,7 +88,8 @@ pub fn put_comment(tree: &mut Tree, gap: InsertionPoint, text: &str) -> Result<(
     Ok(())
 }
 
-/// Puts a doctype at the end of what stands at the top: its name, public and system identifier.
+/// Inserts a doctype as the last child of the root: its name, public identifier and system
+/// identifier.
 pub fn put_doctype(tree: &mut Tree, parts: [&str; 3]) -> Result<(), PageFault>
     requires { IsRooted tree.old }
     ensures { Grows tree.old tree.new }
@@ -99,7 +100,7 @@ pub fn put_doctype(tree: &mut Tree, parts: [&str; 3]) -> Result<(), PageFault>
     Ok(())
 }
 
-/// Adds the attributes of a tag to an element that lacks them.
+/// Adds those attributes of a tag to an element that it doesn't have yet.
 pub fn add_attrs(tree: &mut Tree, id: NodeId, tag: &Tag) -> Result<(), PageFault>
     requires { IsElement tree.old id }
     ensures { Grows tree.old tree.new }
@@ -112,7 +113,7 @@ pub fn add_attrs(tree: &mut Tree, id: NodeId, tag: &Tag) -> Result<(), PageFault
     settled(tree.add_missing_attrs_of(&id, attrs))
 }
 
-/// Makes an element, which stands alone.
+/// Makes a detached element and returns its id.
 fn create(
     tree: &mut Tree,
     name: QualName,
@@ -126,8 +127,8 @@ fn create(
     made(tree.create_element(name, attrs, flags))
 }
 
-/// What is particular of the element of a tag: whether it is a template, or an `annotation-xml`
-/// whose encoding is HTML.
+/// Returns the flags of a tag's element: whether it is a template, or an `annotation-xml` whose
+/// encoding is HTML.
 fn flags_of(ns: ElementNamespace, name: Name, tag: &Tag) -> ElementFlags {
     ElementFlags {
         template: ns == ElementNamespace::Html && name == Name::Template,
@@ -135,7 +136,7 @@ fn flags_of(ns: ElementNamespace, name: Name, tag: &Tag) -> ElementFlags {
     }
 }
 
-/// Puts the element of a tag at a gap.
+/// Inserts the element of a tag at an insertion point.
 pub fn put_element(
     tree: &mut Tree,
     gap: InsertionPoint,
@@ -162,7 +163,7 @@ pub fn put_element(
     })
 }
 
-/// Puts a new element at a gap.
+/// Inserts a new element at an insertion point and returns its id.
 fn put_new(
     tree: &mut Tree,
     gap: InsertionPoint,
@@ -184,7 +185,7 @@ fn put_new(
     append(tree, parent, Element::new(name, attrs, None, mathml))
 }
 
-/// Makes an element, which stands alone, and then puts it at a gap.
+/// Makes a detached element and then moves it to an insertion point.
 fn put_made(
     tree: &mut Tree,
     gap: InsertionPoint,
@@ -203,7 +204,7 @@ fn put_made(
     Ok(made)
 }
 
-/// Makes an element without contents as the last child of a node.
+/// Makes an element without template contents as the last child of a node.
 fn append(tree: &mut Tree, parent: NodeId, element: Element) -> Result<NodeId, PageFault>
     requires open { IsOpenGap (EndOf parent) tree.old }
     requires plain { element.template_contents ≡ None }
@@ -214,7 +215,7 @@ fn append(tree: &mut Tree, parent: NodeId, element: Element) -> Result<NodeId, P
     made(tree.append_child_data_of(&parent, NodeData::Element(element)))
 }
 
-/// The name and the attributes of an element.
+/// Returns copies of an element's name and attributes.
 fn copied(tree: &Tree, id: NodeId) -> Result<(QualName, Attrs), PageFault>
     requires { IsElement tree.now id }
 {
@@ -227,7 +228,7 @@ fn copied(tree: &Tree, id: NodeId) -> Result<(QualName, Attrs), PageFault>
     Ok((element.name().try_clone()?, element.attrs().try_clone()?))
 }
 
-/// The same element again, alone: its name and attributes.
+/// Makes a detached copy of an element, with its name and attributes and without children.
 fn copy_of(tree: &mut Tree, element: Open) -> Result<Open, PageFault>
     requires { IsElement tree.old element.id }
     ensures forest { IsForest tree.old }
@@ -251,7 +252,7 @@ fn copy_of(tree: &mut Tree, element: Open) -> Result<Open, PageFault>
     })
 }
 
-/// Puts a copy of an element at a gap.
+/// Inserts a copy of an element at an insertion point.
 pub fn put_copy(tree: &mut Tree, gap: InsertionPoint, element: Open) -> Result<Open, PageFault>
     requires gap { IsOpenGap gap tree.old }
     requires element { IsElement tree.old element.id }
@@ -263,7 +264,7 @@ pub fn put_copy(tree: &mut Tree, gap: InsertionPoint, element: Open) -> Result<O
     Ok(copy)
 }
 
-/// Puts an element into a copy of another one, which stands alone.
+/// Makes a detached copy of an element, and moves the node `id` into the copy.
 pub fn put_into_copy(tree: &mut Tree, element: Open, id: NodeId) -> Result<Open, PageFault>
     requires rooted { IsRooted tree.old }
     requires element { IsElement tree.old element.id }
@@ -276,7 +277,7 @@ pub fn put_into_copy(tree: &mut Tree, element: Open, id: NodeId) -> Result<Open,
     Ok(copy)
 }
 
-/// Puts the children of an element into a copy of another one, and that into the element.
+/// Moves the children of `parent` into a copy of `element`, and the copy into `parent`.
 pub fn put_children_into_copy(
     tree: &mut Tree,
     element: Open,

@@ -1,4 +1,4 @@
-//! Start tags by the rules for "in body".
+//! Start tags by the rules for "in body" (13.2.6.4.7).
 
 use super::groups::{Group, group_of};
 use super::is_start;
@@ -73,7 +73,7 @@ impl TreeBuilder {
         }
     }
 
-    /// Elements whose characters are no markup, and all that no rule names.
+    /// Processes start tags of elements whose content is text, and those that no rule names.
     fn start_text(&mut self, group: Group, name: Name, tag: &Tag) -> Next {
         match group {
             Group::Plaintext => {
@@ -133,7 +133,7 @@ impl TreeBuilder {
         Next::Done
     }
 
-    /// An item of a list ends the one before it.
+    /// Inserts a list item, and closes the item before it.
     fn start_item(&mut self, name: Name, tag: &Tag) -> Next {
         if let Some(item) = self.tree.open().item_before(name) {
             self.tree.pop_to(item);

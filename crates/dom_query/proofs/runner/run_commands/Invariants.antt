@@ -1,7 +1,7 @@
 use Rattle.std.proofs.Common.{◌≡◌, ◌+◌, ℕ, List, [], ◌∷◌, drop}
 use Rattle.std.specs.Io.KnownBytes.{Appends}
 use Rattle.dom_query.proofs.Doing.{Reaches}
-use Rattle.dom_query.proofs.runner.do_commands.Given as goal
+use Rattle.dom_query.proofs.runner.run_commands.Given as goal
 
 abbrev pub invariant-loop-command : goal.invariant-loop-command
 invariant-loop-command g l = record {

@@ -3,7 +3,7 @@ use Rattle.std.proofs.lemmas.Result.{err_from_is_err_and}
 use Rattle.dom_query.specs.Runs.{CommandsCause}
 use Rattle.dom_query.proofs.Doing.{Reaches, commands-cause, reaches-all, reaches-fault, reaches-more, reaches-next, reaches-none}
 use Rattle.dom_markup.proofs.html.WritingLemmas.{nothing-written, written-then}
-use Rattle.dom_query.proofs.runner.do_commands.Goals as goal
+use Rattle.dom_query.proofs.runner.run_commands.Goals as goal
 
 pub loop-command-init : goal.loop-command-init
 loop-command-init g c =
