@@ -1,0 +1,11 @@
+pub mod Comments
+pub mod Doctypes
+pub mod OwnEnds
+pub mod OwnTexts
+pub mod PlainPages
+pub mod PlainParts
+pub mod PlainTags
+pub mod ReadExamples
+pub mod Running
+pub mod Steps
+pub mod WordFacts

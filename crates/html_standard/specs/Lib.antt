@@ -1,0 +1,11 @@
+pub mod Entries
+pub mod Examples
+pub mod Laws
+pub mod Machine
+pub mod NamedReferences
+pub mod Numbers
+pub mod PlainMarkup
+pub mod Reading
+pub mod States
+pub mod Table
+pub mod Tokens

@@ -1,0 +1,78 @@
+"""The tables of docs/standard, the definitions of crates/html_standard that are made from them, and the texts of tests/standard."""
+import json
+import pathlib
+import sys
+
+ROOT = pathlib.Path(__file__).resolve().parents[2]
+sys.path.insert(0, str(ROOT / "tests" / "standard"))
+import definitions  # noqa: E402
+import machine  # noqa: E402
+
+# The rows of the program `test_calls` whose argument asks for tokens, which are printed a line each, after which other lines follow.
+ASKING = "web-tokens "
+NO_TOKEN = "end: -"
+KINDS = ("start", "end", "comment", "doctype")
+
+
+def stale(path, text):
+    """Whether the file of the crate isn't the one that is made from the tables."""
+    file = definitions.CRATE / path
+    return f"{file.relative_to(ROOT)} isn't what tests/standard/definitions.py makes" if file.read_text(encoding="utf-8") != text else None
+
+
+def rows():
+    """The texts of tests/standard/texts.jsonl with their tokens."""
+    return [json.loads(line) for line in definitions.TEXTS.read_text(encoding="utf-8").splitlines()]
+
+
+def not_taken(texts):
+    """The entries of the table that none of the texts takes."""
+    left = {(state, number) for state, entries in machine.STATES.items() for number in range(len(entries))}
+    for row in texts:
+        m = machine.Machine(row["text"], foreign=row["foreign"])
+        m.run()
+        left -= m.taken
+    return sorted(left)
+
+
+def other_tokens(row):
+    """The tokens of a text by the table, if they aren't those of its row."""
+    tokens = json.loads(json.dumps(machine.Machine(row["text"], foreign=row["foreign"]).run()))
+    return f"{row['text']!r}: {tokens}, and not {row['tokens']}" if tokens != row["tokens"] else None
+
+
+def tokens_asked():
+    """The texts of which rows ask the tokens of html5_tokens, with what is printed."""
+    for file in sorted((ROOT / "tests" / "rows" / "test_calls").glob("*.jsonl")):
+        for line in file.read_text(encoding="utf-8").splitlines():
+            row = json.loads(line)
+            if str(row.get("args", [""])[0]).startswith(ASKING):
+                yield row["args"][0].removeprefix(ASKING), row["output"]
+
+
+def other_lines(text, output):
+    """The tokens of a text by the table, if the row prints others before its text."""
+    tokens = [f"{t[0]}: {t[1] or ''}" for t in machine.Machine(text).run() if t[0] in KINDS]
+    printed = [line for line in output.splitlines() if line.partition(":")[0] in KINDS and line != NO_TOKEN]
+    # (the first token is printed once more, at the end)
+    first = tokens[:1]
+    return f"{text!r}: {tokens}, and not {printed}" if tokens + first != printed else None
+
+
+def standard():
+    """Compares the definitions, the entries and the texts, and returns how many comparisons passed and failed."""
+    texts = rows()
+    faults = [stale(path, text) for path, text in definitions.files().items()]
+    left = not_taken(texts)
+    faults.append(f"no text takes these entries: {left}" if left else None)
+    faults += [other_tokens(row) for row in texts]
+    faults += [other_lines(text, output) for text, output in tokens_asked()]
+    found = [fault for fault in faults if fault]
+    for fault in found:
+        print(f"the HTML Standard: {fault}")
+    print(f"the HTML Standard's tables and texts: {len(faults) - len(found)} passed, {len(found)} failed")
+    return len(faults) - len(found), len(found)
+
+
+if __name__ == "__main__":
+    sys.exit(1 if standard()[1] else 0)
